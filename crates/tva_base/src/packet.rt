@@ -1,0 +1,83 @@
+// What names a packet, what a sender may send, and what became of an arrival.
+use crate::addresses::Address;
+
+/// A time, in nanoseconds since the start of the replay.
+#[derive(Clone, Copy, Debug, PartialEq, Eq, PartialOrd, Ord)]
+pub struct Time(pub u64);
+
+/// The source and the destination of a packet.
+#[derive(Clone, Copy, Debug, PartialEq, Eq)]
+pub struct Flow {
+    pub src: Address,
+    pub dst: Address,
+}
+
+/// The node that made a packet or took it from the trace, and its number there, from 1.
+#[derive(Clone, Copy, Debug, PartialEq, Eq)]
+pub struct PacketId {
+    pub node: u16,
+    pub ordinal: u64,
+}
+
+/// What a destination grants: `n` units of 1,024 bytes within `t` seconds.
+#[derive(Clone, Copy, Debug, PartialEq, Eq)]
+pub struct Rights {
+    pub n: u32,
+    pub t: u8,
+}
+
+/// The rights of a flow from the router second in which its capability was minted.
+#[derive(Clone, Copy, Debug, PartialEq, Eq)]
+pub struct Grant {
+    pub flow: Flow,
+    pub rights: Rights,
+    pub second: u64,
+}
+
+/// In which order a link carries a packet: requests under their rate limit, then regular
+/// packets, then the rest.
+#[derive(Clone, Copy, Debug, PartialEq, Eq)]
+pub enum Class {
+    Request,
+    Regular,
+    Legacy,
+}
+
+/// Why a router doesn't take a packet as what it claims to be.
+#[derive(Clone, Copy, Debug, PartialEq, Eq)]
+pub enum Cause {
+    NoCapability,
+    Expired,
+    BadHash,
+    Superseded,
+    OverN,
+    CacheFull,
+    UnknownNonce,
+    PathFull,
+    Malformed,
+}
+
+/// Why a packet isn't queued.
+#[derive(Clone, Copy, Debug, PartialEq, Eq)]
+pub enum DropCause {
+    HopLimit,
+    NoRoute,
+    NoQueue,
+    QueueFull,
+}
+
+/// Where a packet goes: to the link with that number, or nowhere.
+#[derive(Clone, Copy, Debug, PartialEq, Eq)]
+pub enum Outcome {
+    Queued(u16),
+    Dropped(DropCause),
+}
+
+/// What a router makes of an arrival. A charge is there exactly where it was authorised.
+#[derive(Clone, Copy, Debug, PartialEq, Eq)]
+pub struct Fate {
+    pub class: Class,
+    pub cause: Option<Cause>,
+    pub charge: Option<Grant>,
+    pub outcome: Outcome,
+}
