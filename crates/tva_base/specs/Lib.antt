@@ -1,3 +1,5 @@
+pub mod Addresses
 pub mod Clock
 pub mod Credit
+pub mod Decimal
 pub mod Plan

@@ -1,4 +1,4 @@
-// Addresses and prefixes, and their texts.
+// Addresses and prefixes.
 
 /// An address of 32 bits.
 #[derive(Clone, Copy, Debug, PartialEq, Eq, PartialOrd, Ord)]

@@ -8,8 +8,10 @@ mod credits;
 mod event;
 mod limits;
 mod listed;
+mod numbers;
 mod packet;
 mod plan;
+mod readers;
 mod texts;
 
 pub use addresses::{Address, Prefix};
@@ -17,8 +19,10 @@ pub use credits::credit;
 pub use event::{BackKind, Event, Happened, ReplyLine, ShapeKind, Totals, WhatKind};
 pub use limits::{DrrLimits, LinkLimits};
 pub use listed::{Caps, Listed};
+pub use numbers::decimal;
 pub use packet::{Cause, Class, DropCause, Fate, Flow, Grant, Outcome, PacketId, Rights, Time};
 pub use plan::{HostPlan, LinkPlan, PolicyKind, PolicyPlan, Route, RouterPlan};
+pub use readers::{address, prefix};
 pub use texts::{Key, Line, Name};
 
 /// The greatest time of an event and the greatest clock offset, in nanoseconds.
@@ -32,3 +36,6 @@ pub const UNIT: u64 = 1024;
 
 /// The greatest length of a packet, in bytes.
 pub const LENGTH_MAX: u32 = 2048;
+
+#[cfg(test)]
+mod tests;

@@ -1,0 +1,90 @@
+// The texts of addresses and prefixes.
+ghost use Rattle.std.specs.Prelude.{◌≡◌, ◌≤◌, ◌<◌, ◌==◌, ◌%◌, ◌^◌, ◌-◌, IfSome, position, length};
+ghost use Rattle.std.specs.Option.{option_map};
+ghost use Rattle.tva_base.specs.Plan.{IsPrefix};
+ghost use Rattle.tva_base.specs.Addresses.{parted, octet_of, address_of, prefix_of, kept};
+
+use crate::addresses::{Address, Prefix};
+use crate::numbers::plain_decimal;
+
+/// The address of a text. `None` exactly where it isn't four numbers from 0 to 255 without leading
+/// zeros, joined by single dots.
+#[tactic(auto, unfolding(crate::specs::Addresses::address_of))]
+pub fn address(text: &[u8]) -> Option<Address>
+    ensures { result ≡ address_of text.now }
+{
+    let (first, rest) = part(text, b'.')?;
+    let (second, rest) = part(rest, b'.')?;
+    let (third, fourth) = part(rest, b'.')?;
+    let a = octet(first)?;
+    let b = octet(second)?;
+    let c = octet(third)?;
+    let d = octet(fourth)?;
+    Some(Address(((a * 256 + b) * 256 + c) * 256 + d))
+}
+
+/// The prefix of a text. `None` exactly where it isn't an address, a slash and a number from 0 to
+/// 32 without leading zeros. Bits past the length are taken as zero.
+#[tactic(auto, unfolding(crate::specs::Addresses::prefix_of))]
+pub fn prefix(text: &[u8]) -> Option<Prefix>
+    ensures value { result ≡ prefix_of text.now }
+    ensures valid { IfSome result IsPrefix }
+{
+    let (first, length) = part(text, b'/')?;
+    let address = address(first)?;
+    let bits = plain_decimal(length, 32)? as u8;
+    Some(Prefix {
+        address: cut(address, bits),
+        bits,
+    })
+}
+
+// What stands before the first such byte, and what stands behind it.
+#[tactic(auto, unfolding(crate::specs::Addresses::parted))]
+fn part(text: &[u8], byte: u8) -> Option<(&[u8], &[u8])>
+    ensures { option_map (λ p. (p.0.now, p.1.now)) result ≡ parted byte text.now }
+{
+    match place_of(text, byte) {
+        Some(at) => Some((&text[..at], &text[at + 1..])),
+        None => None,
+    }
+}
+
+// The place of the first such byte.
+fn place_of(text: &[u8], byte: u8) -> Option<usize>
+    ensures place { result ≡ position (λ b. b == byte) text.now }
+    ensures within { IfSome result (λ at. at < length text.now) }
+{
+    text.iter().position(|b| *b == byte)
+}
+
+// A number from 0 to 255.
+fn octet(text: &[u8]) -> Option<u32>
+    ensures value { result ≡ octet_of text.now }
+    ensures within { IfSome result (λ number. number ≤ 255) }
+{
+    match plain_decimal(text, 255) {
+        Some(number) => Some(number as u32),
+        None => None,
+    }
+}
+
+// The address with zeros past the first bits.
+#[tactic(auto, using(crate::proofs::Prefixes::multiple))]
+fn cut(address: Address, bits: u8) -> Address
+    requires { bits ≤ 32 }
+    ensures kept { result ≡ kept address bits }
+    ensures zeros { result.0 % 2 ^ (32 - bits) ≡ 0 }
+{
+    let size = size_past(bits);
+    Address((u64::from(address.0) / size * size) as u32)
+}
+
+// How many addresses begin with the same first bits.
+fn size_past(bits: u8) -> u64
+    requires { bits ≤ 32 }
+    ensures size { result ≡ 2 ^ (32 - bits) }
+    ensures some { 1 ≤ result }
+{
+    1 << (32 - bits)
+}
