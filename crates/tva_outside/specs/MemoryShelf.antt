@@ -6,14 +6,18 @@ use Rattle.tva_outside.specs.Held.{bytes_at}
 use Rattle.tva_outside.specs.HeldFiles.{IsCopy}
 use Rattle.tva_outside.specs.ShelfState.{ShelfState}
 use Rattle.tva_outside.specs.declared.shelf.Loaded.{Loaded}
+use Rattle.tva_outside.specs.declared.shelf.Loaded.TheVariants.{Bytes, Failed, TooLarge, OutOfMemory}
 
 -- the next load is to fail
 abbrev pub next_load_fails : ShelfState → Bool
 next_load_fails shelf = is_due shelf.failing (one_more shelf.loads)
 
--- a shelf after its next load: one load more, and one fault more at a load that is to fail
-abbrev pub after_load : ShelfState → ShelfState
-after_load shelf = record shelf { loads = one_more shelf.loads; faults = if next_load_fails shelf then one_more shelf.faults else shelf.faults }
+-- a shelf after its next load: one load more, and one fault more at a load that was to fail; want of memory changes nothing
+abbrev pub after_load : ShelfState → Loaded → ShelfState
+after_load shelf (Bytes bytes) = record shelf { loads = one_more shelf.loads }
+after_load shelf Failed = record shelf { loads = one_more shelf.loads; faults = if next_load_fails shelf then one_more shelf.faults else shelf.faults }
+after_load shelf (TooLarge k) = record shelf { loads = one_more shelf.loads }
+after_load shelf OutOfMemory = shelf
 
 -- a load of the name fails: it is to, or nothing is held there
 abbrev pub FailsToLoad : ShelfState → List ℕ → Type 0

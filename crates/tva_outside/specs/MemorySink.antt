@@ -1,8 +1,7 @@
 -- What a sink in memory answers, exactly.
-use Rattle.std.specs.Prelude.{if◌then◌else◌, ◌≡◌, ℕ, min, Bool, true, false, List, ◌++◌, length}
+use Rattle.std.specs.Prelude.{◌≡◌, ℕ, min, Bool, true, false, List, ◌++◌, length, take}
 use Rattle.tva_outside.specs.Calls.{is_due}
 use Rattle.tva_outside.specs.Faults.{one_more}
-use Rattle.tva_outside.specs.Sink.{taken}
 use Rattle.tva_outside.specs.SinkState.{SinkState}
 use Rattle.tva_outside.specs.declared.sink.Wrote.{Wrote}
 use Rattle.tva_outside.specs.declared.sink.Wrote.TheVariants.{Count, Failed, OutOfMemory}
@@ -11,9 +10,11 @@ use Rattle.tva_outside.specs.declared.sink.Wrote.TheVariants.{Count, Failed, Out
 abbrev pub next_write_fails : SinkState → Bool
 next_write_fails sink = is_due sink.failing (one_more sink.writes)
 
--- a sink after its next write: what the write took stands last, and there is one write more, and one fault more at a write that is to fail
+-- a sink after its next write: one write more, what it took stands last, and one fault more at a failure; want of memory changes nothing
 abbrev pub after_write : SinkState → List ℕ → Wrote → SinkState
-after_write sink piece wrote = record sink { bytes = sink.bytes ++ taken wrote piece; writes = one_more sink.writes; faults = if next_write_fails sink then one_more sink.faults else sink.faults }
+after_write sink piece (Count n) = record sink { bytes = sink.bytes ++ take n piece; writes = one_more sink.writes }
+after_write sink piece Failed = record sink { writes = one_more sink.writes; faults = one_more sink.faults }
+after_write sink piece OutOfMemory = sink
 
 -- what the next write answers
 abbrev pub AnswersWrite : SinkState → List ℕ → Wrote → Type 0

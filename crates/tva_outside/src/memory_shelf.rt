@@ -14,6 +14,7 @@ use std::marker::Model;
 
 /// A shelf in memory, which tells what it holds. Contracts see what is held, the numbers of the
 /// loads that are to fail, and how many loads were made and how many of them failed as they were to.
+/// A load that finds no memory changes nothing, and is not counted among the loads.
 #[derive(Drop)]
 pub struct MemoryShelf {
     alloc: Global,
@@ -76,16 +77,22 @@ impl Shelf for MemoryShelf {
         ensures held { Some self.new.files ≡ Some self.old.files }
         ensures never_falls { self.old.faults ≤ self.new.faults }
         ensures answer { IsLoaded (Some self.old.files) name.now max self.old.faults self.new.faults result }
-        ensures state { self.new ≡ after_load self.old }
+        ensures state { self.new ≡ after_load self.old result }
         ensures failed { (result ≡ Loaded.Failed) ↔ FailsToLoad self.old name.now }
         ensures copied { CopiesUnlessDue self.old name.now max result }
     {
-        self.loads = self.loads.saturating_add(1);
-        if is_due(&self.failing, self.loads) {
+        let number = self.loads.saturating_add(1);
+        if is_due(&self.failing, number) {
+            self.loads = number;
             self.faults = self.faults.saturating_add(1);
             return Loaded::Failed;
         }
-        copy(alloc, &self.files, name, max)
+        let loaded = copy(alloc, &self.files, name, max);
+        if let Loaded::OutOfMemory = loaded {
+            return Loaded::OutOfMemory;
+        }
+        self.loads = number;
+        loaded
     }
 }
 

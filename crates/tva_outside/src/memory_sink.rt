@@ -11,7 +11,7 @@ use std::marker::Model;
 
 /// A sink in memory, which tells its bytes. Contracts see these, how many bytes a write takes at
 /// most, the numbers of the writes that are to fail, and how many writes were made and how many of
-/// them failed.
+/// them failed. A write that finds no memory changes nothing, and is not counted among the writes.
 #[derive(Drop)]
 pub struct MemorySink {
     bytes: Vec<u8>,
@@ -77,8 +77,9 @@ impl Sink for MemorySink {
         ensures state { self.new ≡ after_write self.old piece.now result }
         ensures exact { AnswersWrite self.old piece.now result }
     {
-        self.writes = self.writes.saturating_add(1);
-        if is_due(&self.failing, self.writes) {
+        let number = self.writes.saturating_add(1);
+        if is_due(&self.failing, number) {
+            self.writes = number;
             self.faults = self.faults.saturating_add(1);
             return Wrote::Failed;
         }
@@ -86,6 +87,7 @@ impl Sink for MemorySink {
         if self.bytes.extend_from_slice(&piece[..count]).is_err() {
             return Wrote::OutOfMemory;
         }
+        self.writes = number;
         Wrote::Count(count)
     }
 }
