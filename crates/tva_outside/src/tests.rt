@@ -15,6 +15,11 @@ fn told<S: Shelf>(shelf: &mut S, alloc: Global, name: &str, max: u64) -> Result<
     format!(in alloc; "{:?}", shelf.load(alloc, name, max))
 }
 
+// Whether a load gave these bytes.
+fn holds(loaded: &Loaded, bytes: &[u8]) -> bool {
+    matches!(loaded, Loaded::Bytes(held) if held.as_slice() == bytes)
+}
+
 #[test]
 fn a_shelf_in_memory_answers_as_told(rt: HostRuntime) -> Result<(), Fail> {
     let alloc = rt.alloc();
@@ -91,7 +96,7 @@ fn a_file_is_loaded_within_its_limit(rt: HostRuntime) -> Result<(), Fail> {
     let whole = shelf.load(alloc, "long.bin", 10_000);
     let refused = told(&mut shelf, alloc, "long.bin", 9_999)?;
     fs::remove_file(&rt, "long.bin")?;
-    assert!(rt; matches!(whole, Loaded::Bytes(bytes) if bytes.as_slice() == long.as_slice()));
+    assert!(rt; holds(&whole, &long));
     assert_eq!(rt; refused.as_str(), "TooLarge(10000)");
     let missing = told(&mut shelf, alloc, "long.bin", 10_000)?;
     assert_eq!(rt; missing.as_str(), "Failed");
