@@ -1,0 +1,22 @@
+-- A map of files as what is held under each name.
+use Rattle.std.specs.Prelude.{◌≡◌, ℕ, ◌+◌, ◌<◌, ◌≤◌, List, [], ◌∷◌, length, IsSomeAnd, None, Some, String, Vec, string_bytes}
+use Rattle.std.specs.declared.alloc.Global.{Global}
+use Rattle.std.specs.BTreeMap.{BTreeMap}
+use Rattle.std.specs.FinMap.{empty, insert}
+use Rattle.tva_outside.specs.declared.shelf.Loaded.{Loaded}
+use Rattle.tva_outside.specs.declared.shelf.Loaded.TheVariants.{Bytes, Failed, TooLarge, OutOfMemory}
+use Rattle.tva_outside.specs.Held.{Held, bytes_at}
+
+abbrev pub held_of : List (String Global × Vec ℕ Global) → Held
+held_of [] = empty
+held_of (e ∷ es) = insert (held_of es) (string_bytes e.0) e.1.items
+
+abbrev pub held_in : BTreeMap (String Global) (Vec ℕ Global) → Held
+held_in files = held_of files.entries
+
+-- what a copy of what is held under a name, of at most so many bytes, comes to
+abbrev pub IsCopy : Held → List ℕ → ℕ → Loaded → Type 0
+IsCopy files name max (Bytes bytes) = (bytes_at files name ≡ Some bytes.items) × (length bytes.items ≤ max)
+IsCopy files name max Failed = bytes_at files name ≡ None
+IsCopy files name max (TooLarge k) = IsSomeAnd (bytes_at files name) (λ bytes. max < length bytes) × (k ≡ max + 1)
+IsCopy files name max OutOfMemory = IsSomeAnd (bytes_at files name) (λ bytes. length bytes ≤ max)

@@ -1,0 +1,12 @@
+pub mod Calls
+pub mod Edge
+pub mod Faults
+pub mod Held
+pub mod HeldFiles
+pub mod MemoryShelf
+pub mod MemorySink
+pub mod Reading
+pub mod Shelf
+pub mod ShelfState
+pub mod Sink
+pub mod SinkState

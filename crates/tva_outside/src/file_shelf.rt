@@ -1,0 +1,111 @@
+// The files of the system. What they hold isn't told; their failures are counted.
+ghost use Rattle.std.specs.Prelude.{◌≡◌, ◌≤◌, ◌^◌, None};
+ghost use Rattle.tva_outside.specs.Edge.{faults_after_load};
+ghost use Rattle.tva_outside.specs.Reading.{IsWithin};
+ghost use Rattle.tva_outside.specs.Shelf.{IsLoaded};
+
+use crate::{Loaded, Shelf};
+use std::alloc::Global;
+use std::fs;
+use std::io::{Error, ErrorKind, Read};
+use std::marker::Model;
+use std::rt::Files;
+
+/// The files of the system, each under its path. Contracts see the count of failures.
+#[derive(Drop)]
+pub struct FileShelf<'a, R: Files> {
+    rt: &'a R,
+    faults: u64,
+}
+
+impl<'a, R: Files> Model for FileShelf<'a, R> {
+    ghost use Rattle.std.specs.Prelude.{ℕ};
+
+    ghost Value = { ℕ };
+
+    ghost view = { λ s. s.faults };
+}
+
+impl<'a, R: Files> FileShelf<'a, R> {
+    /// A shelf of the runtime's files, at which nothing has failed.
+    pub fn new(rt: &'a R) -> FileShelf<'a, R>
+        ensures { result ≡ 0 }
+    {
+        FileShelf { rt, faults: 0 }
+    }
+}
+
+impl<'a, R: Files> Shelf for FileShelf<'a, R> {
+    ghost held = { λ _. None };
+
+    ghost faults = { λ s. s };
+
+    fn load(&mut self, alloc: Global, name: &str, max: u64) -> Loaded
+        requires { max ≤ 2 ^ 40 }
+        ensures never_falls { self.old ≤ self.new }
+        ensures answer { IsLoaded None name.now max self.old self.new result }
+        ensures counted { self.new ≡ faults_after_load self.old result }
+    {
+        let reading = match fs::open(self.rt, name) {
+            Ok(mut file) => read_whole(alloc, &mut file, max),
+            Err(error) => broken_off(&error),
+        };
+        match reading {
+            Reading::Whole(bytes) => Loaded::Bytes(bytes),
+            Reading::Longer => Loaded::TooLarge(max + 1),
+            Reading::OutOfMemory => Loaded::OutOfMemory,
+            Reading::Failed => {
+                self.faults = self.faults.saturating_add(1);
+                Loaded::Failed
+            }
+        }
+    }
+}
+
+// How reading a file ended.
+enum Reading {
+    Whole(Vec<u8>),
+    Longer,
+    Failed,
+    OutOfMemory,
+}
+
+// All of the bytes that a reader gives, where they are no more than the limit.
+fn read_whole<F: Read>(alloc: Global, file: &mut F, max: u64) -> Reading
+    requires { max ≤ 2 ^ 40 }
+    ensures { IsWithin max result }
+{
+    let mut bytes = Vec::new(alloc);
+    let mut piece = [0u8; 4096];
+    // A reader may be one that never ends.
+    for _ in 0..u64::MAX {
+        match file.read(&mut piece) {
+            Ok(0) => return Reading::Whole(bytes),
+            Ok(count) => {
+                if bytes.len() as u64 + count as u64 > max {
+                    return Reading::Longer;
+                }
+                if bytes.extend_from_slice(&piece[..count]).is_err() {
+                    return Reading::OutOfMemory;
+                }
+            }
+            Err(error) => {
+                // A read that a signal broke off is made again.
+                if error.kind() != ErrorKind::Interrupted {
+                    return broken_off(&error);
+                }
+            }
+        }
+    }
+    Reading::Failed
+}
+
+// The system's want of memory is no failure.
+fn broken_off(error: &Error) -> Reading
+    ensures { IsWithin 0 result }
+{
+    if error.kind() == ErrorKind::OutOfMemory {
+        return Reading::OutOfMemory;
+    }
+    Reading::Failed
+}
