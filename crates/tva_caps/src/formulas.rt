@@ -68,9 +68,10 @@ pub fn precap_with(secret: &[u8; 32], second: u64, flow: Flow) -> u64
     stamped_value(stamp, hasher)
 }
 
-/// The pre-capability that a router with this master mints for the flow in that router second.
-/// Its bytes, the highest first, are the second modulo 256 and the first 7 of the SHA-256 digest of
-/// the secret of the second's epoch, the source, the destination and that first byte.
+/// The pre-capability that a router with this master mints for the flow in that router second. Its
+/// 8 bytes, the highest first, are the second modulo 256 and the first 7 of the SHA-256 digest of
+/// the secret of the second's epoch (32 bytes), the source and the destination (4 each) and the
+/// second modulo 256. A secret is the digest of the master (32 bytes) and the epoch (8).
 #[tactic(auto, unfolding(crate::specs::Formula::precap_of))]
 pub fn precap_at(master: [u8; 32], second: u64, flow: Flow) -> u64
     requires { second ≤ 2000000 }
@@ -80,9 +81,9 @@ pub fn precap_at(master: [u8; 32], second: u64, flow: Flow) -> u64
     precap_with(&secret, second, flow)
 }
 
-/// The capability that a destination makes of a pre-capability, with the rights that it grants.
-/// Its bytes, the highest first, are the first of the pre-capability and the first 7 of the SHA-256
-/// digest of the pre-capability, the units in 2 bytes and the seconds in 1.
+/// The capability that a destination makes of a pre-capability, with the rights that it grants. Its
+/// 8 bytes, the highest first, are the first of the pre-capability and the first 7 of the SHA-256
+/// digest of the pre-capability (8 bytes), the units of 1,024 bytes (2) and the seconds (1).
 #[tactic(auto, unfolding(crate::specs::Formula::capability_of))]
 pub fn capability(precap: u64, rights: Rights) -> u64
     requires { AreRights rights }

@@ -9,8 +9,8 @@ use crate::secrets::Secrets;
 use std::marker::Model;
 use tva_base::{Flow, Grant, Rights, SECOND, Time};
 
-/// What a router answers to a shown capability: it is the flow's, under that grant, or its seconds
-/// are over, or it is none that this router made for the flow with these rights.
+/// What a router answers to a shown capability: it is good for that grant, or its seconds are over,
+/// or it is no capability of the flow with these rights.
 #[derive(Clone, Copy, Debug, PartialEq, Eq)]
 pub enum Checked {
     Valid(Grant),
@@ -18,8 +18,9 @@ pub enum Checked {
     BadHash,
 }
 
-/// The part of a router that mints and checks. Contracts see its master, its clock's offset in
-/// nanoseconds and the time of its last call, at first 0.
+/// The part of a router that mints pre-capabilities and checks capabilities. Contracts see its
+/// master, its clock's offset and the time of its last call, at first 0, both in nanoseconds. Times
+/// that are handed to one minter never fall, and are at most 10^15. No call takes memory.
 #[derive(Drop)]
 pub struct Minter {
     master: [u8; 32],
@@ -43,8 +44,8 @@ impl Model for Minter {
 impl Minter {
     ghost use Rattle.tva_caps.specs.Check.{IfValid, IsSecondOf, check_of};
 
-    /// The minter of a router whose secrets come from that master and whose clock is
-    /// `clock_offset` nanoseconds ahead.
+    /// The minter of a router whose secrets come from that master, and whose clock is so many
+    /// nanoseconds ahead.
     pub fn new(master: [u8; 32], clock_offset: u64) -> Minter
         requires { clock_offset ≤ 1000000000000000 }
         ensures { result ≡ record { master = master; clock_offset = clock_offset; last = 0 } }
@@ -58,8 +59,7 @@ impl Minter {
         }
     }
 
-    /// The pre-capability of the flow in the router second of `now`, which isn't before an earlier
-    /// call's.
+    /// The pre-capability of the flow in the router second of `now`.
     pub fn mint(&mut self, now: Time, flow: Flow) -> u64
         requires { MayCall self.old now.0 }
         ensures precap { result ≡ precap_of self.old.master flow (second_at self.old now.0) }
@@ -69,9 +69,10 @@ impl Minter {
         self.precap_kept(second, flow)
     }
 
-    /// What the router answers at `now`, which isn't before an earlier call's, to a packet of the
-    /// flow that shows `cap` with those rights. `Expired` comes where at least `t` router seconds
-    /// have passed since the last one with the value's time stamp.
+    /// What the router answers at `now` to a packet of the flow that shows `cap` with these rights.
+    /// The value's age is the router seconds since the last one with the value's first byte as its
+    /// stamp. `Expired` comes where the age is `t` or more, and `BadHash` where the value isn't the
+    /// capability of the pre-capability of the second that it came from, or there is no such second.
     #[tactic(auto, unfolding(crate::specs::Check::check_of, crate::specs::Check::checked_at))]
     pub fn check(&mut self, now: Time, flow: Flow, cap: u64, rights: Rights) -> Checked
         requires time { MayCall self.old now.0 }

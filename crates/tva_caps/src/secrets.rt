@@ -55,10 +55,10 @@ impl Secrets {
         requires kept { (epoch ≡ self.now.epoch) ⊎ (epoch + 1 ≡ self.now.epoch) }
         ensures secret { (master : List ℕ) → AreSecrets master self.now → result ≡ secret_of master epoch }
     {
-        if epoch == self.epoch {
-            self.current
-        } else {
+        if epoch < self.epoch {
             self.previous
+        } else {
+            self.current
         }
     }
 }
