@@ -7,7 +7,7 @@ use Rattle.tva_caps.specs.Formula.{age_of, capability_of, precap_of}
 use Rattle.tva_caps.specs.declared.minters.Checked.{Checked}
 use Rattle.tva_caps.specs.declared.minters.Checked.TheVariants.{BadHash, Expired, Valid}
 
--- what a router answers to a value of the right age, were it minted in that second
+-- what a router answers to a shown value that by its age comes from that router second
 unfoldable pub checked_at : List ℕ → Flow → ℕ → Rights → ℕ → Checked
 checked_at master flow shown rights minted =
     if shown == capability_of (precap_of master flow minted) rights
@@ -15,7 +15,7 @@ checked_at master flow shown rights minted =
     else BadHash
 
 -- what a router with this master answers to a value that is shown in a router second, for a flow
--- and with rights
+-- and with rights: expired by its age, or from before the clock's second 0, or by the formula
 unfoldable pub check_of : List ℕ → ℕ → Flow → ℕ → Rights → Checked
 check_of master second flow shown rights =
     if nat_le rights.t (age_of second shown) then Expired
