@@ -1,0 +1,3 @@
+pub mod Bytes
+pub mod Lasts
+pub mod Stamps

@@ -1,0 +1,4 @@
+pub mod Check
+pub mod Formula
+pub mod Kept
+pub mod Minting
