@@ -99,6 +99,10 @@ module _ {T : Type 0} where
       → (ltb l.ring (n + 1) || ltb l.queue_bytes (b + m) || ltb l.class_bytes (t + m)) ≡ lacks_room measure (fair l qs) key x
   lacks_room_is measure l key qs x n b t m e f g h = rw (e, f, g, h) refl
 
+  pub room_lacked : (measure : T → ℕ) (l : DrrLimits) (key : ℕ) (qs : List (Queue T)) (x : T) (n b t m : ℕ) (r : Bool) → n ≡ length (items_of key qs) → b ≡ bytes_in measure (items_of key qs) → t ≡ all_bytes measure qs → m ≡ measure x
+      → r ≡ (ltb l.ring (n + 1) || ltb l.queue_bytes (b + m) || ltb l.class_bytes (t + m)) → lacks_room measure (fair l qs) key x ≡ r
+  room_lacked measure l key qs x n b t m r e f g h k = sym (lacks_room_is measure l key qs x n b t m e f g h) ∙ sym k
+
   -- the answer by its tests
   pub answer_full : (measure : T → ℕ) (f : Fair T) (key : ℕ) (item : T) → lacks_queue f key ≡ false → lacks_room measure f key item ≡ true → QueueFull item ≡ offer_answer measure f key item
   answer_full measure f key item h k = rw (h, k) refl

@@ -1,10 +1,14 @@
 -- Slots that move between those that wait and those that are spare.
-use Rattle.std.proofs.Common.{◌≡◌, ℕ, ◌<◌, List, [], ◌∷◌, ◌++◌, length, get_or, set, take, drop, Some, None, refl, sym, ap, ◌∙◌, subst, zero, suc, arith, slice_get, length-append}
-use Rattle.std.specs.List.{All, AllByRecursion, remove}
+use Rattle.std.proofs.Common.{◌≡◌, ℕ, Bool, Option, is_none, ◌&&◌, leb, ◌<◌, List, [], ◌∷◌, ◌++◌, length, get_or, set, take, drop, Some, None, refl, sym, ap, ◌∙◌, subst, zero, suc, arith, slice_get, length-append}
+use Rattle.std.specs.List.{All, AllByRecursion}
 use Rattle.std.proofs.lemmas.List.{get_or-map, length-map, length-set}
 use Rattle.std.proofs.lemmas.List.Elements.{recursion_from_All}
 use Rattle.std.specs.Option.{option_map}
-use Rattle.tva_drr.specs.Queues.{Queue, queue, first}
+use Rattle.tva_base.specs.declared.limits.DrrLimits.{DrrLimits}
+use Rattle.tva_drr.specs.Queues.{Queue, queue, fair, first}
+use Rattle.tva_drr.specs.Offer.{lacks_queue}
+use Rattle.tva_drr.specs.Places.{IsPlace}
+use Rattle.tva_drr.proofs.Lists.{lacks_queue_is}
 use Rattle.tva_drr.specs.Slots.{SlotOf, slot, queues_in, HaveRoom, AreSpare, AreSlots}
 
 module _ {T : Type 0} where
@@ -12,13 +16,13 @@ module _ {T : Type 0} where
   first_of [] s n e = absurd (omega arith)
   first_of (w ∷ ws) s n e = ap (λ (x : SlotOf T). Some x.queue) (sym e)
 
-  next_removed : (P : Queue T → Type 0) (ws : List (SlotOf T)) → AllByRecursion P (queues_in ws) → (x : Queue T) → slice_get (queues_in (remove ws 0)) 0 ≡ Some x → P x
-  next_removed P [] a x e = absurd (cc)
-  next_removed P (w ∷ []) a x e = absurd (cc)
-  next_removed P (w ∷ v ∷ vs) a x e = let q : v.queue ≡ x = cc in subst P q a.1.0
+  next_left : (P : Queue T → Type 0) (ws : List (SlotOf T)) → AllByRecursion P (queues_in ws) → (x : Queue T) → slice_get (queues_in (drop 1 ws)) 0 ≡ Some x → P x
+  next_left P [] a x e = absurd (cc)
+  next_left P (w ∷ []) a x e = absurd (cc)
+  next_left P (w ∷ v ∷ vs) a x e = let q : v.queue ≡ x = cc in subst P q a.1.0
 
-  pub next_after_remove : (P : Queue T → Type 0) (ws : List (SlotOf T)) → All P (queues_in ws) → (x : Queue T) → slice_get (queues_in (remove ws 0)) 0 ≡ Some x → P x
-  next_after_remove P ws a x e = next_removed P ws (recursion_from_All P (queues_in ws) a) x e
+  pub next_after_leaving : (P : Queue T → Type 0) (ws : List (SlotOf T)) → All P (queues_in ws) → (x : Queue T) → slice_get (queues_in (drop 1 ws)) 0 ≡ Some x → P x
+  next_after_leaving P ws a x e = next_left P ws (recursion_from_All P (queues_in ws) a) x e
 
   next_turned : (P : Queue T → Type 0) (ws : List (SlotOf T)) → AllByRecursion P (queues_in ws) → (x : Queue T) → slice_get (queues_in (drop 1 ws ++ take 1 ws)) 0 ≡ Some x → P x
   next_turned P [] a x e = absurd (cc)
@@ -37,14 +41,14 @@ module _ {T : Type 0} where
   spare-push (w ∷ ws) s h e = (h.0, spare-push ws s h.1 e)
 
   -- the front leaves, and its slot is spare
-  pub slots-left : (count room : ℕ) (ws sp new : List (SlotOf T)) (s : SlotOf T) → 0 < length ws → s ≡ get_or ws 0 s → s.queue.items ≡ [] → ((n : ℕ) → HaveRoom n (remove ws 0) → HaveRoom n new) → length new ≡ length (remove ws 0)
-      → AreSlots count room ws sp → AreSlots count room new (sp ++ s ∷ [])
+  pub slots-left : (count room : ℕ) (ws sp new : List (SlotOf T)) (s : SlotOf T) → 0 < length ws → s ≡ get_or ws 0 s → s.queue.items ≡ [] → ((n : ℕ) → HaveRoom n (drop 1 ws) → HaveRoom n new) → length new ≡ length (drop 1 ws)
+      → AreSlots count room ws sp → AreSlots count room new (sp ++ take 1 ws)
   slots-left count room [] sp new s n e i r l a = absurd (omega arith)
   slots-left count room (w ∷ ws) sp new s n e i r l a = record {
-    total = omega (arith, a.total, l, length-append sp (s ∷ []));
+    total = omega (arith, a.total, l, length-append sp (w ∷ []));
     waiting_room = r room a.waiting_room.1;
-    spare_room = room-push room sp s a.spare_room (ap (λ (x : SlotOf T). x.room) e ∙ a.waiting_room.0);
-    empty = spare-push sp s a.empty i;
+    spare_room = room-push room sp w a.spare_room a.waiting_room.0;
+    empty = spare-push sp w a.empty (ap (λ (x : SlotOf T). x.queue.items) (sym e) ∙ i);
   }
 
   -- the front goes last
@@ -66,13 +70,6 @@ module _ {T : Type 0} where
   pub none_measured : (measure : T → ℕ) (xs : List T) → option_map measure (first xs) ≡ None → xs ≡ []
   none_measured measure [] h = refl
   none_measured measure (x ∷ xs) h = absurd (cc)
-
-  pub read_twice : (ws : List (SlotOf T)) (x y : SlotOf T) → 0 < length ws → x ≡ get_or ws 0 x → y ≡ get_or ws 0 y → x ≡ y
-  read_twice [] x y n p q = absurd (omega arith)
-  read_twice (w ∷ ws) x y n p q = p ∙ sym q
-
-  pub nothing_waits : (ss : List (SlotOf T)) → ss ≡ [] → queues_in ss ≡ []
-  nothing_waits ss e = ap queues_in e
 
   -- the queue in the slot at a place
   pub queue_read : (ws : List (SlotOf T)) (i : ℕ) (s : SlotOf T) → i < length ws → s ≡ get_or ws i s → s.queue ≡ get_or (queues_in ws) i s.queue
@@ -118,3 +115,7 @@ module _ {T : Type 0} where
     spare_room = (room-front room rest s (subst (HaveRoom room) e a.spare_room)).0;
     empty = (spare-front rest s (subst AreSpare e a.empty)).0;
   }
+
+  -- the tests of an offer, by what was found
+  pub queue_lacked : (l : DrrLimits) (key : ℕ) (ws : List (SlotOf T)) (at : Option ℕ) (b : Bool) → IsPlace key (queues_in ws) at → b ≡ (is_none at && leb l.queues (length ws)) → lacks_queue (fair l (queues_in ws)) key ≡ b
+  queue_lacked l key ws at b p e = sym (lacks_queue_is l key (queues_in ws) at p) ∙ (ap (λ n. is_none at && leb l.queues n) (length-queues ws) ∙ sym e)

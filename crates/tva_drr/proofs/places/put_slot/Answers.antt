@@ -61,7 +61,7 @@ returns-in-Some-pop-clause-left g c =
     let t = spare_taken c.args.limits.now.queues c.args.limits.now.ring ws c.args.spare.now.items c.pop.new.self.items c.in-Some-pop.slot c.requires.slots c.in-Some-pop.ensures.items in
     let q : c.push-in-Some-pop.new.self.queue ≡ queue c.args.key (cond (length (queues_in ws) == 0) c.args.limits.now.quantum 0) (c.args.item ∷ []) =
     rw (c.push-in-Some-pop.ensures, c.give.ensures, t.1, c.first_deficit.ensures, length-queues ws) refl in
-    rw (c.push_reserved.ensures.items, map_push (λ (x : SlotOf g.row.T.Denot). x.queue) ws c.push-in-Some-pop.new.self)
+    rw (c.push_back_reserved.ensures.items, map_push (λ (x : SlotOf g.row.T.Denot). x.queue) ws c.push-in-Some-pop.new.self)
     (ap (λ z. queues_in ws ++ z ∷ []) q ∙ sym (put_new c.args.limits.now.quantum c.args.key c.args.item (queues_in ws) p))
 
 pub returns-in-Some-pop-clause-slots : goal.returns-in-Some-pop-clause-slots
@@ -69,4 +69,4 @@ returns-in-Some-pop-clause-slots g c =
     let ws = c.args.waiting.now.items in
     let t = spare_taken c.args.limits.now.queues c.args.limits.now.ring ws c.args.spare.now.items c.pop.new.self.items c.in-Some-pop.slot c.requires.slots c.in-Some-pop.ensures.items in
     let k = ap (λ (x : SlotOf g.row.T.Denot). x.room) c.push-in-Some-pop.ensures ∙ (ap (λ (x : SlotOf g.row.T.Denot). x.room) c.give.ensures ∙ t.0) in
-    rw c.push_reserved.ensures.items (slots-taken c.args.limits.now.queues c.args.limits.now.ring ws c.args.spare.now.items c.pop.new.self.items c.in-Some-pop.slot c.push-in-Some-pop.new.self c.requires.slots c.in-Some-pop.ensures.items k)
+    rw c.push_back_reserved.ensures.items (slots-taken c.args.limits.now.queues c.args.limits.now.ring ws c.args.spare.now.items c.pop.new.self.items c.in-Some-pop.slot c.push-in-Some-pop.new.self c.requires.slots c.in-Some-pop.ensures.items k)

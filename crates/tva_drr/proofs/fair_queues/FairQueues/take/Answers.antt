@@ -1,4 +1,7 @@
-use Rattle.std.proofs.Common.{◌+◌, length, arith, ap, sym, ◌∙◌}
+use Rattle.std.proofs.Common.{◌+◌, length, arith, ap, sym, ◌∙◌, subst}
+use Rattle.tva_drr.specs.Queues.{fair}
+use Rattle.tva_drr.specs.Take.{front_settled}
+use Rattle.tva_drr.specs.Fair.{IsFair}
 use Rattle.tva_drr.specs.Slots.{queues_in, AreSlots}
 use Rattle.tva_drr.proofs.Keeps.{all_room-popped, keeps-taken}
 use Rattle.tva_drr.proofs.fair_queues.FairQueues.take.Goals as goal
@@ -19,3 +22,8 @@ invariant_of-self-2 g c =
     } in
     rw (c.settle_slots.ensures.left, p.left, c.length.ensures)
     (k.0, k.1, c.settle_slots.ensures.slots c.self.inside.limits.queues c.self.inside.limits.ring a, omega (arith, c.self.invariant.3, p.same.1, c.settle_slots.ensures.same.0), omega (arith, c.self.invariant.4, c.settle_slots.ensures.same.1))
+
+pub returns-clause-fair : goal.returns-clause-fair
+returns-clause-fair g c =
+    let k = keeps-taken g.T.Measured.measure c.self.inside.limits c.self.inside.bytes (queues_in c.self.inside.waiting.items) c.in_ok-item.item c.self.invariant.0 c.self.invariant.1 (sym c.pop_slot.ensures.value ∙ c.in_ok-item.was) in
+    subst (λ qs. IsFair g.T.Measured.measure (fair c.self.inside.limits qs)) (sym (c.settle_slots.ensures.left ∙ ap (front_settled g.T.Measured.measure c.self.inside.limits.quantum) c.pop_slot.ensures.left)) k.0
