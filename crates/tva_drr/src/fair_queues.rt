@@ -17,6 +17,9 @@ use std::collections::VecDeque;
 use std::marker::Model;
 use tva_base::DrrLimits;
 
+#[cfg(test)]
+mod tests;
+
 /// Fair queues of items, by deficit round robin (Shreedhar and Varghese, 1996). Contracts see the
 /// limits and one list of keys, deficits and items in ring order, in which no queue is empty.
 #[derive(Drop)]

@@ -4,6 +4,8 @@
 //! answers and leaves of that list. All memory is taken when the queues are made.
 #![tactic(auto)]
 
+#[cfg(test)]
+mod cases;
 mod fair_queues;
 mod measured;
 mod offered;

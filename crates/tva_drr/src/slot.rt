@@ -117,6 +117,21 @@ impl<T: Measured> Slot<T> {
     }
 }
 
+#[cfg(test)]
+impl<T: Measured> Slot<T> {
+    /// Writes the queue as a blank and KEY/DEFICIT/LENGTH,LENGTH.
+    pub fn show(&self, alloc: Global, text: &mut String) -> Result<(), AllocError> {
+        text.push_str(format!(in alloc; " {}/{}", self.key, self.deficit)?.as_str())?;
+        let mut mark = "/";
+        for item in self.ring.iter() {
+            text.push_str(mark)?;
+            text.push_str(format!(in alloc; "{}", item.length())?.as_str())?;
+            mark = ",";
+        }
+        Ok(())
+    }
+}
+
 /// All slots that the limits allow.
 pub(crate) fn slots<T: Measured>(
     alloc: Global,
