@@ -1,11 +1,13 @@
 // Fair queues: the list of queues in ring order, with one ring for each queue that there may be.
-ghost use Rattle.std.specs.Prelude.{◌≡◌, ◌≤◌, [], IfOk};
+ghost use Rattle.std.specs.Prelude.{◌≡◌, ℕ, ◌≤◌, [], IfOk, IfSome};
 ghost use Rattle.std.specs.Option.{option_map};
 ghost use Rattle.tva_base.specs.Plan.{AreDrrLimits};
 ghost use Rattle.tva_drr.specs.Queues.{fair, head};
 ghost use Rattle.tva_drr.specs.Offer.{offer_answer, offer_leaves};
 ghost use Rattle.tva_drr.specs.Take.{take_leaves};
 ghost use Rattle.tva_drr.specs.Fair.{IsFair};
+ghost use Rattle.tva_drr.specs.Order.{GoesLast, GoesFirst, IsFront};
+ghost use Rattle.tva_drr.specs.declared.offered.Offered.TheVariants.{Queued};
 
 use crate::measured::Measured;
 use crate::offered::Offered;
@@ -74,6 +76,7 @@ impl<T: Measured> FairQueues<T> {
         requires { (1 ≤ T.measure item) × (T.measure item ≤ self.old.limits.max) }
         ensures answer { result ≡ offer_answer T.measure self.old key item }
         ensures left { self.new ≡ offer_leaves T.measure self.old key item }
+        ensures last { result ≡ Queued → GoesLast key item self.old self.new }
         ensures fair { IsFair T.measure self.new }
     {
         let length = item.length();
@@ -115,6 +118,7 @@ impl<T: Measured> FairQueues<T> {
     pub fn take(&mut self) -> Option<T>
         ensures value { result ≡ head self.old.queues }
         ensures left { self.new ≡ take_leaves T.measure self.old }
+        ensures first { (key : ℕ) → IsFront key self.old.queues → IfSome result (λ item. GoesFirst key item self.old self.new) }
         ensures fair { IsFair T.measure self.new }
     {
         let item = pop_slot(&mut self.waiting)?;

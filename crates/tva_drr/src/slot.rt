@@ -122,11 +122,9 @@ impl<T: Measured> Slot<T> {
     /// Writes the queue as a blank and KEY/DEFICIT/LENGTH,LENGTH.
     pub fn show(&self, alloc: Global, text: &mut String) -> Result<(), AllocError> {
         text.push_str(format!(in alloc; " {}/{}", self.key, self.deficit)?.as_str())?;
-        let mut mark = "/";
-        for item in self.ring.iter() {
-            text.push_str(mark)?;
-            text.push_str(format!(in alloc; "{}", item.length())?.as_str())?;
-            mark = ",";
+        for (at, item) in self.ring.iter().enumerate() {
+            let mark = if at == 0 { '/' } else { ',' };
+            text.push_str(format!(in alloc; "{mark}{}", item.length())?.as_str())?;
         }
         Ok(())
     }

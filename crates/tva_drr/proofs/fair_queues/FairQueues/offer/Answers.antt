@@ -4,6 +4,8 @@ use Rattle.tva_drr.specs.Queues.{Fair, fair}
 use Rattle.tva_drr.specs.Offer.{lacks_queue, lacks_room, offer_answer, offer_leaves}
 use Rattle.tva_drr.specs.Slots.{queues_in}
 use Rattle.tva_drr.specs.Fair.{IsFair}
+use Rattle.tva_drr.specs.Order.{GoesLast}
+use Rattle.tva_drr.proofs.OrderLaws.{goes_last}
 use Rattle.tva_drr.proofs.Lists.{room_lacked, answer_full, answer_queued, leaves_queued, room_for}
 use Rattle.tva_drr.proofs.Keeps.{items-within, keeps-offer}
 use Rattle.tva_drr.proofs.SlotLists.{length-queues, queue_lacked}
@@ -77,3 +79,11 @@ returns-clause-left g c =
     let has_room : lacks_room g.T.Measured.measure (fair l (queues_in ws)) c.args.key c.args.item ≡ false = room_lacked g.T.Measured.measure l c.args.key (queues_in ws) c.args.item p.result.items p.result.bytes c.self.inside.bytes c.length-length.result false p.ensures.items p.ensures.bytes c.self.invariant.1 c.length-length.ensures (sym c.if-lacks_room.false ∙ c.lacks_room.ensures) in
     subst (λ (v : Fair g.row.T.Denot). fair l (queues_in c.put_slot.new.waiting.items) ≡ offer_leaves g.T.Measured.measure v c.args.key c.args.item) c.self.view_is
     (leaves_queued g.T.Measured.measure (fair l (queues_in ws)) (fair l (queues_in c.put_slot.new.waiting.items)) c.args.key c.args.item has_queue has_room (ap (fair l) c.put_slot.ensures.left))
+
+pub returns-clause-last : goal.returns-clause-last
+returns-clause-last g c = λ _.
+    let l = c.self.inside.limits in
+    let qs = queues_in c.self.inside.waiting.items in
+    let put = goes_last l l.quantum c.args.key c.args.item qs in
+    subst (λ (v : Fair g.row.T.Denot). GoesLast c.args.key c.args.item v (fair l (queues_in c.put_slot.new.waiting.items))) c.self.view_is
+    (subst (λ new. GoesLast c.args.key c.args.item (fair l qs) (fair l new)) (sym c.put_slot.ensures.left) put)

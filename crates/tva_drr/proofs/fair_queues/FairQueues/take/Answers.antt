@@ -1,5 +1,7 @@
 use Rattle.std.proofs.Common.{◌+◌, length, arith, ap, sym, ◌∙◌, subst}
-use Rattle.tva_drr.specs.Queues.{fair}
+use Rattle.tva_drr.specs.Queues.{Fair, fair}
+use Rattle.tva_drr.specs.Order.{GoesFirst, IsFront}
+use Rattle.tva_drr.proofs.OrderLaws.{goes_first}
 use Rattle.tva_drr.specs.Take.{front_settled}
 use Rattle.tva_drr.specs.Fair.{IsFair}
 use Rattle.tva_drr.specs.Slots.{queues_in, AreSlots}
@@ -27,3 +29,13 @@ pub returns-clause-fair : goal.returns-clause-fair
 returns-clause-fair g c =
     let k = keeps-taken g.T.Measured.measure c.self.inside.limits c.self.inside.bytes (queues_in c.self.inside.waiting.items) c.in_ok-item.item c.self.invariant.0 c.self.invariant.1 (sym c.pop_slot.ensures.value ∙ c.in_ok-item.was) in
     subst (λ qs. IsFair g.T.Measured.measure (fair c.self.inside.limits qs)) (sym (c.settle_slots.ensures.left ∙ ap (front_settled g.T.Measured.measure c.self.inside.limits.quantum) c.pop_slot.ensures.left)) k.0
+
+pub returns-clause-first : goal.returns-clause-first
+returns-clause-first g c key front =
+    let l = c.self.inside.limits in
+    let qs = queues_in c.self.inside.waiting.items in
+    let x = c.in_ok-item.item in
+    let stands : IsFront key qs = subst (λ (v : Fair g.row.T.Denot). IsFront key v.queues) (sym c.self.view_is) front in
+    let goes = goes_first g.T.Measured.measure l.quantum l key qs x c.self.invariant.0.queues.each stands (sym c.pop_slot.ensures.value ∙ c.in_ok-item.was) in
+    subst (λ (v : Fair g.row.T.Denot). GoesFirst key x v (fair l (queues_in c.settle_slots.new.waiting.items))) c.self.view_is
+    (subst (λ new. GoesFirst key x (fair l qs) (fair l new)) (sym (c.settle_slots.ensures.left ∙ ap (front_settled g.T.Measured.measure l.quantum) c.pop_slot.ensures.left)) goes)
