@@ -3,7 +3,7 @@ use Rattle.std.proofs.Common.{◌≡◌, ℕ, ◌+◌, ◌<◌, ◌≤◌, Bool,
 use Rattle.std.proofs.lemmas.Bool.Decides.{nat_tests, eqb_tells}
 use Rattle.std.proofs.lemmas.List.Sums.{sum_by-cons, sum_by_push}
 use Rattle.tva_base.specs.declared.limits.DrrLimits.{DrrLimits}
-use Rattle.tva_drr.specs.declared.offered.Offered.TheVariants.{Queued, NoQueue, QueueFull}
+use Rattle.tva_drr.specs.declared.offered.Offered.TheVariants.{Queued, QueueFull}
 use Rattle.tva_drr.specs.Queues.{Queue, queue, Fair, fair, has_key, items_of, queue_bytes, all_bytes, bytes_in}
 use Rattle.tva_drr.specs.Offer.{put, lacks_queue, lacks_room, offer_answer, offer_leaves}
 use Rattle.tva_drr.specs.Places.{IsPlace}

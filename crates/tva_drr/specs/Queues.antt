@@ -1,5 +1,5 @@
 -- Fair queues as one list in ring order.
-use Rattle.std.specs.Prelude.{◌≡◌, ℕ, ◌==◌, Bool, true, false, if◌then◌else◌, List, [], ◌∷◌, sum_by, Option, Some, None}
+use Rattle.std.specs.Prelude.{ℕ, ◌==◌, Bool, true, false, if◌then◌else◌, List, [], ◌∷◌, sum_by, Option, Some, None}
 use Rattle.tva_base.specs.declared.limits.DrrLimits.{DrrLimits}
 
 -- the items that wait under a key, oldest first, and how many bytes the queue may still send

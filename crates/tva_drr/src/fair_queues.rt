@@ -1,5 +1,5 @@
 // Fair queues: the list of queues in ring order, with one ring for each queue that there may be.
-ghost use Rattle.std.specs.Prelude.{◌≡◌, ℕ, ◌≤◌, [], IfOk, IfSome};
+ghost use Rattle.std.specs.Prelude.{◌≡◌, ℕ, ◌≤◌, ◌↔◌, [], IfOk, IfSome, IsNone};
 ghost use Rattle.std.specs.Option.{option_map};
 ghost use Rattle.tva_base.specs.Plan.{AreDrrLimits};
 ghost use Rattle.tva_drr.specs.Queues.{fair, head};
@@ -24,6 +24,11 @@ mod tests;
 
 /// Fair queues of items, by deficit round robin (Shreedhar and Varghese, 1996). Contracts see the
 /// limits and one list of keys, deficits and items in ring order, in which no queue is empty.
+///
+/// As the quantum is at least the greatest length, a queue that comes to the front with the
+/// quantum covers its first item, so a take searches nothing. A deficit is below the greatest
+/// length behind the front, and below that and the quantum together at the front: with both at
+/// most 2^30 it fits in 32 bits.
 #[derive(Drop)]
 pub struct FairQueues<T: Measured> {
     limits: DrrLimits,
@@ -46,7 +51,11 @@ impl<T: Measured> Model for FairQueues<T> {
 
     ghost view = { λ a. fair a.limits (queues_in a.waiting.items) };
 
-    ghost invariant = { λ a. IsFair T.measure (fair a.limits (queues_in a.waiting.items)) × (a.bytes ≡ all_bytes T.measure (queues_in a.waiting.items)) × AreSlots a.limits.queues a.limits.ring a.waiting.items a.spare.items × (a.limits.queues ≤ deque_capacity a.waiting) × (a.limits.queues ≤ vec_capacity a.spare) };
+    ghost invariant = { λ a. IsFair T.measure (fair a.limits (queues_in a.waiting.items))
+        × (a.bytes ≡ all_bytes T.measure (queues_in a.waiting.items))
+        × AreSlots a.limits.queues a.limits.ring a.waiting.items a.spare.items
+        × (a.limits.queues ≤ deque_capacity a.waiting)
+        × (a.limits.queues ≤ vec_capacity a.spare) };
 }
 
 impl<T: Measured> FairQueues<T> {
@@ -73,9 +82,10 @@ impl<T: Measured> FairQueues<T> {
     /// the limits of items or bytes in its queue, or of bytes in all, would be passed; a refusal
     /// hands the item back and changes nothing. It takes no memory.
     pub fn offer(&mut self, key: u32, item: T) -> Offered<T>
-        requires { (1 ≤ T.measure item) × (T.measure item ≤ self.old.limits.max) }
+        requires length { (1 ≤ T.measure item) × (T.measure item ≤ self.old.limits.max) }
         ensures answer { result ≡ offer_answer T.measure self.old key item }
         ensures left { self.new ≡ offer_leaves T.measure self.old key item }
+        // It waits behind its key's items, and no other item is touched.
         ensures last { result ≡ Queued → GoesLast key item self.old self.new }
         ensures fair { IsFair T.measure self.new }
     {
@@ -102,6 +112,7 @@ impl<T: Measured> FairQueues<T> {
     /// The length in bytes of what the next take gives, and none where nothing waits.
     pub fn head_length(&self) -> Option<u32>
         ensures value { result ≡ option_map T.measure (head self.now.queues) }
+        ensures none { IsNone result ↔ (self.now.queues ≡ []) }
         ensures fair { IsFair T.measure self.now }
     {
         if self.waiting.is_empty() {
@@ -117,8 +128,11 @@ impl<T: Measured> FairQueues<T> {
     /// now stands at the front gets the quantum. It takes no memory.
     pub fn take(&mut self) -> Option<T>
         ensures value { result ≡ head self.old.queues }
+        ensures none { IsNone result ↔ (self.old.queues ≡ []) }
         ensures left { self.new ≡ take_leaves T.measure self.old }
-        ensures first { (key : ℕ) → IsFront key self.old.queues → IfSome result (λ item. GoesFirst key item self.old self.new) }
+        // Of the front's key it was the first item, and no other item is touched.
+        ensures first { (key : ℕ) → IsFront key self.old.queues
+            → IfSome result (λ item. GoesFirst key item self.old self.new) }
         ensures fair { IsFair T.measure self.new }
     {
         let item = pop_slot(&mut self.waiting)?;

@@ -55,8 +55,11 @@ pub(crate) fn lacks_slot<T: Measured>(
 
 /// Whether one more item of this length passes a limit. All sums are below 2^31.
 pub(crate) fn lacks_room(limits: &DrrLimits, place: &Place, bytes: u32, length: u32) -> bool
-    requires { (place.now.items < 2 ^ 31) × (place.now.bytes < 2 ^ 31) × (bytes < 2 ^ 31) × (length < 2 ^ 31) }
-    ensures { result ≡ (nat_lt limits.now.ring (place.now.items + 1) || nat_lt limits.now.queue_bytes (place.now.bytes + length) || nat_lt limits.now.class_bytes (bytes + length)) }
+    requires { (place.now.items < 2 ^ 31) × (place.now.bytes < 2 ^ 31)
+        × (bytes < 2 ^ 31) × (length < 2 ^ 31) }
+    ensures { result ≡ (nat_lt limits.now.ring (place.now.items + 1)
+        || nat_lt limits.now.queue_bytes (place.now.bytes + length)
+        || nat_lt limits.now.class_bytes (bytes + length)) }
 {
     (limits.ring as usize) < place.items + 1
         || limits.queue_bytes < place.bytes + length
@@ -80,13 +83,16 @@ pub(crate) fn put_slot<T: Measured>(
     item: T,
 )
     requires place { IsPlace key (queues_in waiting.old.items) at }
-    requires fits { bytes_in T.measure (items_of key (queues_in waiting.old.items)) + T.measure item < 2 ^ 32 }
+    requires fits { bytes_in T.measure (items_of key (queues_in waiting.old.items))
+        + T.measure item < 2 ^ 32 }
     requires room { length (items_of key (queues_in waiting.old.items)) < limits.now.ring }
     requires slots { AreSlots limits.now.queues limits.now.ring waiting.old.items spare.old.items }
-    requires capacity { (limits.now.queues ≤ deque_capacity waiting.old) × (has_key key (queues_in waiting.old.items) ≡ false → length waiting.old.items < limits.now.queues) }
+    requires capacity { (limits.now.queues ≤ deque_capacity waiting.old)
+        × (has_key key (queues_in waiting.old.items) ≡ false → length waiting.old.items < limits.now.queues) }
     ensures left { queues_in waiting.new.items ≡ put limits.now.quantum key item (queues_in waiting.old.items) }
     ensures slots { AreSlots limits.now.queues limits.now.ring waiting.new.items spare.new.items }
-    ensures same { (deque_capacity waiting.new ≡ deque_capacity waiting.old) × (vec_capacity spare.new ≡ vec_capacity spare.old) }
+    ensures same { (deque_capacity waiting.new ≡ deque_capacity waiting.old)
+        × (vec_capacity spare.new ≡ vec_capacity spare.old) }
 {
     match at {
         Some(at) => waiting[at].push(item),

@@ -87,7 +87,8 @@ impl<T: Measured> Slot<T> {
     /// Adds to the deficit.
     pub fn refill(&mut self, quantum: u32)
         requires { self.old.queue.deficit + quantum < 2 ^ 32 }
-        ensures { self.new ≡ slot (queue self.old.queue.key (self.old.queue.deficit + quantum) self.old.queue.items) self.old.room }
+        ensures { self.new ≡ slot (queue self.old.queue.key (self.old.queue.deficit + quantum)
+            self.old.queue.items) self.old.room }
     {
         self.deficit += quantum;
     }
@@ -96,7 +97,8 @@ impl<T: Measured> Slot<T> {
     pub fn push(&mut self, item: T)
         requires room { length self.old.queue.items < self.old.room }
         requires fits { bytes_in T.measure self.old.queue.items + T.measure item < 2 ^ 32 }
-        ensures { self.new ≡ slot (queue self.old.queue.key self.old.queue.deficit (self.old.queue.items ++ item ∷ [])) self.old.room }
+        ensures { self.new ≡ slot (queue self.old.queue.key self.old.queue.deficit
+            (self.old.queue.items ++ item ∷ [])) self.old.room }
     {
         self.bytes += item.length();
         let _ = self.ring.push_back(item);
@@ -106,7 +108,8 @@ impl<T: Measured> Slot<T> {
     pub fn pop(&mut self) -> Option<T>
         requires { ForSome (first self.old.queue.items) (λ x. T.measure x ≤ self.old.queue.deficit) }
         ensures value { result ≡ first self.old.queue.items }
-        ensures left { IfSome result (λ x. self.new ≡ slot (queue self.old.queue.key (self.old.queue.deficit - T.measure x) (drop 1 self.old.queue.items)) self.old.room) }
+        ensures left { IfSome result (λ x. self.new ≡ slot (queue self.old.queue.key
+            (self.old.queue.deficit - T.measure x) (drop 1 self.old.queue.items)) self.old.room) }
         ensures none { IfNone result (self.new ≡ self.old) }
     {
         let item = self.ring.pop_front()?;

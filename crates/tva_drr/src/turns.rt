@@ -15,7 +15,8 @@ fn refill_slot<T: Measured>(waiting: &mut VecDeque<Slot<T>>, quantum: u32)
     requires { ForSome (slice_get (queues_in waiting.old.items) 0) (λ q. q.deficit + quantum < 2 ^ 32) }
     ensures left { queues_in waiting.new.items ≡ refilled quantum (queues_in waiting.old.items) }
     ensures room { (n : ℕ) → HaveRoom n waiting.old.items → HaveRoom n waiting.new.items }
-    ensures same { (length waiting.new.items ≡ length waiting.old.items) × (deque_capacity waiting.new ≡ deque_capacity waiting.old) }
+    ensures same { (length waiting.new.items ≡ length waiting.old.items)
+        × (deque_capacity waiting.new ≡ deque_capacity waiting.old) }
 {
     if !waiting.is_empty() {
         waiting[0].refill(quantum);
@@ -24,11 +25,13 @@ fn refill_slot<T: Measured>(waiting: &mut VecDeque<Slot<T>>, quantum: u32)
 
 /// Takes the front's first item, which its deficit covers.
 pub(crate) fn pop_slot<T: Measured>(waiting: &mut VecDeque<Slot<T>>) -> Option<T>
-    requires { ForSome (slice_get (queues_in waiting.old.items) 0) (λ q. ForSome (first q.items) (λ x. T.measure x ≤ q.deficit)) }
+    requires { ForSome (slice_get (queues_in waiting.old.items) 0)
+        (λ q. ForSome (first q.items) (λ x. T.measure x ≤ q.deficit)) }
     ensures value { result ≡ head (queues_in waiting.old.items) }
     ensures left { queues_in waiting.new.items ≡ front_popped T.measure (queues_in waiting.old.items) }
     ensures room { (n : ℕ) → HaveRoom n waiting.old.items → HaveRoom n waiting.new.items }
-    ensures same { (length waiting.new.items ≡ length waiting.old.items) × (deque_capacity waiting.new ≡ deque_capacity waiting.old) }
+    ensures same { (length waiting.new.items ≡ length waiting.old.items)
+        × (deque_capacity waiting.new ≡ deque_capacity waiting.old) }
 {
     if waiting.is_empty() {
         None
@@ -42,7 +45,8 @@ fn leave<T: Measured>(waiting: &mut VecDeque<Slot<T>>, spare: &mut Vec<Slot<T>>)
     requires capacity { length waiting.old.items + length spare.old.items ≤ vec_capacity spare.old }
     ensures waiting { waiting.new.items ≡ drop 1 waiting.old.items }
     ensures spare { spare.new.items ≡ spare.old.items ++ take 1 waiting.old.items }
-    ensures same { (deque_capacity waiting.new ≡ deque_capacity waiting.old) × (vec_capacity spare.new ≡ vec_capacity spare.old) }
+    ensures same { (deque_capacity waiting.new ≡ deque_capacity waiting.old)
+        × (vec_capacity spare.new ≡ vec_capacity spare.old) }
 {
     if let Some(slot) = waiting.pop_front() {
         spare.push_reserved(slot);
@@ -59,8 +63,10 @@ pub(crate) fn settle_slots<T: Measured>(
     requires deficits { All (λ q. q.deficit + quantum < 2 ^ 32) (queues_in waiting.old.items) }
     requires capacity { length waiting.old.items + length spare.old.items ≤ vec_capacity spare.old }
     ensures left { queues_in waiting.new.items ≡ front_settled T.measure quantum (queues_in waiting.old.items) }
-    ensures slots { (count room : ℕ) → AreSlots count room waiting.old.items spare.old.items → AreSlots count room waiting.new.items spare.new.items }
-    ensures same { (deque_capacity waiting.new ≡ deque_capacity waiting.old) × (vec_capacity spare.new ≡ vec_capacity spare.old) }
+    ensures slots { (count room : ℕ) → AreSlots count room waiting.old.items spare.old.items
+        → AreSlots count room waiting.new.items spare.new.items }
+    ensures same { (deque_capacity waiting.new ≡ deque_capacity waiting.old)
+        × (vec_capacity spare.new ≡ vec_capacity spare.old) }
 {
     if waiting.is_empty() {
         return;

@@ -1,9 +1,9 @@
+ghost use Rattle.std.specs.Prelude.{IfSome};
+
 use super::*;
 use crate::cases::CASES;
 use std::process::Abort;
 use std::test::Fail;
-
-ghost use Rattle.std.specs.Prelude.{IfSome};
 
 /// A parcel of so many bytes.
 #[derive(Drop)]
@@ -143,7 +143,11 @@ fn limits_turns_and_deficits(rt: HostRuntime) -> Result<(), Fail> {
         (3, 1, "NoQueue"),
         (2, 1, "QueueFull"),
     ] {
-        assert_eq!(rt; offer(&rt, &mut queues, key, bytes), wanted, "{key} {bytes}");
+        assert_eq!(rt;
+            offer(&rt, &mut queues, key, bytes),
+            wanted,
+            "{key} {bytes}"
+        );
     }
     for wanted in [Some(1500), Some(500), Some(1000), None] {
         assert_eq!(rt; queues.head_length(), wanted);

@@ -16,7 +16,7 @@ lacks_room-requires g c =
     let l = c.self.inside.limits in
     let w = items-within g.T.Measured.measure l c.args.key (queues_in c.self.inside.waiting.items) c.self.invariant.0.queues.each in
     let v = c.self.invariant.0.limits in
-    let within_max : g.T.Measured.measure c.args.item ≤ l.max = rw (ap (λ (f : Fair g.row.T.Denot). f.limits.max) c.self.view_is) c.requires.1 in
+    let within_max : g.T.Measured.measure c.args.item ≤ l.max = rw (ap (λ (f : Fair g.row.T.Denot). f.limits.max) c.self.view_is) c.requires.length.1 in
     let p = c.find_slot-place.ensures in
     (omega (arith, w.0, v.ring, p.items), omega (arith, w.1, v.queue_bytes, p.bytes), omega (arith, c.self.invariant.0.queues.bytes, v.class_bytes, c.self.invariant.1), omega (arith, within_max, v.quantum, c.length-length.ensures))
 
@@ -44,8 +44,8 @@ invariant_of-self g c =
     let p = c.find_slot-place in
     let has_queue : lacks_queue (fair l (queues_in ws)) c.args.key ≡ false = queue_lacked l c.args.key ws p.result.at false p.ensures.at (sym c.if-lacks_slot.false ∙ c.lacks_slot.ensures) in
     let has_room : lacks_room g.T.Measured.measure (fair l (queues_in ws)) c.args.key c.args.item ≡ false = room_lacked g.T.Measured.measure l c.args.key (queues_in ws) c.args.item p.result.items p.result.bytes c.self.inside.bytes c.length-length.result false p.ensures.items p.ensures.bytes c.self.invariant.1 c.length-length.ensures (sym c.if-lacks_room.false ∙ c.lacks_room.ensures) in
-    let within_max : g.T.Measured.measure c.args.item ≤ l.max = rw (ap (λ (f : Fair g.row.T.Denot). f.limits.max) c.self.view_is) c.requires.1 in
-    let k = keeps-offer g.T.Measured.measure l c.self.inside.bytes c.args.key (queues_in ws) c.args.item c.self.invariant.0 c.self.invariant.1 (c.requires.0, within_max) has_queue has_room in
+    let within_max : g.T.Measured.measure c.args.item ≤ l.max = rw (ap (λ (f : Fair g.row.T.Denot). f.limits.max) c.self.view_is) c.requires.length.1 in
+    let k = keeps-offer g.T.Measured.measure l c.self.inside.bytes c.args.key (queues_in ws) c.args.item c.self.invariant.0 c.self.invariant.1 (c.requires.length.0, within_max) has_queue has_room in
     let same = c.put_slot.ensures.same in
     rw (c.put_slot.ensures.left, c.length-length.ensures)
     (k.0, k.1, c.put_slot.ensures.slots, omega (arith, c.self.invariant.3, same.0), omega (arith, c.self.invariant.4, same.1))
@@ -57,8 +57,8 @@ returns-clause-fair g c =
     let p = c.find_slot-place in
     let has_queue : lacks_queue (fair l (queues_in ws)) c.args.key ≡ false = queue_lacked l c.args.key ws p.result.at false p.ensures.at (sym c.if-lacks_slot.false ∙ c.lacks_slot.ensures) in
     let has_room : lacks_room g.T.Measured.measure (fair l (queues_in ws)) c.args.key c.args.item ≡ false = room_lacked g.T.Measured.measure l c.args.key (queues_in ws) c.args.item p.result.items p.result.bytes c.self.inside.bytes c.length-length.result false p.ensures.items p.ensures.bytes c.self.invariant.1 c.length-length.ensures (sym c.if-lacks_room.false ∙ c.lacks_room.ensures) in
-    let within_max : g.T.Measured.measure c.args.item ≤ l.max = rw (ap (λ (f : Fair g.row.T.Denot). f.limits.max) c.self.view_is) c.requires.1 in
-    let k = keeps-offer g.T.Measured.measure l c.self.inside.bytes c.args.key (queues_in ws) c.args.item c.self.invariant.0 c.self.invariant.1 (c.requires.0, within_max) has_queue has_room in
+    let within_max : g.T.Measured.measure c.args.item ≤ l.max = rw (ap (λ (f : Fair g.row.T.Denot). f.limits.max) c.self.view_is) c.requires.length.1 in
+    let k = keeps-offer g.T.Measured.measure l c.self.inside.bytes c.args.key (queues_in ws) c.args.item c.self.invariant.0 c.self.invariant.1 (c.requires.length.0, within_max) has_queue has_room in
     subst (λ qs. IsFair g.T.Measured.measure (fair l qs)) (sym c.put_slot.ensures.left) k.0
 
 pub returns-clause-answer : goal.returns-clause-answer
