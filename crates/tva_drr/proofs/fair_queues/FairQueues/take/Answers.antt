@@ -1,0 +1,41 @@
+use Rattle.std.proofs.Common.{◌+◌, length, arith, ap, sym, ◌∙◌, subst}
+use Rattle.tva_drr.specs.Queues.{Fair, fair}
+use Rattle.tva_drr.specs.Order.{GoesFirst, IsFront}
+use Rattle.tva_drr.proofs.OrderLaws.{goes_first}
+use Rattle.tva_drr.specs.Take.{front_settled}
+use Rattle.tva_drr.specs.Fair.{IsFair}
+use Rattle.tva_drr.specs.Slots.{queues_in, AreSlots}
+use Rattle.tva_drr.proofs.Keeps.{all_room-popped, keeps-taken}
+use Rattle.tva_drr.proofs.fair_queues.FairQueues.take.Goals as goal
+
+pub settle_slots-requires-clause-deficits : goal.settle_slots-requires-clause-deficits
+settle_slots-requires-clause-deficits g c = rw c.pop_slot.ensures.left (all_room-popped g.T.Measured.measure c.self.inside.limits (queues_in c.self.inside.waiting.items) c.self.invariant.0.limits c.self.invariant.0.queues)
+
+pub invariant_of-self-2 : goal.invariant_of-self-2
+invariant_of-self-2 g c =
+    let k = keeps-taken g.T.Measured.measure c.self.inside.limits c.self.inside.bytes (queues_in c.self.inside.waiting.items) c.in_ok-item.item c.self.invariant.0 c.self.invariant.1 (sym c.pop_slot.ensures.value ∙ c.in_ok-item.was) in
+    let s = c.self.invariant.2 in
+    let p = c.pop_slot.ensures in
+    let a : AreSlots c.self.inside.limits.queues c.self.inside.limits.ring c.pop_slot.new.waiting.items c.self.inside.spare.items = record {
+      total = ap (λ n. n + length c.self.inside.spare.items) p.same.0 ∙ s.total;
+      waiting_room = p.room c.self.inside.limits.ring s.waiting_room;
+      spare_room = s.spare_room;
+      empty = s.empty;
+    } in
+    rw (c.settle_slots.ensures.left, p.left, c.length.ensures)
+    (k.0, k.1, c.settle_slots.ensures.slots c.self.inside.limits.queues c.self.inside.limits.ring a, omega (arith, c.self.invariant.3, p.same.1, c.settle_slots.ensures.same.0), omega (arith, c.self.invariant.4, c.settle_slots.ensures.same.1))
+
+pub returns-clause-fair : goal.returns-clause-fair
+returns-clause-fair g c =
+    let k = keeps-taken g.T.Measured.measure c.self.inside.limits c.self.inside.bytes (queues_in c.self.inside.waiting.items) c.in_ok-item.item c.self.invariant.0 c.self.invariant.1 (sym c.pop_slot.ensures.value ∙ c.in_ok-item.was) in
+    subst (λ qs. IsFair g.T.Measured.measure (fair c.self.inside.limits qs)) (sym (c.settle_slots.ensures.left ∙ ap (front_settled g.T.Measured.measure c.self.inside.limits.quantum) c.pop_slot.ensures.left)) k.0
+
+pub returns-clause-first : goal.returns-clause-first
+returns-clause-first g c key front =
+    let l = c.self.inside.limits in
+    let qs = queues_in c.self.inside.waiting.items in
+    let x = c.in_ok-item.item in
+    let stands : IsFront key qs = subst (λ (v : Fair g.row.T.Denot). IsFront key v.queues) (sym c.self.view_is) front in
+    let goes = goes_first g.T.Measured.measure l.quantum l key qs x c.self.invariant.0.queues.each stands (sym c.pop_slot.ensures.value ∙ c.in_ok-item.was) in
+    subst (λ (v : Fair g.row.T.Denot). GoesFirst key x v (fair l (queues_in c.settle_slots.new.waiting.items))) c.self.view_is
+    (subst (λ new. GoesFirst key x (fair l qs) (fair l new)) (sym (c.settle_slots.ensures.left ∙ ap (front_settled g.T.Measured.measure l.quantum) c.pop_slot.ensures.left)) goes)

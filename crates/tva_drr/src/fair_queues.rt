@@ -1,0 +1,143 @@
+// Fair queues: the list of queues in ring order, with one ring for each queue that there may be.
+ghost use Rattle.std.specs.Prelude.{◌≡◌, ℕ, ◌≤◌, ◌↔◌, [], IfOk, IfSome, IsNone};
+ghost use Rattle.std.specs.Option.{option_map};
+ghost use Rattle.tva_base.specs.Plan.{AreDrrLimits};
+ghost use Rattle.tva_drr.specs.Queues.{fair, head};
+ghost use Rattle.tva_drr.specs.Offer.{offer_answer, offer_leaves};
+ghost use Rattle.tva_drr.specs.Take.{take_leaves};
+ghost use Rattle.tva_drr.specs.Fair.{IsFair};
+ghost use Rattle.tva_drr.specs.Order.{GoesLast, GoesFirst, IsFront};
+ghost use Rattle.tva_drr.specs.declared.offered.Offered.TheVariants.{Queued};
+
+use crate::measured::Measured;
+use crate::offered::Offered;
+use crate::places::{find_slot, lacks_room, lacks_slot, put_slot};
+use crate::slot::{Slot, slots};
+use crate::turns::{pop_slot, settle_slots};
+use std::alloc::{AllocError, Global};
+use std::collections::VecDeque;
+use std::marker::Model;
+use tva_base::DrrLimits;
+
+#[cfg(test)]
+mod tests;
+
+/// Fair queues of items, by deficit round robin (Shreedhar and Varghese, 1996). Contracts see the
+/// limits and one list of keys, deficits and items in ring order, in which no queue is empty.
+///
+/// As the quantum is at least the greatest length, a queue that comes to the front with the
+/// quantum covers its first item, so a take searches nothing. A deficit is below the greatest
+/// length behind the front, and below that and the quantum together at the front: with both at
+/// most 2^30 it fits in 32 bits.
+#[derive(Drop)]
+pub struct FairQueues<T: Measured> {
+    limits: DrrLimits,
+    bytes: u32,
+    waiting: VecDeque<Slot<T>>,
+    spare: Vec<Slot<T>>,
+}
+
+impl<T: Measured> Model for FairQueues<T> {
+    ghost use Rattle.std.specs.Prelude.{◌≡◌, ◌≤◌, vec_capacity};
+    ghost use Rattle.std.specs.VecDeque.{deque_capacity};
+    ghost use Rattle.tva_drr.specs.Queues.{Fair, fair, all_bytes};
+    ghost use Rattle.tva_drr.specs.Fair.{IsFair};
+    ghost use Rattle.tva_drr.specs.Code.{fair_code};
+    ghost use Rattle.tva_drr.specs.Slots.{queues_in, AreSlots};
+
+    ghost Value = { Fair T };
+
+    ghost coded = { fair_code T.code };
+
+    ghost view = { λ a. fair a.limits (queues_in a.waiting.items) };
+
+    ghost invariant = { λ a. IsFair T.measure (fair a.limits (queues_in a.waiting.items))
+        × (a.bytes ≡ all_bytes T.measure (queues_in a.waiting.items))
+        × AreSlots a.limits.queues a.limits.ring a.waiting.items a.spare.items
+        × (a.limits.queues ≤ deque_capacity a.waiting)
+        × (a.limits.queues ≤ vec_capacity a.spare) };
+}
+
+impl<T: Measured> FairQueues<T> {
+    /// Fair queues without items, under these limits: so many queues, items in a queue, bytes in
+    /// a queue and bytes in all, the bytes of a quantum, and the greatest length of an item in
+    /// bytes. All their memory is taken here.
+    pub fn with_limits(alloc: Global, limits: DrrLimits) -> Result<FairQueues<T>, AllocError>
+        requires { AreDrrLimits limits }
+        ensures empty { IfOk result (λ queues. queues ≡ fair limits []) }
+        ensures fair { IfOk result (λ queues. IsFair T.measure queues) }
+    {
+        let waiting = VecDeque::with_capacity(alloc, limits.queues as usize)?;
+        let spare = slots(alloc, limits.queues, limits.ring)?;
+        Ok(FairQueues {
+            limits,
+            bytes: 0,
+            waiting,
+            spare,
+        })
+    }
+
+    /// Puts the item last among its key's items, and a new key last in the list. Refused with
+    /// `NoQueue` where the key has no queue and all queues are given, and with `QueueFull` where
+    /// the limits of items or bytes in its queue, or of bytes in all, would be passed; a refusal
+    /// hands the item back and changes nothing. It takes no memory.
+    pub fn offer(&mut self, key: u32, item: T) -> Offered<T>
+        requires length { (1 ≤ T.measure item) × (T.measure item ≤ self.old.limits.max) }
+        ensures answer { result ≡ offer_answer T.measure self.old key item }
+        ensures left { self.new ≡ offer_leaves T.measure self.old key item }
+        // It waits behind its key's items, and no other item is touched.
+        ensures last { result ≡ Queued → GoesLast key item self.old self.new }
+        ensures fair { IsFair T.measure self.new }
+    {
+        let length = item.length();
+        let place = find_slot(&self.waiting, key);
+        if lacks_slot(&self.limits, &place, &self.waiting) {
+            return Offered::NoQueue(item);
+        }
+        if lacks_room(&self.limits, &place, self.bytes, length) {
+            return Offered::QueueFull(item);
+        }
+        put_slot(
+            &self.limits,
+            &mut self.waiting,
+            &mut self.spare,
+            place.at,
+            key,
+            item,
+        );
+        self.bytes += length;
+        Offered::Queued
+    }
+
+    /// The length in bytes of what the next take gives, and none where nothing waits.
+    pub fn head_length(&self) -> Option<u32>
+        ensures value { result ≡ option_map T.measure (head self.now.queues) }
+        ensures none { IsNone result ↔ (self.now.queues ≡ []) }
+        ensures fair { IsFair T.measure self.now }
+    {
+        if self.waiting.is_empty() {
+            None
+        } else {
+            self.waiting[0].head_length()
+        }
+    }
+
+    /// Takes the front's first item, and none exactly where nothing waits. The front's deficit
+    /// falls by the item's length. A front without items then leaves the list with its deficit,
+    /// and one whose deficit is below its next item's length goes last; either way the queue that
+    /// now stands at the front gets the quantum. It takes no memory.
+    pub fn take(&mut self) -> Option<T>
+        ensures value { result ≡ head self.old.queues }
+        ensures none { IsNone result ↔ (self.old.queues ≡ []) }
+        ensures left { self.new ≡ take_leaves T.measure self.old }
+        // Of the front's key it was the first item, and no other item is touched.
+        ensures first { (key : ℕ) → IsFront key self.old.queues
+            → IfSome result (λ item. GoesFirst key item self.old self.new) }
+        ensures fair { IsFair T.measure self.new }
+    {
+        let item = pop_slot(&mut self.waiting)?;
+        self.bytes -= item.length();
+        settle_slots(&mut self.waiting, &mut self.spare, self.limits.quantum);
+        Some(item)
+    }
+}

@@ -1,0 +1,18 @@
+//! Fair queues by deficit round robin (Shreedhar and Varghese, 1996): items wait in queues by
+//! their keys, and each queue in turn sends about a quantum of bytes. A set of fair queues is one
+//! list of keys, deficits and items in ring order; its contract says of each call exactly what it
+//! answers and leaves of that list. All memory is taken when the queues are made.
+#![tactic(auto)]
+
+#[cfg(test)]
+mod cases;
+mod fair_queues;
+mod measured;
+mod offered;
+mod places;
+mod slot;
+mod turns;
+
+pub use fair_queues::FairQueues;
+pub use measured::Measured;
+pub use offered::Offered;
