@@ -6,7 +6,7 @@ pub mod Rows
 pub mod Rising
 pub mod Standing
 pub mod Counting
-pub mod Held
+pub mod ByEntry
 pub mod Admit
 pub mod Near
 pub mod Timely

@@ -1,5 +1,5 @@
 -- A cache goes on to stand for the history.
-use Rattle.std.proofs.Common.{◌≡◌, ℕ, ◌<◌, ◌≤◌, cond, same_flow, List, [], ◌∷◌, ◌++◌, length, set, get_or, Some, None, sym, ap, ◌∙◌, subst, inl, inr, ◌⊎◌, zero, suc, arith, length-append}
+use Rattle.std.proofs.Common.{◌≡◌, ℕ, ◌<◌, ◌≤◌, cond, List, [], ◌∷◌, ◌++◌, length, set, get_or, Some, None, sym, ap, ◌∙◌, subst, inl, inr, ◌⊎◌, zero, suc, arith, length-append}
 use Rattle.std.proofs.lemmas.List.{length-set}
 use Rattle.tva_base.specs.declared.packet.Grant.{Grant}
 use Rattle.tva_flow.specs.declared.kept.Entry.{Entry}
