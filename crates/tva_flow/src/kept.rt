@@ -86,7 +86,8 @@ pub(crate) fn judge_nonce(entry: &Entry, second: u128, nonce: u64, length: u32) 
 pub(crate) fn extended(entry: &Entry, grant: Grant, nonce: u64, length: u32) -> Entry
     requires near { (entry.now.end < 2 ^ 127) × (entry.now.used ≤ 2 ^ 42) }
     requires packet { (length ≤ 2048) × (1 ≤ grant.rights.n) }
-    ensures { result ≡ renewed entry.now grant nonce length }
+    ensures value { result ≡ renewed entry.now grant nonce length }
+    ensures ranges { (grant.rights.n < 2 ^ 32) × (grant.rights.t < 2 ^ 8) }
 {
     Entry {
         grant,
@@ -99,7 +100,8 @@ pub(crate) fn extended(entry: &Entry, grant: Grant, nonce: u64, length: u32) -> 
 /// The first entry of a run.
 pub(crate) fn fresh(now: u64, grant: Grant, nonce: u64, length: u32) -> Entry
     requires packet { (length ≤ 2048) × (1 ≤ grant.rights.n) }
-    ensures { result ≡ opened now grant nonce length }
+    ensures value { result ≡ opened now grant nonce length }
+    ensures ranges { (grant.rights.n < 2 ^ 32) × (grant.rights.t < 2 ^ 8) }
 {
     Entry {
         grant,

@@ -4,4 +4,4 @@ use Rattle.tva_flow.proofs.cache.find.Goals as goal
 
 pub loop-at-preserved : goal.loop-at-preserved
 loop-at-preserved c =
-    none_more_read c.args.flow c.args.entries.now.items c.loop-at.at _ c.loop-at.invariant (omega (arith, c.deref-entry-items.ensures.len, c.loop-at-test.true)) (rw c.deref-entry-items.ensures.value at c.if-entry-flow.false)
+    none_more_read c.args.flow.now c.args.entries.now.items c.loop-at.at _ c.loop-at.invariant (omega (arith, c.deref-entry-items.ensures.len, c.loop-at-test.true)) (rw c.deref-entry-items.ensures.value at ?)

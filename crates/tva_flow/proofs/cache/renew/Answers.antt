@@ -22,15 +22,15 @@ extended-requires-clause-packet c =
 
 pub returns-then-is_authorised-clause-answer : goal.returns-then-is_authorised-clause-answer
 returns-then-is_authorised-clause-answer c =
-    rw c.extended.ensures (answers-renewed c.args.now c.args.entries.now.items c.args.at c.index.result.now c.args.grant c.args.nonce c.args.bytes c.judge-verdict.result c.requires.place c.index.ensures
+    rw c.extended.ensures.value (answers-renewed c.args.now c.args.entries.now.items c.args.at c.index.result.now c.args.grant c.args.nonce c.args.bytes c.judge-verdict.result c.requires.place c.index.ensures
     (c.requires.live c.index.result.now c.index.ensures) c.judge-verdict.ensures (sym c.is_authorised.ensures ∙ c.if-is_authorised.true) c.requires.packet)
 
 pub returns-then-is_authorised-clause-near : goal.returns-then-is_authorised-clause-near
 returns-then-is_authorised-clause-near c =
     let n = near-get c.args.now c.args.entries.now.items c.args.at c.index.result.now c.requires.near c.requires.place c.index.ensures in
     let r = living_rows c.index.result.now c.args.grant c.args.bytes (judged c.index.result.now c.args.grant c.args.bytes c.judge-verdict.result c.judge-verdict.ensures (sym c.is_authorised.ensures ∙ c.if-is_authorised.true)) in
-    rw c.extended.ensures (near-set c.args.now c.args.entries.now.items c.args.at (renewed c.index.result.now c.args.grant c.args.nonce c.args.bytes) c.requires.near
-    (near-renewed c.args.now c.index.result.now c.args.grant c.args.nonce c.args.bytes n c.requires.packet ? ? r.0 r.1))
+    rw c.extended.ensures.value (near-set c.args.now c.args.entries.now.items c.args.at (renewed c.index.result.now c.args.grant c.args.nonce c.args.bytes) c.requires.near
+    (near-renewed c.args.now c.index.result.now c.args.grant c.args.nonce c.args.bytes n c.requires.packet c.extended.ensures.ranges.0 c.extended.ensures.ranges.1 r.0 r.1))
 
 pub returns-else-is_authorised-clause-answer : goal.returns-else-is_authorised-clause-answer
 returns-else-is_authorised-clause-answer c =

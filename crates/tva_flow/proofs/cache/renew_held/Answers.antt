@@ -24,7 +24,7 @@ pub returns-then-is_authorised-clause-answer : goal.returns-then-is_authorised-c
 returns-then-is_authorised-clause-answer c f s o last h k w l v =
     let e = c.index.result.now in
     let n = near-get c.args.now c.args.entries.now.items c.args.at e c.requires.near c.requires.place c.index.ensures in
-    rw c.extended.ensures (answers-held c.args.now c.args.second c.args.entries.now.items c.args.at e c.args.nonce c.args.bytes c.judge_nonce-verdict.result c.requires.place c.index.ensures
+    rw c.extended.ensures.value (answers-held c.args.now c.args.second c.args.entries.now.items c.args.at e c.args.nonce c.args.bytes c.judge_nonce-verdict.result c.requires.place c.index.ensures
     (c.requires.live e c.index.ensures) c.judge_nonce-verdict.ensures (sym c.is_authorised.ensures ∙ c.if-is_authorised.true) (packet_of c.args.now e c.args.bytes n c.requires.packet)
     f s o last h (k e c.index.ensures) w l v)
 
@@ -33,7 +33,7 @@ returns-then-is_authorised-clause-near c =
     let e = c.index.result.now in
     let n = near-get c.args.now c.args.entries.now.items c.args.at e c.requires.near c.requires.place c.index.ensures in
     let j = held_judged c.args.second e c.args.nonce c.args.bytes c.judge_nonce-verdict.result c.judge_nonce-verdict.ensures (sym c.is_authorised.ensures ∙ c.if-is_authorised.true) in
-    rw c.extended.ensures (near-set c.args.now c.args.entries.now.items c.args.at (renewed e e.grant c.args.nonce c.args.bytes) c.requires.near
+    rw c.extended.ensures.value (near-set c.args.now c.args.entries.now.items c.args.at (renewed e e.grant c.args.nonce c.args.bytes) c.requires.near
     (near-held c.args.now e c.args.nonce c.args.bytes n c.requires.packet (held_fits c.args.second e c.args.nonce c.args.bytes e.grant j).0))
 
 pub returns-else-is_authorised-clause-answer : goal.returns-else-is_authorised-clause-answer
