@@ -186,13 +186,15 @@ answers-unheld now second es i e nonce bytes r n q a t b f s o last h k c l v =
     admits-refused s o last now es h (nonce_verdict o h now f nonce bytes) nonce bytes r v l
     (subst (λ z. r ≡ nonce_verdict o h now z nonce bytes) k (t ∙ (ap (λ z. held_verdict z e nonce bytes) c ∙ sym (nonce_at s o last now es h i e nonce bytes v l n q a)))) b
 
--- a packet that shows a nonce of a flow with no entry, or with one that has ended
-pub answers-gone : (s o last now : ℕ) (es : List Entry) (h : List Charge) (at : Option ℕ) (f : Flow) (nonce bytes : ℕ) → StandsFor (cache s o last es) h → last ≤ now
-    → MatchOption at (entry_of f es ≡ None) (λ i. (i < length es) × ((e : Entry) → e ≡ get_or es i e → (e.grant.flow ≡ f) × (e.end ≤ now))) → Admits s o h now nonce bytes (nonce_verdict o h now f nonce bytes) UnknownNonce es
-answers-gone s o last now es h None f nonce bytes v l m =
-    admits-refused s o last now es h (nonce_verdict o h now f nonce bytes) nonce bytes UnknownNonce v l (nonce-gone o h now f nonce bytes (not_living (of_flow f h) now (none_dead s o last now es h f v l m))) refl
-answers-gone s o last now es h (Some i) f nonce bytes v l m =
-    let e = here es i m.0 in
-    let q = m.1 e.0 e.1 in
-    admits-refused s o last now es h (nonce_verdict o h now f nonce bytes) nonce bytes UnknownNonce v l
-    (nonce-gone o h now f nonce bytes (not_living (of_flow f h) now (dead_now (of_flow f h) last now e.0 l (kept_at s o last es h f i e.0 v m.0 e.1 q.0) q.1))) refl
+-- a packet that shows a nonce of a flow that doesn't live
+gone : (s o last now : ℕ) (es : List Entry) (h : List Charge) (f : Flow) (nonce bytes : ℕ) → StandsFor (cache s o last es) h → last ≤ now → end_of (of_flow f h) ≤ now → Admits s o h now nonce bytes (nonce_verdict o h now f nonce bytes) UnknownNonce es
+gone s o last now es h f nonce bytes v l d =
+    admits-refused s o last now es h (nonce_verdict o h now f nonce bytes) nonce bytes UnknownNonce v l (nonce-gone o h now f nonce bytes (not_living (of_flow f h) now d)) refl
+
+pub answers-none : (s o last now : ℕ) (es : List Entry) (h : List Charge) (f : Flow) (nonce bytes : ℕ) → StandsFor (cache s o last es) h → last ≤ now → entry_of f es ≡ None → Admits s o h now nonce bytes (nonce_verdict o h now f nonce bytes) UnknownNonce es
+answers-none s o last now es h f nonce bytes v l m = gone s o last now es h f nonce bytes v l (none_dead s o last now es h f v l m)
+
+pub answers-ended : (s o last now : ℕ) (es : List Entry) (h : List Charge) (i : ℕ) (e : Entry) (f : Flow) (nonce bytes : ℕ) → StandsFor (cache s o last es) h → last ≤ now → i < length es → e ≡ get_or es i e → e.grant.flow ≡ f → e.end ≤ now
+    → Admits s o h now nonce bytes (nonce_verdict o h now f nonce bytes) UnknownNonce es
+answers-ended s o last now es h i e f nonce bytes v l n q k d =
+    gone s o last now es h f nonce bytes v l (dead_now (of_flow f h) last now e l (kept_at s o last es h f i e v n q k) d)

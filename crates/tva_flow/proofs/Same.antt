@@ -46,6 +46,9 @@ by_flow a b P t f =
     by_bool (same_flow a b) P (λ k. t (flow_is a b k))
     (λ k. f (λ e. let s : same_flow a b ≡ true = subst (λ z. same_flow a z ≡ true) e (same_flow-self a) in absurd (cc)))
 
+pub not_same : (a b : Flow) (t : Bool) → t ≡ same_flow a b → t ≡ false → a ≡ b → ⊥
+not_same a b t s f e = let k : same_flow a b ≡ true = subst (λ z. same_flow a z ≡ true) e (same_flow-self a) in absurd (cc)
+
 -- two grants that test alike are one
 pub same_is : (a b : Grant) → same_grant a b ≡ true → a ≡ b
 same_is a b h =
