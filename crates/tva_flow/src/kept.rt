@@ -16,6 +16,13 @@ pub struct Entry {
     pub end: u128,
 }
 
+/// Whether the flow of the entry lives. At the very end of its life it doesn't.
+pub(crate) fn is_live(entry: &Entry, now: u64) -> bool
+    ensures { result ≡ nat_lt now entry.now.end }
+{
+    entry.end > u128::from(now)
+}
+
 /// Whether the flows are one.
 pub(crate) fn is_same_flow(a: &Flow, b: &Flow) -> bool
     ensures { result ≡ same_flow a.now b.now }

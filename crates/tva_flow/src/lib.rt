@@ -9,5 +9,12 @@ mod cache;
 mod kept;
 mod verdicts;
 
+#[cfg(test)]
+mod cases;
+#[cfg(test)]
+mod plain;
+#[cfg(test)]
+mod tests;
+
 pub use cache::FlowCache;
 pub use verdicts::Verdict;

@@ -1,4 +1,5 @@
-use Rattle.std.proofs.Common.{sym, ap, subst, arith}
+use Rattle.std.proofs.Common.{◌≡◌, ℕ, ◌≤◌, Bool, false, ltb, sym, ap, subst, arith}
+use Rattle.std.proofs.lemmas.Bool.Decides.{nat_tests}
 use Rattle.tva_flow.specs.Stands.{Cache, StandsFor}
 use Rattle.tva_flow.proofs.Admit.{answers-none, answers-ended}
 use Rattle.tva_flow.proofs.Near.{near-later}
@@ -6,11 +7,14 @@ use Rattle.tva_flow.proofs.Timely.{nonce-timely}
 use Rattle.tva_flow.proofs.Laws.{past-later}
 use Rattle.tva_flow.proofs.cache.FlowCache.admit_nonce.Goals as goal
 
+ended_by : (now end : ℕ) (t : Bool) → t ≡ ltb now end → t ≡ false → end ≤ now
+ended_by now end t s f = grind (arith, nat_tests)
+
 pub renew_held-requires-clause-near : goal.renew_held-requires-clause-near
 renew_held-requires-clause-near c = near-later c.self.inside.last c.args.now.0 c.self.inside.entries.items (rw (ap (λ (v : Cache). v.last) c.self.view_is) c.requires.time) c.self.invariant.2
 
-pub invariant_of-self-else-index-from : goal.invariant_of-self-else-index-from
-invariant_of-self-else-index-from c =
+pub invariant_of-self-else-is_live : goal.invariant_of-self-else-is_live
+invariant_of-self-else-is_live c =
     let i = c.self.invariant in
     (i.0, i.1, near-later c.self.inside.last c.args.now.0 c.self.inside.entries.items (rw (ap (λ (v : Cache). v.last) c.self.view_is) c.requires.time) i.2, i.3, i.4)
 
@@ -39,7 +43,7 @@ returns-in_default-clause-verdict c h v =
     let o = ap (λ (v : Cache). v.offset) c.self.view_is in
     rw (← o) (answers-ended c.self.inside.slots c.self.inside.clock_offset c.self.inside.last c.args.now.0 c.self.inside.entries.items h c.in-Some.place c.index.result.now c.args.flow c.args.nonce c.args.length
     (subst (λ (z : Cache). StandsFor z h) (sym c.self.view_is) v) (rw (ap (λ (v : Cache). v.last) c.self.view_is) c.requires.time)
-    c.in-Some.ensures.0 c.index.ensures (c.in-Some.ensures.1 c.index.result.now c.index.ensures) (omega (arith, c.if-index-from.false, c.from.ensures))).0
+    c.in-Some.ensures.0 c.index.ensures (c.in-Some.ensures.1 c.index.result.now c.index.ensures) (ended_by c.args.now.0 c.index.result.now.end c.is_live.result c.is_live.ensures c.if-is_live.false)).0
 
 pub returns-in_default-2-clause-verdict : goal.returns-in_default-2-clause-verdict
 returns-in_default-2-clause-verdict c h v =
