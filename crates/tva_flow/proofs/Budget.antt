@@ -209,9 +209,9 @@ budget_all slots o before (c ∷ cs) w a t =
 each : (slots o : ℕ) (h before cs : List Charge) → ((g : Grant) → bytes_of g cs ≤ bytes_of g h) → IsSparing h → AreNext slots o before cs → AllByRecursion (λ (c : Charge). bytes_of c.grant h < 2 * (1024 * c.grant.rights.n)) cs
 each slots o h before [] s w a = tt
 each slots o h before (c ∷ cs) s w a = (
-      w c.grant (omega (arith, s c.grant, sum_by-cons (bytes_under c.grant) c cs, bytes_own c c.grant (same_grant-self c.grant), a.0.packet.length)),
-      each slots o h (before ++ c ∷ []) cs (λ g. omega (arith, s g, sum_by-cons (bytes_under g) c cs)) w a.1,
-    )
+  w c.grant (omega (arith, s c.grant, sum_by-cons (bytes_under c.grant) c cs, bytes_own c c.grant (same_grant-self c.grant), a.0.packet.length)),
+  each slots o h (before ++ c ∷ []) cs (λ g. omega (arith, s g, sum_by-cons (bytes_under g) c cs)) w a.1,
+)
 
 -- no charges for which a cache stands give a grant twice its units
 pub budget : (slots o : ℕ) (h : List Charge) → AreNext slots o [] h → AreTimely o h → IsWithinBudget h

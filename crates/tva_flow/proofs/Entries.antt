@@ -66,8 +66,8 @@ apart-set (d ∷ ds) (suc i) old new a h s w =
     let here : new.grant.flow ≡ d.grant.flow → ⊥ = elim w [ inl x ↦ λ y. away (sym x ∙ y) | inr x ↦ λ y. (not_own new.grant.flow d ds x).0 (sym y) ] in
     let e = entry_of-set d.grant.flow ds i old new a.1 (omega arith) s rest in (
       e ∙ by_flow new.grant.flow d.grant.flow (λ b. cond b (Some new) (cond (same_flow old.grant.flow d.grant.flow) None (entry_of d.grant.flow ds)) ≡ None)
-      (λ q. absurd (here q))
-      (λ q. by_flow old.grant.flow d.grant.flow (λ b. cond b None (entry_of d.grant.flow ds) ≡ None) (λ o. refl) (λ o. a.0)),
+          (λ q. absurd (here q))
+          (λ q. by_flow old.grant.flow d.grant.flow (λ b. cond b None (entry_of d.grant.flow ds) ≡ None) (λ o. refl) (λ o. a.0)),
       apart-set ds i old new a.1 (omega arith) s rest,
     )
 

@@ -68,7 +68,7 @@ pub authorised_rows : (slots offset : ℕ) (before : List Charge) (c : Charge) �
 authorised_rows slots offset before c v = elim v [
   | inl t ↦ (let r = list_rows slots before c.time c.grant c.grant c.length t in (r.0, r.1))
   | inr t ↦ (let r = held offset before c.time c.grant.flow c.nonce c.length c.grant t in (
-      ap (λ x. lives before c.grant.flow c.time && x) (subst (λ o. supersedes o c.grant ≡ false) (sym r.is) (own_passes r.charge.grant c.grant r.grant)) ∙ and_false_right (lives before c.grant.flow c.time),
-      subst (λ (z : Grant). used before z c.time + c.length ≤ 1024 * z.rights.n) r.grant r.room,
-    ))
+    ap (λ x. lives before c.grant.flow c.time && x) (subst (λ o. supersedes o c.grant ≡ false) (sym r.is) (own_passes r.charge.grant c.grant r.grant)) ∙ and_false_right (lives before c.grant.flow c.time),
+    subst (λ (z : Grant). used before z c.time + c.length ≤ 1024 * z.rights.n) r.grant r.room,
+  ))
 ]

@@ -14,6 +14,9 @@ use std::alloc::{AllocError, Global};
 use std::marker::Model;
 use tva_base::{Flow, Grant, SECOND, Time};
 
+#[cfg(test)]
+mod tests;
+
 /// The flows of a router that live, each by its entry. Contracts see the number of its slots, how many
 /// nanoseconds its clock is ahead, the last time and the entries, of which there are at most as many
 /// as slots, and speak of all charges for which these stand. All memory is taken when it is made.
@@ -34,14 +37,12 @@ impl Model for FlowCache {
 
     ghost view = { λ a. cache a.slots a.clock_offset a.last a.entries.items };
 
-    ghost invariant = {
-        λ a.
+    ghost invariant = { λ a.
         (length a.entries.items ≤ a.slots)
         × (a.slots ≤ vec_capacity a.entries)
         × AreNear a.last a.entries.items
         × (a.slots ≤ 1000000)
-        × (a.clock_offset ≤ 1000000000000000)
-    };
+        × (a.clock_offset ≤ 1000000000000000) };
 }
 
 /// The router second of a time. Any time has one, so it is computed in 128 bits.
@@ -53,11 +54,9 @@ fn second_of(clock_offset: u64, now: u64) -> u128
 
 /// The place of the flow's entry.
 fn find(entries: &Vec<Entry>, flow: &Flow) -> Option<usize>
-    ensures {
-        MatchOption result (entry_of flow.now entries.now.items ≡ None) (λ at.
-            (at < length entries.now.items)
-            × ((e : Entry) → e ≡ slice_index_or entries.now.items at e → e.grant.flow ≡ flow.now))
-    }
+    ensures { MatchOption result (entry_of flow.now entries.now.items ≡ None) (λ at.
+        (at < length entries.now.items)
+        × ((e : Entry) → e ≡ slice_index_or entries.now.items at e → e.grant.flow ≡ flow.now)) }
 {
     for (at, entry) in entries.iter().enumerate() {
         if is_same_flow(&entry.grant.flow, flow) {
@@ -69,11 +68,9 @@ fn find(entries: &Vec<Entry>, flow: &Flow) -> Option<usize>
 
 /// The place of an entry that has ended.
 fn ended(entries: &Vec<Entry>, now: u64) -> Option<usize>
-    ensures {
-        MatchOption result (All (λ e. now < e.end) entries.now.items) (λ at.
-            (at < length entries.now.items)
-            × ((e : Entry) → e ≡ slice_index_or entries.now.items at e → e.end ≤ now))
-    }
+    ensures { MatchOption result (All (λ e. now < e.end) entries.now.items) (λ at.
+        (at < length entries.now.items)
+        × ((e : Entry) → e ≡ slice_index_or entries.now.items at e → e.end ≤ now)) }
 {
     for (at, entry) in entries.iter().enumerate() {
         if !is_live(entry, now) {
@@ -100,22 +97,16 @@ fn renew(
     bytes: u32,
 ) -> Verdict
     requires place { at < length entries.old.items }
-    requires live {
-        (e : Entry) → e ≡ slice_index_or entries.old.items at e
-        → (e.grant.flow ≡ grant.flow) × (now < e.end)
-    }
+    requires live { (e : Entry) → e ≡ slice_index_or entries.old.items at e
+        → (e.grant.flow ≡ grant.flow) × (now < e.end) }
     requires near { AreNear now entries.old.items }
     requires packet { IsPacket grant bytes }
-    ensures answer {
-        (s o last : ℕ) (h : List Charge) → last ≤ now
+    ensures answer { (s o last : ℕ) (h : List Charge) → last ≤ now
         → StandsFor (cache s o last entries.old.items) h
-        → Admits s o h now nonce bytes (list_verdict s h now grant bytes) result entries.new.items
-    }
+        → Admits s o h now nonce bytes (list_verdict s h now grant bytes) result entries.new.items }
     ensures near { AreNear now entries.new.items }
-    ensures same {
-        (length entries.new.items ≡ length entries.old.items)
-        × (vec_capacity entries.new ≡ vec_capacity entries.old)
-    }
+    ensures same { (length entries.new.items ≡ length entries.old.items)
+        × (vec_capacity entries.new ≡ vec_capacity entries.old) }
     ensures refused { is_authorised result ≡ false → entries.new.items ≡ entries.old.items }
 {
     let entry = entries[at];
@@ -140,18 +131,14 @@ fn renew_held(
     requires live { (e : Entry) → e ≡ slice_index_or entries.old.items at e → now < e.end }
     requires near { AreNear now entries.old.items }
     requires packet { (20 ≤ bytes) × (bytes ≤ 2048) }
-    ensures answer {
-        (f : Flow) (s o last : ℕ) (h : List Charge)
+    ensures answer { (f : Flow) (s o last : ℕ) (h : List Charge)
         → ((e : Entry) → e ≡ slice_index_or entries.old.items at e → e.grant.flow ≡ f)
         → second ≡ router_second o now → last ≤ now
         → StandsFor (cache s o last entries.old.items) h
-        → Admits s o h now nonce bytes (nonce_verdict o h now f nonce bytes) result entries.new.items
-    }
+        → Admits s o h now nonce bytes (nonce_verdict o h now f nonce bytes) result entries.new.items }
     ensures near { AreNear now entries.new.items }
-    ensures same {
-        (length entries.new.items ≡ length entries.old.items)
-        × (vec_capacity entries.new ≡ vec_capacity entries.old)
-    }
+    ensures same { (length entries.new.items ≡ length entries.old.items)
+        × (vec_capacity entries.new ≡ vec_capacity entries.old) }
     ensures refused { is_authorised result ≡ false → entries.new.items ≡ entries.old.items }
 {
     let entry = entries[at];
@@ -173,21 +160,17 @@ fn open(
     nonce: u64,
     bytes: u32,
 ) -> Verdict
-    requires place {
-        MatchOption at (entry_of grant.flow entries.old.items ≡ None) (λ i.
-            (i < length entries.old.items)
-            × ((e : Entry) → e ≡ slice_index_or entries.old.items i e
-                → (e.grant.flow ≡ grant.flow) × (e.end ≤ now)))
-    }
+    requires place { MatchOption at (entry_of grant.flow entries.old.items ≡ None) (λ i.
+        (i < length entries.old.items)
+        × ((e : Entry) → e ≡ slice_index_or entries.old.items i e
+        → (e.grant.flow ≡ grant.flow) × (e.end ≤ now))) }
     requires room { (length entries.old.items ≤ slots) × (slots ≤ vec_capacity entries.old) }
     requires near { AreNear now entries.old.items }
     requires packet { IsPacket grant bytes }
-    ensures answer {
-        (o last : ℕ) (h : List Charge) → last ≤ now
+    ensures answer { (o last : ℕ) (h : List Charge) → last ≤ now
         → StandsFor (cache slots o last entries.old.items) h
         → Admits slots o h now nonce bytes (list_verdict slots h now grant bytes) result
-            entries.new.items
-    }
+        entries.new.items }
     ensures near { AreNear now entries.new.items }
     ensures room { (length entries.new.items ≤ slots) × (slots ≤ vec_capacity entries.new) }
     ensures refused { is_authorised result ≡ false → entries.new.items ≡ entries.old.items }
@@ -243,23 +226,15 @@ impl FlowCache {
     pub fn admit_list(&mut self, now: Time, grant: Grant, nonce: u64, length: u32) -> Verdict
         requires time { self.old.last ≤ now.0 }
         requires packet { IsPacket grant length }
-        ensures verdict {
-            (h : List Charge) → StandsFor self.old h
-            → result ≡ list_verdict self.old.slots h now.0 grant length
-        }
-        ensures stands {
-            (h : List Charge) → StandsFor self.old h
-            → StandsFor self.new (h ++ charged result now.0 nonce length)
-        }
-        ensures timely {
-            (h : List Charge) → StandsFor self.old h → AreTimely self.old.offset h
+        ensures verdict { (h : List Charge) → StandsFor self.old h
+            → result ≡ list_verdict self.old.slots h now.0 grant length }
+        ensures stands { (h : List Charge) → StandsFor self.old h
+            → StandsFor self.new (h ++ charged result now.0 nonce length) }
+        ensures timely { (h : List Charge) → StandsFor self.old h → AreTimely self.old.offset h
             → IsWithinSeconds self.old.offset now.0 grant
-            → AreTimely self.old.offset (h ++ charged result now.0 nonce length)
-        }
+            → AreTimely self.old.offset (h ++ charged result now.0 nonce length) }
         ensures last { self.new.last ≡ now.0 }
-        ensures same {
-            (self.new.slots ≡ self.old.slots) × (self.new.offset ≡ self.old.offset)
-        }
+        ensures same { (self.new.slots ≡ self.old.slots) × (self.new.offset ≡ self.old.offset) }
         ensures refused { is_authorised result ≡ false → self.new.entries ≡ self.old.entries }
     {
         self.last = now.0;
@@ -288,22 +263,14 @@ impl FlowCache {
     pub fn admit_nonce(&mut self, now: Time, flow: Flow, nonce: u64, length: u32) -> Verdict
         requires time { self.old.last ≤ now.0 }
         requires packet { (20 ≤ length) × (length ≤ 2048) }
-        ensures verdict {
-            (h : List Charge) → StandsFor self.old h
-            → result ≡ nonce_verdict self.old.offset h now.0 flow nonce length
-        }
-        ensures stands {
-            (h : List Charge) → StandsFor self.old h
-            → StandsFor self.new (h ++ charged result now.0 nonce length)
-        }
-        ensures timely {
-            (h : List Charge) → StandsFor self.old h → AreTimely self.old.offset h
-            → AreTimely self.old.offset (h ++ charged result now.0 nonce length)
-        }
+        ensures verdict { (h : List Charge) → StandsFor self.old h
+            → result ≡ nonce_verdict self.old.offset h now.0 flow nonce length }
+        ensures stands { (h : List Charge) → StandsFor self.old h
+            → StandsFor self.new (h ++ charged result now.0 nonce length) }
+        ensures timely { (h : List Charge) → StandsFor self.old h → AreTimely self.old.offset h
+            → AreTimely self.old.offset (h ++ charged result now.0 nonce length) }
         ensures last { self.new.last ≡ now.0 }
-        ensures same {
-            (self.new.slots ≡ self.old.slots) × (self.new.offset ≡ self.old.offset)
-        }
+        ensures same { (self.new.slots ≡ self.old.slots) × (self.new.offset ≡ self.old.offset) }
         ensures refused { is_authorised result ≡ false → self.new.entries ≡ self.old.entries }
     {
         self.last = now.0;
@@ -319,9 +286,7 @@ impl FlowCache {
     /// How many flows live at that time, in nanoseconds, which isn't before an earlier one.
     pub fn living(&self, now: Time) -> u32
         requires { self.now.last ≤ now.0 }
-        ensures count {
-            (h : List Charge) → StandsFor self.now h → result ≡ living_count h now.0
-        }
+        ensures count { (h : List Charge) → StandsFor self.now h → result ≡ living_count h now.0 }
         ensures few { result ≤ self.now.slots }
     {
         live_entries(&self.entries, now.0) as u32
@@ -332,14 +297,10 @@ impl FlowCache {
     /// have less than twice its N units of 1,024 bytes. The bound is TVA's.
     pub fn slots(&self) -> u32
         ensures slots { result ≡ self.now.slots }
-        ensures budget {
-            (h : List Charge) → StandsFor self.now h → AreTimely self.now.offset h
-            → IsWithinBudget h
-        }
-        ensures living {
-            (h : List Charge) → StandsFor self.now h
-            → (now : ℕ) → self.now.last ≤ now → living_count h now ≤ self.now.slots
-        }
+        ensures budget { (h : List Charge) → StandsFor self.now h → AreTimely self.now.offset h
+            → IsWithinBudget h }
+        ensures living { (h : List Charge) → StandsFor self.now h
+            → (now : ℕ) → self.now.last ≤ now → living_count h now ≤ self.now.slots }
         ensures entries { length self.now.entries ≤ self.now.slots }
     {
         self.slots

@@ -6,15 +6,12 @@
 #![tactic(auto)]
 
 mod cache;
-mod kept;
-mod verdicts;
-
 #[cfg(test)]
 mod cases;
+mod kept;
 #[cfg(test)]
 mod plain;
-#[cfg(test)]
-mod tests;
+mod verdicts;
 
 pub use cache::FlowCache;
 pub use verdicts::Verdict;

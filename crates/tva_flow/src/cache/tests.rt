@@ -1,10 +1,9 @@
 use super::*;
 use crate::cases::CASES;
 use crate::plain::Charges;
-use std::alloc::Global;
 use std::process::Abort;
 use std::test::Fail;
-use tva_base::{Address, Flow, Grant, Rights, Time, address};
+use tva_base::{Address, Rights, address};
 
 fn crosses<T: Send + Sync>() {}
 
@@ -20,6 +19,13 @@ fn number(word: Option<&str>) -> u64 {
         return 0;
     };
     word.parse::<u64>().unwrap_or(0)
+}
+
+fn small_number(word: Option<&str>) -> u32 {
+    let Some(word) = word else {
+        return 0;
+    };
+    word.parse::<u32>().unwrap_or(0)
 }
 
 fn address_in(word: Option<&str>) -> Address {
@@ -41,7 +47,7 @@ fn caches(rt: &impl Abort, alloc: Global, line: &str) -> Result<(FlowCache, Char
 }
 
 /// The verdict and how many flows live, in the words of the cases.
-fn text(alloc: Global, verdict: Verdict, living: usize) -> Result<String, Fail> {
+fn text(alloc: Global, verdict: Verdict, living: u32) -> Result<String, Fail> {
     let name = match verdict {
         Verdict::Authorised(grant) => {
             let Rights { n, t } = grant.rights;
@@ -55,6 +61,35 @@ fn text(alloc: Global, verdict: Verdict, living: usize) -> Result<String, Fail> 
         Verdict::Superseded => "Superseded",
     };
     Ok(format!(in alloc; "{name} | {living}")?)
+}
+
+fn admit_list(
+    rt: &impl Abort,
+    cache: &mut FlowCache,
+    now: u64,
+    grant: Grant,
+    nonce: u64,
+    length: u32,
+) -> (Verdict, u32) {
+    assert!(rt; cache.last <= now);
+    assert!(rt; 1 <= grant.rights.t && grant.second <= 2_000_000);
+    assert!(rt; 20 <= length && length <= 2048);
+    let verdict = cache.admit_list(Time(now), grant, nonce, length);
+    (verdict, cache.living(Time(now)))
+}
+
+fn admit_nonce(
+    rt: &impl Abort,
+    cache: &mut FlowCache,
+    now: u64,
+    flow: Flow,
+    nonce: u64,
+    length: u32,
+) -> (Verdict, u32) {
+    assert!(rt; cache.last <= now);
+    assert!(rt; 20 <= length && length <= 2048);
+    let verdict = cache.admit_nonce(Time(now), flow, nonce, length);
+    (verdict, cache.living(Time(now)))
 }
 
 /// Makes the call of a line on the cache and on the list of all charges, which agree, and gives
@@ -72,32 +107,31 @@ fn answer(
     let src = address_in(words.next());
     let dst = address_in(words.next());
     let flow = Flow { src, dst };
-    let verdict;
-    let plain;
+    let by_cache;
+    let by_charges;
     if kind == Some("list") {
-        let rights = Rights {
-            n: number(words.next()) as u32,
-            t: number(words.next()) as u8,
-        };
+        let n = small_number(words.next());
+        let t = (small_number(words.next()) % 256) as u8;
         let second = number(words.next());
+        let rights = Rights { n, t };
         let grant = Grant {
             flow,
             rights,
             second,
         };
         let nonce = number(words.next());
-        let length = number(words.next()) as u32;
-        verdict = cache.admit_list(Time(now), grant, nonce, length);
-        plain = charges.admit_list(now, grant, nonce, length)?;
+        let length = small_number(words.next());
+        by_cache = admit_list(rt, cache, now, grant, nonce, length);
+        by_charges = charges.admit_list(now, grant, nonce, length)?;
     } else {
         let nonce = number(words.next());
-        let length = number(words.next()) as u32;
-        verdict = cache.admit_nonce(Time(now), flow, nonce, length);
-        plain = charges.admit_nonce(now, flow, nonce, length)?;
+        let length = small_number(words.next());
+        by_cache = admit_nonce(rt, cache, now, flow, nonce, length);
+        by_charges = charges.admit_nonce(now, flow, nonce, length)?;
     }
-    assert_eq!(rt; verdict, plain, "{call}");
-    let living = cache.living(Time(now)) as usize;
-    assert_eq!(rt; living, charges.living(now), "{call}");
+    let (verdict, living) = by_cache;
+    assert_eq!(rt; verdict, by_charges, "{call}");
+    assert_eq!(rt; living as usize, charges.living(now), "{call}");
     text(alloc, verdict, living)
 }
 
