@@ -29,7 +29,7 @@ of_flow f h = filter (λ c. same_flow c.grant.flow f) h
 abbrev pub credits : List Charge → ℕ
 credits cs = sum_by (λ c. credit_of c.length c.grant.rights) cs
 
--- the end of a flow's life, from the flow's charges: the greatest, over these charges, of a charge's
+-- the end of a flow's life, from the flow's charges: over these charges, the greatest of a charge's
 -- time plus the credits of the charges from it on
 abbrev pub end_of : List Charge → ℕ
 end_of [] = 0
@@ -42,12 +42,13 @@ is_living cs now = nat_lt now (end_of cs)
 abbrev pub lives : List Charge → Flow → ℕ → Bool
 lives h f now = is_living (of_flow f h) now
 
--- after the charges before, some charge finds the flow not living
+-- some charge finds the flow not living under the charges before it, the earlier ones among them
 abbrev pub restarts : List Charge → List Charge → Bool
 restarts before [] = false
 restarts before (c ∷ cs) = not (is_living before c.time) || restarts (before ++ c ∷ []) cs
 
--- after the charges before, the charges from the last one on that finds the flow not living
+-- the run of a flow, from the flow's charges: those from the last one on that finds the flow not
+-- living under the charges before it
 abbrev pub run : List Charge → List Charge → List Charge
 run before [] = []
 run before (c ∷ cs) = if restarts (before ++ c ∷ []) cs then run (before ++ c ∷ []) cs else c ∷ cs
@@ -55,6 +56,7 @@ run before (c ∷ cs) = if restarts (before ++ c ∷ []) cs then run (before ++ 
 abbrev pub run_of : List Charge → Flow → List Charge
 run_of h f = run [] (of_flow f h)
 
+-- the last of some charges, or that charge where there is none
 abbrev pub last_or : Charge → List Charge → Charge
 last_or c [] = c
 last_or c (d ∷ ds) = last_or d ds
@@ -67,10 +69,11 @@ last_charge (c ∷ cs) = Some (last_or c cs)
 abbrev pub holder : List Charge → Flow → Option Charge
 holder h f = last_charge (of_flow f h)
 
--- the sum of a grant: the bytes of its charges
+-- the bytes of a charge where it is one of the grant
 abbrev pub bytes_under : Grant → Charge → ℕ
 bytes_under g c = if same_grant c.grant g then c.length else 0
 
+-- the sum of a grant: the bytes of all its charges among these
 abbrev pub bytes_of : Grant → List Charge → ℕ
 bytes_of g h = sum_by (bytes_under g) h
 

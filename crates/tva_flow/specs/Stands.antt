@@ -6,8 +6,8 @@ use Rattle.tva_flow.specs.declared.kept.Entry.{Entry}
 use Rattle.tva_flow.specs.Charges.{Charge, same_flow, of_flow, end_of, is_living, run, bytes_of, last_charge}
 use Rattle.tva_flow.specs.Verdicts.{IsAuthorised}
 
--- a cache: its slots, how far its clock is ahead and the last time, in nanoseconds, and an entry
--- for each flow that is kept
+-- a cache: its slots, how far the router's clock is ahead and the last time, both in nanoseconds,
+-- and the entries that are kept
 pub record Cache : Type 0 where
   pub slots : ℕ
   pub offset : ℕ

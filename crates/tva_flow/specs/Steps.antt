@@ -9,10 +9,10 @@ use Rattle.tva_flow.specs.Charges.{Charge, same_grant}
 use Rattle.tva_flow.specs.Verdicts.{charged}
 use Rattle.tva_flow.specs.Stands.{cache, StandsFor}
 
--- The bounds that keep an entry's end far inside 128 bits. A credit is at most its length times
--- 2^38, and a grant's bytes are at most 2^42, so all credits under one grant are at most 2^80. In
--- one life the seconds of the grants only rise, so an end is at most 2^80 for each second past the
--- last time, and that is below 2^102.
+-- Why an end stays far inside 128 bits. A credit is at most 2^38 for each byte, as T is below 2^8 and
+-- 10^9 below 2^30, and a grant has at most 2^42 bytes in a life. So the credits under one grant are at
+-- most 2^80. In a life the grants' seconds only rise, so the life ends at most 2^80 past the last time
+-- for each second, and 2^38 for each byte of the holder's: below 2^102.
 pub record IsNear (last : ℕ) (e : Entry) : Type 0 where
   pub end : e.end ≤ last + e.grant.second * 2 ^ 80 + e.used * 2 ^ 38
   pub used : e.used ≤ 1024 * e.grant.rights.n
