@@ -1,5 +1,5 @@
 -- What each answer of a cache says.
-use Rattle.std.proofs.Common.{◌≡◌, ℕ, ◌+◌, ◌*◌, ◌<◌, ◌≤◌, Bool, true, false, not, ◌&&◌, cond, eqb, ltb, leb, List, [], ◌∷◌, ◌++◌, length, get_or, set, Option, Some, None, refl, sym, ap, ◌∙◌, subst, inl, inr, zero, suc, arith, append-nil}
+use Rattle.std.proofs.Common.{◌≡◌, ℕ, ◌+◌, ◌*◌, ◌<◌, ◌≤◌, Bool, true, false, not, cond, eqb, ltb, leb, List, [], ◌∷◌, ◌++◌, length, get_or, set, Option, Some, None, refl, sym, ap, ◌∙◌, subst, inl, inr, zero, suc, arith, append-nil}
 use Rattle.std.specs.List.{All}
 use Rattle.std.specs.Option.{MatchOption}
 use Rattle.std.proofs.lemmas.Bool.Decides.{nat_tests}
@@ -12,13 +12,13 @@ use Rattle.tva_flow.specs.declared.verdicts.Verdict.TheVariants.{Authorised, Exp
 use Rattle.tva_flow.specs.Charges.{Charge, charge, end_of, run, bytes_of, of_flow, living_count}
 use Rattle.tva_flow.specs.Verdicts.{charged, is_authorised, list_verdict, nonce_verdict}
 use Rattle.tva_flow.specs.Stands.{IsPacket, cache, entry_of, IsKept, StandsFor}
-use Rattle.tva_flow.specs.Steps.{blocks, counted, living_verdict, held_verdict, opening_verdict, renewed, opened, IsNear, Admits}
+use Rattle.tva_flow.specs.Steps.{blocks, counted, living_verdict, held_verdict, opening_verdict, renewed, opened, Admits}
 use Rattle.tva_flow.proofs.Steps.{holds_now, dead_now, not_living, end_from_dead, holds-new, holds-more}
 use Rattle.tva_flow.proofs.Rising.{rising}
 use Rattle.tva_flow.proofs.Standing.{stands-later, stands-set, stands-push, entry_from_place}
 use Rattle.tva_flow.proofs.Counting.{living_count_is, live_flows, length-live_flows-le, length-live_flows-lt, length-live_flows-all}
-use Rattle.tva_flow.proofs.ByEntry.{verdict-living, verdict-opening, living_rows, some_last, bytes_known, nonce-living, nonce-gone, held_fits}
-use Rattle.tva_flow.proofs.Near.{own_counted, packet_of}
+use Rattle.tva_flow.proofs.ByEntry.{verdict-living, verdict-opening, living_rows, some_last, bytes_known, nonce-living, nonce-gone}
+use Rattle.tva_flow.proofs.Near.{own_counted}
 
 no_charge : (r : Verdict) (now nonce bytes : ℕ) → is_authorised r ≡ false → charged r now nonce bytes ≡ []
 no_charge (Authorised g) now nonce bytes h = absurd (cc)

@@ -8,7 +8,7 @@ use Rattle.tva_flow.specs.declared.kept.Entry.{Entry}
 use Rattle.tva_base.specs.declared.packet.Flow.{Flow}
 use Rattle.tva_flow.specs.Charges.{Charge, same_flow, is_living, of_flow, lives, has_flow, flows, living_count}
 use Rattle.tva_flow.specs.Stands.{IsKept, StandsFor, cache, entry_of, AreApart}
-use Rattle.tva_flow.proofs.Same.{by_bool, by_flow, same_flow-self, and_false_right}
+use Rattle.tva_flow.proofs.Same.{by_bool, by_flow, and_false_right}
 use Rattle.tva_flow.proofs.Standing.{stands-later}
 use Rattle.tva_flow.proofs.Steps.{by_lt, kept_cases, not_living}
 

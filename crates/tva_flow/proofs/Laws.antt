@@ -4,9 +4,8 @@ use Rattle.std.proofs.lemmas.List.Sums.{sum_by-cons, sum_by_push}
 use Rattle.std.proofs.lemmas.List.Elements.{All-push, All-weaker}
 use Rattle.tva_base.specs.declared.packet.Flow.{Flow}
 use Rattle.tva_base.specs.Credit.{credit_of}
-use Rattle.tva_flow.specs.Charges.{Charge, same_flow, credits, end_of, is_living, restarts, run, last_or, last_charge, of_flow}
-use Rattle.tva_flow.specs.Verdicts.{IsAuthorised}
-use Rattle.tva_flow.specs.Stands.{IsPacket, NoneLater, IsNext, AreNext}
+use Rattle.tva_flow.specs.Charges.{Charge, same_flow, end_of, is_living, restarts, run, last_or, last_charge, of_flow}
+use Rattle.tva_flow.specs.Stands.{NoneLater, IsNext, AreNext}
 
 abbrev pub credit : Charge → ℕ
 credit c = credit_of c.length c.grant.rights

@@ -6,7 +6,7 @@ use Rattle.tva_flow.specs.declared.kept.Entry.{Entry}
 use Rattle.tva_base.specs.declared.packet.Flow.{Flow}
 use Rattle.tva_flow.specs.Charges.{Charge, same_flow, of_flow}
 use Rattle.tva_flow.specs.Verdicts.{IsAuthorised}
-use Rattle.tva_flow.specs.Stands.{Holds, IsKept, StandsFor, IsNext, cache, entry_of, AreApart, IsPacket}
+use Rattle.tva_flow.specs.Stands.{Holds, IsKept, StandsFor, cache, entry_of, AreApart, IsPacket}
 use Rattle.tva_flow.proofs.Same.{by_flow}
 use Rattle.tva_flow.proofs.Laws.{of_flow-push, past-push, past-later, next-push}
 use Rattle.tva_flow.proofs.Entries.{not_there, entry_of-set, apart-set, entry_of-push, apart-push}

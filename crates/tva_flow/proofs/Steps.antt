@@ -6,7 +6,7 @@ use Rattle.std.proofs.lemmas.List.Sums.{sum_by-cons, sum_by_push}
 use Rattle.tva_base.specs.declared.packet.Grant.{Grant}
 use Rattle.tva_flow.specs.declared.kept.Entry.{Entry}
 use Rattle.tva_base.specs.Credit.{credit_of}
-use Rattle.tva_flow.specs.Charges.{Charge, charge, end_of, is_living, run, same_grant, bytes_under, bytes_of, last_charge}
+use Rattle.tva_flow.specs.Charges.{Charge, charge, end_of, is_living, run, bytes_under, bytes_of, last_charge}
 use Rattle.tva_flow.specs.Steps.{entry}
 use Rattle.tva_flow.specs.Stands.{Holds, IsKept}
 use Rattle.tva_flow.proofs.Same.{same_grant-self}

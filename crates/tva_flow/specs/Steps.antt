@@ -1,5 +1,5 @@
 -- The steps of a flow cache on one entry. No public clause cites them.
-use Rattle.std.specs.Prelude.{◌≡◌, ◌⊎◌, ℕ, ◌+◌, ◌*◌, ◌^◌, ◌==◌, ◌≤◌, ◌<◌, nat_lt, nat_le, Bool, true, false, not, ◌&&◌, if◌then◌else◌, List, [], ◌∷◌, ◌++◌}
+use Rattle.std.specs.Prelude.{◌≡◌, ℕ, ◌+◌, ◌*◌, ◌^◌, ◌==◌, ◌≤◌, ◌<◌, nat_lt, nat_le, Bool, not, ◌&&◌, if◌then◌else◌, List, [], ◌∷◌, ◌++◌}
 use Rattle.tva_base.specs.declared.packet.Grant.{Grant}
 use Rattle.tva_base.specs.Credit.{credit_of}
 use Rattle.tva_flow.specs.declared.verdicts.Verdict.{Verdict}

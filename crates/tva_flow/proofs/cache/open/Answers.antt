@@ -1,4 +1,4 @@
-use Rattle.std.proofs.Common.{sym, ◌∙◌, ◌≡◌, true, false, ℕ, Bool, ◌+◌, ◌*◌, ◌<◌, ◌≤◌, ltb, arith}
+use Rattle.std.proofs.Common.{◌≡◌, true, false, ℕ, Bool, ◌+◌, ◌<◌, ◌≤◌, ltb, arith}
 use Rattle.std.proofs.lemmas.Bool.Decides.{nat_tests}
 use Rattle.tva_flow.specs.Steps.{opened}
 use Rattle.tva_flow.proofs.Admit.{admits-over_at, admits-full, admits-opened_own, admits-opened_over, admits-opened_next}
