@@ -25,9 +25,6 @@ living cs now h = grind (arith, nat_tests)
 pub end_from_dead : (cs : List Charge) (now : ℕ) → is_living cs now ≡ false → end_of cs ≤ now
 end_from_dead cs now h = grind (arith, nat_tests)
 
-pub end_from_living : (cs : List Charge) (now : ℕ) → is_living cs now ≡ true → now < end_of cs
-end_from_living cs now h = grind (arith, nat_tests)
-
 -- an entry of a flow that holds is kept
 pub kept-from_holds : (cs : List Charge) (now : ℕ) (e : Entry) → Holds cs e → IsKept (Some e) cs now
 kept-from_holds cs now e h = by_lt now (end_of cs) (λ b. MatchBool b (Holds cs e) (e.end ≤ now)) (λ l. h) (λ l. omega (arith, h.end))

@@ -49,7 +49,7 @@ pub record IsPacket (g : Grant) (bytes : ℕ) : Type 0 where
 abbrev pub NoneLater : ℕ → List Charge → Type 0
 NoneLater time h = All (λ c. c.time ≤ time) h
 
--- a charge that came after those before it, and was authorised over them
+-- a charge of such a packet, which is no earlier than the charges before it and authorised over them
 pub record IsNext (slots offset : ℕ) (before : List Charge) (c : Charge) : Type 0 where
   pub order : NoneLater c.time before
   pub packet : IsPacket c.grant c.length
@@ -60,7 +60,8 @@ abbrev pub AreNext : ℕ → ℕ → List Charge → List Charge → Type 0
 AreNext slots offset before [] = Unit {0}
 AreNext slots offset before (c ∷ cs) = IsNext slots offset before c × AreNext slots offset (before ++ c ∷ []) cs
 
--- the cache stands for these charges
+-- the cache stands for these charges: none is later than its last time, each is the next one after
+-- those before it, each flow is kept by its one entry, and there are at most as many entries as slots
 pub record StandsFor (v : Cache) (h : List Charge) : Type 0 where
   pub past : NoneLater v.last h
   pub charges : AreNext v.slots v.offset [] h

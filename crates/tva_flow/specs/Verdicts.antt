@@ -21,6 +21,7 @@ list_verdict slots h now g length =
     else (if not (lives h g.flow now) && nat_le slots (living_count h now) then CacheFull
     else Authorised g))
 
+-- the rows by the flow's holder: a flow without one doesn't live
 abbrev pub nonce_rows : ℕ → List Charge → ℕ → Flow → ℕ → ℕ → Option Charge → Verdict
 nonce_rows offset h now f nonce length None = UnknownNonce
 nonce_rows offset h now f nonce length (Some c) =
