@@ -1,0 +1,60 @@
+-- What one more charge changes.
+use Rattle.std.proofs.Common.{◌≡◌, ℕ, ◌+◌, ◌≤◌, Bool, true, false, not, ◌||◌, cond, List, [], ◌∷◌, ◌++◌, Some, refl, sym, ap, ◌∙◌, subst, max, arith, append_assoc, append-nil}
+use Rattle.std.proofs.lemmas.List.Sums.{sum_by-cons, sum_by_push}
+use Rattle.std.proofs.lemmas.List.Elements.{All-push, All-weaker}
+use Rattle.tva_base.specs.declared.packet.Flow.{Flow}
+use Rattle.tva_base.specs.Credit.{credit_of}
+use Rattle.tva_flow.specs.Charges.{Charge, same_flow, end_of, is_living, restarts, run, last_or, last_charge, of_flow}
+use Rattle.tva_flow.specs.Stands.{NoneLater, IsNext, AreNext}
+
+abbrev pub credit : Charge → ℕ
+credit c = credit_of c.length c.grant.rights
+
+-- the cache's step: the greater of the end and the time, and the credit
+pub end_of-push : (cs : List Charge) (c : Charge) → end_of (cs ++ c ∷ []) ≡ max (end_of cs) c.time + credit c
+end_of-push [] c = omega (arith, sum_by-cons credit c [])
+end_of-push (d ∷ ds) c = omega (arith, end_of-push ds c, sum_by-cons credit d ds, sum_by-cons credit d (ds ++ c ∷ []), sum_by_push credit ds c)
+
+restarts-push : (before cs : List Charge) (c : Charge) → restarts before (cs ++ c ∷ []) ≡ (restarts before cs || not (is_living (before ++ cs) c.time))
+restarts-push before [] c = rw (append-nil before) (elim (is_living before c.time) as (λ b. (not b || false) ≡ not b) [ true ↦ refl | false ↦ refl ])
+restarts-push before (d ∷ ds) c = elim (is_living before d.time) as (λ b. (not b || restarts (before ++ d ∷ []) (ds ++ c ∷ [])) ≡ ((not b || restarts (before ++ d ∷ []) ds) || not (is_living (before ++ d ∷ ds) c.time))) [
+  | true ↦ restarts-push (before ++ d ∷ []) ds c ∙ ap (λ (l : List Charge). restarts (before ++ d ∷ []) ds || not (is_living l c.time)) (append_assoc before (d ∷ []) ds)
+  | false ↦ refl
+]
+
+one_more : (r l : Bool) (later all : List Charge) (c : Charge) → cond (r || not l) (cond l (later ++ c ∷ []) (c ∷ [])) (all ++ c ∷ []) ≡ cond l (cond r later all ++ c ∷ []) (c ∷ [])
+one_more true true later all c = refl
+one_more true false later all c = refl
+one_more false true later all c = refl
+one_more false false later all c = refl
+
+pub run-push : (before cs : List Charge) (c : Charge) → run before (cs ++ c ∷ []) ≡ cond (is_living (before ++ cs) c.time) (run before cs ++ c ∷ []) (c ∷ [])
+run-push before [] c = elim (is_living (before ++ []) c.time) as (λ b. c ∷ [] ≡ cond b (c ∷ []) (c ∷ [])) [ true ↦ refl | false ↦ refl ]
+run-push before (d ∷ ds) c = rw (restarts-push (before ++ d ∷ []) ds c, run-push (before ++ d ∷ []) ds c, append_assoc before (d ∷ []) ds) (one_more (restarts (before ++ d ∷ []) ds) (is_living (before ++ d ∷ ds) c.time) (run (before ++ d ∷ []) ds) (d ∷ ds) c)
+
+pub last_or-push : (d : Charge) (ds : List Charge) (c : Charge) → last_or d (ds ++ c ∷ []) ≡ c
+last_or-push d [] c = refl
+last_or-push d (e ∷ es) c = last_or-push e es c
+
+pub last_charge-push : (cs : List Charge) (c : Charge) → last_charge (cs ++ c ∷ []) ≡ Some c
+last_charge-push [] c = refl
+last_charge-push (d ∷ ds) c = ap Some (last_or-push d ds c)
+
+pub of_flow-push : (f : Flow) (h : List Charge) (c : Charge) → of_flow f (h ++ c ∷ []) ≡ cond (same_flow c.grant.flow f) (of_flow f h ++ c ∷ []) (of_flow f h)
+of_flow-push f [] c = refl
+of_flow-push f (d ∷ ds) c = rw (of_flow-push f ds c) (elim (same_flow d.grant.flow f) as (λ b. cond b (d ∷ cond (same_flow c.grant.flow f) (of_flow f ds ++ c ∷ []) (of_flow f ds)) (cond (same_flow c.grant.flow f) (of_flow f ds ++ c ∷ []) (of_flow f ds))
+    ≡ cond (same_flow c.grant.flow f) (cond b (d ∷ of_flow f ds) (of_flow f ds) ++ c ∷ []) (cond b (d ∷ of_flow f ds) (of_flow f ds))) [
+      | true ↦ elim (same_flow c.grant.flow f) as (λ b. (d ∷ cond b (of_flow f ds ++ c ∷ []) (of_flow f ds)) ≡ cond b (d ∷ of_flow f ds ++ c ∷ []) (d ∷ of_flow f ds)) [ true ↦ refl | false ↦ refl ]
+      | false ↦ refl
+    ])
+
+pub past-push : (last : ℕ) (h : List Charge) (c : Charge) → NoneLater last h → c.time ≤ last → NoneLater last (h ++ c ∷ [])
+past-push last h c p t = All-push (λ (x : Charge). x.time ≤ last) h c p t
+
+pub past-later : (last now : ℕ) (h : List Charge) → last ≤ now → NoneLater last h → NoneLater now h
+past-later last now h l p = All-weaker (λ (x : Charge). x.time ≤ last) (λ (x : Charge). x.time ≤ now) (λ x q. omega arith) h p
+
+pub next-push : (slots offset : ℕ) (before h : List Charge) (c : Charge) → AreNext slots offset before h → IsNext slots offset (before ++ h) c → AreNext slots offset before (h ++ c ∷ [])
+next-push slots offset before [] c a n = (subst (λ z. IsNext slots offset z c) (append-nil before) n, tt)
+next-push slots offset before (d ∷ ds) c a n =
+    (a.0, next-push slots offset (before ++ d ∷ []) ds c a.1 (subst (λ z. IsNext slots offset z c) (sym (append_assoc before (d ∷ []) ds)) n))

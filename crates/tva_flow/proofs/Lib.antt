@@ -1,0 +1,13 @@
+pub mod Same
+pub mod Laws
+pub mod Entries
+pub mod Steps
+pub mod Rows
+pub mod Rising
+pub mod Standing
+pub mod Counting
+pub mod ByEntry
+pub mod Admit
+pub mod Near
+pub mod Timely
+pub mod Budget

@@ -1,0 +1,38 @@
+use Rattle.std.proofs.Common.{sym, ◌∙◌, arith}
+use Rattle.tva_flow.specs.Steps.{renewed}
+use Rattle.tva_flow.proofs.Admit.{answers-renewed, answers-denied, judged}
+use Rattle.tva_flow.proofs.ByEntry.{living_rows}
+use Rattle.tva_flow.proofs.Near.{near-get, near-set, near-renewed}
+use Rattle.tva_flow.proofs.cache.renew.Goals as goal
+
+pub judge-verdict-requires : goal.judge-verdict-requires
+judge-verdict-requires c =
+    let n = near-get c.args.now c.args.entries.now.items c.args.at c.index.result.now c.requires.near c.requires.place c.index.ensures in
+    omega (arith, n.used, n.units)
+
+pub extended-requires-clause-near : goal.extended-requires-clause-near
+extended-requires-clause-near c =
+    let n = near-get c.args.now c.args.entries.now.items c.args.at c.index.result.now c.requires.near c.requires.place c.index.ensures in
+    (omega (arith, n.end, n.used, n.units, n.second, c.ranges.now.fits), omega (arith, n.used, n.units))
+
+pub extended-requires-clause-packet : goal.extended-requires-clause-packet
+extended-requires-clause-packet c =
+    let r = living_rows c.index.result.now c.args.grant c.args.bytes (judged c.index.result.now c.args.grant c.args.bytes c.judge-verdict.result c.judge-verdict.ensures (sym c.is_authorised.ensures ∙ c.if-is_authorised.true)) in
+    (c.requires.packet.length.1, omega (arith, r.1, c.requires.packet.length.0))
+
+pub returns-then-is_authorised-clause-answer : goal.returns-then-is_authorised-clause-answer
+returns-then-is_authorised-clause-answer c =
+    rw c.extended.ensures.value (answers-renewed c.args.now c.args.entries.now.items c.args.at c.index.result.now c.args.grant c.args.nonce c.args.bytes c.judge-verdict.result c.requires.place c.index.ensures
+    (c.requires.live c.index.result.now c.index.ensures) c.judge-verdict.ensures (sym c.is_authorised.ensures ∙ c.if-is_authorised.true) c.requires.packet)
+
+pub returns-then-is_authorised-clause-near : goal.returns-then-is_authorised-clause-near
+returns-then-is_authorised-clause-near c =
+    let n = near-get c.args.now c.args.entries.now.items c.args.at c.index.result.now c.requires.near c.requires.place c.index.ensures in
+    let r = living_rows c.index.result.now c.args.grant c.args.bytes (judged c.index.result.now c.args.grant c.args.bytes c.judge-verdict.result c.judge-verdict.ensures (sym c.is_authorised.ensures ∙ c.if-is_authorised.true)) in
+    rw c.extended.ensures.value (near-set c.args.now c.args.entries.now.items c.args.at (renewed c.index.result.now c.args.grant c.args.nonce c.args.bytes) c.requires.near
+    (near-renewed c.args.now c.index.result.now c.args.grant c.args.nonce c.args.bytes n c.requires.packet c.extended.ensures.ranges.0 c.extended.ensures.ranges.1 r.0 r.1))
+
+pub returns-else-is_authorised-clause-answer : goal.returns-else-is_authorised-clause-answer
+returns-else-is_authorised-clause-answer c =
+    answers-denied c.args.now c.args.entries.now.items c.args.at c.index.result.now c.args.grant c.args.nonce c.args.bytes c.judge-verdict.result c.requires.place c.index.ensures
+    (c.requires.live c.index.result.now c.index.ensures) c.judge-verdict.ensures (sym c.is_authorised.ensures ∙ c.if-is_authorised.false)

@@ -1,0 +1,5 @@
+pub mod Charges
+pub mod Verdicts
+pub mod Stands
+pub mod Budget
+pub mod Steps

@@ -1,0 +1,69 @@
+-- The steps of a flow cache on one entry. No public clause cites them.
+use Rattle.std.specs.Prelude.{◌≡◌, ℕ, ◌+◌, ◌*◌, ◌^◌, ◌==◌, ◌≤◌, ◌<◌, nat_lt, nat_le, Bool, not, ◌&&◌, if◌then◌else◌, List, [], ◌∷◌, ◌++◌}
+use Rattle.tva_base.specs.declared.packet.Grant.{Grant}
+use Rattle.tva_base.specs.Credit.{credit_of}
+use Rattle.tva_flow.specs.declared.verdicts.Verdict.{Verdict}
+use Rattle.tva_flow.specs.declared.verdicts.Verdict.TheVariants.{Authorised, Expired, OverN, UnknownNonce, CacheFull, Superseded}
+use Rattle.tva_flow.specs.declared.kept.Entry.{Entry}
+use Rattle.tva_flow.specs.Charges.{Charge, same_grant}
+use Rattle.tva_flow.specs.Verdicts.{charged}
+use Rattle.tva_flow.specs.Stands.{cache, StandsFor}
+
+-- Why an end stays far inside 128 bits. A credit is at most 2^38 for each byte, as T is below 2^8 and
+-- 10^9 below 2^30, and a grant has at most 2^42 bytes in a life. So the credits under one grant are at
+-- most 2^80. In a life the grants' seconds only rise, so the life ends at most 2^80 past the last time
+-- for each second, and 2^38 for each byte of the holder's: below 2^102.
+pub record IsNear (last : ℕ) (e : Entry) : Type 0 where
+  pub end : e.end ≤ last + e.grant.second * 2 ^ 80 + e.used * 2 ^ 38
+  pub used : e.used ≤ 1024 * e.grant.rights.n
+  pub units : e.grant.rights.n < 2 ^ 32
+  pub some : 1 ≤ e.grant.rights.n
+  pub seconds : (1 ≤ e.grant.rights.t) × (e.grant.rights.t < 2 ^ 8)
+  pub second : e.grant.second ≤ 2000000
+
+abbrev pub AreNear : ℕ → List Entry → Type 0
+AreNear last [] = Unit {0}
+AreNear last (e ∷ es) = IsNear last e × AreNear last es
+
+abbrev pub entry : Grant → ℕ → ℕ → ℕ → Entry
+entry grant nonce used end = record { grant = grant; nonce = nonce; used = used; end = end }
+
+-- the entry's holder keeps the grant out
+abbrev pub blocks : Entry → Grant → Bool
+blocks e g = not (same_grant e.grant g) && nat_le g.second e.grant.second
+
+-- the bytes of the grant that the entry counts
+abbrev pub counted : Entry → Grant → ℕ
+counted e g = if same_grant e.grant g then e.used else 0
+
+-- the verdict on a packet that shows a grant of the flow, whose entry lives
+abbrev pub living_verdict : Entry → Grant → ℕ → Verdict
+living_verdict e g length =
+    if blocks e g then Superseded
+    else (if nat_lt (1024 * g.rights.n) (counted e g + length) then OverN else Authorised g)
+
+-- the verdict on a packet that shows a nonce of the flow, whose entry lives
+abbrev pub held_verdict : ℕ → Entry → ℕ → ℕ → Verdict
+held_verdict second e nonce length =
+    if not (e.nonce == nonce) then UnknownNonce
+    else (if nat_le (e.grant.second + e.grant.rights.t) second then Expired
+    else (if nat_lt (1024 * e.grant.rights.n) (e.used + length) then OverN else Authorised e.grant))
+
+-- the verdict on a packet of a flow that doesn't live, where so many flows live
+abbrev pub opening_verdict : ℕ → ℕ → Grant → ℕ → Verdict
+opening_verdict slots count g length =
+    if nat_lt (1024 * g.rights.n) length then OverN
+    else (if nat_le slots count then CacheFull else Authorised g)
+
+-- the entry after one more packet
+abbrev pub renewed : Entry → Grant → ℕ → ℕ → Entry
+renewed e g nonce length = entry g nonce (counted e g + length) (e.end + credit_of length g.rights)
+
+-- the first entry of a run
+abbrev pub opened : ℕ → Grant → ℕ → ℕ → Entry
+opened now g nonce length = entry g nonce length (now + credit_of length g.rights)
+
+-- the answer is the verdict that is wanted, and the entries that it leaves stand for what it added
+abbrev pub Admits : ℕ → ℕ → List Charge → ℕ → ℕ → ℕ → Verdict → Verdict → List Entry → Type 0
+Admits slots offset h now nonce length wanted answer entries =
+    (answer ≡ wanted) × StandsFor (cache slots offset now entries) (h ++ charged answer now nonce length)

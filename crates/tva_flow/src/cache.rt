@@ -1,0 +1,308 @@
+// The cache of a router's living flows.
+ghost use Rattle.std.specs.Prelude.{◌≡◌, ℕ, ◌+◌, ◌*◌, ◌^◌, ◌≤◌, ◌<◌, false, nat_lt, List, [], ◌∷◌, ◌++◌, length, count_by, slice_index_or, vec_capacity, None, MatchOption, All, IfOk};
+ghost use Rattle.tva_base.specs.Clock.{router_second};
+ghost use Rattle.tva_flow.specs.declared.kept.Entry.{Entry};
+ghost use Rattle.tva_flow.specs.Charges.{Charge, living_count};
+ghost use Rattle.tva_flow.specs.Verdicts.{list_verdict, nonce_verdict, charged, is_authorised};
+ghost use Rattle.tva_flow.specs.Stands.{cache, entry_of, IsPacket, StandsFor};
+ghost use Rattle.tva_flow.specs.Budget.{IsWithinSeconds, AreTimely, IsWithinBudget};
+ghost use Rattle.tva_flow.specs.Steps.{AreNear, Admits};
+
+use crate::kept::{Entry, extended, fresh, is_live, is_over, is_same_flow, judge, judge_nonce};
+use crate::verdicts::Verdict;
+use std::alloc::{AllocError, Global};
+use std::marker::Model;
+use tva_base::{Flow, Grant, SECOND, Time};
+
+#[cfg(test)]
+mod tests;
+
+/// The flows of a router that live, each by its entry. Contracts see the number of its slots, how many
+/// nanoseconds its clock is ahead, the last time and the entries, of which there are at most as many
+/// as slots, and speak of all charges for which these stand. All memory is taken when it is made.
+#[derive(Drop)]
+pub struct FlowCache {
+    slots: u32,
+    clock_offset: u64,
+    last: u64,
+    entries: Vec<Entry>,
+}
+
+impl Model for FlowCache {
+    ghost use Rattle.std.specs.Prelude.{◌≤◌, length, vec_capacity};
+    ghost use Rattle.tva_flow.specs.Stands.{Cache, cache};
+    ghost use Rattle.tva_flow.specs.Steps.{AreNear};
+
+    ghost Value = { Cache };
+
+    ghost view = { λ a. cache a.slots a.clock_offset a.last a.entries.items };
+
+    ghost invariant = { λ a.
+        (length a.entries.items ≤ a.slots)
+        × (a.slots ≤ vec_capacity a.entries)
+        × AreNear a.last a.entries.items
+        × (a.slots ≤ 1000000)
+        × (a.clock_offset ≤ 1000000000000000) };
+}
+
+/// The router second of a time. Any time has one, so it is computed in 128 bits.
+fn second_of(clock_offset: u64, now: u64) -> u128
+    ensures { result ≡ router_second clock_offset now }
+{
+    (u128::from(now) + u128::from(clock_offset)) / u128::from(SECOND)
+}
+
+/// The place of the flow's entry.
+fn find(entries: &Vec<Entry>, flow: &Flow) -> Option<usize>
+    ensures { MatchOption result (entry_of flow.now entries.now.items ≡ None) (λ at.
+        (at < length entries.now.items)
+        × ((e : Entry) → e ≡ slice_index_or entries.now.items at e → e.grant.flow ≡ flow.now)) }
+{
+    for (at, entry) in entries.iter().enumerate() {
+        if is_same_flow(&entry.grant.flow, flow) {
+            return Some(at);
+        }
+    }
+    None
+}
+
+/// The place of an entry that has ended.
+fn ended(entries: &Vec<Entry>, now: u64) -> Option<usize>
+    ensures { MatchOption result (All (λ e. now < e.end) entries.now.items) (λ at.
+        (at < length entries.now.items)
+        × ((e : Entry) → e ≡ slice_index_or entries.now.items at e → e.end ≤ now)) }
+{
+    for (at, entry) in entries.iter().enumerate() {
+        if !is_live(entry, now) {
+            return Some(at);
+        }
+    }
+    None
+}
+
+/// How many entries live.
+fn live_entries(entries: &Vec<Entry>, now: u64) -> usize
+    ensures { result ≡ count_by (λ e. nat_lt now e.end) entries.now.items }
+{
+    entries.iter().filter(|entry| is_live(entry, now)).count()
+}
+
+/// Admits a packet that shows a grant of a flow whose entry lives, or refuses it.
+fn renew(
+    entries: &mut Vec<Entry>,
+    at: usize,
+    now: u64,
+    grant: Grant,
+    nonce: u64,
+    bytes: u32,
+) -> Verdict
+    requires place { at < length entries.old.items }
+    requires live { (e : Entry) → e ≡ slice_index_or entries.old.items at e
+        → (e.grant.flow ≡ grant.flow) × (now < e.end) }
+    requires near { AreNear now entries.old.items }
+    requires packet { IsPacket grant bytes }
+    ensures answer { (s o last : ℕ) (h : List Charge) → last ≤ now
+        → StandsFor (cache s o last entries.old.items) h
+        → Admits s o h now nonce bytes (list_verdict s h now grant bytes) result entries.new.items }
+    ensures near { AreNear now entries.new.items }
+    ensures same { (length entries.new.items ≡ length entries.old.items)
+        × (vec_capacity entries.new ≡ vec_capacity entries.old) }
+    ensures refused { is_authorised result ≡ false → entries.new.items ≡ entries.old.items }
+{
+    let entry = entries[at];
+    let verdict = judge(&entry, &grant, bytes);
+    if verdict.is_authorised() {
+        entries[at] = extended(&entry, grant, nonce, bytes);
+    }
+    verdict
+}
+
+/// Admits a packet that shows a nonce of a flow whose entry lives, in that router second, or
+/// refuses it.
+fn renew_held(
+    entries: &mut Vec<Entry>,
+    at: usize,
+    now: u64,
+    second: u128,
+    nonce: u64,
+    bytes: u32,
+) -> Verdict
+    requires place { at < length entries.old.items }
+    requires live { (e : Entry) → e ≡ slice_index_or entries.old.items at e → now < e.end }
+    requires near { AreNear now entries.old.items }
+    requires packet { (20 ≤ bytes) × (bytes ≤ 2048) }
+    ensures answer { (f : Flow) (s o last : ℕ) (h : List Charge)
+        → ((e : Entry) → e ≡ slice_index_or entries.old.items at e → e.grant.flow ≡ f)
+        → second ≡ router_second o now → last ≤ now
+        → StandsFor (cache s o last entries.old.items) h
+        → Admits s o h now nonce bytes (nonce_verdict o h now f nonce bytes) result entries.new.items }
+    ensures near { AreNear now entries.new.items }
+    ensures same { (length entries.new.items ≡ length entries.old.items)
+        × (vec_capacity entries.new ≡ vec_capacity entries.old) }
+    ensures refused { is_authorised result ≡ false → entries.new.items ≡ entries.old.items }
+{
+    let entry = entries[at];
+    let verdict = judge_nonce(&entry, second, nonce, bytes);
+    if verdict.is_authorised() {
+        entries[at] = extended(&entry, entry.grant, nonce, bytes);
+    }
+    verdict
+}
+
+/// Admits a packet of a flow that doesn't live, or refuses it. A run begins in the flow's own entry,
+/// in one that has ended, or in a further one.
+fn open(
+    entries: &mut Vec<Entry>,
+    slots: u32,
+    at: Option<usize>,
+    now: u64,
+    grant: Grant,
+    nonce: u64,
+    bytes: u32,
+) -> Verdict
+    requires place { MatchOption at (entry_of grant.flow entries.old.items ≡ None) (λ i.
+        (i < length entries.old.items)
+        × ((e : Entry) → e ≡ slice_index_or entries.old.items i e
+        → (e.grant.flow ≡ grant.flow) × (e.end ≤ now))) }
+    requires room { (length entries.old.items ≤ slots) × (slots ≤ vec_capacity entries.old) }
+    requires near { AreNear now entries.old.items }
+    requires packet { IsPacket grant bytes }
+    ensures answer { (o last : ℕ) (h : List Charge) → last ≤ now
+        → StandsFor (cache slots o last entries.old.items) h
+        → Admits slots o h now nonce bytes (list_verdict slots h now grant bytes) result
+        entries.new.items }
+    ensures near { AreNear now entries.new.items }
+    ensures room { (length entries.new.items ≤ slots) × (slots ≤ vec_capacity entries.new) }
+    ensures refused { is_authorised result ≡ false → entries.new.items ≡ entries.old.items }
+{
+    if is_over(grant.rights, 0, bytes) {
+        return Verdict::OverN;
+    }
+    let entry = fresh(now, grant, nonce, bytes);
+    match at {
+        Some(at) => {
+            entries[at] = entry;
+            Verdict::Authorised(grant)
+        }
+        None => match ended(entries, now) {
+            Some(other) => {
+                entries[other] = entry;
+                Verdict::Authorised(grant)
+            }
+            None => {
+                if entries.len() >= slots as usize {
+                    return Verdict::CacheFull;
+                }
+                entries.push_reserved(entry);
+                Verdict::Authorised(grant)
+            }
+        },
+    }
+}
+
+impl FlowCache {
+    /// A cache of so many slots, for a router whose clock is `clock_offset` nanoseconds ahead. It starts
+    /// without charges. The error is want of memory.
+    pub fn with_slots(alloc: Global, slots: u32, clock_offset: u64) -> Result<FlowCache, AllocError>
+        requires slots { slots ≤ 1000000 }
+        requires clock { clock_offset ≤ 1000000000000000 }
+        ensures value { IfOk result (λ v. v ≡ cache slots clock_offset 0 []) }
+        ensures stands { IfOk result (λ v. StandsFor v []) }
+    {
+        Ok(FlowCache {
+            slots,
+            clock_offset,
+            last: 0,
+            entries: Vec::with_capacity(alloc, slots as usize)?,
+        })
+    }
+
+    /// The verdict on a packet of `length` bytes that shows a capability of the grant, which the caller
+    /// has checked, and a nonce. Times are in nanoseconds and never fall. The verdict is the first that
+    /// holds of Superseded, OverN, CacheFull and Authorised, over all charges so far. Exactly an
+    /// authorised packet is charged, and its nonce then holds the flow; a refusal changes nothing but the
+    /// last time. This is TVA's accounting of bytes and life; the order of the refusals, and the first
+    /// and the third of them, are this project's own.
+    pub fn admit_list(&mut self, now: Time, grant: Grant, nonce: u64, length: u32) -> Verdict
+        requires time { self.old.last ≤ now.0 }
+        requires packet { IsPacket grant length }
+        ensures verdict { (h : List Charge) → StandsFor self.old h
+            → result ≡ list_verdict self.old.slots h now.0 grant length }
+        ensures stands { (h : List Charge) → StandsFor self.old h
+            → StandsFor self.new (h ++ charged result now.0 nonce length) }
+        ensures timely { (h : List Charge) → StandsFor self.old h → AreTimely self.old.offset h
+            → IsWithinSeconds self.old.offset now.0 grant
+            → AreTimely self.old.offset (h ++ charged result now.0 nonce length) }
+        ensures last { self.new.last ≡ now.0 }
+        ensures same { (self.new.slots ≡ self.old.slots) × (self.new.offset ≡ self.old.offset) }
+        ensures refused { is_authorised result ≡ false → self.new.entries ≡ self.old.entries }
+    {
+        self.last = now.0;
+        let at = find(&self.entries, &grant.flow);
+        match at {
+            Some(place) if is_live(&self.entries[place], now.0) => {
+                renew(&mut self.entries, place, now.0, grant, nonce, length)
+            }
+            _ => open(
+                &mut self.entries,
+                self.slots,
+                at,
+                now.0,
+                grant,
+                nonce,
+                length,
+            ),
+        }
+    }
+
+    /// The verdict on a packet of `length` bytes of the flow that shows a nonce alone. Times are in
+    /// nanoseconds and never fall. The verdict is the first that holds of UnknownNonce, Expired, OverN
+    /// and Authorised by the holder's grant, over all charges so far. Exactly an authorised packet is
+    /// charged; a refusal changes nothing but the last time. The nonce that stands for a list of
+    /// capabilities is TVA's.
+    pub fn admit_nonce(&mut self, now: Time, flow: Flow, nonce: u64, length: u32) -> Verdict
+        requires time { self.old.last ≤ now.0 }
+        requires packet { (20 ≤ length) × (length ≤ 2048) }
+        ensures verdict { (h : List Charge) → StandsFor self.old h
+            → result ≡ nonce_verdict self.old.offset h now.0 flow nonce length }
+        ensures stands { (h : List Charge) → StandsFor self.old h
+            → StandsFor self.new (h ++ charged result now.0 nonce length) }
+        ensures timely { (h : List Charge) → StandsFor self.old h → AreTimely self.old.offset h
+            → AreTimely self.old.offset (h ++ charged result now.0 nonce length) }
+        ensures last { self.new.last ≡ now.0 }
+        ensures same { (self.new.slots ≡ self.old.slots) × (self.new.offset ≡ self.old.offset) }
+        ensures refused { is_authorised result ≡ false → self.new.entries ≡ self.old.entries }
+    {
+        self.last = now.0;
+        let second = second_of(self.clock_offset, now.0);
+        match find(&self.entries, &flow) {
+            Some(place) if is_live(&self.entries[place], now.0) => {
+                renew_held(&mut self.entries, place, now.0, second, nonce, length)
+            }
+            _ => Verdict::UnknownNonce,
+        }
+    }
+
+    /// How many flows live at that time, in nanoseconds, which isn't before an earlier one.
+    pub fn living(&self, now: Time) -> u32
+        requires { self.now.last ≤ now.0 }
+        ensures count { (h : List Charge) → StandsFor self.now h → result ≡ living_count h now.0 }
+        ensures few { result ≤ self.now.slots }
+    {
+        live_entries(&self.entries, now.0) as u32
+    }
+
+    /// How many flows may live at once. With these slots the cache keeps every grant's budget, whatever
+    /// packets came: where each charge came in one of its grant's T seconds, the charges of each grant
+    /// have less than twice its N units of 1,024 bytes. The bound is TVA's.
+    pub fn slots(&self) -> u32
+        ensures slots { result ≡ self.now.slots }
+        ensures budget { (h : List Charge) → StandsFor self.now h → AreTimely self.now.offset h
+            → IsWithinBudget h }
+        ensures living { (h : List Charge) → StandsFor self.now h
+            → (now : ℕ) → self.now.last ≤ now → living_count h now ≤ self.now.slots }
+        ensures entries { length self.now.entries ≤ self.now.slots }
+    {
+        self.slots
+    }
+}

@@ -1,0 +1,154 @@
+use super::*;
+use crate::cases::CASES;
+use crate::plain::Charges;
+use std::process::Abort;
+use std::test::Fail;
+use tva_base::{Address, Rights, address};
+
+fn crosses<T: Send + Sync>() {}
+
+/// A cache may be moved to and shared with another thread.
+#[test]
+fn caches_cross_threads() {
+    crosses::<FlowCache>();
+    crosses::<Verdict>();
+}
+
+fn number(word: Option<&str>) -> u64 {
+    let Some(word) = word else {
+        return 0;
+    };
+    word.parse::<u64>().unwrap_or(0)
+}
+
+fn small_number(word: Option<&str>) -> u32 {
+    let Some(word) = word else {
+        return 0;
+    };
+    word.parse::<u32>().unwrap_or(0)
+}
+
+fn address_in(word: Option<&str>) -> Address {
+    let Some(word) = word else {
+        return Address(0);
+    };
+    address(word.as_bytes()).unwrap_or(Address(0))
+}
+
+/// A cache as a line has it, and the list of no charges.
+fn caches(rt: &impl Abort, alloc: Global, line: &str) -> Result<(FlowCache, Charges), Fail> {
+    let mut words = line.split_whitespace();
+    let _cache = words.next();
+    let slots = number(words.next());
+    let clock_offset = number(words.next());
+    assert!(rt; slots <= 1_000_000 && clock_offset <= 1_000_000_000_000_000);
+    let cache = FlowCache::with_slots(alloc, slots as u32, clock_offset)?;
+    Ok((cache, Charges::new(alloc, slots as usize, clock_offset)))
+}
+
+/// The verdict and how many flows live, in the words of the cases.
+fn text(alloc: Global, verdict: Verdict, living: u32) -> Result<String, Fail> {
+    let name = match verdict {
+        Verdict::Authorised(grant) => {
+            let Rights { n, t } = grant.rights;
+            let second = grant.second;
+            return Ok(format!(in alloc; "Authorised {n} {t} {second} | {living}")?);
+        }
+        Verdict::Expired => "Expired",
+        Verdict::OverN => "OverN",
+        Verdict::UnknownNonce => "UnknownNonce",
+        Verdict::CacheFull => "CacheFull",
+        Verdict::Superseded => "Superseded",
+    };
+    Ok(format!(in alloc; "{name} | {living}")?)
+}
+
+fn admit_list(
+    rt: &impl Abort,
+    cache: &mut FlowCache,
+    now: u64,
+    grant: Grant,
+    nonce: u64,
+    length: u32,
+) -> (Verdict, u32) {
+    assert!(rt; cache.last <= now);
+    assert!(rt; 1 <= grant.rights.t && grant.second <= 2_000_000);
+    assert!(rt; 20 <= length && length <= 2048);
+    let verdict = cache.admit_list(Time(now), grant, nonce, length);
+    (verdict, cache.living(Time(now)))
+}
+
+fn admit_nonce(
+    rt: &impl Abort,
+    cache: &mut FlowCache,
+    now: u64,
+    flow: Flow,
+    nonce: u64,
+    length: u32,
+) -> (Verdict, u32) {
+    assert!(rt; cache.last <= now);
+    assert!(rt; 20 <= length && length <= 2048);
+    let verdict = cache.admit_nonce(Time(now), flow, nonce, length);
+    (verdict, cache.living(Time(now)))
+}
+
+/// Makes the call of a line on the cache and on the list of all charges, which agree, and gives
+/// their answer.
+fn answer(
+    rt: &impl Abort,
+    alloc: Global,
+    cache: &mut FlowCache,
+    charges: &mut Charges,
+    call: &str,
+) -> Result<String, Fail> {
+    let mut words = call.split_whitespace();
+    let kind = words.next();
+    let now = number(words.next());
+    let src = address_in(words.next());
+    let dst = address_in(words.next());
+    let flow = Flow { src, dst };
+    let by_cache;
+    let by_charges;
+    if kind == Some("list") {
+        let n = small_number(words.next());
+        let t = (small_number(words.next()) % 256) as u8;
+        let second = number(words.next());
+        let rights = Rights { n, t };
+        let grant = Grant {
+            flow,
+            rights,
+            second,
+        };
+        let nonce = number(words.next());
+        let length = small_number(words.next());
+        by_cache = admit_list(rt, cache, now, grant, nonce, length);
+        by_charges = charges.admit_list(now, grant, nonce, length)?;
+    } else {
+        let nonce = number(words.next());
+        let length = small_number(words.next());
+        by_cache = admit_nonce(rt, cache, now, flow, nonce, length);
+        by_charges = charges.admit_nonce(now, flow, nonce, length)?;
+    }
+    let (verdict, living) = by_cache;
+    assert_eq!(rt; verdict, by_charges, "{call}");
+    assert_eq!(rt; living as usize, charges.living(now), "{call}");
+    text(alloc, verdict, living)
+}
+
+#[test]
+fn verdicts_over_all_charges(rt: HostRuntime) -> Result<(), Fail> {
+    let (mut cache, mut charges) = caches(&rt, rt.alloc(), "cache 0 0")?;
+    let mut calls = 0u64;
+    for line in CASES.lines() {
+        if line.starts_with("cache") {
+            (cache, charges) = caches(&rt, rt.alloc(), line)?;
+        }
+        if let Some((call, wanted)) = line.split_once(" -> ") {
+            let answer = answer(&rt, rt.alloc(), &mut cache, &mut charges, call)?;
+            assert_eq!(rt; answer.as_str(), wanted, "{line}");
+            calls = calls.wrapping_add(1);
+        }
+    }
+    assert_eq!(rt; calls, 238);
+    Ok(())
+}
