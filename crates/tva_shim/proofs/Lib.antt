@@ -1,0 +1,5 @@
+pub mod Sizes
+pub mod Tags
+pub mod NumberBytes
+pub mod Reading
+pub mod Wholes

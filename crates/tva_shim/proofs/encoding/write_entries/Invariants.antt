@@ -1,0 +1,12 @@
+use Rattle.std.proofs.Common.{◌≡◌, ◌+◌, ◌*◌, ◌++◌, take}
+use Rattle.std.specs.List.{flat_map}
+use Rattle.arrayvec.specs.ArrayVec.{array_vec_len}
+use Rattle.tva_shim.specs.Layout.{entry_bytes}
+use Rattle.tva_shim.proofs.encoding.write_entries.Given as goal
+
+-- the entries so far are written
+abbrev pub invariant-loop-entry : goal.invariant-loop-entry
+invariant-loop-entry l = record {
+  items : l.bytes.items ≡ l.initial.bytes.items ++ flat_map entry_bytes (take l.entry-index l.entry-items);
+  len : array_vec_len l.bytes ≡ array_vec_len l.initial.bytes + 10 * l.entry-index;
+}

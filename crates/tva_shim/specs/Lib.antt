@@ -1,0 +1,6 @@
+pub mod Widths
+pub mod Shims
+pub mod Layout
+pub mod Packets
+pub mod Parts
+pub mod Changes

@@ -1,0 +1,59 @@
+-- What a packet is, and which packets there are.
+use Rattle.std.specs.Prelude.{ℕ, ◌+◌, ◌≤◌, length, if◌then◌else◌}
+use Rattle.tva_base.specs.declared.packet.PacketId.{PacketId}
+use Rattle.tva_base.specs.declared.packet.Flow.{Flow}
+use Rattle.tva_base.specs.declared.packet.Class.{Class}
+use Rattle.tva_base.specs.declared.packet.Class.TheVariants as classes
+use Rattle.tva_shim.specs.declared.kinds.Kind.{Kind}
+use Rattle.tva_shim.specs.declared.kinds.Kind.TheVariants as kinds
+use Rattle.tva_shim.specs.declared.packets.Carried.{Carried}
+use Rattle.tva_shim.specs.declared.packets.Carried.TheVariants as carried
+use Rattle.tva_shim.specs.Layout.{layout, shim_size}
+
+-- a packet as contracts see it
+pub record PacketData : Type 0 where
+  pub id : PacketId
+  pub flow : Flow
+  pub hops : ℕ
+  pub payload : ℕ
+  pub carried : Carried
+
+-- a malformed shim has at most 400 bytes
+abbrev pub IsCarried : Carried → Type 0
+IsCarried carried.Nothing = Unit {0}
+IsCarried (carried.Shim shim) = Unit {0}
+IsCarried (carried.Malformed bytes) = bytes ≤ 400
+
+-- a packet within the sizes of a network
+pub record IsPacket (p : PacketData) : Type 0 where
+  pub hops : p.hops ≤ 32
+  pub payload : p.payload ≤ 1600
+  pub carried : IsCarried p.carried
+
+-- the bytes between a packet's header and its payload
+abbrev pub carried_bytes : Carried → ℕ
+carried_bytes carried.Nothing = 0
+carried_bytes (carried.Shim shim) = length (layout shim)
+carried_bytes (carried.Malformed bytes) = bytes
+
+-- the length of a packet: a header of 20 bytes, its shim and its payload
+abbrev pub packet_length : PacketData → ℕ
+packet_length p = 20 + carried_bytes p.carried + p.payload
+
+-- the same bytes, counted from what the shim has
+abbrev pub carried_size : Carried → ℕ
+carried_size carried.Nothing = 0
+carried_size (carried.Shim shim) = shim_size shim
+carried_size (carried.Malformed bytes) = bytes
+
+abbrev pub class_by_kind : Kind → Class
+class_by_kind (kinds.Request entries) = classes.Request
+class_by_kind (kinds.List shown) = classes.Regular
+class_by_kind (kinds.Nonce nonce) = classes.Regular
+class_by_kind (kinds.Renewal shown) = classes.Regular
+
+-- the class of a packet by its shim alone
+abbrev pub class_by_shim : Carried → Class
+class_by_shim carried.Nothing = classes.Legacy
+class_by_shim (carried.Shim shim) = if shim.demoted then classes.Legacy else class_by_kind shim.kind
+class_by_shim (carried.Malformed bytes) = classes.Legacy

@@ -1,0 +1,83 @@
+// The entries that routers add to a request.
+ghost use Rattle.std.specs.Prelude.{◌≡◌, ◌<◌, ◌↔◌, [], ◌∷◌, ◌++◌, length, IsErr, OnOk, OnErr};
+ghost use Rattle.tva_shim.specs.Widths.{AreEntries};
+
+use arrayvec::ArrayVec;
+use std::marker::Model;
+
+/// What one router adds to a request: the tag of the link that it came in on, 0 where that is no
+/// trust boundary, and a pre-capability.
+#[derive(Clone, Copy, Debug, PartialEq, Eq, Default)]
+pub struct Entry {
+    pub tag: u16,
+    pub precap: u64,
+}
+
+/// A request has 16 entries, and so no room for one more.
+#[derive(Clone, Copy, Debug, PartialEq, Eq)]
+pub struct PathFull;
+
+/// The entries of a request, at most 16. Contracts see them as a list.
+#[derive(Debug, Drop)]
+pub struct Entries(ArrayVec<Entry, 16>);
+
+impl Model for Entries {
+    ghost use Rattle.std.specs.Prelude.{List};
+    ghost use Rattle.tva_shim.specs.declared.entries.Entry.{Entry};
+    ghost use Rattle.tva_shim.specs.Widths.{AreEntries};
+
+    ghost Value = { List Entry };
+
+    ghost view = { λ entries. entries.0.items };
+
+    ghost invariant = { λ entries. AreEntries entries.0.items };
+}
+
+impl Entries {
+    /// No entries.
+    pub fn new() -> Entries
+        ensures { result ≡ [] }
+    {
+        Entries(ArrayVec::new())
+    }
+
+    /// Puts an entry last.
+    pub fn push(&mut self, entry: Entry)
+        requires { length self.old < 16 }
+        ensures { self.new ≡ self.old ++ entry ∷ [] }
+    {
+        self.0.push(entry);
+    }
+
+    /// Puts an entry last, where there are fewer than 16.
+    pub(crate) fn try_push(&mut self, entry: Entry) -> Result<(), PathFull>
+        ensures full { IsErr result ↔ (length self.old ≡ 16) }
+        ensures ok { OnOk result (self.new ≡ self.old ++ entry ∷ []) }
+        ensures err { OnErr result (self.new ≡ self.old) }
+    {
+        if self.0.len() == 16 {
+            return Err(PathFull);
+        }
+        self.push(entry);
+        Ok(())
+    }
+
+    /// The entries, in the order of the routers.
+    pub fn as_slice(&self) -> &[Entry]
+        ensures items { result.now ≡ self.now }
+        ensures widths { AreEntries self.now }
+    {
+        self.0.as_slice()
+    }
+
+    /// The same entries once more.
+    pub fn copied(&self) -> Entries
+        ensures { result ≡ self.now }
+    {
+        let mut copy = Entries::new();
+        for entry in self.as_slice() {
+            copy.push(*entry);
+        }
+        copy
+    }
+}

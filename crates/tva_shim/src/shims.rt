@@ -1,0 +1,164 @@
+// Shims.
+ghost use Rattle.std.specs.Prelude.{◌≡◌, if◌then◌else◌, nat_lt, ◌≤◌, ◌↔◌, length, IsErr, OnOk, OnErr};
+ghost use Rattle.tva_shim.specs.Shims.{IsKind, IsReturn, entries_of};
+ghost use Rattle.tva_shim.specs.Layout.{layout, shim_size, kind_size, return_size};
+ghost use Rattle.tva_shim.specs.Changes.{IsRequest, PointsAtOne, last_tag, with_entry, with_next_pointer, with_fresh, with_mark};
+
+use crate::entries::{Entry, PathFull};
+use crate::kinds::{Kind, ReturnInfo};
+use std::marker::Model;
+
+/// A shim: the demoted mark, the number of the protocol above it, its kind, and its return info.
+/// Its numbers are always within the widths of the layout.
+#[derive(Debug, Drop)]
+pub struct Shim {
+    pub demoted: bool,
+    pub protocol: u8,
+    pub kind: Kind,
+    pub back: ReturnInfo,
+}
+
+impl Model for Shim {
+    ghost use Rattle.tva_shim.specs.Shims.{ShimData, IsKind, IsReturn};
+
+    ghost Value = { ShimData };
+
+    ghost view = { λ s. record { demoted = s.demoted; protocol = s.protocol; kind = s.kind; back = s.back } };
+
+    ghost invariant = { λ s. IsKind s.kind × IsReturn s.back };
+}
+
+impl Shim {
+    /// A shim of these parts. A nonce has 48 bits, rights have at most 1,023 units and 63 seconds,
+    /// and a pointer is at most the number of capabilities.
+    pub fn new(demoted: bool, protocol: u8, kind: Kind, back: ReturnInfo) -> Shim
+        requires kind { IsKind kind }
+        requires back { IsReturn back }
+        ensures { result ≡ record { demoted = demoted; protocol = protocol; kind = kind; back = back } }
+    {
+        Shim {
+            demoted,
+            protocol,
+            kind,
+            back,
+        }
+    }
+
+    /// The same shim once more.
+    pub fn copied(&self) -> Shim
+        ensures { result ≡ self.now }
+    {
+        Shim {
+            demoted: self.demoted,
+            protocol: self.protocol,
+            kind: self.kind.copied(),
+            back: self.back.copied(),
+        }
+    }
+
+    /// The last nonzero tag of a request, else 0. It names the sender's path as far as the last
+    /// trust boundary knows it (TVA's most recent path identifier).
+    pub fn tag_key(&self) -> u16
+        requires { IsRequest self.now.kind }
+        ensures { result ≡ last_tag (entries_of self.now.kind) }
+    {
+        match &self.kind {
+            Kind::Request(entries) => last_tag_of(entries.as_slice()),
+            _ => unreachable!(),
+        }
+    }
+
+    /// Puts an entry last in a request. It is refused exactly where 16 entries are there.
+    pub fn push_entry(&mut self, entry: Entry) -> Result<(), PathFull>
+        requires { IsRequest self.old.kind }
+        ensures full { IsErr result ↔ (length (entries_of self.old.kind) ≡ 16) }
+        ensures ok { OnOk result (self.new ≡ with_entry entry self.old) }
+        ensures err { OnErr result (self.new ≡ self.old) }
+    {
+        match &mut self.kind {
+            Kind::Request(entries) => entries.try_push(entry),
+            _ => unreachable!(),
+        }
+    }
+
+    /// Moves the pointer of a list or a renewal to the next capability.
+    pub fn advance_pointer(&mut self)
+        requires { PointsAtOne self.old.kind }
+        ensures { self.new ≡ with_next_pointer self.old }
+    {
+        match &mut self.kind {
+            Kind::List(shown) => shown.advance(),
+            Kind::Renewal(shown) => shown.advance(),
+            _ => unreachable!(),
+        }
+    }
+
+    /// Puts a pre-capability in place of the capability at the pointer of a list or a renewal.
+    pub fn set_fresh(&mut self, precap: u64)
+        requires { PointsAtOne self.old.kind }
+        ensures { self.new ≡ with_fresh precap self.old }
+    {
+        match &mut self.kind {
+            Kind::List(shown) => shown.refresh(precap),
+            Kind::Renewal(shown) => shown.refresh(precap),
+            _ => unreachable!(),
+        }
+    }
+
+    /// Sets the demoted mark.
+    pub fn demote(&mut self)
+        ensures { self.new ≡ with_mark self.old }
+    {
+        self.demoted = true;
+    }
+}
+
+// the last nonzero tag, else 0
+fn last_tag_of(entries: &[Entry]) -> u16
+    ensures { result ≡ last_tag entries.now }
+{
+    let mut last = 0;
+    for entry in entries {
+        last = nonzero_or(entry.tag, last);
+    }
+    last
+}
+
+// the tag, or the other one where it is 0
+fn nonzero_or(tag: u16, other: u16) -> u16
+    ensures { result ≡ (if nat_lt 0 tag then tag else other) }
+{
+    if tag == 0 { other } else { tag }
+}
+
+// the bytes of the shim's layout
+#[tactic(auto, using(crate::proofs::Sizes::sizes))]
+pub(crate) fn shim_bytes_of(shim: &Shim) -> u32
+    ensures layout { result ≡ length (layout shim.now) }
+    ensures counted { result ≡ shim_size shim.now }
+    ensures short { result ≤ 295 }
+{
+    kind_bytes_of(&shim.kind) + return_bytes_of(&shim.back)
+}
+
+fn kind_bytes_of(kind: &Kind) -> u32
+    ensures counted { result ≡ kind_size kind.now }
+    ensures short { result ≤ 163 }
+{
+    match kind {
+        Kind::Request(entries) => 3 + 10 * entries.as_slice().len() as u32,
+        Kind::List(shown) | Kind::Renewal(shown) => 12 + 8 * shown.caps.as_slice().len() as u32,
+        Kind::Nonce(_) => 8,
+    }
+}
+
+fn return_bytes_of(back: &ReturnInfo) -> u32
+    ensures counted { result ≡ return_size back.now }
+    ensures short { result ≤ 132 }
+{
+    match back {
+        ReturnInfo::Nothing => 0,
+        ReturnInfo::Notice => 1,
+        ReturnInfo::Grant { caps, .. } => 4 + 8 * caps.as_slice().len() as u32,
+    }
+}
