@@ -1,0 +1,4 @@
+pub mod Bounds
+pub mod Pushes
+pub mod Keeping
+pub mod Standing
