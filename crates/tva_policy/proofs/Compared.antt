@@ -1,5 +1,5 @@
 -- Look-ups by a comparison find what look-ups by a test find.
-use Rattle.std.proofs.Common.{◌≡◌, ℕ, ◌<◌, ◌||◌, Bool, true, false, cond, eqb, ltb, List, [], ◌∷◌, Option, Some, refl, ap, sym, ◌∙◌, ◌+◌, arith}
+use Rattle.std.proofs.Common.{◌≡◌, ℕ, ◌||◌, Bool, true, cond, eqb, List, [], ◌∷◌, Option, Some, refl, ap, sym, ◌∙◌, ◌+◌, arith}
 use Rattle.std.specs.List.{list_any}
 use Rattle.std.specs.Map.{lookup}
 use Rattle.std.specs.Option.{unwrap_or}

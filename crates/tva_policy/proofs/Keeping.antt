@@ -1,15 +1,11 @@
 -- What a policy keeps, after one more deed.
-use Rattle.std.proofs.Common.{◌≡◌, ℕ, ◌+◌, ◌<◌, ◌≤◌, Bool, true, false, not, ◌&&◌, ◌||◌, cond, eqb, ltb, List, [], ◌∷◌, ◌++◌, Some, None, refl, ap, sym, ◌∙◌, arith, count_by}
-use Rattle.std.specs.List.{list_any}
-use Rattle.std.specs.Map.{lookup}
-use Rattle.std.specs.Option.{unwrap_or}
+use Rattle.std.proofs.Common.{◌≡◌, ℕ, ◌+◌, ◌<◌, ◌≤◌, Bool, true, false, ◌&&◌, cond, eqb, ltb, List, [], ◌∷◌, ◌++◌, Some, None, refl, ap, arith}
 use Rattle.std.proofs.lemmas.List.Folds.{list_any-append}
 use Rattle.std.proofs.lemmas.List.Sums.{sum_by_push}
 use Rattle.std.proofs.lemmas.Bool.Decides.{nat_tests}
-use Rattle.std.proofs.lemmas.Grind.{common_steps}
 use Rattle.tva_base.specs.declared.addresses.Address.{Address}
 use Rattle.tva_base.specs.declared.plan.PolicyPlan.{PolicyPlan}
-use Rattle.tva_policy.specs.Grants.{Deed, Sent, Decided, is_sending_to, is_grant_to, was_sent_to, grants_before, lets_in, has_address, has_tag, is_granted, decision}
+use Rattle.tva_policy.specs.Grants.{Deed, Sent, Decided, is_sending_to, is_grant_to, has_address, has_tag, is_granted, decision}
 use Rattle.tva_policy.specs.Notes.{Notes, StandsFor, grants_kept, lets_through}
 use Rattle.tva_policy.proofs.Compared.{list_any_same}
 

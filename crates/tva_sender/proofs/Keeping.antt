@@ -1,21 +1,20 @@
 -- What is kept of a peer after one more contact.
-use Rattle.std.proofs.Common.{◌≡◌, ◌⊎◌, ℕ, ◌+◌, ◌<◌, ◌≤◌, Bool, true, false, not, ◌||◌, ◌&&◌, cond, eqb, ltb, eq-eqb, suc, zero, List, [], ◌∷◌, ◌++◌, Option, Some, None, refl, ap, sym, ◌∙◌, max, arith, append-nil, add-zero, sum_by}
+use Rattle.std.proofs.Common.{◌≡◌, ℕ, ◌+◌, Bool, true, false, not, ◌||◌, ◌&&◌, cond, eqb, ltb, eq-eqb, suc, zero, List, [], ◌∷◌, ◌++◌, Option, Some, None, refl, ap, sym, ◌∙◌, arith, append-nil, add-zero, sum_by}
 use Rattle.std.specs.List.{list_any}
-use Rattle.std.specs.Option.{option_or, option_map, option_and_then, unwrap_or}
+use Rattle.std.specs.Option.{option_or, option_map, option_and_then}
 use Rattle.std.proofs.lemmas.List.Folds.{list_any-append}
 use Rattle.std.proofs.lemmas.List.Sums.{sum_by_push}
 use Rattle.std.proofs.lemmas.Bool.Decides.{nat_tests}
 use Rattle.tva_base.specs.declared.packet.Rights.{Rights}
 use Rattle.tva_base.specs.declared.packet.Time.{Time}
-use Rattle.tva_base.specs.Credit.{credit_of}
 use Rattle.tva_sender.specs.declared.shape.Shape.{Shape}
 use Rattle.tva_sender.specs.declared.shape.Shape.TheVariants as shape
 use Rattle.tva_sender.specs.declared.grant.Grant.{Grant}
 use Rattle.tva_sender.specs.declared.peer.Peer.{Peer}
-use Rattle.tva_sender.specs.Contacts.{Contact, Prepared, Taken, Notice, is_taking, is_notice, asks, Ask, is_answered, last_ask, Taking, last_taking, notices, unless_given_up, held_grant, Use, uses_in, uses, since_notice, life_of, first_nonce, time_of, time, grant_of, asked_at, is_open, awaits, grant_held}
+use Rattle.tva_sender.specs.Contacts.{Contact, Prepared, Taken, Notice, is_taking, is_notice, asks, Ask, last_ask, Taking, last_taking, notices, unless_given_up, Use, uses_in, uses, since_notice, life_of, first_nonce, time_of, time, grant_of, is_open}
 use Rattle.tva_sender.specs.Shapes.{length_of, list_length, nonce_length}
-use Rattle.tva_sender.specs.Steps.{taken_grant, charged, used_by, grant_used_by, prepared, answered, noticed, asking}
-use Rattle.tva_sender.specs.Book.{Keeps, IsStrange, IsKept}
+use Rattle.tva_sender.specs.Steps.{charged, used_by, grant_used_by, prepared, answered, noticed, asking}
+use Rattle.tva_sender.specs.Book.{Keeps, IsStrange}
 use Rattle.tva_sender.proofs.Pushes.{ask_more, last_ask-push, taking_more, last_taking-push, notices-push, uses-push, since_notice-push, since_notice-first, life_of-push, first_nonce-push}
 
 -- a contact that is no taking leaves an ask as it was
@@ -50,10 +49,10 @@ grant_charged t c u other used =
     let all : uses (t.after ++ c ∷ []) ≡ uses t.after ++ u ∷ [] = uses-push t.after c ∙ ap (λ us. uses t.after ++ us) used in
     let since : uses (since_notice (t.after ++ c ∷ [])) ≡ uses (since_notice t.after) ++ u ∷ [] = ap uses (since_notice-push t.after c other) ∙ uses-push (since_notice t.after) c ∙ ap (λ us. uses (since_notice t.after) ++ us) used in
     same_with t.rights t.caps (time (time_of (last_ask t.before))) _ _ _ _ _ _ _ _
-      (ap first_nonce all ∙ first_nonce-push (uses t.after) u)
-      (ap (λ us. sum_by (λ (w : Use). w.length) us) all ∙ sum_by_push (λ (w : Use). w.length) (uses t.after) u)
-      (ap (life_of t.rights) since ∙ life_of-push t.rights (uses (since_notice t.after)) u)
-      (notices-push t.after c ∙ rw other (omega arith))
+    (ap first_nonce all ∙ first_nonce-push (uses t.after) u)
+    (ap (λ us. sum_by (λ (w : Use). w.length) us) all ∙ sum_by_push (λ (w : Use). w.length) (uses t.after) u)
+    (ap (life_of t.rights) since ∙ life_of-push t.rights (uses (since_notice t.after)) u)
+    (notices-push t.after c ∙ rw other (omega arith))
 
 -- a packet that doesn't use it
 grant_kept : (t : Taking) (c : Contact) → is_notice c ≡ false → uses_in c ≡ [] → grant_of (taking_more c t) ≡ grant_of t
@@ -61,10 +60,10 @@ grant_kept t c other unused =
     let all : uses (t.after ++ c ∷ []) ≡ uses t.after = uses-push t.after c ∙ ap (λ us. uses t.after ++ us) unused ∙ append-nil (uses t.after) in
     let since : uses (since_notice (t.after ++ c ∷ [])) ≡ uses (since_notice t.after) = ap uses (since_notice-push t.after c other) ∙ uses-push (since_notice t.after) c ∙ ap (λ us. uses (since_notice t.after) ++ us) unused ∙ append-nil (uses (since_notice t.after)) in
     same_with t.rights t.caps (time (time_of (last_ask t.before))) _ _ _ _ _ _ _ _
-      (ap first_nonce all)
-      (ap (λ us. sum_by (λ (w : Use). w.length) us) all)
-      (ap (life_of t.rights) since)
-      (notices-push t.after c ∙ rw other (omega arith))
+    (ap first_nonce all)
+    (ap (λ us. sum_by (λ (w : Use). w.length) us) all)
+    (ap (life_of t.rights) since)
+    (notices-push t.after c ∙ rw other (omega arith))
 
 grant_used : (t : Taking) (now body : ℕ) (s : Shape) → grant_of (taking_more (Prepared now s (length_of s body)) t) ≡ used_by (grant_of t) now s body
 grant_used t now body shape.Request = grant_kept t (Prepared now shape.Request (length_of shape.Request body)) refl refl
@@ -116,10 +115,10 @@ grant_noticed : (t : Taking) → notices t.after ≡ 0 → grant_of (taking_more
 grant_noticed t none =
     let all : uses (t.after ++ Notice ∷ []) ≡ uses t.after = uses-push t.after Notice ∙ append-nil (uses t.after) in
     same_with t.rights t.caps (time (time_of (last_ask t.before))) _ _ _ _ _ _ _ _
-      (ap first_nonce all)
-      (ap (λ us. sum_by (λ (w : Use). w.length) us) all)
-      (ap (λ cs. life_of t.rights (uses cs)) (since_notice-first t.after none))
-      (notices-push t.after Notice ∙ rw none refl)
+    (ap first_nonce all)
+    (ap (λ us. sum_by (λ (w : Use). w.length) us) all)
+    (ap (λ cs. life_of t.rights (uses cs)) (since_notice-first t.after none))
+    (notices-push t.after Notice ∙ rw none refl)
 
 noticed_by : (t : Taking) (n : ℕ) → n ≡ notices t.after → option_map grant_of (cond (ltb (n + 1) 2) (Some (taking_more Notice t)) None) ≡ noticed (option_map grant_of (cond (ltb n 2) (Some t) None))
 noticed_by t zero e =

@@ -2,3 +2,4 @@ pub mod Bounds
 pub mod Pushes
 pub mod Keeping
 pub mod Standing
+pub mod Carrying

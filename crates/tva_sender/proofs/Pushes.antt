@@ -1,11 +1,10 @@
 -- What one more contact changes in what is read off a list of contacts.
-use Rattle.std.proofs.Common.{◌≡◌, ℕ, ◌+◌, ◌≤◌, Bool, true, false, not, ◌||◌, cond, List, [], ◌∷◌, ◌++◌, Option, Some, None, refl, ap, sym, ◌∙◌, max, arith, append_assoc, append-nil, sum_by}
+use Rattle.std.proofs.Common.{◌≡◌, ℕ, ◌+◌, true, false, cond, List, [], ◌∷◌, ◌++◌, Option, Some, None, refl, ap, sym, max, arith, append_assoc, append-nil}
 use Rattle.std.specs.Option.{option_or, option_map, unwrap_or}
 use Rattle.std.proofs.lemmas.List.Sums.{sum_by-cons, sum_by_push}
 use Rattle.tva_base.specs.declared.packet.Rights.{Rights}
 use Rattle.tva_base.specs.Credit.{credit_of}
-use Rattle.tva_sender.specs.declared.shape.Shape.{Shape}
-use Rattle.tva_sender.specs.Contacts.{Contact, Prepared, Taken, Notice, is_notice, asks, Ask, ask_in, last_ask, Taking, taking_in, last_taking, notices, Use, uses_in, uses, after_notice, since_notice, credits, life_of, first_nonce}
+use Rattle.tva_sender.specs.Contacts.{Contact, Prepared, Taken, Notice, is_notice, asks, Ask, ask_in, last_ask, Taking, taking_in, last_taking, notices, Use, uses_in, uses, after_notice, since_notice, life_of, first_nonce}
 
 -- the last of two, and what a function makes of it
 or_none : {X : Type 0} (x : Option X) → option_or None x ≡ option_or x None

@@ -28,22 +28,22 @@ address n = record { 0 = n }
 pub stands_more : (v w : Book) (h : List (Address × Contact)) (a : Address) (c : Contact) → StandsFor v h → ((q : ℕ) → eqb a.0 q ≡ false → lookup (nat_eq q) w.peers ≡ lookup (nat_eq q) v.peers) → IsKept (peer_at a w.peers) (of_peer a h ++ c ∷ []) → StandsFor w (h ++ (a, c) ∷ [])
 stands_more v w h a c s others kept = record {
   kept = λ b. rw (of_peer-push b h (a, c)) (⊎_elim
-    (λ (e : b.0 ≡ a.0). let here : eqb a.0 a.0 ≡ true = eq-eqb a.0 a.0 refl in
+      (λ (e : b.0 ≡ a.0). let here : eqb a.0 a.0 ≡ true = eq-eqb a.0 a.0 refl in
       subst (λ (n : ℕ). IsKept (lookup (nat_eq n) w.peers) (cond (eqb n a.0) (of_peer (address n) h ++ c ∷ []) (of_peer (address n) h))) (sym e) (rw here kept))
-    (λ (apart : b.0 ≡ a.0 → ⊥). let one : eqb b.0 a.0 ≡ false = grind (arith, nat_tests) in
+      (λ (apart : b.0 ≡ a.0 → ⊥). let one : eqb b.0 a.0 ≡ false = grind (arith, nat_tests) in
       let other : eqb a.0 b.0 ≡ false = grind (arith, nat_tests) in
       rw (one, others b.0 other) (s.kept b))
-    (cases_eq b.0 a.0));
+      (cases_eq b.0 a.0));
 }
 
 -- nothing is kept anew
 pub stands_same : (v w : Book) (h : List (Address × Contact)) (a : Address) → StandsFor v h → ((q : ℕ) → eqb a.0 q ≡ false → lookup (nat_eq q) w.peers ≡ lookup (nat_eq q) v.peers) → peer_at a w.peers ≡ peer_at a v.peers → StandsFor w h
 stands_same v w h a s others here = record {
   kept = λ b. ⊎_elim
-    (λ (e : b.0 ≡ a.0). subst (λ (n : ℕ). IsKept (lookup (nat_eq n) w.peers) (of_peer (address n) h)) (sym e) (rw here (s.kept a)))
-    (λ (apart : b.0 ≡ a.0 → ⊥). let other : eqb a.0 b.0 ≡ false = grind (arith, nat_tests) in
+      (λ (e : b.0 ≡ a.0). subst (λ (n : ℕ). IsKept (lookup (nat_eq n) w.peers) (of_peer (address n) h)) (sym e) (rw here (s.kept a)))
+      (λ (apart : b.0 ≡ a.0 → ⊥). let other : eqb a.0 b.0 ≡ false = grind (arith, nat_tests) in
       rw (others b.0 other) (s.kept b))
-    (cases_eq b.0 a.0);
+      (cases_eq b.0 a.0);
 }
 
 -- a peer that was found and was changed

@@ -13,6 +13,10 @@ pub record Book : Type 0 where
   pub last : ℕ
   pub peers : List (ℕ × Peer)
 
+-- at the beginning, without peers and without room
+abbrev pub empty_book : ℕ → ℕ → Book
+empty_book margin retry = record { margin = margin; retry = retry; spare = 0; last = 0; peers = [] }
+
 abbrev pub peer_at : Address → List (ℕ × Peer) → Option Peer
 peer_at a peers = lookup (nat_eq a.0) peers
 

@@ -3,3 +3,4 @@ pub mod Shapes
 pub mod Steps
 pub mod Book
 pub mod Near
+pub mod Carried

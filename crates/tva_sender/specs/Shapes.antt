@@ -1,6 +1,5 @@
 -- The shape of the next packet.
-use Rattle.std.specs.Prelude.{ℕ, Bool, true, false, not, ◌+◌, ◌-◌, ◌*◌, max, nat_lt, nat_le, ◌&&◌, ◌||◌, if◌then◌else◌, List, length, Option, Some, None, unwrap_or}
-use Rattle.tva_base.specs.Credit.{credit_of}
+use Rattle.std.specs.Prelude.{ℕ, Bool, true, ◌+◌, ◌-◌, ◌*◌, nat_lt, nat_le, ◌&&◌, ◌||◌, if◌then◌else◌, List, length, Option, Some, None, unwrap_or}
 use Rattle.tva_sender.specs.declared.shape.Held.{Held}
 use Rattle.tva_sender.specs.declared.shape.Shape.{Shape}
 use Rattle.tva_sender.specs.declared.shape.Shape.TheVariants as shape

@@ -12,3 +12,6 @@ mod shape;
 
 pub use sender::Sender;
 pub use shape::{Held, Shape};
+
+#[cfg(test)]
+mod tests;

@@ -20,7 +20,11 @@ pub struct Peer {
 fn without_grant(may_ask: bool) -> Shape
     ensures { result ≡ without_grant may_ask }
 {
-    if may_ask { Shape::Request } else { Shape::Legacy }
+    if may_ask {
+        Shape::Request
+    } else {
+        Shape::Legacy
+    }
 }
 
 impl Shape {

@@ -3,7 +3,8 @@ ghost use Rattle.std.specs.Prelude.{◌≡◌, ◌⊎◌, ℕ, ◌+◌, ◌-◌,
 ghost use Rattle.tva_base.specs.declared.addresses.Address.{Address};
 ghost use Rattle.tva_sender.specs.Contacts.{Contact, Prepared, Taken, Notice, awaits};
 ghost use Rattle.tva_sender.specs.Shapes.{shape_of, length_of};
-ghost use Rattle.tva_sender.specs.Book.{Book, StandsFor, of_peer, knows};
+ghost use Rattle.tva_sender.specs.Carried.{AreCarried, IsCarried};
+ghost use Rattle.tva_sender.specs.Book.{Book, empty_book, StandsFor, of_peer, knows};
 
 use crate::peer::Peer;
 use crate::shape::Shape;
@@ -12,7 +13,8 @@ use std::collections::HashMap;
 use std::marker::Model;
 use tva_base::{Address, Caps, Rights, Time};
 
-/// What a host shows of the grants of its peers.
+/// What a host shows of the grants of its peers. Sums of times are made in 128 bits; the bytes
+/// that use a grant of N units are at most 1,024 N, below `2^42`.
 #[derive(Drop)]
 pub struct Sender {
     margin: u64,
@@ -41,7 +43,7 @@ impl Sender {
     pub fn build(alloc: Global, margin: u64, retry: u64) -> Sender
         requires margin { margin ≤ 10 ^ 12 }
         requires retry { (10 ^ 9 + margin ≤ retry) × (retry ≤ 10 ^ 13) }
-        ensures rules { (result.margin ≡ margin) × (result.retry ≡ retry) × (result.last ≡ 0) }
+        ensures book { result ≡ empty_book margin retry }
         ensures stands { StandsFor result [] }
     {
         Sender {
@@ -53,7 +55,7 @@ impl Sender {
         }
     }
 
-    /// Makes room for so many further peers.
+    /// Makes room for so many peers that aren't known yet.
     pub fn reserve(&mut self, peers: u32) -> Result<(), AllocError>
         ensures ok { OnOk result (self.new.spare ≡ max self.old.spare peers) }
         ensures rest { self.new ≡ record self.old { spare = self.new.spare; peers = self.new.peers } }
@@ -68,8 +70,9 @@ impl Sender {
         Ok(())
     }
 
-    /// The shape of a packet for a peer, with a body of so many bytes. The offered nonce becomes
-    /// that of a grant with the first packet that uses it.
+    /// The shape of a packet that is prepared for a peer at a time in nanoseconds, with a body of so
+    /// many bytes. The offered nonce becomes that of a grant with the first packet that uses it.
+    /// It takes no memory: a new peer takes the room of one.
     pub fn prepare(&mut self, now: Time, dst: Address, body: u32, nonce: u64) -> Shape
         requires time { self.old.last ≤ now.0 }
         requires room { knows self.old dst ≡ false → 1 ≤ self.old.spare }
@@ -77,6 +80,7 @@ impl Sender {
         requires nonce { nonce < 2 ^ 48 }
         ensures shape { (h : List (Address × Contact)) → StandsFor self.old h → result ≡ shape_of self.old.margin self.old.retry (of_peer dst h) now.0 body nonce }
         ensures stands { (h : List (Address × Contact)) → StandsFor self.old h → StandsFor self.new (h ++ (dst, Prepared now.0 result (length_of result body)) ∷ []) }
+        ensures carried { (h : List (Address × Contact)) → StandsFor self.old h → AreCarried h → IsCarried result }
         ensures spare { self.new.spare ≡ (if knows self.old dst then self.old.spare else self.old.spare - 1) }
         ensures last { self.new.last ≡ now.0 }
         ensures rest { self.new ≡ record self.old { spare = self.new.spare; last = self.new.last; peers = self.new.peers } }
@@ -93,7 +97,7 @@ impl Sender {
         }
     }
 
-    /// Takes a grant of a peer whose last ask isn't answered.
+    /// Takes a grant of a peer whose last ask isn't answered, and ignores it otherwise.
     pub fn granted(&mut self, src: Address, rights: Rights, caps: &Caps) -> bool
         ensures taken { (h : List (Address × Contact)) → StandsFor self.old h → result ≡ awaits (of_peer src h) }
         ensures stands { (h : List (Address × Contact)) → StandsFor self.old h → StandsFor self.new (h ++ (if result then (src, Taken rights caps.now) ∷ [] else [])) }
@@ -107,7 +111,8 @@ impl Sender {
         peer.take(rights, caps)
     }
 
-    /// Counts a notice of a peer on its grant.
+    /// Counts a notice of a peer. The first one on a grant ends its life, so that the list is shown
+    /// again; the second one gives it up.
     pub fn demoted(&mut self, src: Address)
         ensures stands { (h : List (Address × Contact)) → StandsFor self.old h → StandsFor self.new (h ++ (src, Notice) ∷ []) }
         ensures rest { self.new ≡ record self.old { peers = self.new.peers } }

@@ -1,4 +1,4 @@
-use Rattle.std.proofs.Common.{sym, subst, refl, ◌∙◌, ap, arith, true, false, unwrap_or}
+use Rattle.std.proofs.Common.{sym, subst, ◌∙◌, ap, true, unwrap_or}
 use Rattle.tva_policy.specs.Notes.{Notes, StandsFor, lets_through}
 use Rattle.tva_policy.proofs.Compared.{grants_kept_by, grants_kept-insert}
 use Rattle.tva_policy.proofs.Keeping.{too_often, not_let_through, granted, stands_decided}

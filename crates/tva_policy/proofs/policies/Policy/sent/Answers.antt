@@ -1,4 +1,4 @@
-use Rattle.std.proofs.Common.{sym, subst, ◌∙◌, ap, cond, true}
+use Rattle.std.proofs.Common.{sym, subst}
 use Rattle.tva_policy.specs.Notes.{Notes, StandsFor}
 use Rattle.tva_policy.proofs.Compared.{has_address-insert}
 use Rattle.tva_policy.proofs.Keeping.{stands_sent}

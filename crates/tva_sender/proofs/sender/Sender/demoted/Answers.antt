@@ -14,7 +14,7 @@ returns-in_default-clause-stands c h s =
     let same = c.get_mut.follows.holds-at-none in
     let absent = ap (λ m. lookup (nat_eq c.args.src.0) m.entries) same ∙ sym c.in_default.ensures.value in
     stands_more _ _ h c.args.src Notice stood (λ q _. ap (λ m. lookup (nat_eq q) m.entries) same)
-      (subst (λ (o : Option Peer). IsKept o (of_peer c.args.src h ++ Notice ∷ [])) (sym absent) (strange_noticed (of_peer c.args.src h) (strange_at _ h c.args.src stood c.in_default.ensures.value)))
+    (subst (λ (o : Option Peer). IsKept o (of_peer c.args.src h ++ Notice ∷ [])) (sym absent) (strange_noticed (of_peer c.args.src h) (strange_at _ h c.args.src stood c.in_default.ensures.value)))
 
 pub returns-clause-stands : goal.returns-clause-stands
 returns-clause-stands c h s =
@@ -23,4 +23,4 @@ returns-clause-stands c h s =
     let written = c.get_mut.follows.holds c.notice.new.self in
     let updated = written.3 (ap is_some (sym found)) in
     stands_at _ _ h c.args.src Notice c.in-Some.peer.now c.notice.new.self stood found updated.1 updated.2
-      (λ k. rw c.notice.ensures.noticed (keeps_noticed c.in-Some.peer.now (of_peer c.args.src h) k))
+    (λ k. rw c.notice.ensures.noticed (keeps_noticed c.in-Some.peer.now (of_peer c.args.src h) k))

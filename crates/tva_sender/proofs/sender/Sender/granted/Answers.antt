@@ -1,4 +1,4 @@
-use Rattle.std.proofs.Common.{◌≡◌, ℕ, List, sym, subst, ap, ◌∙◌}
+use Rattle.std.proofs.Common.{ℕ, List, sym, subst, ap, ◌∙◌}
 use Rattle.std.specs.Map.{set_value}
 use Rattle.std.specs.Prelude.{nat_eq, is_some}
 use Rattle.std.proofs.lemmas.Map.Steps.{set_value_same}
@@ -14,7 +14,7 @@ returns-clause-stands c h s =
     let written = c.get_mut.follows.holds c.take.new.self in
     let updated = written.3 (ap is_some (sym found)) in
     stands_taken _ _ h c.args.src c.args.rights c.args.caps.now c.in-Some.peer.now c.take.new.self c.take.result stood found updated.1 updated.2
-      c.take.ensures.answered c.take.ensures.ignored
+    c.take.ensures.answered c.take.ensures.ignored
 
 -- the peer is written back as it was
 pub returns-clause-ignored : goal.returns-clause-ignored
