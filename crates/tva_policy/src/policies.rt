@@ -55,8 +55,8 @@ impl Policy {
         Ok(())
     }
 
-    /// Decides whether the source of a packet with these tags is granted, and which rights. A
-    /// grant is counted; a decision without a grant changes nothing.
+    /// Decides whether the source of a packet with these tags is granted, and which rights: units of
+    /// 1,024 bytes and seconds. A grant is counted; a decision without a grant changes nothing.
     pub fn decide(
         &mut self,
         alloc: Global,
@@ -75,6 +75,7 @@ impl Policy {
         if !self.lets_through(src, tags) {
             return Ok(None);
         }
+        // The count stays at most `grants`, so it fits its width.
         self.granted.insert(src, before + 1)?;
         Ok(Some(self.rights))
     }
