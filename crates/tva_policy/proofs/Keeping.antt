@@ -1,0 +1,58 @@
+-- What a policy keeps, after one more deed.
+use Rattle.std.proofs.Common.{◌≡◌, ℕ, ◌+◌, ◌<◌, ◌≤◌, Bool, true, false, ◌&&◌, cond, eqb, ltb, List, [], ◌∷◌, ◌++◌, Some, None, refl, ap, arith}
+use Rattle.std.proofs.lemmas.List.Folds.{list_any-append}
+use Rattle.std.proofs.lemmas.List.Sums.{sum_by_push}
+use Rattle.std.proofs.lemmas.Bool.Decides.{nat_tests}
+use Rattle.tva_base.specs.declared.addresses.Address.{Address}
+use Rattle.tva_base.specs.declared.plan.PolicyPlan.{PolicyPlan}
+use Rattle.tva_policy.specs.Grants.{Deed, Sent, Decided, is_sending_to, is_grant_to, has_address, has_tag, is_granted, decision}
+use Rattle.tva_policy.specs.Notes.{Notes, StandsFor, grants_kept, lets_through}
+use Rattle.tva_policy.proofs.Compared.{list_any_same}
+
+-- what is kept decides as the history does
+pub by_notes : (plan : PolicyPlan) (v : Notes) (h : List Deed) (src : Address) (tags : List ℕ) → StandsFor plan v h → is_granted plan h src tags ≡ (lets_through v src tags && ltb (grants_kept v.granted src) v.grants)
+unfolding is_granted
+by_notes plan v h src tags s =
+    let kind = s.kind in
+    let grants = s.grants in
+    let noted = s.noted src in
+    let deny = s.deny src in
+    let tagged = list_any_same (has_tag v.deny_tags) (has_tag plan.deny_tags) s.deny_tags tags in
+    let granted = s.granted src in
+    cc
+
+pub stands_sent : (plan : PolicyPlan) (v : Notes) (h : List Deed) (dst : Address) (noted : List Address) → StandsFor plan v h → ((a : Address) → has_address noted a ≡ cond (eqb dst.0 a.0) true (has_address v.noted a)) → StandsFor plan (record v { noted = noted }) (h ++ Sent dst ∷ [])
+stands_sent plan v h dst noted s e = record {
+  kind = s.kind;
+  rights = s.rights;
+  grants = s.grants;
+  deny = s.deny;
+  deny_tags = s.deny_tags;
+  noted = λ a. let more = list_any-append (is_sending_to a) h (Sent dst ∷ []) in let new = e a in let old = s.noted a in grind (arith, nat_tests);
+  granted = λ a. let more = sum_by_push (λ d. cond (is_grant_to a d) 1 0) h (Sent dst) in let old = s.granted a in grind (arith, nat_tests);
+}
+
+-- a decision that grants, or not
+pub stands_decided : (plan : PolicyPlan) (v : Notes) (h : List Deed) (src : Address) (is_grant : Bool) (granted : List (Address × ℕ)) → StandsFor plan v h → ((a : Address) → grants_kept granted a ≡ cond (is_grant && eqb a.0 src.0) (grants_kept v.granted a + 1) (grants_kept v.granted a)) → StandsFor plan (record v { granted = granted }) (h ++ Decided src is_grant ∷ [])
+stands_decided plan v h src is_grant granted s e = record {
+  kind = s.kind;
+  rights = s.rights;
+  grants = s.grants;
+  deny = s.deny;
+  deny_tags = s.deny_tags;
+  noted = λ a. let more = list_any-append (is_sending_to a) h (Decided src is_grant ∷ []) in let old = s.noted a in grind (arith, nat_tests);
+  granted = λ a. let more = sum_by_push (λ d. cond (is_grant_to a d) 1 0) h (Decided src is_grant) in let new = e a in let old = s.granted a in grind (arith, nat_tests);
+}
+
+pub too_often : (plan : PolicyPlan) (v : Notes) (h : List Deed) (src : Address) (tags : List ℕ) (n : ℕ) → StandsFor plan v h → n ≡ grants_kept v.granted src → v.grants ≤ n → None ≡ decision plan h src tags
+too_often plan v h src tags n s found over =
+    let many : ltb (grants_kept v.granted src) v.grants ≡ false = rw (← found) (grind (arith, nat_tests)) in
+    rw (by_notes plan v h src tags s, many) (elim (lets_through v src tags) as (λ b. None ≡ cond (b && false) (Some plan.rights) None) [ true ↦ refl | false ↦ refl ])
+
+pub not_let_through : (plan : PolicyPlan) (v : Notes) (h : List Deed) (src : Address) (tags : List ℕ) → StandsFor plan v h → lets_through v src tags ≡ false → None ≡ decision plan h src tags
+not_let_through plan v h src tags s stopped = rw (by_notes plan v h src tags s, stopped) refl
+
+pub granted : (plan : PolicyPlan) (v : Notes) (h : List Deed) (src : Address) (tags : List ℕ) (n : ℕ) → StandsFor plan v h → n ≡ grants_kept v.granted src → n < v.grants → lets_through v src tags ≡ true → Some v.rights ≡ decision plan h src tags
+granted plan v h src tags n s found under passed =
+    let few : ltb (grants_kept v.granted src) v.grants ≡ true = rw (← found) (grind (arith, nat_tests)) in
+    rw (by_notes plan v h src tags s, passed, few) (ap Some s.rights)

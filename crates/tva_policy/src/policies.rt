@@ -1,0 +1,103 @@
+// A policy: whom it granted, and whom it would grant.
+ghost use Rattle.std.specs.Prelude.{◌≡◌, List, [], ◌∷◌, ◌++◌, is_some, IfOk, IfNone, OnOk, OnErr};
+ghost use Rattle.tva_base.specs.declared.plan.PolicyPlan.{PolicyPlan};
+ghost use Rattle.tva_policy.specs.Grants.{Deed, Sent, Decided, decision, lets_in};
+ghost use Rattle.tva_policy.specs.Notes.{StandsFor, lets_through};
+
+use crate::sets::{has_any, set_of};
+use std::alloc::{AllocError, Global};
+use std::collections::{BTreeMap, BTreeSet};
+use std::marker::Model;
+use tva_base::{Address, PolicyKind, PolicyPlan, Rights};
+
+/// Whom a host grants. It keeps the destinations that were noted and the grants to each source.
+#[derive(Drop)]
+pub struct Policy {
+    kind: PolicyKind,
+    rights: Rights,
+    grants: u32,
+    deny: BTreeSet<Address>,
+    deny_tags: BTreeSet<u16>,
+    noted: BTreeSet<Address>,
+    granted: BTreeMap<Address, u32>,
+}
+
+impl Model for Policy {
+    ghost use Rattle.tva_policy.specs.Notes.{Notes};
+
+    ghost Value = { Notes };
+
+    ghost view = { λ p. record { kind = p.kind; rights = p.rights; grants = p.grants; deny = p.deny.keys; deny_tags = p.deny_tags.keys; noted = p.noted.keys; granted = p.granted.entries } };
+}
+
+impl Policy {
+    /// A policy with this plan, which noted nothing and granted nobody.
+    pub fn build(alloc: Global, plan: &PolicyPlan) -> Result<Policy, AllocError>
+        ensures { IfOk result (λ policy. StandsFor plan.now policy []) }
+    {
+        Ok(Policy {
+            kind: plan.kind,
+            rights: plan.rights,
+            grants: plan.grants,
+            deny: set_of(alloc, plan.deny.as_slice())?,
+            deny_tags: set_of(alloc, plan.deny_tags.as_slice())?,
+            noted: BTreeSet::new(alloc),
+            granted: BTreeMap::new(alloc),
+        })
+    }
+
+    /// Notes a send row to the destination.
+    pub fn sent(&mut self, alloc: Global, dst: Address) -> Result<(), AllocError>
+        ensures stands { (plan : PolicyPlan) (h : List Deed) → StandsFor plan self.old h → OnOk result (StandsFor plan self.new (h ++ Sent dst ∷ [])) }
+        ensures err { OnErr result (self.new ≡ self.old) }
+    {
+        self.noted.insert(dst)?;
+        Ok(())
+    }
+
+    /// Decides whether the source of a packet with these tags is granted, and which rights: units of
+    /// 1,024 bytes and seconds. A grant is counted; a decision without a grant changes nothing.
+    pub fn decide(
+        &mut self,
+        alloc: Global,
+        src: Address,
+        tags: &[u16],
+    ) -> Result<Option<Rights>, AllocError>
+        ensures answer { (plan : PolicyPlan) (h : List Deed) → StandsFor plan self.old h → IfOk result (λ answer. answer ≡ decision plan h src tags.now) }
+        ensures stands { (plan : PolicyPlan) (h : List Deed) → StandsFor plan self.old h → IfOk result (λ answer. StandsFor plan self.new (h ++ Decided src (is_some answer) ∷ [])) }
+        ensures refused { IfOk result (λ answer. IfNone answer (self.new ≡ self.old)) }
+        ensures err { OnErr result (self.new ≡ self.old) }
+    {
+        let before = self.granted.get(&src).copied().unwrap_or(0);
+        if before >= self.grants {
+            return Ok(None);
+        }
+        if !self.lets_through(src, tags) {
+            return Ok(None);
+        }
+        // The count stays at most `grants`, so it fits its width.
+        self.granted.insert(src, before + 1)?;
+        Ok(Some(self.rights))
+    }
+
+    // Whether a source would be granted that wasn't granted too often.
+    fn lets_through(&self, src: Address, tags: &[u16]) -> bool
+        ensures { result ≡ lets_through self.now src tags.now }
+    {
+        let is_noted = self.noted.contains(&src);
+        let is_denied = self.deny.contains(&src);
+        let has_denied = has_any(&self.deny_tags, tags);
+        lets_in(self.kind, is_noted) && !is_denied && !has_denied
+    }
+}
+
+/// Whether the kind of a policy lets a source in that the host sent to before, or not.
+fn lets_in(kind: PolicyKind, is_noted: bool) -> bool
+    ensures { result ≡ lets_in kind is_noted }
+{
+    match kind {
+        PolicyKind::DenyAll => false,
+        PolicyKind::Client => is_noted,
+        PolicyKind::Server => true,
+    }
+}

@@ -1,0 +1,18 @@
+-- How far a packet moves the life of a grant.
+use Rattle.std.proofs.Common.{ℕ, ◌+◌, ◌*◌, ◌^◌, ◌<◌, ◌≤◌, max, arith}
+use Rattle.std.proofs.Math.Nat.{mul-le-mul_left}
+
+pub le-mul_some : (a b : ℕ) → 1 ≤ b → a ≤ a * (1024 * b)
+le-mul_some a b some =
+    let more : a * 1 ≤ a * (1024 * b) = mul-le-mul_left a (omega arith) in
+    omega arith
+
+-- a byte adds less than 2^38 nanoseconds
+pub credit_small : (bytes t credit : ℕ) → t < 2 ^ 8 → credit ≤ bytes * t * 1000000000 → credit ≤ bytes * 2 ^ 38
+credit_small bytes t credit few least =
+    let most : bytes * t ≤ bytes * 255 = mul-le-mul_left bytes (omega arith) in
+    omega arith
+
+-- the life stays near where the packet's credit is added
+pub life_near : (last life used bytes credit : ℕ) → life ≤ last + used * 2 ^ 38 → credit ≤ bytes * 2 ^ 38 → max life last + credit ≤ last + (used + bytes) * 2 ^ 38
+life_near last life used bytes credit near small = omega arith

@@ -1,0 +1,26 @@
+use Rattle.std.proofs.Common.{ℕ, List, sym, subst, ap, ◌∙◌}
+use Rattle.std.specs.Map.{set_value}
+use Rattle.std.specs.Prelude.{nat_eq, is_some}
+use Rattle.std.proofs.lemmas.Map.Steps.{set_value_same}
+use Rattle.tva_sender.specs.declared.peer.Peer.{Peer}
+use Rattle.tva_sender.specs.Book.{Book, StandsFor}
+use Rattle.tva_sender.proofs.Standing.{stands_taken}
+use Rattle.tva_sender.proofs.sender.Sender.granted.Goals as goal
+
+pub returns-clause-stands : goal.returns-clause-stands
+returns-clause-stands c h s =
+    let stood = subst (λ (v : Book). StandsFor v h) (sym c.self.view_is) s in
+    let found = c.in-Some.ensures.value in
+    let written = c.get_mut.follows.holds c.take.new.self in
+    let updated = written.3 (ap is_some (sym found)) in
+    stands_taken _ _ h c.args.src c.args.rights c.args.caps.now c.in-Some.peer.now c.take.new.self c.take.result stood found updated.1 updated.2
+    c.take.ensures.answered c.take.ensures.ignored
+
+-- the peer is written back as it was
+pub returns-clause-ignored : goal.returns-clause-ignored
+returns-clause-ignored c ignored =
+    let before = c.self.inside in
+    let written = c.get_mut.follows.holds c.take.new.self in
+    let entries = written.0 ∙ ap (λ p. set_value (nat_eq c.args.src.0) before.peers.entries p) (c.take.ensures.ignored ignored) ∙ set_value_same (nat_eq c.args.src.0) before.peers.entries c.in-Some.peer.now (sym c.in-Some.ensures.value) in
+    let book : List (ℕ × Peer) → Book = λ peers. record { margin = before.margin; retry = before.retry; spare = before.room; last = before.last.0; peers = peers } in
+    ap book entries ∙ c.self.view_is
