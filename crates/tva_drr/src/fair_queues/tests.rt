@@ -1,5 +1,7 @@
 ghost use Rattle.std.specs.Prelude.{IfSome};
 
+mod plain;
+
 use super::*;
 use crate::cases::CASES;
 use std::process::Abort;
