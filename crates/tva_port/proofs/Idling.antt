@@ -1,0 +1,78 @@
+-- A link is idle exactly where nothing waits, and waits only where requests alone wait.
+use Rattle.std.proofs.Common.{◌≡◌, ◌≢◌, ℕ, ◌↔◌, List, [], ◌∷◌, length, Some, None, refl, sym, ap, ◌∙◌, arith, append-nil}
+use Rattle.tva_base.specs.declared.limits.LinkLimits.{LinkLimits}
+use Rattle.tva_base.specs.declared.packet.Time.{Time}
+use Rattle.tva_base.specs.Plan.{AreLinkLimits}
+use Rattle.tva_shim.specs.Packets.{PacketData, packet_length}
+use Rattle.tva_drr.specs.Queues.{Queue, Fair, first, head}
+use Rattle.tva_drr.specs.Fair.{AreFair}
+use Rattle.tva_port.specs.declared.decision.Decision.{Decision}
+use Rattle.tva_port.specs.declared.decision.Decision.TheVariants.{WaitUntil, Idle}
+use Rattle.tva_port.specs.Log.{Entry}
+use Rattle.tva_port.specs.Waiting.{Waiting, waiting_after, IsEmpty, IsRequestsAlone}
+use Rattle.tva_port.specs.Decide.{covered, wait_for, decision, credit_after, is_start}
+use Rattle.tva_port.specs.Legal.{IsLegal}
+use Rattle.tva_port.specs.Keeps.{IsWithinLimits}
+use Rattle.tva_port.proofs.Deciding.{Rests, rests_is}
+use Rattle.tva_port.proofs.Resting.{resting, wait_is, idle_is}
+use Rattle.tva_port.proofs.Limits.{stays_within}
+
+no_first : (xs : List PacketData) → first xs ≡ None → xs ≡ []
+no_first [] e = refl
+no_first (x ∷ xs) e = absurd (cc)
+
+-- each queue has an item, so fair queues without a head are none
+no_head : (f : Fair PacketData) (qs : List (Queue PacketData)) → AreFair packet_length f.limits qs → head qs ≡ None → qs ≡ []
+no_head f [] a e = refl
+no_head f (q ∷ qs) a e = absurd (let n : q.items ≡ [] = no_first q.items e in omega (arith, a.each.0.filled, ap length n))
+
+some_head : (qs : List (Queue PacketData)) (p : PacketData) → head qs ≡ Some p → qs ≢ []
+some_head [] p e = λ n. absurd (cc)
+some_head (q ∷ qs) p e = λ n. cc
+
+within : (l : LinkLimits) (log : List Entry) → AreLinkLimits l → IsLegal l log → IsWithinLimits l (waiting_after l log)
+within l log a g = stays_within l log a g log [] (sym (append-nil log))
+
+idle_none : (l : LinkLimits) (log : List Entry) (now : ℕ) → Idle ≡ decision l log now → (head (waiting_after l log).requests.queues ≡ None) × Rests l (waiting_after l log) (credit_after l log now)
+idle_none l log now e =
+    let r = resting l log now (ap is_start (sym e)) in
+    (idle_is (l) (credit_after l log now) now (head (waiting_after l log).requests.queues) (sym r.1 ∙ sym e), r.0)
+
+empty_rests : (l : LinkLimits) (w : Waiting) (credit : ℕ) → IsEmpty w → Rests l w credit
+empty_rests l w credit e = record {
+  requests = ap (λ (qs : List (Queue PacketData)). covered l credit (head qs)) e.requests;
+  regulars = ap (λ (qs : List (Queue PacketData)). head qs) e.regulars;
+  legacy = ap (λ (xs : List PacketData). first xs) e.legacy;
+}
+
+empty_idles : (l : LinkLimits) (log : List Entry) (now : ℕ) → IsEmpty (waiting_after l log) → decision l log now ≡ Idle
+unfolding decision
+empty_idles l log now e =
+    rests_is l (waiting_after l log) (credit_after l log now) now (empty_rests l (waiting_after l log) (credit_after l log now) e)
+    ∙ ap (λ (qs : List (Queue PacketData)). wait_for l (credit_after l log now) now (head qs)) e.requests
+
+-- a link is idle exactly where nothing waits
+pub idles : (l : LinkLimits) (log : List Entry) (now : ℕ) (d : Decision) → AreLinkLimits l → IsLegal l log → d ≡ decision l log now → (d ≡ Idle) ↔ IsEmpty (waiting_after l log)
+idles l log now d a g e = (
+  λ i.
+      let n = idle_none l log now (sym i ∙ e) in
+      let w = within l log a g in
+      record {
+        requests = no_head (waiting_after l log).requests (waiting_after l log).requests.queues w.requests.0.queues n.0;
+        regulars = no_head (waiting_after l log).regulars (waiting_after l log).regulars.queues w.regulars.0.queues n.1.regulars;
+        legacy = no_first (waiting_after l log).legacy n.1.legacy;
+      },
+  λ i. e ∙ empty_idles l log now i,
+)
+
+-- a link waits only for a request, where nothing else waits
+pub waits_alone : (l : LinkLimits) (log : List Entry) (now : ℕ) (u : Time) → AreLinkLimits l → IsLegal l log → WaitUntil u ≡ decision l log now → IsRequestsAlone (waiting_after l log)
+waits_alone l log now u a g e =
+    let r = resting l log now (ap is_start (sym e)) in
+    let x = wait_is l (credit_after l log now) now (head (waiting_after l log).requests.queues) u (sym r.1 ∙ sym e) in
+    let w = within l log a g in
+    record {
+      requests = some_head (waiting_after l log).requests.queues x.0 x.1.0;
+      regulars = no_head (waiting_after l log).regulars (waiting_after l log).regulars.queues w.regulars.0.queues r.0.regulars;
+      legacy = no_first (waiting_after l log).legacy r.0.legacy;
+    }

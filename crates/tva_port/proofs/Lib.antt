@@ -1,0 +1,9 @@
+pub mod Debts
+pub mod Logs
+pub mod Deciding
+pub mod Legality
+pub mod Waits
+pub mod Limits
+pub mod Standing
+pub mod Resting
+pub mod Idling

@@ -1,0 +1,103 @@
+-- What waits after a legal log is within the limits of each class.
+use Rattle.std.proofs.Common.{◌≡◌, ℕ, ◌+◌, ◌≤◌, ◌<◌, Bool, true, false, cond, List, [], ◌∷◌, ◌++◌, length, drop, refl, ap, ◌∙◌, subst, arith}
+use Rattle.std.proofs.lemmas.Bool.Decides.{nat_tests}
+use Rattle.std.proofs.lemmas.List.{length-append}
+use Rattle.std.proofs.lemmas.List.Sums.{sum_by-cons, sum_by_push}
+use Rattle.tva_base.specs.declared.limits.DrrLimits.{DrrLimits}
+use Rattle.tva_base.specs.declared.limits.LinkLimits.{LinkLimits}
+use Rattle.tva_base.specs.declared.packet.Class.{Class}
+use Rattle.tva_base.specs.declared.packet.Class.TheVariants.{Request, Regular, Legacy}
+use Rattle.tva_base.specs.Plan.{AreDrrLimits, AreClassLimits, AreLinkLimits}
+use Rattle.tva_shim.specs.Packets.{PacketData, packet_length}
+use Rattle.tva_drr.specs.Queues.{Fair, fair, has_key, items_of, bytes_in, all_bytes}
+use Rattle.tva_drr.specs.Offer.{lacks_queue, lacks_room, put, offer_leaves}
+use Rattle.tva_drr.specs.Take.{take_leaves}
+use Rattle.tva_drr.specs.Fair.{IsFair}
+use Rattle.tva_drr.proofs.Keeps.{fair-put, fair-taken}
+use Rattle.tva_port.specs.Log.{Entry, Queued, Started}
+use Rattle.tva_port.specs.Waiting.{Waiting, waiting_after, lacks_legacy_room}
+use Rattle.tva_port.specs.Legal.{Follows, GoesOn, IsLegal}
+use Rattle.tva_port.specs.Keeps.{IsWithinLimits, StaysWithinLimits}
+use Rattle.tva_port.specs.Steps.{put_leaves, start_leaves}
+use Rattle.tva_port.proofs.Logs.{FewStarted, legal-all}
+use Rattle.tva_port.proofs.Legality.{few-step}
+use Rattle.tva_port.proofs.Waits.{waits-queued, waits-started}
+
+pub class_limits : (l : DrrLimits) → AreClassLimits l → AreDrrLimits l
+class_limits l a = record {
+  queues = (a.queues.0, omega (arith, a.queues.1));
+  ring = (a.ring.0, omega (arith, a.ring.1));
+  queue_bytes = a.queue_bytes.1;
+  class_bytes = a.class_bytes.1;
+  max = omega (arith, a.max);
+  quantum = (omega (arith, a.max, a.quantum.0), omega (arith, a.quantum.1));
+}
+
+abbrev Stays : DrrLimits → Fair PacketData → Type 0
+Stays l f = IsFair packet_length f × (f.limits ≡ l)
+
+fair_empty : (l : DrrLimits) → AreClassLimits l → Stays l (fair l [])
+fair_empty l a = (record { limits = class_limits l a; queues = record { few = omega arith; each = tt; turn = tt; bytes = omega arith } }, refl)
+
+put_room : (f : Fair PacketData) (key : ℕ) (p : PacketData) → lacks_queue f key ≡ false → lacks_room packet_length f key p ≡ false
+    → (has_key key f.queues ≡ false → length f.queues < f.limits.queues) × ((length (items_of key f.queues) + 1 ≤ f.limits.ring) × ((bytes_in packet_length (items_of key f.queues) + packet_length p ≤ f.limits.queue_bytes) × (all_bytes packet_length f.queues + packet_length p ≤ f.limits.class_bytes)))
+put_room f key p h k = (λ n. grind (arith, nat_tests), (grind (arith, nat_tests), (grind (arith, nat_tests), grind (arith, nat_tests))))
+
+stays-put : (l : DrrLimits) (f : Fair PacketData) (key : ℕ) (p : PacketData) → AreClassLimits l → (20 ≤ packet_length p) × (packet_length p ≤ 2048) → Stays l f → lacks_queue f key ≡ false → lacks_room packet_length f key p ≡ false → Stays l (fair f.limits (put f.limits.quantum key p f.queues))
+stays-put l f key p a z s h k =
+    let r = put_room f key p h k in
+    let most : f.limits.max ≡ 2048 = ap (λ (x : DrrLimits). x.max) s.1 ∙ a.max in
+    (record { limits = s.0.limits; queues = fair-put packet_length f.limits key p f.queues s.0.limits (omega arith, omega (arith, most)) s.0.queues r.0 r.1.0 r.1.1.0 r.1.1.1 }, s.1)
+
+stays_by : (b c : Bool) (l : DrrLimits) (f g : Fair PacketData) → Stays l f → (b ≡ false → c ≡ false → Stays l g) → Stays l (cond b f (cond c f g))
+stays_by true c l f g s n = s
+stays_by false true l f g s n = s
+stays_by false false l f g s n = n refl refl
+
+stays-offered : (l : DrrLimits) (f : Fair PacketData) (key : ℕ) (p : PacketData) → AreClassLimits l → (20 ≤ packet_length p) × (packet_length p ≤ 2048) → Stays l f → Stays l (offer_leaves packet_length f key p)
+stays-offered l f key p a z s = stays_by (lacks_queue f key) (lacks_room packet_length f key p) l f (fair f.limits (put f.limits.quantum key p f.queues)) s (stays-put l f key p a z s)
+
+stays-taken : (l : DrrLimits) (f : Fair PacketData) → Stays l f → Stays l (take_leaves packet_length f)
+stays-taken l f s = (record { limits = s.0.limits; queues = fair-taken packet_length f.limits f.queues s.0.limits s.0.queues }, s.1)
+
+legacy_room : (l : LinkLimits) (xs : List PacketData) (p : PacketData) → lacks_legacy_room l xs p ≡ false → (length (xs ++ p ∷ []) ≤ l.legacy_ring) × (bytes_in packet_length (xs ++ p ∷ []) ≤ l.legacy_bytes)
+legacy_room l xs p h =
+    let k : (length xs + 1 ≤ l.legacy_ring) × (bytes_in packet_length xs + packet_length p ≤ l.legacy_bytes) = (grind (arith, nat_tests), grind (arith, nat_tests)) in
+    (omega (arith, k.0, length-append xs (p ∷ [])), omega (arith, k.1, sum_by_push packet_length xs p))
+
+legacy_kept : (l : LinkLimits) (xs : List PacketData) (p : PacketData) (b : Bool) → lacks_legacy_room l xs p ≡ b → (length xs ≤ l.legacy_ring) × (bytes_in packet_length xs ≤ l.legacy_bytes) → (length (cond b xs (xs ++ p ∷ [])) ≤ l.legacy_ring) × (bytes_in packet_length (cond b xs (xs ++ p ∷ [])) ≤ l.legacy_bytes)
+legacy_kept l xs p true e h = h
+legacy_kept l xs p false e h = legacy_room l xs p e
+
+legacy_less : (l : LinkLimits) (xs : List PacketData) → (length xs ≤ l.legacy_ring) × (bytes_in packet_length xs ≤ l.legacy_bytes) → (length (drop 1 xs) ≤ l.legacy_ring) × (bytes_in packet_length (drop 1 xs) ≤ l.legacy_bytes)
+legacy_less l [] h = h
+legacy_less l (x ∷ xs) h = (omega arith, omega (arith, h.1, sum_by-cons packet_length x xs))
+
+within-queued : (l : LinkLimits) (w : Waiting) (class : Class) (key : ℕ) (p : PacketData) → AreLinkLimits l → (20 ≤ packet_length p) × (packet_length p ≤ 2048) → IsWithinLimits l w → IsWithinLimits l (put_leaves l w class key p)
+within-queued l w Request key p a z h = record { requests = stays-offered l.request w.requests key p a.request z h.requests; regulars = h.regulars; legacy = h.legacy }
+within-queued l w Regular key p a z h = record { requests = h.requests; regulars = stays-offered l.regular w.regulars key p a.regular z h.regulars; legacy = h.legacy }
+within-queued l w Legacy key p a z h = record { requests = h.requests; regulars = h.regulars; legacy = legacy_kept l w.legacy p (lacks_legacy_room l w.legacy p) refl h.legacy }
+
+within-started : (l : LinkLimits) (w : Waiting) (class : Class) → IsWithinLimits l w → IsWithinLimits l (start_leaves class w)
+within-started l w Request h = record { requests = stays-taken l.request w.requests h.requests; regulars = h.regulars; legacy = h.legacy }
+within-started l w Regular h = record { requests = h.requests; regulars = stays-taken l.regular w.regulars h.regulars; legacy = h.legacy }
+within-started l w Legacy h = record { requests = h.requests; regulars = h.regulars; legacy = legacy_less l w.legacy h.legacy }
+
+abbrev IsBounded : LinkLimits → List Entry → Type 0
+IsBounded l log = IsWithinLimits l (waiting_after l log) × FewStarted log
+
+bounded-step : (l : LinkLimits) → AreLinkLimits l → (before : List Entry) (e : Entry) → Follows l before e → IsBounded l before → IsBounded l (before ++ e ∷ [])
+bounded-step l a before (Queued t class key p) f h =
+    (subst (λ (w : Waiting). IsWithinLimits l w) (waits-queued l before t class key p h.1 f.offer) (within-queued l (waiting_after l before) class key p a f.sized h.0), few-step l before (Queued t class key p) f h.1)
+bounded-step l a before (Started t class p) f h =
+    (subst (λ (w : Waiting). IsWithinLimits l w) (waits-started l before t class p) (within-started l (waiting_after l before) class h.0), few-step l before (Started t class p) f h.1)
+
+begins : (l : LinkLimits) → AreLinkLimits l → IsBounded l []
+begins l a = (record { requests = fair_empty l.request a.request; regulars = fair_empty l.regular a.regular; legacy = (omega arith, omega arith) }, omega arith)
+
+legal-front : (l : LinkLimits) (before log rest : List Entry) → GoesOn l before (log ++ rest) → GoesOn l before log
+legal-front l before [] rest g = tt
+legal-front l before (e ∷ es) rest g = (g.0, legal-front l (before ++ e ∷ []) es rest g.1)
+
+pub stays_within : (l : LinkLimits) (log : List Entry) → AreLinkLimits l → IsLegal l log → StaysWithinLimits l log
+stays_within l log a g = λ before rest e. (legal-all l (IsBounded l) (begins l a) (bounded-step l a) before (legal-front l [] before rest (subst (λ z. GoesOn l [] z) e g))).0

@@ -1,0 +1,140 @@
+-- What one more entry changes of what a log comes to.
+use Rattle.std.proofs.Common.{◌≡◌, ℕ, ◌+◌, ◌*◌, ◌≤◌, ◌<◌, false, cond, ltb, List, [], ◌∷◌, ◌++◌, length, drop, refl, sym, ap, ◌∙◌, subst, inl, inr, zero, suc, arith, append-nil, append_assoc}
+use Rattle.std.specs.List.{filter_map, count_by}
+use Rattle.std.proofs.lemmas.Bool.Decides.{leb_tells}
+use Rattle.std.proofs.lemmas.List.{drop-append-le}
+use Rattle.std.proofs.lemmas.List.Sums.{sum_by_push}
+use Rattle.std.proofs.lemmas.List.Elements.{filter_map-append, filter-append, All-nil, All-cons, All-head, All-tail, All-push, All-weaker}
+use Rattle.tva_base.specs.declared.limits.LinkLimits.{LinkLimits}
+use Rattle.tva_base.specs.declared.packet.Class.{Class}
+use Rattle.tva_base.specs.declared.packet.Class.TheVariants.{Request, Regular, Legacy}
+use Rattle.tva_shim.specs.Packets.{PacketData, packet_length}
+use Rattle.tva_drr.specs.Queues.{Fair}
+use Rattle.tva_port.specs.Requests.{Start}
+use Rattle.tva_port.specs.Log.{Entry, Queued, Started, entry_time, NoneLater, cut, request_start, request_starts, free_from}
+use Rattle.tva_port.specs.Waiting.{fair_step, fair_after, queued_legacy, is_legacy_start, legacy_after}
+use Rattle.tva_port.specs.Legal.{Follows, GoesOn, IsLegal}
+use Rattle.tva_port.proofs.Debts.{AreBy}
+
+-- ## times
+
+pub later-push : (time : ℕ) (log : List Entry) (e : Entry) → NoneLater time log → entry_time e ≤ time → NoneLater time (log ++ e ∷ [])
+later-push time log e n h = All-push (λ (x : Entry). entry_time x ≤ time) log e n h
+
+pub later-weaker : (time now : ℕ) (log : List Entry) → time ≤ now → NoneLater time log → NoneLater now log
+later-weaker time now log h n = All-weaker (λ (x : Entry). entry_time x ≤ time) (λ (x : Entry). entry_time x ≤ now) (λ x q. omega arith) log n
+
+pub later-front : (time : ℕ) (log : List Entry) (e : Entry) → NoneLater time (log ++ e ∷ []) → NoneLater time log × (entry_time e ≤ time)
+later-front time [] e n = (All-nil (λ (x : Entry). entry_time x ≤ time), All-head (λ (x : Entry). entry_time x ≤ time) e [] n)
+later-front time (d ∷ ds) e n =
+    let r = later-front time ds e (All-tail (λ (x : Entry). entry_time x ≤ time) d (ds ++ e ∷ []) n) in
+    (All-cons (λ (x : Entry). entry_time x ≤ time) d ds (All-head (λ (x : Entry). entry_time x ≤ time) d (ds ++ e ∷ []) n) r.0, r.1)
+
+starts_one : (time : ℕ) (e : Entry) (ss : List Start) → entry_time e ≤ time → AreBy time ss → AreBy time (request_starts (e ∷ []) ++ ss)
+starts_one time (Queued t c k p) ss h b = b
+starts_one time (Started t Request p) ss h b = (h, b)
+starts_one time (Started t Regular p) ss h b = b
+starts_one time (Started t Legacy p) ss h b = b
+
+pub starts_by : (time : ℕ) (log : List Entry) → NoneLater time log → AreBy time (request_starts log)
+starts_by time [] n = tt
+starts_by time (e ∷ es) n =
+    subst (λ ss. AreBy time ss) (sym (filter_map-append request_start (e ∷ []) es))
+    (starts_one time e (request_starts es) (All-head (λ (x : Entry). entry_time x ≤ time) e es n) (starts_by time es (All-tail (λ (x : Entry). entry_time x ≤ time) e es n)))
+
+-- all entries are before a later time
+pub cut-all : (time until : ℕ) (log : List Entry) → time < until → NoneLater time log → cut until log ≡ log
+cut-all time until [] h n = refl
+cut-all time until (e ∷ es) h n =
+    let first : entry_time e ≤ time = All-head (λ (x : Entry). entry_time x ≤ time) e es n in
+    let rest = cut-all time until es h (All-tail (λ (x : Entry). entry_time x ≤ time) e es n) in
+    elim (leb_tells (suc (entry_time e)) until) [
+      | inl k ↦ subst (λ b. cond b (e ∷ cut until es) (cut until es) ≡ e ∷ es) (sym k.0) (ap (λ (z : List Entry). e ∷ z) rest)
+      | inr k ↦ absurd (omega (arith, k.1))
+    ]
+
+-- an entry that is no earlier is cut away
+pub cut-push : (until : ℕ) (log : List Entry) (e : Entry) → until ≤ entry_time e → cut until (log ++ e ∷ []) ≡ cut until log
+cut-push until log e h =
+    filter-append (λ (x : Entry). ltb (entry_time x) until) log (e ∷ []) ∙
+    elim (leb_tells (suc (entry_time e)) until) [
+      | inl k ↦ absurd (omega (arith, k.1))
+      | inr k ↦ subst (λ b. cut until log ++ cond b (e ∷ []) [] ≡ cut until log) (sym k.0) (append-nil (cut until log))
+    ]
+
+-- ## sums
+
+pub starts-push : (log : List Entry) (e : Entry) → request_starts (log ++ e ∷ []) ≡ request_starts log ++ request_starts (e ∷ [])
+starts-push log e = filter_map-append request_start log (e ∷ [])
+
+pub starts-same : (log : List Entry) (e : Entry) → request_starts (e ∷ []) ≡ [] → request_starts (log ++ e ∷ []) ≡ request_starts log
+starts-same log e h = starts-push log e ∙ (ap (λ (z : List Start). request_starts log ++ z) h ∙ append-nil (request_starts log))
+
+pub free-queued : (l : LinkLimits) (free : ℕ) (log : List Entry) (t : ℕ) (c : Class) (k : ℕ) (p : PacketData) → free_from l free (log ++ Queued t c k p ∷ []) ≡ free_from l free log
+free-queued l free [] t c k p = refl
+free-queued l free (Queued u d j q ∷ es) t c k p = free-queued l free es t c k p
+free-queued l free (Started u d q ∷ es) t c k p = free-queued l (u + packet_length q * l.ns_per_byte) es t c k p
+
+pub free-started : (l : LinkLimits) (free : ℕ) (log : List Entry) (t : ℕ) (c : Class) (p : PacketData) → free_from l free (log ++ Started t c p ∷ []) ≡ t + packet_length p * l.ns_per_byte
+free-started l free [] t c p = refl
+free-started l free (Queued u d j q ∷ es) t c p = free-started l free es t c p
+free-started l free (Started u d q ∷ es) t c p = free-started l (u + packet_length q * l.ns_per_byte) es t c p
+
+-- ## what waits
+
+pub fair-push : (c : Class) (f : Fair PacketData) (log : List Entry) (e : Entry) → fair_after c f (log ++ e ∷ []) ≡ fair_step c (fair_after c f log) e
+fair-push c f [] e = refl
+fair-push c f (d ∷ ds) e = fair-push c (fair_step c f d) ds e
+
+-- no more legacy packets started than were queued
+abbrev pub FewStarted : List Entry → Type 0
+FewStarted log = count_by is_legacy_start log ≤ length (filter_map queued_legacy log)
+
+pub count-push : (log : List Entry) (e : Entry) → count_by is_legacy_start (log ++ e ∷ []) ≡ count_by is_legacy_start log + cond (is_legacy_start e) 1 0
+count-push log e = sum_by_push (λ (x : Entry). cond (is_legacy_start x) 1 0) log e
+
+pub queued-push : (log : List Entry) (e : Entry) → filter_map queued_legacy (log ++ e ∷ []) ≡ filter_map queued_legacy log ++ filter_map queued_legacy (e ∷ [])
+queued-push log e = filter_map-append queued_legacy log (e ∷ [])
+
+same_drop : {A : Type 0} (n m : ℕ) (xs ys : List A) → n ≡ m → xs ≡ ys → drop n xs ≡ drop m ys
+same_drop n m xs ys e h = cc
+
+pub legacy-same : (log : List Entry) (e : Entry) → is_legacy_start e ≡ false → filter_map queued_legacy (e ∷ []) ≡ [] → legacy_after (log ++ e ∷ []) ≡ legacy_after log
+legacy-same log e n q =
+    same_drop (count_by is_legacy_start (log ++ e ∷ [])) (count_by is_legacy_start log) (filter_map queued_legacy (log ++ e ∷ [])) (filter_map queued_legacy log)
+    (count-push log e ∙ (ap (λ b. count_by is_legacy_start log + cond b 1 0) n ∙ omega arith))
+    (queued-push log e ∙ (ap (λ (z : List PacketData). filter_map queued_legacy log ++ z) q ∙ append-nil (filter_map queued_legacy log)))
+
+pub legacy-queued : (log : List Entry) (t k : ℕ) (p : PacketData) → FewStarted log → legacy_after (log ++ Queued t Legacy k p ∷ []) ≡ legacy_after log ++ p ∷ []
+legacy-queued log t k p f =
+    same_drop (count_by is_legacy_start (log ++ Queued t Legacy k p ∷ [])) (count_by is_legacy_start log) (filter_map queued_legacy (log ++ Queued t Legacy k p ∷ [])) (filter_map queued_legacy log ++ p ∷ [])
+    (count-push log (Queued t Legacy k p) ∙ omega arith)
+    (queued-push log (Queued t Legacy k p))
+    ∙ drop-append-le (count_by is_legacy_start log) (filter_map queued_legacy log) (p ∷ []) f
+
+drop_more : {A : Type 0} (n : ℕ) (xs : List A) → drop (suc n) xs ≡ drop 1 (drop n xs)
+drop_more zero xs = refl
+drop_more (suc n) [] = refl
+drop_more (suc n) (x ∷ xs) = drop_more n xs
+
+pub legacy-started : (log : List Entry) (t : ℕ) (p : PacketData) → legacy_after (log ++ Started t Legacy p ∷ []) ≡ drop 1 (legacy_after log)
+legacy-started log t p =
+    same_drop (count_by is_legacy_start (log ++ Started t Legacy p ∷ [])) (suc (count_by is_legacy_start log)) (filter_map queued_legacy (log ++ Started t Legacy p ∷ [])) (filter_map queued_legacy log)
+    (count-push log (Started t Legacy p) ∙ omega arith)
+    (queued-push log (Started t Legacy p) ∙ append-nil (filter_map queued_legacy log))
+    ∙ drop_more (count_by is_legacy_start log) (filter_map queued_legacy log)
+
+-- ## legal logs
+
+pub goes_on-push : (l : LinkLimits) (before log : List Entry) (e : Entry) → GoesOn l before log → Follows l (before ++ log) e → GoesOn l before (log ++ e ∷ [])
+goes_on-push l before [] e g f = (subst (λ z. Follows l z e) (append-nil before) f, tt)
+goes_on-push l before (d ∷ ds) e g f =
+    (g.0, goes_on-push l (before ++ d ∷ []) ds e g.1 (subst (λ z. Follows l z e) (sym (append_assoc before (d ∷ []) ds)) f))
+
+-- what each entry keeps is true of every legal log
+along : (l : LinkLimits) (P : List Entry → Type 0) → ((before : List Entry) (e : Entry) → Follows l before e → P before → P (before ++ e ∷ [])) → (before es : List Entry) → P before → GoesOn l before es → P (before ++ es)
+along l P s before [] b g = subst P (sym (append-nil before)) b
+along l P s before (e ∷ es) b g = subst P (append_assoc before (e ∷ []) es) (along l P s (before ++ e ∷ []) es (s before e g.0 b) g.1)
+
+pub legal-all : (l : LinkLimits) (P : List Entry → Type 0) → P [] → ((before : List Entry) (e : Entry) → Follows l before e → P before → P (before ++ e ∷ [])) → (log : List Entry) → IsLegal l log → P log
+legal-all l P b s log g = along l P s [] log b g

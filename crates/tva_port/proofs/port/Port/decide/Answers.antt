@@ -1,0 +1,64 @@
+use Rattle.std.proofs.Common.{◌≡◌, ◌↔◌, ℕ, Some, ap, sym, ◌∙◌, subst}
+use Rattle.tva_base.specs.Plan.{AreLinkLimits}
+use Rattle.tva_drr.specs.Queues.{head}
+use Rattle.tva_port.specs.Waiting.{Waiting, IsEmpty, IsRequestsAlone}
+use Rattle.tva_port.specs.Decide.{NoneDueBefore}
+use Rattle.tva_port.specs.Stands.{PortData}
+use Rattle.tva_port.specs.Steps.{freed}
+use Rattle.tva_port.proofs.Logs.{later-weaker}
+use Rattle.tva_port.proofs.Standing.{decided, stands_by_decide}
+use Rattle.tva_port.proofs.Resting.{rests, misses, first_covered}
+use Rattle.tva_port.proofs.Idling.{idles, waits_alone}
+use Rattle.tva_port.specs.declared.decision.Decision.TheVariants.{Idle}
+use Rattle.tva_port.proofs.port.Port.decide.Goals as goal
+
+pub returns-clause-decision : goal.returns-clause-decision
+returns-clause-decision c log s = decided _ c.args.self.now log c.args.now.0 c.grow-self-inside.result c.start_next-decision.result c.self.view_is s c.requires.time c.grow-self-inside.ensures c.start_next-decision.ensures.decision
+
+pub returns-clause-stands : goal.returns-clause-stands
+returns-clause-stands c log s =
+    stands_by_decide _ c.args.self.now log c.args.now.0 c.grow-self-inside.result c.pay-self-inside.result c.occupy-self-inside.result _ c.start_next-decision.result c.self.view_is s c.requires.time c.requires.free
+    c.grow-self-inside.ensures c.start_next-decision.ensures.decision c.pay-self-inside.ensures c.occupy-self-inside.ensures c.start_next-decision.ensures.left
+
+pub returns-clause-wait : goal.returns-clause-wait
+returns-clause-wait c log u p s e h =
+    let d = decided _ c.args.self.now log c.args.now.0 c.grow-self-inside.result c.start_next-decision.result c.self.view_is s c.requires.time c.grow-self-inside.ensures c.start_next-decision.ensures.decision in
+    first_covered c.args.self.now.limits log c.args.now.0 u p
+    (subst (λ (z : PortData). AreLinkLimits z.limits) c.self.view_is c.self.invariant.limits)
+    s.legal
+    (later-weaker c.args.self.now.last c.args.now.0 log c.requires.time s.past)
+    (c.start_next-decision.ensures.sized p (subst (λ (z : PortData). head z.waiting.requests.queues ≡ Some p) (sym c.self.view_is) h))
+    (sym e ∙ d)
+    (ap (λ (w : Waiting). head w.requests.queues) (sym s.waiting) ∙ h)
+
+pub returns-clause-idle : goal.returns-clause-idle
+returns-clause-idle c log s =
+    let d = decided _ c.args.self.now log c.args.now.0 c.grow-self-inside.result c.start_next-decision.result c.self.view_is s c.requires.time c.grow-self-inside.ensures c.start_next-decision.ensures.decision in
+    subst (λ (w : Waiting). (c.start_next-decision.result ≡ Idle) ↔ IsEmpty w) (sym s.waiting)
+    (idles c.args.self.now.limits log c.args.now.0 c.start_next-decision.result (subst (λ (z : PortData). AreLinkLimits z.limits) c.self.view_is c.self.invariant.limits) s.legal d)
+
+pub returns-clause-alone : goal.returns-clause-alone
+returns-clause-alone c log u s e =
+    let d = decided _ c.args.self.now log c.args.now.0 c.grow-self-inside.result c.start_next-decision.result c.self.view_is s c.requires.time c.grow-self-inside.ensures c.start_next-decision.ensures.decision in
+    subst (λ (w : Waiting). IsRequestsAlone w) (sym s.waiting)
+    (waits_alone c.args.self.now.limits log c.args.now.0 u (subst (λ (z : PortData). AreLinkLimits z.limits) c.self.view_is c.self.invariant.limits) s.legal (sym e ∙ d))
+
+pub returns-clause-rests : goal.returns-clause-rests
+returns-clause-rests c log until s i time h k =
+    rests c.args.self.now.limits log c.args.now.0 c.args.self.now.free_at c.start_next-decision.result until time
+    s.legal
+    (later-weaker c.args.self.now.last c.args.now.0 log c.requires.time s.past)
+    (decided _ c.args.self.now log c.args.now.0 c.grow-self-inside.result c.start_next-decision.result c.self.view_is s c.requires.time c.grow-self-inside.ensures c.start_next-decision.ensures.decision)
+    (subst (λ (z : PortData). NoneDueBefore c.start_next-decision.result (freed z.limits z.free_at c.args.now.0 c.start_next-decision.result) until) c.self.view_is
+    (subst (λ (x : ℕ). NoneDueBefore c.start_next-decision.result x until) c.occupy-self-inside.ensures i))
+    h k
+
+pub returns-clause-missed : goal.returns-clause-missed
+returns-clause-missed c log until s m i =
+    misses c.args.self.now.limits log c.args.now.0 c.args.self.now.free_at c.start_next-decision.result until
+    s.legal
+    (later-weaker c.args.self.now.last c.args.now.0 log c.requires.time s.past)
+    (decided _ c.args.self.now log c.args.now.0 c.grow-self-inside.result c.start_next-decision.result c.self.view_is s c.requires.time c.grow-self-inside.ensures c.start_next-decision.ensures.decision)
+    m
+    (subst (λ (z : PortData). NoneDueBefore c.start_next-decision.result (freed z.limits z.free_at c.args.now.0 c.start_next-decision.result) until) c.self.view_is
+    (subst (λ (x : ℕ). NoneDueBefore c.start_next-decision.result x until) c.occupy-self-inside.ensures i))

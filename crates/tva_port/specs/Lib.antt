@@ -1,0 +1,9 @@
+pub mod Requests
+pub mod Log
+pub mod Waiting
+pub mod Decide
+pub mod Legal
+pub mod Stands
+pub mod Keeps
+pub mod Steps
+pub mod Lists

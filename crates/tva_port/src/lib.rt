@@ -1,0 +1,17 @@
+//! A link's port: requests under a rate limit, then regular packets in fair queues, then the rest in
+//! order. Its contract promises that each queueing and each decision is the one that the list of all
+//! packets queued and started so far gives, though the port keeps no such list; that requests never
+//! start faster than the link's share for them and a burst allow; and that no start is missed.
+#![tactic(auto)]
+
+#[cfg(test)]
+mod cases;
+mod credits;
+mod decision;
+mod held;
+mod legacy;
+mod parts;
+mod port;
+
+pub use decision::Decision;
+pub use port::Port;

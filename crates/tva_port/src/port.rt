@@ -1,0 +1,185 @@
+// The port of a link.
+ghost use Rattle.std.specs.Prelude.{◌≡◌, ℕ, ◌+◌, ◌≤◌, ◌<◌, ◌↔◌, true, false, List, Some, [], ◌++◌, IfOk};
+ghost use Rattle.tva_base.specs.Plan.{AreLinkLimits};
+ghost use Rattle.tva_drr.specs.Queues.{fair, head};
+ghost use Rattle.tva_shim.specs.Packets.{PacketData, packet_length};
+ghost use Rattle.tva_port.specs.Requests.{cap};
+ghost use Rattle.tva_port.specs.Log.{Entry, free_after};
+ghost use Rattle.tva_port.specs.Waiting.{waiting, waiting_after, queue_answer, queued_by, is_queued, IsEmpty, IsRequestsAlone};
+ghost use Rattle.tva_port.specs.Decide.{decision, is_start, started_by, RestsAt, MissesNone, NoneDueBefore, IsFirstCovered};
+ghost use Rattle.tva_port.specs.declared.decision.Decision.TheVariants.{WaitUntil, Idle};
+ghost use Rattle.tva_port.specs.Stands.{port_data, StandsFor};
+ghost use Rattle.tva_port.specs.Keeps.{IsWithinRate, start_times, AreRising, StaysWithinLimits};
+
+use crate::credits::{grow, most_credit, occupy, pay};
+use crate::decision::Decision;
+use crate::held::HeldPacket;
+use crate::legacy::LegacyList;
+use crate::parts::{put, start_next};
+use std::alloc::{AllocError, Global};
+use std::marker::Model;
+use tva_base::{Class, LinkLimits, Time};
+use tva_drr::{FairQueues, Offered};
+use tva_shim::Packet;
+
+#[cfg(test)]
+mod tests;
+
+/// What waits for a link, and what it starts. Contracts see the limits, the last time, the credit of
+/// requests then, when the link is free, and what waits; and they speak of all packets queued and
+/// started so far, for which these stand. All memory is taken when it is built.
+///
+/// Of the starts so far it keeps one number, the credit. The debt after some starts is the greatest
+/// sum of costs from one of them on, less the time since it. As time passes each of these falls alike,
+/// so the greatest falls alike, down to 0; a further start adds its cost to each, and begins a sum of
+/// its own that is no more than these. So the credit grows with time up to its cap, and pays a cost at
+/// each start.
+#[derive(Drop)]
+pub struct Port {
+    limits: LinkLimits,
+    last: u64,
+    credit: u64,
+    free_at: u64,
+    requests: FairQueues<HeldPacket>,
+    regulars: FairQueues<HeldPacket>,
+    legacy: LegacyList,
+}
+
+impl Model for Port {
+    ghost use Rattle.tva_port.specs.Waiting.{waiting};
+    ghost use Rattle.tva_port.specs.Stands.{PortData, port_data};
+    ghost use Rattle.tva_port.specs.Lists.{IsSound};
+
+    ghost Value = { PortData };
+
+    ghost view = { λ w. port_data w.limits w.last w.credit w.free_at
+        (waiting w.requests w.regulars w.legacy.packets) };
+
+    ghost invariant = { λ w. IsSound w.limits w.credit w.requests w.regulars w.legacy };
+}
+
+impl Port {
+    /// The port of a free link with these limits, where nothing waits and the credit is at its cap.
+    /// The error is want of memory.
+    pub fn build(alloc: Global, limits: LinkLimits) -> Result<Port, AllocError>
+        requires { AreLinkLimits limits }
+        ensures value { IfOk result (λ port. port ≡ port_data limits 0 (cap limits) 0
+            (waiting (fair limits.request []) (fair limits.regular []) [])) }
+        ensures stands { IfOk result (λ port. StandsFor port []) }
+    {
+        Ok(Port {
+            limits,
+            last: 0,
+            credit: most_credit(&limits),
+            free_at: 0,
+            requests: FairQueues::with_limits(alloc, limits.request)?,
+            regulars: FairQueues::with_limits(alloc, limits.regular)?,
+            legacy: LegacyList::with_limits(alloc, limits.legacy_ring, limits.legacy_bytes)?,
+        })
+    }
+
+    /// Queues a packet of a class at a time, in nanoseconds, which never falls. A request and a
+    /// regular packet are offered to the fair queues of their class under their key: they are refused
+    /// with `NoQueue` where the key has no queue and all are given, and with `QueueFull` where items
+    /// or bytes would be too many. A legacy packet goes last, whatever its key, and is refused with
+    /// `QueueFull` exactly where too many packets or bytes would wait. A refusal hands the packet
+    /// back, and changes nothing but the last time. It takes no memory.
+    pub fn queue(&mut self, now: Time, class: Class, key: u32, packet: Packet) -> Offered<Packet>
+        requires time { self.old.last ≤ now.0 }
+        requires horizon { now.0 ≤ 1000000000000000 }
+        ensures answer { (log : List Entry) → StandsFor self.old log
+            → result ≡ queue_answer self.old.limits (waiting_after self.old.limits log) class key packet }
+        ensures stands { (log : List Entry) → StandsFor self.old log
+            → StandsFor self.new (log ++ queued_by result now.0 class key packet) }
+        ensures missed { (log : List Entry) → StandsFor self.old log
+            → MissesNone self.old.limits now.0 log
+            → MissesNone self.old.limits now.0 (log ++ queued_by result now.0 class key packet) }
+        ensures refused { is_queued result ≡ false → self.new.waiting ≡ self.old.waiting }
+        ensures last { self.new.last ≡ now.0 }
+        ensures same { (self.new.limits ≡ self.old.limits) × (self.new.free_at ≡ self.old.free_at) }
+    {
+        self.credit = grow(&self.limits, self.credit, now.0 - self.last);
+        self.last = now.0;
+        put(
+            &mut self.requests,
+            &mut self.regulars,
+            &mut self.legacy,
+            class,
+            key,
+            packet,
+        )
+    }
+
+    /// Decides what the link, which is free, does at a time, in nanoseconds, which never falls: a
+    /// request starts where the credit covers its cost, else the next regular packet, else the oldest
+    /// legacy packet; else the link waits until the first time at which the credit covers the request
+    /// at the head, and is idle where nothing waits. TVA limits the rate of requests; the credit is
+    /// this project's own form of it. It takes no memory.
+    pub fn decide(&mut self, now: Time) -> Decision
+        requires time { self.old.last ≤ now.0 }
+        requires horizon { now.0 ≤ 1000000000000000 }
+        requires free { self.old.free_at ≤ now.0 }
+        ensures decision { (log : List Entry) → StandsFor self.old log
+            → result ≡ decision self.old.limits log now.0 }
+        ensures stands { (log : List Entry) → StandsFor self.old log
+            → StandsFor self.new (log ++ started_by result now.0) }
+        ensures idle { (log : List Entry) → StandsFor self.old log
+            → ((result ≡ Idle) ↔ IsEmpty self.old.waiting) }
+        ensures alone { (log : List Entry) (u : Time) → StandsFor self.old log
+            → result ≡ WaitUntil u → IsRequestsAlone self.old.waiting }
+        // A wait ends at the first time at which the credit covers the request at the head.
+        ensures wait { (log : List Entry) (u : Time) (packet : PacketData) → StandsFor self.old log
+            → result ≡ WaitUntil u → head self.old.waiting.requests.queues ≡ Some packet
+            → IsFirstCovered self.old.limits log packet now.0 u.0 }
+        // Until then, until the end of what started, or for good, nothing else starts.
+        ensures rests { (log : List Entry) (until : ℕ) → StandsFor self.old log
+            → NoneDueBefore result self.new.free_at until → (time : ℕ) → now.0 ≤ time → time < until
+            → RestsAt self.old.limits (log ++ started_by result now.0) time }
+        ensures missed { (log : List Entry) (until : ℕ) → StandsFor self.old log
+            → MissesNone self.old.limits now.0 log → NoneDueBefore result self.new.free_at until
+            → MissesNone self.old.limits until (log ++ started_by result now.0) }
+        // What starts occupies the link for some time, so that nothing starts twice at one time.
+        ensures busy { is_start result ≡ true → now.0 < self.new.free_at }
+        ensures rested { is_start result ≡ false → (self.new.waiting ≡ self.old.waiting)
+            × (self.new.free_at ≡ self.old.free_at) }
+        ensures last { self.new.last ≡ now.0 }
+        ensures same { self.new.limits ≡ self.old.limits }
+    {
+        self.credit = grow(&self.limits, self.credit, now.0 - self.last);
+        self.last = now.0;
+        let decision = start_next(
+            &self.limits,
+            self.credit,
+            now.0,
+            &mut self.requests,
+            &mut self.regulars,
+            &mut self.legacy,
+        );
+        self.credit = pay(&self.limits, self.credit, &decision);
+        self.free_at = occupy(&self.limits, self.free_at, now.0, &decision);
+        decision
+    }
+
+    /// When the link is free: the end of the last start, in nanoseconds, or 0 where nothing started.
+    pub fn free_at(&self) -> Time
+        ensures value { result.0 ≡ self.now.free_at }
+        ensures free { (log : List Entry) → StandsFor self.now log
+            → result.0 ≡ free_after self.now.limits log }
+    {
+        Time(self.free_at)
+    }
+
+    /// The limits of the link. Under them, whatever packets came: the requests that started from one
+    /// time to another cost at most what a burst costs and the time between; no two packets started at
+    /// one time; and at each moment no more packets and bytes waited than each class has room for.
+    pub fn limits(&self) -> LinkLimits
+        ensures value { result ≡ self.now.limits }
+        ensures rate { (log : List Entry) → StandsFor self.now log
+            → IsWithinRate self.now.limits log }
+        ensures apart { (log : List Entry) → StandsFor self.now log → AreRising (start_times log) }
+        ensures room { (log : List Entry) → StandsFor self.now log
+            → StaysWithinLimits self.now.limits log }
+    {
+        self.limits
+    }
+}

@@ -1,0 +1,201 @@
+ghost use Rattle.std.specs.Prelude.{◌≡◌, ◌≤◌, IfOk};
+ghost use Rattle.tva_base.specs.Plan.{AreClassLimits, AreLinkLimits};
+
+use super::*;
+use crate::cases::CASES;
+use std::process::Abort;
+use std::test::Fail;
+use tva_base::{Address, DrrLimits, Flow, PacketId};
+use tva_shim::{Carried, length};
+
+fn crosses<T: Send + Sync>() {}
+
+/// A port and what it answers may be moved to and shared with another thread.
+#[test]
+fn ports_cross_threads() {
+    crosses::<Port>();
+    crosses::<Decision>();
+    crosses::<Offered<Packet>>();
+}
+
+/// The number in a word as `8`.
+fn number(word: Option<&str>) -> u64 {
+    let Some(word) = word else {
+        return 0;
+    };
+    word.parse::<u64>().unwrap_or(0)
+}
+
+fn small_number(word: Option<&str>) -> u32 {
+    let Some(word) = word else {
+        return 0;
+    };
+    word.parse::<u32>().unwrap_or(0)
+}
+
+/// What stands behind the sign of a word as `share=20`.
+fn value<'a>(word: Option<&'a str>) -> Option<&'a str> {
+    let word = word?;
+    let (_, value) = word.split_once("=")?;
+    Some(value)
+}
+
+/// Limits as QUEUES/RING/QUEUE_BYTES/CLASS_BYTES.
+fn class_limits(rt: &impl Abort, quantum: u32, word: Option<&str>) -> DrrLimits
+    ensures { AreClassLimits result }
+{
+    let mut parts = value(word).unwrap_or("").split("/");
+    let limits = DrrLimits {
+        queues: small_number(parts.next()),
+        ring: small_number(parts.next()),
+        queue_bytes: small_number(parts.next()),
+        class_bytes: small_number(parts.next()),
+        quantum,
+        max: 2048,
+    };
+    assert!(rt; 1 <= limits.queues && limits.queues <= 65536);
+    assert!(rt; 1 <= limits.ring && limits.ring <= 65536);
+    assert!(rt; 2048 <= limits.queue_bytes && limits.queue_bytes <= 1 << 30);
+    assert!(rt; 2048 <= limits.class_bytes && limits.class_bytes <= 1 << 30);
+    assert!(rt; 2048 <= quantum && quantum <= 1_000_000);
+    limits
+}
+
+/// The limits of a line.
+fn limits_of(rt: &impl Abort, line: &str) -> LinkLimits
+    ensures { AreLinkLimits result }
+{
+    let mut words = line.split_whitespace();
+    let _port = words.next();
+    let ns_per_byte = number(value(words.next()));
+    let share = number(value(words.next()));
+    let burst = number(value(words.next()));
+    let quantum = small_number(value(words.next()));
+    let request = class_limits(rt, quantum, words.next());
+    let regular = class_limits(rt, quantum, words.next());
+    let mut parts = value(words.next()).unwrap_or("").split("/");
+    let legacy_ring = small_number(parts.next());
+    let legacy_bytes = small_number(parts.next());
+    assert!(rt; 1 <= ns_per_byte && ns_per_byte <= 1_000_000);
+    assert!(rt; 2 <= share && share <= 1000);
+    assert!(rt; 4096 <= burst && burst <= 1_000_000);
+    assert!(rt; 1 <= legacy_ring && legacy_ring <= 65536);
+    assert!(rt; 2048 <= legacy_bytes && legacy_bytes <= 1 << 30);
+    LinkLimits {
+        ns_per_byte,
+        share,
+        burst,
+        request,
+        regular,
+        legacy_ring,
+        legacy_bytes,
+    }
+}
+
+/// A packet with that number, of so many bytes from 20 to 2,020.
+fn packet(rt: &impl Abort, ordinal: u64, bytes: u32) -> Packet {
+    assert!(rt; 20 <= bytes && bytes <= 2020);
+    let payload = (bytes - 20).min(1600);
+    let malformed = bytes - 20 - payload;
+    let carried = if malformed == 0 {
+        Carried::Nothing
+    } else {
+        Carried::Malformed(malformed as u16)
+    };
+    let id = PacketId { node: 1, ordinal };
+    let flow = Flow {
+        src: Address(1),
+        dst: Address(2),
+    };
+    Packet::new(id, flow, 0, payload as u16, carried)
+}
+
+fn class_named(word: Option<&str>) -> Class {
+    match word {
+        Some("request") => Class::Request,
+        Some("regular") => Class::Regular,
+        _ => Class::Legacy,
+    }
+}
+
+fn class_name(class: Class) -> &'static str {
+    match class {
+        Class::Request => "request",
+        Class::Regular => "regular",
+        Class::Legacy => "legacy",
+    }
+}
+
+/// Queues a packet, and gives the answer in words. A refused packet is handed back.
+fn queue(rt: &impl Abort, port: &mut Port, ordinal: u64, call: &str) -> &'static str {
+    let mut words = call.split_whitespace();
+    let _queue = words.next();
+    let now = number(words.next());
+    let class = class_named(words.next());
+    let key = small_number(words.next());
+    let bytes = small_number(words.next());
+    assert!(rt; port.last <= now && now <= 1_000_000_000_000_000);
+    match port.queue(Time(now), class, key, packet(rt, ordinal, bytes)) {
+        Offered::Queued => "Queued",
+        Offered::NoQueue(packet) => {
+            assert_eq!(rt; packet.id.ordinal, ordinal);
+            "NoQueue"
+        }
+        Offered::QueueFull(packet) => {
+            assert_eq!(rt; packet.id.ordinal, ordinal);
+            "QueueFull"
+        }
+    }
+}
+
+/// Decides at a time, and gives the answer in words.
+fn decide(rt: &impl Abort, alloc: Global, port: &mut Port, call: &str) -> Result<String, Fail> {
+    let mut words = call.split_whitespace();
+    let _decide = words.next();
+    let now = number(words.next());
+    assert!(rt; port.last <= now && now <= 1_000_000_000_000_000);
+    assert!(rt; port.free_at <= now);
+    match port.decide(Time(now)) {
+        Decision::Start(class, packet) => {
+            let name = class_name(class);
+            let ordinal = packet.id.ordinal;
+            let bytes = length(&packet);
+            let end = port.free_at().0;
+            Ok(format!(in alloc; "Start {name} #{ordinal} {bytes} free_at {end}")?)
+        }
+        Decision::WaitUntil(time) => {
+            let time = time.0;
+            Ok(format!(in alloc; "WaitUntil {time}")?)
+        }
+        Decision::Idle => Ok(format!(in alloc; "Idle")?),
+    }
+}
+
+#[test]
+fn sequences_of_queueings_and_decisions(rt: HostRuntime) -> Result<(), Fail> {
+    let mut port: Option<Port> = None;
+    let mut ordinal = 0u64;
+    let mut calls = 0u64;
+    for line in CASES.lines() {
+        if line.starts_with("port") {
+            port = Some(Port::build(rt.alloc(), limits_of(&rt, line))?);
+            ordinal = 0;
+        }
+        let Some((call, wanted)) = line.split_once(" -> ") else {
+            continue;
+        };
+        let Some(port) = &mut port else {
+            continue;
+        };
+        if call.starts_with("queue") {
+            ordinal = ordinal.wrapping_add(1);
+            assert_eq!(rt; queue(&rt, port, ordinal, call), wanted, "{line}");
+        } else {
+            let answer = decide(&rt, rt.alloc(), port, call)?;
+            assert_eq!(rt; answer.as_str(), wanted, "{line}");
+        }
+        calls = calls.wrapping_add(1);
+    }
+    assert_eq!(rt; calls, 432);
+    Ok(())
+}
