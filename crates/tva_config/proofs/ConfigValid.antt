@@ -1,0 +1,220 @@
+-- A configuration that all steps accept is valid.
+use Rattle.std.proofs.Common.{◌≡◌, ◌≤◌, ◌==◌, ℕ, ◌+◌, suc, Bool, true, false, cond, nat_lt, List, [], ◌∷◌, ◌++◌, length, map, sum_by, Ok, Some, None, All, refl, ap, sym, ◌∙◌, subst, arith, length-append}
+use Rattle.std.specs.List.{cons_option, filter_map}
+use Rattle.std.proofs.lemmas.Bool.{ltb-false}
+use Rattle.std.proofs.lemmas.Bool.Decides.{nat_tests}
+use Rattle.std.proofs.lemmas.List.{map-append, length-map}
+use Rattle.std.proofs.lemmas.List.Elements.{All-append, All-nil}
+use Rattle.std.proofs.lemmas.List.Sums.{sum_by-cons, sum_by-append}
+use Rattle.tva_base.specs.declared.plan.LinkPlan.{LinkPlan}
+use Rattle.tva_base.specs.declared.plan.Route.{Route}
+use Rattle.tva_config.specs.declared.config.NodePlan as nodes
+use Rattle.tva_config.specs.declared.config.NodePlan.TheVariants as node
+use Rattle.tva_config.specs.declared.fault.ConfigTable.TheVariants as table
+use Rattle.tva_config.specs.declared.fault.ConfigRule.TheVariants as rule
+use Rattle.tva_config.specs.declared.entries.RouterEntry.{RouterEntry}
+use Rattle.tva_config.specs.declared.entries.HostEntry.{HostEntry}
+use Rattle.tva_config.specs.declared.entries.LinkEntry.{LinkEntry}
+use Rattle.tva_config.specs.declared.entries.RouteEntry.{RouteEntry}
+use Rattle.tva_config.specs.declared.entries.OwnedRoute.{OwnedRoute}
+use Rattle.tva_config.specs.Faults.{at, fault_at}
+use Rattle.tva_config.specs.Nodes.{node_names, node_of, names_of, addresses_of, retries_of, all_slots, slots_of}
+use Rattle.tva_config.specs.Links.{link_between, links_of, uplinks_of, all_places, rings_of}
+use Rattle.tva_config.specs.Routes.{routes_of}
+use Rattle.tva_config.specs.Counts.{routes_in, slots_in}
+use Rattle.tva_config.specs.Read.{if_owned, routes_at, router_plan, host_plan, router_plans, host_plans, config_of}
+use Rattle.tva_config.specs.Valid.{IsRouterEntry, IsHostEntry, IsLinkEntry, IsRouteEntry, IsNodePlan, IsLinkPlan, AreWired, name_at, addresses_at, IsConfig}
+use Rattle.tva_config.proofs.Turns.{all_cons, unless_gave}
+use Rattle.tva_config.proofs.StepsKeep.{names_distinct, addresses_distinct, retries_late}
+use Rattle.tva_config.proofs.StepsLinks.{AreLinks, links_keep, AreUplinks, uplinks_keep}
+use Rattle.tva_config.proofs.StepsRoutes.{AreRoutes, routes_keep}
+use Rattle.tva_config.proofs.PlanValid.{router_valid, host_valid}
+
+-- ---- the routers' part
+
+routers_valid : (count : ℕ) (links : List LinkPlan) (routes : List OwnedRoute) (k : ℕ) (rs : List RouterEntry)
+    → All IsRouterEntry rs → All (IsLinkPlan count) links → AreRoutes links routes → All IsNodePlan (router_plans links routes k rs)
+routers_valid count links routes k [] entries known owned = All-nil IsNodePlan
+routers_valid count links routes k (r ∷ rs) entries known owned =
+    all_cons IsNodePlan (node.Router (router_plan links routes k r)) (router_plans links routes (k + 1) rs)
+    (router_valid count links routes k r (entries 0 r (omega arith)) known owned)
+    (routers_valid count links routes (k + 1) rs (λ j d within. entries (suc j) d (omega arith)) known owned)
+
+routers_long : (links : List LinkPlan) (routes : List OwnedRoute) (k : ℕ) (rs : List RouterEntry) → length (router_plans links routes k rs) ≡ length rs
+routers_long links routes k [] = refl
+routers_long links routes k (r ∷ rs) = let more = routers_long links routes (k + 1) rs in omega (arith, more)
+
+routers_named : (links : List LinkPlan) (routes : List OwnedRoute) (k : ℕ) (rs : List RouterEntry) → map name_at (router_plans links routes k rs) ≡ map (λ r. r.name) rs
+unfolding router_plan
+routers_named links routes k [] = refl
+routers_named links routes k (r ∷ rs) = ap (λ names. r.name ∷ names) (routers_named links routes (k + 1) rs)
+
+routers_addressed : (links : List LinkPlan) (routes : List OwnedRoute) (k : ℕ) (rs : List RouterEntry) (more : List nodes.NodePlan) → addresses_at (router_plans links routes k rs ++ more) ≡ addresses_at more
+routers_addressed links routes k [] more = refl
+routers_addressed links routes k (r ∷ rs) more = routers_addressed links routes (k + 1) rs more
+
+routers_wired : (links : List LinkPlan) (routes : List OwnedRoute) (k : ℕ) (rs : List RouterEntry) (more : List nodes.NodePlan)
+    → AreWired links (k + length rs) more → AreWired links k (router_plans links routes k rs ++ more)
+unfolding router_plan
+routers_wired links routes k [] more wired = let same : k + 0 ≡ k = omega arith in rw same at wired
+routers_wired links routes k (r ∷ rs) more wired =
+    let same : k + length (r ∷ rs) ≡ (k + 1) + length rs = omega arith in
+    ((refl, refl), routers_wired links routes (k + 1) rs more (rw same at wired))
+
+routers_slots : (links : List LinkPlan) (routes : List OwnedRoute) (k : ℕ) (rs : List RouterEntry) → sum_by slots_in (router_plans links routes k rs) ≡ all_slots rs
+unfolding router_plan
+routers_slots links routes k [] = refl
+routers_slots links routes k (r ∷ rs) =
+    sum_by-cons slots_in (node.Router (router_plan links routes k r)) (router_plans links routes (k + 1) rs)
+    ∙ ap (λ n. r.slots + n) (routers_slots links routes (k + 1) rs)
+    ∙ sym (sum_by-cons (λ (x : RouterEntry). x.slots) r rs)
+
+-- ---- the routes of the routers are among all routes
+
+-- how many routes are of routers below that number
+abbrev below : ℕ → List OwnedRoute → ℕ
+below k [] = 0
+below k (o ∷ os) = cond (nat_lt o.router k) 1 0 + below k os
+
+most_at : (b : Bool) (n m : ℕ) → n ≤ m → cond b 1 0 + n ≤ suc m
+most_at true n m more = omega arith
+most_at false n m more = omega arith
+
+below_most : (k : ℕ) (os : List OwnedRoute) → below k os ≤ length os
+below_most k [] = omega arith
+below_most k (o ∷ os) = most_at (nat_lt o.router k) (below k os) (length os) (below_most k os)
+
+step_at : (k : ℕ) (o : OwnedRoute) (rest : List Route) (m n : ℕ) (is less up : Bool) → (o.router == k) ≡ is → nat_lt o.router k ≡ less → nat_lt o.router (k + 1) ≡ up → length rest + m ≡ n
+    → length (cons_option (cond is (Some o.route) None) rest) + (cond less 1 0 + m) ≡ cond up 1 0 + n
+step_at k o rest m n true true up is less up_is more = absurd (grind (arith, nat_tests))
+step_at k o rest m n true false true is less up_is more = omega arith
+step_at k o rest m n true false false is less up_is more = absurd (grind (arith, nat_tests))
+step_at k o rest m n false true true is less up_is more = omega arith
+step_at k o rest m n false true false is less up_is more = absurd (grind (arith, nat_tests))
+step_at k o rest m n false false true is less up_is more = absurd (grind (arith, nat_tests))
+step_at k o rest m n false false false is less up_is more = omega arith
+
+below_step : (k : ℕ) (os : List OwnedRoute) → length (filter_map (if_owned k) os) + below k os ≡ below (k + 1) os
+below_step k [] = refl
+below_step k (o ∷ os) = step_at k o (filter_map (if_owned k) os) (below k os) (below (k + 1) os) (o.router == k) (nat_lt o.router k) (nat_lt o.router (k + 1)) refl refl refl (below_step k os)
+
+routers_routes : (links : List LinkPlan) (routes : List OwnedRoute) (k : ℕ) (rs : List RouterEntry) → sum_by routes_in (router_plans links routes k rs) + below k routes ≤ length routes
+unfolding router_plan routes_at
+routers_routes links routes k [] = let most = below_most k routes in omega (arith, most)
+routers_routes links routes k (r ∷ rs) =
+    let split : sum_by routes_in (router_plans links routes k (r ∷ rs)) ≡ length (filter_map (if_owned k) routes) + sum_by routes_in (router_plans links routes (k + 1) rs) =
+    sum_by-cons routes_in (node.Router (router_plan links routes k r)) (router_plans links routes (k + 1) rs) in
+    let step = below_step k routes in
+    let more = routers_routes links routes (k + 1) rs in
+    omega (arith, split, step, more)
+
+-- ---- the hosts' part
+
+hosts_valid : (hs : List HostEntry) (us : List ℕ) → All IsHostEntry hs → All (λ h. 1000000000 + h.margin ≤ h.retry) hs → All IsNodePlan (host_plans hs us)
+hosts_valid [] us entries late = All-nil IsNodePlan
+hosts_valid (h ∷ hs) [] entries late = All-nil IsNodePlan
+hosts_valid (h ∷ hs) (u ∷ us) entries late =
+    all_cons IsNodePlan (node.Host (host_plan h u)) (host_plans hs us) (host_valid h u (entries 0 h (omega arith)) (late 0 h (omega arith)))
+    (hosts_valid hs us (λ j d within. entries (suc j) d (omega arith)) (λ j d within. late (suc j) d (omega arith)))
+
+hosts_long : (hs : List HostEntry) (us : List ℕ) → length us ≡ length hs → length (host_plans hs us) ≡ length hs
+hosts_long [] us same = refl
+hosts_long (h ∷ hs) [] same = absurd (omega arith)
+hosts_long (h ∷ hs) (u ∷ us) same = let more = hosts_long hs us (omega arith) in omega (arith, more)
+
+hosts_named : (hs : List HostEntry) (us : List ℕ) → length us ≡ length hs → map name_at (host_plans hs us) ≡ map (λ h. h.name) hs
+unfolding host_plan
+hosts_named [] us same = refl
+hosts_named (h ∷ hs) [] same = absurd (omega arith)
+hosts_named (h ∷ hs) (u ∷ us) same = ap (λ names. h.name ∷ names) (hosts_named hs us (omega arith))
+
+hosts_addressed : (hs : List HostEntry) (us : List ℕ) → length us ≡ length hs → addresses_at (host_plans hs us) ≡ map (λ h. h.address) hs
+unfolding host_plan
+hosts_addressed [] us same = refl
+hosts_addressed (h ∷ hs) [] same = absurd (omega arith)
+hosts_addressed (h ∷ hs) (u ∷ us) same = ap (λ addresses. h.address ∷ addresses) (hosts_addressed hs us (omega arith))
+
+hosts_wired : (links : List LinkPlan) (k : ℕ) (hs : List HostEntry) (us : List ℕ) → AreUplinks links k us → AreWired links k (host_plans hs us)
+unfolding host_plan
+hosts_wired links k [] us known = tt
+hosts_wired links k (h ∷ hs) [] known = tt
+hosts_wired links k (h ∷ hs) (u ∷ us) known = (known.0, hosts_wired links (k + 1) hs us known.1)
+
+hosts_slots : (hs : List HostEntry) (us : List ℕ) → sum_by slots_in (host_plans hs us) ≡ 0
+hosts_slots [] us = refl
+hosts_slots (h ∷ hs) [] = refl
+hosts_slots (h ∷ hs) (u ∷ us) = sum_by-cons slots_in (node.Host (host_plan h u)) (host_plans hs us) ∙ ap (λ n. 0 + n) (hosts_slots hs us)
+
+hosts_routes : (hs : List HostEntry) (us : List ℕ) → sum_by routes_in (host_plans hs us) ≡ 0
+hosts_routes [] us = refl
+hosts_routes (h ∷ hs) [] = refl
+hosts_routes (h ∷ hs) (u ∷ us) = sum_by-cons routes_in (node.Host (host_plan h u)) (host_plans hs us) ∙ ap (λ n. 0 + n) (hosts_routes hs us)
+
+-- ---- the whole
+
+few_slots : (rs : List RouterEntry) → slots_of rs ≡ Ok tt → all_slots rs ≤ 1000000
+unfolding slots_of
+few_slots rs gave = ltb-false 1000000 (all_slots rs) (unless_gave _ (fault_at (at table.Router 0) rule.Slots _) tt gave)
+
+few_places : (links : List LinkPlan) → rings_of links ≡ Ok tt → all_places links ≤ 1000000
+unfolding rings_of
+few_places links gave = ltb-false 1000000 (all_places links) (unless_gave _ (fault_at (at table.Link 0) rule.Rings _) tt gave)
+
+-- what is known of a configuration's parts when all steps have been passed
+pub record Passed (horizon max_events : ℕ) (rs : List RouterEntry) (hs : List HostEntry) (les : List LinkEntry) (res : List RouteEntry) (links : List LinkPlan) (us : List ℕ) (routes : List OwnedRoute) : Type 0 where
+  pub horizon_most : horizon ≤ 1000000000000000
+  pub events_most : (1 ≤ max_events) × (max_events ≤ 4000000)
+  pub nodes : length rs + length hs ≤ 1024
+  pub few_links : length links ≤ 4096
+  pub few_routes : length routes ≤ 65536
+  pub routers : All IsRouterEntry rs
+  pub hosts : All IsHostEntry hs
+  pub link_entries : All IsLinkEntry les
+  pub route_entries : All IsRouteEntry res
+  pub names : names_of rs hs ≡ Ok (node_names rs hs)
+  pub addresses : addresses_of hs ≡ Ok (map (λ h. h.address) hs)
+  pub retries : retries_of hs ≡ Ok (map (λ h. h.retry) hs)
+  pub linked : links_of (node_of (node_names rs hs)) les ≡ Ok links
+  pub uplinks : uplinks_of (length rs) links hs ≡ Ok us
+  pub as_many : length us ≡ length hs
+  pub routed : routes_of (length rs) (node_of (node_names rs hs)) (link_between links) res ≡ Ok routes
+  pub slots : slots_of rs ≡ Ok tt
+  pub rings : rings_of links ≡ Ok tt
+
+pub config_valid : (horizon max_events : ℕ) (rs : List RouterEntry) (hs : List HostEntry) (les : List LinkEntry) (res : List RouteEntry) (links : List LinkPlan) (us : List ℕ) (routes : List OwnedRoute)
+    → Passed horizon max_events rs hs les res links us routes → IsConfig (config_of horizon max_events rs hs links us routes)
+unfolding config_of
+config_valid horizon max_events rs hs les res links us routes passed =
+    let name_count : length (node_names rs hs) ≡ length rs + length hs =
+    length-append (map (λ (r : RouterEntry). r.name) rs) (map (λ (h : HostEntry). h.name) hs) ∙ rw (length-map rs (λ (r : RouterEntry). r.name), length-map hs (λ (h : HostEntry). h.name)) refl in
+    let kept : AreLinks (length (node_names rs hs)) links = links_keep (node_names rs hs) les links passed.link_entries passed.linked in
+    let owned : AreRoutes links routes = routes_keep (length rs) (node_of (node_names rs hs)) links res routes passed.route_entries passed.routed in
+    let late = retries_late hs (map (λ h. h.retry) hs) passed.retries in
+    let made = router_plans links routes 0 rs in
+    let hosted = host_plans hs us in
+    let made_count = routers_long links routes 0 rs in
+    let hosted_count = hosts_long hs us passed.as_many in
+    let both : length (made ++ hosted) ≡ length made + length hosted = length-append made hosted in
+    let long : length (made ++ hosted) ≡ length (node_names rs hs) = omega (arith, name_count, made_count, hosted_count, both) in
+    let slots : sum_by slots_in (made ++ hosted) ≡ all_slots rs + 0 = sum_by-append slots_in made hosted ∙ rw (routers_slots links routes 0 rs, hosts_slots hs us) refl in
+    let most_slots = few_slots rs passed.slots in
+    let sum_routes : sum_by routes_in (made ++ hosted) ≡ sum_by routes_in made + 0 = sum_by-append routes_in made hosted ∙ ap (λ n. sum_by routes_in made + n) (hosts_routes hs us) in
+    let most_routes = routers_routes links routes 0 rs in
+    let uplinks = uplinks_keep (length rs) links hs us passed.uplinks in
+    let same_start : length rs ≡ 0 + length rs = omega arith in
+    let uplinked : AreUplinks links (0 + length rs) us = subst (λ n. AreUplinks links n us) same_start uplinks in
+    record {
+      horizon = passed.horizon_most;
+      max_events = passed.events_most;
+      few_nodes = let nodes = passed.nodes in omega (arith, long, name_count, nodes);
+      few_links = passed.few_links;
+      few_routes = let most = passed.few_routes in omega (arith, sum_routes, most_routes, most);
+      few_slots = omega (arith, slots, most_slots);
+      few_places = few_places links passed.rings;
+      nodes = All-append IsNodePlan made hosted (routers_valid (length (node_names rs hs)) links routes 0 rs passed.routers kept.each owned) (hosts_valid hs us passed.hosts late);
+      links = rw long kept.each;
+      names = rw (map-append name_at made hosted, routers_named links routes 0 rs, hosts_named hs us passed.as_many) (names_distinct rs hs (node_names rs hs) passed.names);
+      addresses = rw (routers_addressed links routes 0 rs hosted, hosts_addressed hs us passed.as_many) (addresses_distinct hs (map (λ h. h.address) hs) passed.addresses);
+      pairs = kept.pairs;
+      wired = routers_wired links routes 0 rs hosted (hosts_wired links (0 + length rs) hs us uplinked);
+    }

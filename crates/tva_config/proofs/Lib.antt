@@ -1,0 +1,14 @@
+pub mod Bytes
+pub mod ConfigValid
+pub mod Documents
+pub mod InTurn
+pub mod Items
+pub mod Listed
+pub mod Numbered
+pub mod PlanValid
+pub mod Positions
+pub mod Prefixes
+pub mod StepsKeep
+pub mod StepsLinks
+pub mod StepsRoutes
+pub mod Turns

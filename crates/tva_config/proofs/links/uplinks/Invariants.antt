@@ -1,0 +1,10 @@
+use Rattle.std.proofs.Common.{◌≡◌, length, drop}
+use Rattle.tva_config.specs.Links.{uplink_step}
+use Rattle.tva_config.proofs.InTurn.{Continues}
+use Rattle.tva_config.proofs.links.uplinks.Given as goal
+
+abbrev pub invariant-loop-i : goal.invariant-loop-i
+invariant-loop-i l = record {
+  read : Continues (uplink_step l.routers l.links) l.uplinks.items (drop l.i l.hosts) l.hosts;
+  count : length l.uplinks.items ≡ l.i;
+}

@@ -1,0 +1,34 @@
+use Rattle.std.proofs.Common.{◌≡◌, ◌∙◌, ◌<◌, ◌==◌, ap, cond, sym, true, false, map, take, length, rules, arith}
+use Rattle.std.specs.List.{list_any}
+use Rattle.tva_config.specs.Nodes.{addresses_of}
+use Rattle.tva_config.proofs.Numbered.{address_continues, address_stops, seen_push, untrue, true_not}
+use Rattle.tva_config.proofs.nodes.addresses.Goals as goal
+
+pub loop-i-preserved : goal.loop-i-preserved
+loop-i-preserved c =
+    let hosts = c.args.hosts.now in
+    let i = c.loop-i.i in
+    let host = c.index-hosts-i.result in
+    let within : i < length hosts = omega arith in
+    let added = c.in_ok-insert.ensures.added in
+    let yes : c.in_ok-insert.field-0 ≡ true = grind arith in
+    let new : list_any (λ a. a.0 == host.address.0) (map (λ x. x.address) (take i hosts)) ≡ false =
+    sym (c.loop-i.invariant.seen host.address.0) ∙ true_not _ (sym added ∙ yes) in
+    record {
+      read = address_continues hosts i host hosts within c.index-hosts-i.is new c.loop-i.invariant.read;
+      seen = λ q. c.in_ok-insert.ensures.updates.0 q ∙ ap (λ b. cond (host.address.0 == q) true b) (c.loop-i.invariant.seen q) ∙ seen_push hosts i host q within c.index-hosts-i.is;
+    }
+
+pub returns-then-not-branch : goal.returns-then-not-branch
+unfolding addresses_of
+returns-then-not-branch c =
+    let hosts = c.args.hosts.now in
+    let i = c.loop-i.i in
+    let host = c.index-hosts-i.result in
+    let within : i < length hosts = omega arith in
+    let added = c.in_ok-insert.ensures.added in
+    let no : c.in_ok-insert.field-0 ≡ false = grind arith in
+    let old : list_any (λ a. a.0 == host.address.0) (map (λ x. x.address) (take i hosts)) ≡ true =
+    sym (c.loop-i.invariant.seen host.address.0) ∙ untrue _ (sym added ∙ no) in
+    let stops = address_stops hosts i host hosts within c.index-hosts-i.is old c.loop-i.invariant.read in
+    first_of (search rules, grind (arith, stops))

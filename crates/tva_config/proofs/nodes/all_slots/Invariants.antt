@@ -1,0 +1,6 @@
+use Rattle.std.proofs.Common.{◌≡◌, ◌≤◌, ◌*◌, ◌^◌, take}
+use Rattle.tva_config.specs.Nodes.{all_slots}
+use Rattle.tva_config.proofs.nodes.all_slots.Given as goal
+
+abbrev pub invariant-loop-router : goal.invariant-loop-router
+invariant-loop-router l = record { total : l.total ≡ all_slots (take l.router-index l.routers); room : l.total ≤ l.router-index * 2 ^ 32 }

@@ -1,0 +1,7 @@
+use Rattle.std.proofs.Common.{◌≡◌, ◌++◌, drop}
+use Rattle.std.specs.List.{filter_map}
+use Rattle.tva_config.specs.Read.{if_owned}
+use Rattle.tva_config.proofs.plans.routes_at.Given as goal
+
+abbrev pub invariant-loop-owned : goal.invariant-loop-owned
+invariant-loop-owned l = l.found.items ++ filter_map (if_owned l.router) (drop l.owned-index l.routes) ≡ filter_map (if_owned l.router) l.routes

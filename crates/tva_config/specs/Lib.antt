@@ -1,0 +1,13 @@
+pub mod Counts
+pub mod Entries
+pub mod Faults
+pub mod Keys
+pub mod Links
+pub mod Nodes
+pub mod Read
+pub mod Routes
+pub mod Tables
+pub mod Valid
+pub mod Values
+pub mod Views
+pub mod Words

@@ -1,0 +1,72 @@
+-- What links must be to the nodes and to one another.
+use Rattle.std.specs.Prelude.{ℕ, ◌+◌, ◌*◌, ◌==◌, ◌&&◌, Bool, List, [], ◌∷◌, length, nat_lt, sum_by, if◌then◌else◌, Ok, Err, Option, Some, None, codes}
+use Rattle.std.specs.List.{list_any, position_from, cons_option}
+use Rattle.tva_base.specs.declared.plan.LinkPlan.{LinkPlan}
+use Rattle.tva_config.specs.declared.fault.ConfigTable.TheVariants as table
+use Rattle.tva_config.specs.declared.fault.ConfigRule.TheVariants as rule
+use Rattle.tva_config.specs.declared.fault.ConfigFault.{ConfigFault}
+use Rattle.tva_config.specs.declared.entries.HostEntry.{HostEntry}
+use Rattle.tva_config.specs.declared.entries.LinkEntry.{LinkEntry}
+use Rattle.tva_config.specs.Faults.{Read, ◌>>=◌, at, fault_at, unless, in_turn}
+
+-- what was looked for, or a fault
+abbrev pub found : {A : Type 0} → Option A → ConfigFault → Read A
+found None fault = Err fault
+found (Some x) fault = Ok x
+
+-- the link is from this node to that
+abbrev pub joins : ℕ → ℕ → LinkPlan → Bool
+joins from to link = (link.from == from) && (link.to == to)
+
+-- the number of the link from one node to another
+abbrev pub link_between : List LinkPlan → ℕ → ℕ → Option ℕ
+link_between links from to = position_from (joins from to) 0 links
+
+-- both ends are nodes, by the numbers of names, and two, and no earlier link has the same
+abbrev pub link_step : (List ℕ → Option ℕ) → List LinkPlan → LinkEntry → Read LinkPlan
+link_step node earlier link = do
+  from ← found (node link.from) (fault_at (at table.Link (length earlier)) rule.Ends (codes "from"))
+  to ← found (node link.to) (fault_at (at table.Link (length earlier)) rule.Ends (codes "to"))
+  apart ← unless (from == to) (fault_at (at table.Link (length earlier)) rule.Ends (codes "to"))
+  single ← unless (list_any (joins from to) earlier) (fault_at (at table.Link (length earlier)) rule.Pair (codes "to"))
+  Ok (record { from = from; to = to; delay = link.delay; tag = link.tag; limits = link.limits })
+
+unfoldable pub links_of : (List ℕ → Option ℕ) → List LinkEntry → Read (List LinkPlan)
+links_of node links = in_turn (link_step node) [] links
+
+-- what a choice takes of each element, which it sees with its number
+abbrev pub picked : {A B : Type 0} → (ℕ → A → Option B) → ℕ → List A → List B
+picked choice number [] = []
+picked choice number (x ∷ xs) = cons_option (choice number x) (picked choice (number + 1) xs)
+
+-- the numbers of the links that begin at a node
+abbrev pub number_from : ℕ → ℕ → LinkPlan → Option ℕ
+number_from node number link = if link.from == node then Some number else None
+
+unfoldable pub links_from : ℕ → List LinkPlan → List ℕ
+links_from node links = picked (number_from node) 0 links
+
+-- the element of a list of one
+abbrev pub only : {A : Type 0} → List A → Option A
+only [] = None
+only (x ∷ []) = Some x
+only (x ∷ y ∷ rest) = None
+
+-- each host has one link out
+abbrev pub uplink_step : ℕ → List LinkPlan → List ℕ → HostEntry → Read ℕ
+uplink_step routers links earlier host =
+    found (only (links_from (routers + length earlier) links)) (fault_at (at table.Host (length earlier)) rule.Uplink (codes "name"))
+
+unfoldable pub uplinks_of : ℕ → List LinkPlan → List HostEntry → Read (List ℕ)
+uplinks_of routers links hosts = in_turn (uplink_step routers links) [] hosts
+
+-- the places of a link's queues
+abbrev pub places : LinkPlan → ℕ
+places link = link.limits.request.queues * link.limits.request.ring + link.limits.regular.queues * link.limits.regular.ring + link.limits.legacy_ring
+
+-- all links together have at most 1,000,000 places
+abbrev pub all_places : List LinkPlan → ℕ
+all_places links = sum_by places links
+
+unfoldable pub rings_of : List LinkPlan → Read (Unit {0})
+rings_of links = unless (nat_lt 1000000 (all_places links)) (fault_at (at table.Link 0) rule.Rings (codes "-"))

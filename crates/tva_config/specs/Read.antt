@@ -1,0 +1,121 @@
+-- The plan of a text, or its first fault.
+use Rattle.std.specs.Prelude.{ℕ, ◌+◌, ◌==◌, List, [], ◌∷◌, ◌++◌, length, if◌then◌else◌, Ok, Err, Option, Some, None, codes}
+use Rattle.std.specs.List.{filter_map}
+use Rattle.std.specs.Str.{is_utf8}
+use Rattle.toml.specs.Data.{Members}
+use Rattle.toml.specs.Parse.{parse_document}
+use Rattle.tva_base.specs.declared.limits.LinkLimits.{LinkLimits}
+use Rattle.tva_base.specs.declared.plan.LinkPlan.{LinkPlan}
+use Rattle.tva_base.specs.declared.plan.Route.{Route}
+use Rattle.tva_base.specs.declared.plan.RouterPlan.{RouterPlan}
+use Rattle.tva_base.specs.declared.plan.HostPlan.{HostPlan}
+use Rattle.tva_config.specs.declared.config.Config.{Config}
+use Rattle.tva_config.specs.declared.config.NodePlan as nodes
+use Rattle.tva_config.specs.declared.config.NodePlan.TheVariants as node
+use Rattle.tva_config.specs.declared.fault.ConfigRule.TheVariants as rule
+use Rattle.tva_config.specs.declared.entries.RouterEntry.{RouterEntry}
+use Rattle.tva_config.specs.declared.entries.HostEntry.{HostEntry}
+use Rattle.tva_config.specs.declared.entries.OwnedRoute.{OwnedRoute}
+use Rattle.tva_config.specs.Faults.{Read, ◌>>=◌, top, fault_at}
+use Rattle.tva_config.specs.Tables.{top_of, counts_of, Entries, all_entries_of}
+use Rattle.tva_config.specs.Nodes.{node_of, names_of, addresses_of, retries_of, slots_of}
+use Rattle.tva_config.specs.Links.{link_between, links_of, uplinks_of, rings_of, picked}
+use Rattle.tva_config.specs.Routes.{routes_of}
+
+-- the links into a node, each with its tag
+abbrev pub tagged_to : ℕ → ℕ → LinkPlan → Option (ℕ × ℕ)
+tagged_to node number link = if link.to == node then Some (number, link.tag) else None
+
+unfoldable pub incoming_of : ℕ → List LinkPlan → List (ℕ × ℕ)
+incoming_of node links = picked (tagged_to node) 0 links
+
+-- the links out of a node, each with its limits
+abbrev pub limited_from : ℕ → ℕ → LinkPlan → Option (ℕ × LinkLimits)
+limited_from node number link = if link.from == node then Some (number, link.limits) else None
+
+unfoldable pub outgoing_of : ℕ → List LinkPlan → List (ℕ × LinkLimits)
+outgoing_of node links = picked (limited_from node) 0 links
+
+-- the routes of a router
+abbrev pub if_owned : ℕ → OwnedRoute → Option Route
+if_owned router owned = if owned.router == router then Some owned.route else None
+
+unfoldable pub routes_at : ℕ → List OwnedRoute → List Route
+routes_at router routes = filter_map (if_owned router) routes
+
+-- the plan of a router of that number
+unfoldable pub router_plan : List LinkPlan → List OwnedRoute → ℕ → RouterEntry → RouterPlan
+router_plan links routes number r = record {
+  name = r.name;
+  master = r.master;
+  clock_offset = r.clock_offset;
+  slots = r.slots;
+  edge_tag = r.edge_tag;
+  incoming = incoming_of number links;
+  outgoing = outgoing_of number links;
+  routes = routes_at number routes;
+}
+
+-- the plan of a host with that link out
+unfoldable pub host_plan : HostEntry → ℕ → HostPlan
+host_plan h uplink = record {
+  name = h.name;
+  address = h.address;
+  nonce = h.nonce;
+  margin = h.margin;
+  retry = h.retry;
+  policy = h.policy;
+  uplink = uplink;
+}
+
+-- the plans of the routers, from that number on
+abbrev pub router_plans : List LinkPlan → List OwnedRoute → ℕ → List RouterEntry → List nodes.NodePlan
+router_plans links routes number [] = []
+router_plans links routes number (r ∷ rs) = node.Router (router_plan links routes number r) ∷ router_plans links routes (number + 1) rs
+
+-- the plans of the hosts, each with its link out
+abbrev pub host_plans : List HostEntry → List ℕ → List nodes.NodePlan
+host_plans [] uplinks = []
+host_plans (h ∷ hs) [] = []
+host_plans (h ∷ hs) (uplink ∷ uplinks) = node.Host (host_plan h uplink) ∷ host_plans hs uplinks
+
+unfoldable pub config_of : ℕ → ℕ → List RouterEntry → List HostEntry → List LinkPlan → List ℕ → List OwnedRoute → Config
+config_of horizon max_events routers hosts links uplinks routes = record {
+  horizon = record { 0 = horizon };
+  max_events = max_events;
+  nodes = router_plans links routes 0 routers ++ host_plans hosts uplinks;
+  links = links;
+}
+
+-- the steps across tables, in their order, and the plan
+unfoldable pub plan_of : ℕ → ℕ → Entries → Read Config
+plan_of horizon max_events e = do
+  names ← names_of e.routers e.hosts
+  addresses ← addresses_of e.hosts
+  retries ← retries_of e.hosts
+  links ← links_of (node_of names) e.links
+  uplinks ← uplinks_of (length e.routers) links e.hosts
+  routes ← routes_of (length e.routers) (node_of names) (link_between links) e.routes
+  few_slots ← slots_of e.routers
+  few_places ← rings_of links
+  Ok (config_of horizon max_events e.routers e.hosts links uplinks routes)
+
+-- the steps of a document, in their order
+unfoldable pub members_read : Members → Read Config
+members_read ms = do
+  t ← top_of ms
+  few ← counts_of (length t.routers + length t.hosts) (length t.links) (length t.routes)
+  e ← all_entries_of t
+  plan_of t.horizon t.max_events e
+
+-- the table that `toml` gives for a text, if any
+unfoldable pub document_of : List ℕ → Option Members
+document_of text = if is_utf8 text then parse_document text else None
+
+abbrev pub document_read : Option Members → Read Config
+document_read None = Err (fault_at top rule.Syntax (codes "-"))
+document_read (Some ms) = members_read ms
+
+-- the plan of a text, or the first fault in the stated order
+unfoldable pub read_of : List ℕ → Read Config
+read_of text = document_read (document_of text)

@@ -1,0 +1,45 @@
+-- What routes must be to the nodes, the links and one another.
+use Rattle.std.specs.Prelude.{ℕ, ◌==◌, ◌&&◌, Bool, List, [], length, nat_lt, if◌then◌else◌, option_and_then, Ok, Option, Some, None, codes}
+use Rattle.std.specs.List.{list_any}
+use Rattle.tva_base.specs.declared.addresses.Prefix.{Prefix}
+use Rattle.tva_config.specs.declared.fault.ConfigTable.TheVariants as table
+use Rattle.tva_config.specs.declared.fault.ConfigRule.TheVariants as rule
+use Rattle.tva_config.specs.declared.place.Place.{Place}
+use Rattle.tva_config.specs.declared.entries.RouteEntry.{RouteEntry}
+use Rattle.tva_config.specs.declared.entries.OwnedRoute.{OwnedRoute}
+use Rattle.tva_config.specs.Faults.{Read, ◌>>=◌, at, fault_at, unless, in_turn}
+use Rattle.tva_config.specs.Links.{found}
+
+-- a node that is one of so many routers
+abbrev pub if_router : ℕ → ℕ → Option ℕ
+if_router routers node = if nat_lt node routers then Some node else None
+
+-- the number of the router of a name
+abbrev pub router_named : ℕ → (List ℕ → Option ℕ) → List ℕ → Option ℕ
+router_named routers node name = option_and_then (if_router routers) (node name)
+
+-- the number of a router's link to the node of a name
+abbrev pub link_to : (List ℕ → Option ℕ) → (ℕ → ℕ → Option ℕ) → ℕ → List ℕ → Option ℕ
+link_to node link router name = option_and_then (link router) (node name)
+
+-- the route is one of this router for this prefix
+abbrev pub is_for : ℕ → Prefix → OwnedRoute → Bool
+is_for router prefix owned = (owned.router == router) && (owned.route.prefix.address.0 == prefix.address.0) && (owned.route.prefix.bits == prefix.bits)
+
+-- its router is one, which has a link to the next node, by the numbers of names and those of links
+-- between nodes
+abbrev pub resolved : Place → ℕ → (List ℕ → Option ℕ) → (ℕ → ℕ → Option ℕ) → RouteEntry → Read OwnedRoute
+resolved place routers node link entry = do
+  router ← found (router_named routers node entry.router) (fault_at place rule.Owner (codes "router"))
+  out ← found (link_to node link router entry.via) (fault_at place rule.Via (codes "via"))
+  Ok (record { router = router; route = record { prefix = entry.prefix; link = out } })
+
+-- and no earlier route of the router is for the same prefix
+abbrev pub route_step : ℕ → (List ℕ → Option ℕ) → (ℕ → ℕ → Option ℕ) → List OwnedRoute → RouteEntry → Read OwnedRoute
+route_step routers node link earlier entry = do
+  owned ← resolved (at table.Route (length earlier)) routers node link entry
+  apart ← unless (list_any (is_for owned.router owned.route.prefix) earlier) (fault_at (at table.Route (length earlier)) rule.Prefix (codes "prefix"))
+  Ok owned
+
+unfoldable pub routes_of : ℕ → (List ℕ → Option ℕ) → (ℕ → ℕ → Option ℕ) → List RouteEntry → Read (List OwnedRoute)
+routes_of routers node link routes = in_turn (route_step routers node link) [] routes

@@ -1,0 +1,84 @@
+-- What every configuration keeps that is read.
+use Rattle.std.specs.Prelude.{◌≡◌, ◌<◌, ◌≤◌, ◌+◌, ◌^◌, ℕ, List, [], ◌∷◌, All, length, map}
+use Rattle.tva_base.specs.declared.addresses.Address.{Address}
+use Rattle.tva_base.specs.declared.plan.LinkPlan.{LinkPlan}
+use Rattle.tva_base.specs.Plan.{AreRights, AreLinkLimits, AreDistinct, IsPrefix, IsRouterPlan, IsHostPlan}
+use Rattle.tva_config.specs.declared.config.Config.{Config}
+use Rattle.tva_config.specs.declared.config.NodePlan as nodes
+use Rattle.tva_config.specs.declared.config.NodePlan.TheVariants as node
+use Rattle.tva_config.specs.declared.entries.RouterEntry.{RouterEntry}
+use Rattle.tva_config.specs.declared.entries.HostEntry.{HostEntry}
+use Rattle.tva_config.specs.declared.entries.LinkEntry.{LinkEntry}
+use Rattle.tva_config.specs.declared.entries.RouteEntry.{RouteEntry}
+use Rattle.tva_config.specs.Counts.{node_count, link_count, route_count, slot_count}
+use Rattle.tva_config.specs.Links.{links_from, all_places}
+use Rattle.tva_config.specs.Read.{incoming_of, outgoing_of}
+
+-- the ranges of an entry's numbers
+pub record IsRouterEntry (r : RouterEntry) : Type 0 where
+  pub slots : r.slots ≤ 1000000
+  pub clock_offset : r.clock_offset ≤ 1000000000000000
+
+pub record IsHostEntry (h : HostEntry) : Type 0 where
+  pub nonce : h.nonce < 2 ^ 48
+  pub margin : h.margin ≤ 1000000000000
+  pub retry : h.retry ≤ 10000000000000
+  pub rights : AreRights h.policy.rights
+
+pub record IsLinkEntry (l : LinkEntry) : Type 0 where
+  pub delay : (1 ≤ l.delay) × (l.delay ≤ 1000000000000)
+  pub limits : AreLinkLimits l.limits
+
+abbrev pub IsRouteEntry : RouteEntry → Type 0
+IsRouteEntry r = IsPrefix r.prefix
+
+-- a plan that a router or a host can be built from
+abbrev pub IsNodePlan : nodes.NodePlan → Type 0
+IsNodePlan (node.Router p) = IsRouterPlan p
+IsNodePlan (node.Host p) = IsHostPlan p
+
+-- a link between two of so many nodes
+pub record IsLinkPlan (count : ℕ) (l : LinkPlan) : Type 0 where
+  pub from : l.from < count
+  pub to : l.to < count
+  pub apart : l.from ≡ l.to → ⊥
+  pub delay : (1 ≤ l.delay) × (l.delay ≤ 1000000000000)
+  pub limits : AreLinkLimits l.limits
+
+-- the plan of a node of that number has the links that begin or end there
+abbrev pub IsWired : List LinkPlan → ℕ → nodes.NodePlan → Type 0
+IsWired links n (node.Router p) = (p.incoming ≡ incoming_of n links) × (p.outgoing ≡ outgoing_of n links)
+IsWired links n (node.Host p) = links_from n links ≡ p.uplink ∷ []
+
+abbrev pub AreWired : List LinkPlan → ℕ → List nodes.NodePlan → Type 0
+AreWired links n [] = Unit {0}
+AreWired links n (p ∷ ps) = IsWired links n p × AreWired links (n + 1) ps
+
+abbrev pub name_at : nodes.NodePlan → List ℕ
+name_at (node.Router p) = p.name
+name_at (node.Host p) = p.name
+
+-- the addresses of the hosts among the nodes
+abbrev pub addresses_at : List nodes.NodePlan → List Address
+addresses_at [] = []
+addresses_at (node.Router p ∷ ps) = addresses_at ps
+addresses_at (node.Host p ∷ ps) = p.address ∷ addresses_at ps
+
+abbrev pub ends_of : LinkPlan → ℕ × ℕ
+ends_of l = (l.from, l.to)
+
+-- a configuration that a network can be built from
+pub record IsConfig (c : Config) : Type 0 where
+  pub horizon : c.horizon.0 ≤ 1000000000000000
+  pub max_events : (1 ≤ c.max_events) × (c.max_events ≤ 4000000)
+  pub few_nodes : node_count c ≤ 1024
+  pub few_links : link_count c ≤ 4096
+  pub few_routes : route_count c ≤ 65536
+  pub few_slots : slot_count c ≤ 1000000
+  pub few_places : all_places c.links ≤ 1000000
+  pub nodes : All IsNodePlan c.nodes
+  pub links : All (IsLinkPlan (length c.nodes)) c.links
+  pub names : AreDistinct (map name_at c.nodes)
+  pub addresses : AreDistinct (addresses_at c.nodes)
+  pub pairs : AreDistinct (map ends_of c.links)
+  pub wired : AreWired c.links 0 c.nodes

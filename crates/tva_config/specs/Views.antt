@@ -1,0 +1,72 @@
+-- What the values of the code stand for.
+use Rattle.std.specs.Prelude.{◌≡◌, ◌==◌, ◌&&◌, ℕ, Bool, List, All, map, Option, String}
+use Rattle.std.specs.HashMap.{HashMap, get, get_by_text}
+use Rattle.std.specs.HashSet.{HashSet, contains}
+use Rattle.std.specs.List.{list_any}
+use Rattle.std.specs.declared.hash.FoldHasher.{FoldHasher}
+use Rattle.std.specs.declared.hash.BuildHasherDefault.{BuildHasherDefault}
+use Rattle.std.specs.declared.alloc.Global.{Global}
+use Rattle.toml.specs.View.{table_view}
+use Rattle.tva_base.specs.declared.plan.LinkPlan.{LinkPlan}
+use Rattle.tva_config.specs.declared.top.TopTable.{TopTable}
+use Rattle.tva_config.specs.declared.entries.EntryLists.{EntryLists}
+use Rattle.tva_config.specs.Tables.{Top, Entries}
+use Rattle.tva_config.specs.declared.entries.OwnedRoute.{OwnedRoute}
+use Rattle.tva_config.specs.Nodes.{node_of}
+use Rattle.tva_config.specs.Links.{link_between}
+use Rattle.tva_config.specs.Routes.{is_for}
+use Rattle.tva_config.specs.Valid.{IsRouterEntry, IsHostEntry, IsLinkEntry, IsRouteEntry}
+
+abbrev pub seen_top : TopTable → Top
+seen_top t = record {
+  horizon = t.horizon;
+  max_events = t.max_events;
+  routers = map (λ m. table_view m.now) t.routers.items;
+  hosts = map (λ m. table_view m.now) t.hosts.items;
+  links = map (λ m. table_view m.now) t.links.items;
+  routes = map (λ m. table_view m.now) t.routes.items;
+}
+
+abbrev pub seen_entries : EntryLists → Entries
+seen_entries e = record { routers = e.routers.items; hosts = e.hosts.items; links = e.links.items; routes = e.routes.items }
+
+-- each entry's numbers are in their ranges
+pub record AreEntries (e : EntryLists) : Type 0 where
+  pub routers : All IsRouterEntry e.routers.items
+  pub hosts : All IsHostEntry e.hosts.items
+  pub links : All IsLinkEntry e.links.items
+  pub routes : All IsRouteEntry e.routes.items
+
+-- a map from names to numbers of nodes
+abbrev pub Numbers : Type 0
+Numbers = HashMap (String Global) ℕ (BuildHasherDefault FoldHasher)
+
+-- it has the number of each name, and nothing else
+abbrev pub IsNumbers : Numbers → List (List ℕ) → Type 0
+IsNumbers numbers names = (q : List ℕ) → get_by_text numbers q ≡ node_of names q
+
+-- a map from two ends to a link's number
+abbrev pub Pairs : Type 0
+Pairs = HashMap (ℕ × ℕ) ℕ (BuildHasherDefault FoldHasher)
+
+abbrev pub same_ends : ℕ × ℕ → ℕ × ℕ → Bool
+same_ends x y = (x.0 == y.0) && (x.1 == y.1)
+
+-- what it has at two ends
+abbrev pub link_at : Pairs → ℕ → ℕ → Option ℕ
+link_at pairs from to = get same_ends pairs (from, to)
+
+-- it has the number of each link, and nothing else
+abbrev pub IsPairs : Pairs → List LinkPlan → Type 0
+IsPairs pairs links = (from to : ℕ) → link_at pairs from to ≡ link_between links from to
+
+-- a set of routes' routers and prefixes
+abbrev pub Seen : Type 0
+Seen = HashSet (ℕ × ℕ × ℕ) (BuildHasherDefault FoldHasher)
+
+abbrev pub same_route : ℕ × ℕ × ℕ → ℕ × ℕ × ℕ → Bool
+same_route x y = (x.0 == y.0) && (x.1 == y.1) && (x.2 == y.2)
+
+-- it has the router and the prefix of each route, and nothing else
+abbrev pub IsSeen : Seen → List OwnedRoute → Type 0
+IsSeen seen routes = (router address bits : ℕ) → contains same_route seen (router, address, bits) ≡ list_any (is_for router (record { address = record { 0 = address }; bits = bits })) routes

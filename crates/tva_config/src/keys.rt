@@ -1,0 +1,259 @@
+// What stands at the keys of an entry.
+ghost use Rattle.std.specs.Prelude.{◌≡◌, ◌≤◌, ◌<◌, ◌^◌, IfOk, [], length, map, option_map, codes, string_bytes};
+ghost use Rattle.std.specs.List.{list_all, list_any};
+ghost use Rattle.std.specs.Str.{bytes_eq};
+ghost use Rattle.std.specs.BTreeMap.{keys};
+ghost use Rattle.toml.specs.Data.{get_member};
+ghost use Rattle.toml.specs.View.{table_view, view};
+ghost use Rattle.tva_config.specs.declared.fault.ConfigRule.TheVariants as rule;
+ghost use Rattle.tva_config.specs.Faults.{fault_at, Answers, AnswersBy};
+ghost use Rattle.tva_config.specs.Keys.{is_listed, are_listed, only_listed, value_or_fault, required, optional};
+ghost use Rattle.tva_config.specs.Values as kind;
+ghost use Rattle.tva_base.specs.Plan.{IsPrefix};
+
+use crate::fault::{ConfigError, ConfigFault, ConfigRule};
+use crate::place::Place;
+use crate::{arrays, values};
+use std::alloc::Global;
+use toml::{Table, Value};
+use tva_base::{Address, Key, Listed, Name, PolicyKind, Prefix};
+
+/// A fault at an entry.
+pub fn fault(place: Place, rule: ConfigRule, key: &str) -> ConfigFault
+    requires { length key.now ≤ 24 }
+    ensures { result ≡ fault_at place rule key.now }
+{
+    ConfigFault {
+        rule,
+        table: place.table,
+        entry: place.entry,
+        key: Key::new(key),
+    }
+}
+
+// A key that isn't there.
+fn missing(place: Place, key: &str) -> ConfigFault
+    requires { length key.now ≤ 24 }
+    ensures { result ≡ fault_at place rule.Missing key.now }
+{
+    fault(place, ConfigRule::Missing, key)
+}
+
+/// Refuses a table that has another key than these.
+pub fn only_listed(place: Place, table: &Table, listed: &[&str]) -> Result<(), ConfigFault>
+    ensures { result ≡ only_listed place (map (λ key. key.now) listed.now) (table_view table.now) }
+{
+    if are_listed(table, listed) {
+        return Ok(());
+    }
+    Err(fault(place, ConfigRule::Unknown, "-"))
+}
+
+fn are_listed(table: &Table, listed: &[&str]) -> bool
+    ensures { result ≡ are_listed (map (λ key. key.now) listed.now) (table_view table.now) }
+{
+    have_all(table, listed)
+}
+
+fn have_all(table: &Table, listed: &[&str]) -> bool
+    ensures { result ≡ list_all (λ name. is_listed (map (λ key. key.now) listed.now) (string_bytes name)) (keys table.now) }
+{
+    table.keys().all(|name| is_listed(listed, name.as_str()))
+}
+
+fn is_listed(listed: &[&str], name: &str) -> bool
+    ensures { result ≡ is_listed (map (λ key. key.now) listed.now) name.now }
+{
+    is_one_of(listed, name)
+}
+
+fn is_one_of(listed: &[&str], name: &str) -> bool
+    ensures { result ≡ list_any (λ key. bytes_eq name.now key.now) listed.now }
+{
+    listed.iter().any(|key| name == *key)
+}
+
+/// The value of a key, where it is there.
+pub fn value_at<'a>(table: &'a Table, key: &str) -> Option<&'a Value>
+    ensures { option_map (λ value. view value.now) result ≡ get_member key.now (table_view table.now) }
+{
+    table.get(key)
+}
+
+/// A value of the kind, or a fault.
+pub fn value_or_fault<T: Drop>(place: Place, key: &str, found: Option<T>) -> Result<T, ConfigFault>
+    requires { length key.now ≤ 24 }
+    ensures { result ≡ value_or_fault place key.now found }
+{
+    match found {
+        Some(value) => Ok(value),
+        None => Err(fault(place, ConfigRule::Value, key)),
+    }
+}
+
+/// A number that must be there, from `low` to `high`.
+pub fn number(
+    place: Place,
+    table: &Table,
+    key: &str,
+    low: u64,
+    high: u64,
+) -> Result<u64, ConfigFault>
+    requires { length key.now ≤ 24 }
+    ensures value { result ≡ required place (table_view table.now) key.now (kind.number low high) }
+    ensures range { IfOk result (λ n. (low ≤ n) × (n ≤ high)) }
+{
+    match value_at(table, key) {
+        None => Err(missing(place, key)),
+        Some(value) => value_or_fault(place, key, values::number(value, low, high)),
+    }
+}
+
+/// A number from `low` to `high`, or the default.
+pub fn number_or(
+    place: Place,
+    table: &Table,
+    key: &str,
+    low: u64,
+    high: u64,
+    default: u64,
+) -> Result<u64, ConfigFault>
+    requires short { length key.now ≤ 24 }
+    requires from { low ≤ default }
+    requires to { default ≤ high }
+    ensures value { result ≡ optional place (table_view table.now) key.now (kind.number low high) default }
+    ensures range { IfOk result (λ n. (low ≤ n) × (n ≤ high)) }
+{
+    match value_at(table, key) {
+        None => Ok(default),
+        Some(value) => value_or_fault(place, key, values::number(value, low, high)),
+    }
+}
+
+/// A name that must be there.
+pub fn name(place: Place, table: &Table, key: &str) -> Result<Name, ConfigFault>
+    requires { length key.now ≤ 24 }
+    ensures { result ≡ required place (table_view table.now) key.now kind.name }
+{
+    match value_at(table, key) {
+        None => Err(missing(place, key)),
+        Some(value) => value_or_fault(place, key, values::name(value)),
+    }
+}
+
+/// A master that must be there.
+pub fn master(place: Place, table: &Table, key: &str) -> Result<[u8; 32], ConfigFault>
+    requires { length key.now ≤ 24 }
+    ensures { result ≡ required place (table_view table.now) key.now kind.master }
+{
+    match value_at(table, key) {
+        None => Err(missing(place, key)),
+        Some(value) => value_or_fault(place, key, values::master(value)),
+    }
+}
+
+/// A nonce, or the default.
+pub fn nonce_or(place: Place, table: &Table, key: &str, default: u64) -> Result<u64, ConfigFault>
+    requires short { length key.now ≤ 24 }
+    requires range { default < 2 ^ 48 }
+    ensures range { IfOk result (λ n. n < 2 ^ 48) }
+    ensures value { result ≡ optional place (table_view table.now) key.now kind.nonce default }
+{
+    match value_at(table, key) {
+        None => Ok(default),
+        Some(value) => value_or_fault(place, key, values::nonce(value)),
+    }
+}
+
+/// A policy, or the default.
+pub fn policy_or(
+    place: Place,
+    table: &Table,
+    key: &str,
+    default: PolicyKind,
+) -> Result<PolicyKind, ConfigFault>
+    requires { length key.now ≤ 24 }
+    ensures { result ≡ optional place (table_view table.now) key.now kind.policy_kind default }
+{
+    match value_at(table, key) {
+        None => Ok(default),
+        Some(value) => value_or_fault(place, key, values::policy_kind(value)),
+    }
+}
+
+/// An address that must be there.
+pub fn address(place: Place, table: &Table, key: &str) -> Result<Address, ConfigFault>
+    requires { length key.now ≤ 24 }
+    ensures { result ≡ required place (table_view table.now) key.now kind.address }
+{
+    match value_at(table, key) {
+        None => Err(missing(place, key)),
+        Some(value) => value_or_fault(place, key, values::address(value)),
+    }
+}
+
+/// A prefix that must be there.
+pub fn prefix(place: Place, table: &Table, key: &str) -> Result<Prefix, ConfigFault>
+    requires { length key.now ≤ 24 }
+    ensures valid { IfOk result IsPrefix }
+    ensures value { result ≡ required place (table_view table.now) key.now kind.prefix }
+{
+    match value_at(table, key) {
+        None => Err(missing(place, key)),
+        Some(value) => value_or_fault(place, key, values::prefix(value)),
+    }
+}
+
+/// An array of at most 1,024 addresses, or none.
+pub fn addresses(
+    alloc: Global,
+    place: Place,
+    table: &Table,
+    key: &str,
+) -> Result<Listed<Address>, ConfigError>
+    requires { length key.now ≤ 24 }
+    ensures { Answers (optional place (table_view table.now) key.now kind.addresses []) result }
+{
+    match value_at(table, key) {
+        None => Ok(Listed::new(Vec::new(alloc))),
+        Some(value) => {
+            let found = value_or_fault(place, key, arrays::addresses(alloc, value)?)?;
+            Ok(Listed::new(found))
+        }
+    }
+}
+
+/// An array of at most 1,024 tags, or none.
+pub fn tags(
+    alloc: Global,
+    place: Place,
+    table: &Table,
+    key: &str,
+) -> Result<Listed<u16>, ConfigError>
+    requires { length key.now ≤ 24 }
+    ensures { Answers (optional place (table_view table.now) key.now kind.tags []) result }
+{
+    match value_at(table, key) {
+        None => Ok(Listed::new(Vec::new(alloc))),
+        Some(value) => {
+            let found = value_or_fault(place, key, arrays::tags(alloc, value)?)?;
+            Ok(Listed::new(found))
+        }
+    }
+}
+
+/// An array of tables, or none.
+pub fn tables<'a>(
+    alloc: Global,
+    place: Place,
+    table: &'a Table,
+    key: &str,
+) -> Result<Vec<&'a Table>, ConfigError>
+    requires { length key.now ≤ 24 }
+    ensures { AnswersBy (λ found. map (λ t. table_view t.now) found.items) (optional place (table_view table.now) key.now kind.tables []) result }
+{
+    match value_at(table, key) {
+        None => Ok(Vec::new(alloc)),
+        Some(value) => Ok(value_or_fault(place, key, arrays::tables(alloc, value)?)?),
+    }
+}

@@ -1,0 +1,185 @@
+// What links must be to the nodes and to one another.
+ghost use Rattle.std.specs.Prelude.{◌≡◌, ◌≤◌, ◌<◌, ◌^◌, ◌+◌, ◌*◌, IfOk, false, length};
+ghost use Rattle.std.specs.List.{list_any};
+ghost use Rattle.std.specs.HashMap.{get_by_text};
+ghost use Rattle.tva_config.specs.Faults.{AnswersBy};
+ghost use Rattle.tva_config.specs.Views.{IsPairs, link_at};
+ghost use Rattle.tva_config.specs.Links.{joins, link_between, link_step, links_of, links_from, only, uplinks_of, places, all_places, rings_of};
+
+use crate::entries::{HostEntry, LinkEntry};
+use crate::fault::{ConfigError, ConfigFault, ConfigRule, ConfigTable};
+use crate::keys::fault;
+use crate::place::Place;
+use std::alloc::Global;
+use std::collections::HashMap;
+use tva_base::LinkPlan;
+
+/// The links with the numbers of their ends, and their own numbers by their ends.
+#[derive(Drop)]
+pub struct NumberedLinks {
+    pub plans: Vec<LinkPlan>,
+    pub pairs: HashMap<(u16, u16), u16>,
+}
+
+/// The links, or the first fault among them.
+#[tactic(auto, unfolding(crate::specs::Links::links_of))]
+pub fn number_links(
+    alloc: Global,
+    numbers: &HashMap<String, u16>,
+    entries: &[LinkEntry],
+) -> Result<NumberedLinks, ConfigError>
+    requires { length entries.now ≤ 4096 }
+    ensures answer { AnswersBy (λ links. links.plans.items) (links_of (get_by_text numbers.now) entries.now) result }
+    ensures pairs { IfOk result (λ links. link_at links.pairs ≡ link_between links.plans.items) }
+    ensures count { IfOk result (λ links. length links.plans.items ≡ length entries.now) }
+{
+    let mut plans = Vec::new(alloc);
+    let mut pairs = HashMap::new(alloc);
+    for (i, entry) in entries.iter().enumerate() {
+        let plan = link(numbers, &pairs, &plans, entry)?;
+        plans.push(plan)?;
+        pairs.insert((plan.from, plan.to), i as u16)?;
+    }
+    Ok(NumberedLinks { plans, pairs })
+}
+
+// The plan of a link behind earlier ones, or its fault.
+fn link(
+    numbers: &HashMap<String, u16>,
+    pairs: &HashMap<(u16, u16), u16>,
+    earlier: &Vec<LinkPlan>,
+    entry: &LinkEntry,
+) -> Result<LinkPlan, ConfigFault>
+    requires few { length earlier.now.items ≤ 4096 }
+    requires pairs { IsPairs pairs.now earlier.now.items }
+    ensures plan { result ≡ link_step (get_by_text numbers.now) earlier.now.items entry.now }
+    ensures single { IfOk result (λ plan. list_any (joins plan.from plan.to) earlier.now.items ≡ false) }
+{
+    let place = Place {
+        table: ConfigTable::Link,
+        entry: earlier.len() as u32,
+    };
+    let Some(from) = node(numbers, entry.from.as_str()) else {
+        return Err(fault(place, ConfigRule::Ends, "from"));
+    };
+    let Some(to) = node(numbers, entry.to.as_str()) else {
+        return Err(fault(place, ConfigRule::Ends, "to"));
+    };
+    if from == to {
+        return Err(fault(place, ConfigRule::Ends, "to"));
+    }
+    if pairs.contains_key(&(from, to)) {
+        return Err(fault(place, ConfigRule::Pair, "to"));
+    }
+    Ok(LinkPlan {
+        from,
+        to,
+        delay: entry.delay,
+        tag: entry.tag,
+        limits: entry.limits,
+    })
+}
+
+/// The number of the node of a name.
+pub fn node(numbers: &HashMap<String, u16>, name: &str) -> Option<u16>
+    ensures { result ≡ get_by_text numbers.now name.now }
+{
+    numbers.get(name).copied()
+}
+
+/// The links out of the hosts, or the first host that hasn't one.
+#[tactic(auto, unfolding(crate::specs::Links::uplinks_of))]
+pub fn uplinks(
+    alloc: Global,
+    routers: usize,
+    links: &[LinkPlan],
+    hosts: &[HostEntry],
+) -> Result<Vec<u16>, ConfigError>
+    requires nodes { routers + length hosts.now ≤ 1024 }
+    requires links { length links.now ≤ 4096 }
+    ensures answer { AnswersBy (λ v. v.items) (uplinks_of routers links.now hosts.now) result }
+    ensures count { IfOk result (λ v. length v.items ≡ length hosts.now) }
+{
+    let mut uplinks = Vec::new(alloc);
+    for (i, _host) in hosts.iter().enumerate() {
+        match only_link(links, (routers + i) as u16) {
+            Some(link) => uplinks.push(link)?,
+            None => {
+                let place = Place {
+                    table: ConfigTable::Host,
+                    entry: i as u32,
+                };
+                return Err(fault(place, ConfigRule::Uplink, "name").into());
+            }
+        }
+    }
+    Ok(uplinks)
+}
+
+// The number of the link out of a node, where it has exactly one.
+#[tactic(auto, unfolding(crate::specs::Links::links_from))]
+fn only_link(links: &[LinkPlan], node: u16) -> Option<u16>
+    requires { length links.now ≤ 4096 }
+    ensures { result ≡ only (links_from node links.now) }
+{
+    let mut found = None;
+    for (i, link) in links.iter().enumerate() {
+        if link.from == node {
+            if found.is_some() {
+                return None;
+            }
+            found = Some(i as u16);
+        }
+    }
+    found
+}
+
+/// Refuses more than 1,000,000 places in all queues of all links.
+#[tactic(auto, unfolding(crate::specs::Links::rings_of))]
+pub fn rings(links: &[LinkPlan]) -> Result<(), ConfigFault>
+    requires { length links.now ≤ 4096 }
+    ensures { result ≡ rings_of links.now }
+{
+    if all_places(links) > 1_000_000 {
+        let place = Place {
+            table: ConfigTable::Link,
+            entry: 0,
+        };
+        return Err(fault(place, ConfigRule::Rings, "-"));
+    }
+    Ok(())
+}
+
+fn all_places(links: &[LinkPlan]) -> u128
+    requires { length links.now ≤ 4096 }
+    ensures { result ≡ all_places links.now }
+{
+    let mut total = 0;
+    for link in links {
+        total += places(link);
+    }
+    total
+}
+
+// The places of a link's queues.
+fn places(link: &LinkPlan) -> u128
+    ensures value { result ≡ places link.now }
+    ensures room { result < 2 ^ 66 }
+{
+    let request = product(link.limits.request.queues, link.limits.request.ring);
+    let regular = product(link.limits.regular.queues, link.limits.regular.ring);
+    together(request, regular, link.limits.legacy_ring)
+}
+
+fn product(queues: u32, ring: u32) -> u64
+    ensures { result ≡ queues * ring }
+{
+    u64::from(queues) * u64::from(ring)
+}
+
+fn together(request: u64, regular: u64, legacy: u32) -> u128
+    ensures value { result ≡ request + regular + legacy }
+    ensures room { result < 2 ^ 66 }
+{
+    u128::from(request) + u128::from(regular) + u128::from(legacy)
+}

@@ -1,0 +1,138 @@
+// The plans of nodes, from what their entries, links and routes are read as.
+ghost use Rattle.std.specs.Prelude.{◌≡◌, ◌≤◌, ◌+◌, ◌++◌, IfOk, OnOk, length};
+ghost use Rattle.tva_config.specs.Read.{incoming_of, outgoing_of, routes_at, router_plan, host_plan, router_plans, host_plans};
+
+use crate::config::NodePlan;
+use crate::entries::{HostEntry, OwnedRoute, RouterEntry};
+use std::alloc::{AllocError, Global};
+use tva_base::{HostPlan, LinkLimits, LinkPlan, Listed, Route, RouterPlan};
+
+/// The plans of the routers.
+pub fn router_plans(
+    alloc: Global,
+    links: &[LinkPlan],
+    routes: &[OwnedRoute],
+    routers: Vec<RouterEntry>,
+) -> Result<Vec<NodePlan>, AllocError>
+    requires routers { length routers.items ≤ 1024 }
+    requires links { length links.now ≤ 4096 }
+    ensures { IfOk result (λ nodes. nodes.items ≡ router_plans links.now routes.now 0 routers.items) }
+{
+    let mut nodes = Vec::new(alloc);
+    let mut number = 0;
+    for router in routers {
+        let plan = router_plan(alloc, links, routes, number, router)?;
+        nodes.push(NodePlan::Router(plan))?;
+        number += 1;
+    }
+    Ok(nodes)
+}
+
+// The plan of a router of that number.
+#[tactic(auto, unfolding(crate::specs::Read::router_plan))]
+fn router_plan(
+    alloc: Global,
+    links: &[LinkPlan],
+    routes: &[OwnedRoute],
+    number: u16,
+    router: RouterEntry,
+) -> Result<RouterPlan, AllocError>
+    requires { length links.now ≤ 4096 }
+    ensures { IfOk result (λ plan. plan ≡ router_plan links.now routes.now number router) }
+{
+    let incoming = incoming(alloc, number, links)?;
+    let outgoing = outgoing(alloc, number, links)?;
+    let routes = routes_at(alloc, number, routes)?;
+    let master = router.master;
+    Ok(RouterPlan {
+        name: router.name,
+        master,
+        clock_offset: router.clock_offset,
+        slots: router.slots,
+        edge_tag: router.edge_tag,
+        incoming,
+        outgoing,
+        routes,
+    })
+}
+
+// The links into a node, each with its tag.
+#[tactic(auto, unfolding(crate::specs::Read::incoming_of))]
+fn incoming(alloc: Global, node: u16, links: &[LinkPlan]) -> Result<Listed<(u16, u16)>, AllocError>
+    requires { length links.now ≤ 4096 }
+    ensures { IfOk result (λ found. found ≡ incoming_of node links.now) }
+{
+    let mut found = Vec::new(alloc);
+    for (i, link) in links.iter().enumerate() {
+        if link.to == node {
+            found.push((i as u16, link.tag))?;
+        }
+    }
+    Ok(Listed::new(found))
+}
+
+// The links out of a node, each with its limits.
+#[tactic(auto, unfolding(crate::specs::Read::outgoing_of))]
+fn outgoing(
+    alloc: Global,
+    node: u16,
+    links: &[LinkPlan],
+) -> Result<Listed<(u16, LinkLimits)>, AllocError>
+    requires { length links.now ≤ 4096 }
+    ensures { IfOk result (λ found. found ≡ outgoing_of node links.now) }
+{
+    let mut found = Vec::new(alloc);
+    for (i, link) in links.iter().enumerate() {
+        if link.from == node {
+            found.push((i as u16, link.limits))?;
+        }
+    }
+    Ok(Listed::new(found))
+}
+
+// The routes of a router.
+#[tactic(auto, unfolding(crate::specs::Read::routes_at))]
+fn routes_at(alloc: Global, router: u16, routes: &[OwnedRoute]) -> Result<Listed<Route>, AllocError>
+    ensures { IfOk result (λ found. found ≡ routes_at router routes.now) }
+{
+    let mut found = Vec::new(alloc);
+    for owned in routes {
+        if owned.router == router {
+            found.push(owned.route)?;
+        }
+    }
+    Ok(Listed::new(found))
+}
+
+/// Puts the plans of the hosts behind those of the routers, each with its link out.
+pub fn add_hosts(
+    nodes: &mut Vec<NodePlan>,
+    hosts: Vec<HostEntry>,
+    uplinks: &[u16],
+) -> Result<(), AllocError>
+    requires { length uplinks.now ≡ length hosts.items }
+    ensures { OnOk result (nodes.new.items ≡ nodes.old.items ++ host_plans hosts.items uplinks.now) }
+{
+    let mut i = 0;
+    for host in hosts {
+        nodes.push(NodePlan::Host(host_plan(host, uplinks[i])))?;
+        i += 1;
+    }
+    Ok(())
+}
+
+// The plan of a host with that link out.
+#[tactic(auto, unfolding(crate::specs::Read::host_plan))]
+fn host_plan(host: HostEntry, uplink: u16) -> HostPlan
+    ensures { result ≡ host_plan host uplink }
+{
+    HostPlan {
+        name: host.name,
+        address: host.address,
+        nonce: host.nonce,
+        margin: host.margin,
+        retry: host.retry,
+        policy: host.policy,
+        uplink,
+    }
+}

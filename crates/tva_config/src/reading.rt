@@ -1,0 +1,161 @@
+// The steps of a configuration, in their order.
+ghost use Rattle.std.specs.Prelude.{◌≡◌, ◌≤◌, ◌+◌, IfOk, length, option_map};
+ghost use Rattle.toml.specs.View.{table_view};
+ghost use Rattle.tva_config.specs.Faults.{Answers, AnswersBy};
+ghost use Rattle.tva_config.specs.Valid.{IsConfig};
+ghost use Rattle.tva_config.specs.Tables.{all_entries_of};
+ghost use Rattle.tva_config.specs.Views.{seen_top, seen_entries, AreEntries};
+ghost use Rattle.tva_config.specs.Read.{config_of, plan_of, members_read, document_of, read_of};
+
+use crate::config::Config;
+use crate::entries::{EntryLists, HostEntry, OwnedRoute, RouterEntry};
+use crate::fault::{ConfigError, ConfigRule, ConfigTable};
+use crate::keys::fault;
+use crate::place::Place;
+use crate::top::TopTable;
+use crate::{links, nodes, plans, routes, top};
+use std::alloc::{AllocError, Global};
+use toml::Table;
+use tva_base::{LinkPlan, Listed, Time};
+
+/// Reads a configuration, a TOML text.
+///
+/// A fault is the first one in the stated order; a text that isn't UTF-8, or that `toml` refuses, is
+/// a fault of syntax. Want of memory is the one answer that the text doesn't determine.
+#[tactic(auto, unfolding(crate::specs::Read::read_of))]
+pub fn read_config(alloc: Global, text: &[u8]) -> Result<Config, ConfigError>
+    ensures answer { Answers (read_of text.now) result }
+    ensures valid { IfOk result IsConfig }
+{
+    match document(alloc, text)? {
+        Some(table) => read_table(alloc, &table),
+        None => {
+            let top = Place {
+                table: ConfigTable::Top,
+                entry: 0,
+            };
+            Err(fault(top, ConfigRule::Syntax, "-").into())
+        }
+    }
+}
+
+// The table of a text, or nothing where it has none.
+fn document(alloc: Global, text: &[u8]) -> Result<Option<Table>, AllocError>
+    ensures { IfOk result (λ table. option_map table_view table ≡ document_of text.now) }
+{
+    match toml::table_from_slice(alloc, text) {
+        Ok(table) => Ok(Some(table)),
+        Err(error) => {
+            if error.is_memory() {
+                return Err(AllocError);
+            }
+            Ok(None)
+        }
+    }
+}
+
+// What a table is read as.
+#[tactic(auto, unfolding(crate::specs::Read::members_read))]
+fn read_table(alloc: Global, table: &Table) -> Result<Config, ConfigError>
+    ensures answer { Answers (members_read (table_view table.now)) result }
+    ensures valid { IfOk result IsConfig }
+{
+    let top = top::top(alloc, table)?;
+    top::counts(&top)?;
+    let entries = read_entries(alloc, &top)?;
+    plan(alloc, top.horizon, top.max_events, entries)
+}
+
+// The entries of all tables, or the first fault in them.
+#[tactic(auto, unfolding(crate::specs::Tables::all_entries_of))]
+fn read_entries(alloc: Global, top: &TopTable) -> Result<EntryLists, ConfigError>
+    requires nodes { length top.now.routers.items + length top.now.hosts.items ≤ 1024 }
+    requires links { length top.now.links.items ≤ 4096 }
+    requires routes { length top.now.routes.items ≤ 65536 }
+    ensures answer { AnswersBy seen_entries (all_entries_of (seen_top top.now)) result }
+    ensures valid { IfOk result AreEntries }
+    ensures nodes { IfOk result (λ e. length e.routers.items + length e.hosts.items ≤ 1024) }
+    ensures links { IfOk result (λ e. length e.links.items ≤ 4096) }
+    ensures routes { IfOk result (λ e. length e.routes.items ≤ 65536) }
+{
+    let routers = top::routers(alloc, &top.routers)?;
+    let hosts = top::hosts(alloc, &top.hosts)?;
+    let links = top::links(alloc, &top.links)?;
+    let routes = top::routes(alloc, &top.routes)?;
+    Ok(EntryLists {
+        routers,
+        hosts,
+        links,
+        routes,
+    })
+}
+
+// The plan of the entries, or the first fault of the steps across tables.
+#[tactic(auto, unfolding(crate::specs::Read::plan_of))]
+fn plan(
+    alloc: Global,
+    horizon: u64,
+    max_events: u64,
+    entries: EntryLists,
+) -> Result<Config, ConfigError>
+    requires nodes { length entries.routers.items + length entries.hosts.items ≤ 1024 }
+    requires links { length entries.links.items ≤ 4096 }
+    requires routes { length entries.routes.items ≤ 65536 }
+    requires horizon { horizon ≤ 1000000000000000 }
+    requires events { (1 ≤ max_events) × (max_events ≤ 4000000) }
+    requires valid { AreEntries entries }
+    ensures answer { Answers (plan_of horizon max_events (seen_entries entries)) result }
+    ensures valid { IfOk result IsConfig }
+{
+    let EntryLists {
+        routers,
+        hosts,
+        links,
+        routes,
+    } = entries;
+    let numbers = nodes::numbers(alloc, &routers, &hosts)?;
+    nodes::addresses(alloc, &hosts)?;
+    nodes::retries(&hosts)?;
+    let links = links::number_links(alloc, &numbers, &links)?;
+    let uplinks = links::uplinks(alloc, routers.len(), &links.plans, &hosts)?;
+    let routes = routes::number_routes(alloc, routers.len(), &numbers, &links.pairs, &routes)?;
+    nodes::slots(&routers)?;
+    links::rings(&links.plans)?;
+    Ok(config(
+        alloc,
+        horizon,
+        max_events,
+        routers,
+        hosts,
+        links.plans,
+        &uplinks,
+        &routes,
+    )?)
+}
+
+// The configuration of valid entries.
+#[tactic(auto, unfolding(crate::specs::Read::config_of))]
+fn config(
+    alloc: Global,
+    horizon: u64,
+    max_events: u64,
+    routers: Vec<RouterEntry>,
+    hosts: Vec<HostEntry>,
+    links: Vec<LinkPlan>,
+    uplinks: &[u16],
+    routes: &[OwnedRoute],
+) -> Result<Config, AllocError>
+    requires routers { length routers.items ≤ 1024 }
+    requires links { length links.items ≤ 4096 }
+    requires uplinks { length uplinks.now ≡ length hosts.items }
+    ensures { IfOk result (λ config. config ≡ config_of horizon max_events routers.items hosts.items links.items uplinks.now routes.now) }
+{
+    let mut nodes = plans::router_plans(alloc, &links, routes, routers)?;
+    plans::add_hosts(&mut nodes, hosts, uplinks)?;
+    Ok(Config {
+        horizon: Time(horizon),
+        max_events,
+        nodes: Listed::new(nodes),
+        links: Listed::new(links),
+    })
+}

@@ -1,0 +1,102 @@
+// What routes must be to the nodes, the links and one another.
+ghost use Rattle.std.specs.Prelude.{◌≡◌, ◌≤◌, ℕ, IfOk, length};
+ghost use Rattle.std.specs.HashMap.{get_by_text};
+ghost use Rattle.tva_config.specs.Faults.{AnswersBy};
+ghost use Rattle.tva_config.specs.Views.{link_at};
+ghost use Rattle.tva_config.specs.Routes.{router_named, link_to, resolved, routes_of};
+
+use crate::entries::{OwnedRoute, RouteEntry};
+use crate::fault::{ConfigError, ConfigFault, ConfigRule, ConfigTable};
+use crate::keys::fault;
+use crate::links::node;
+use crate::place::Place;
+use std::alloc::Global;
+use std::collections::{HashMap, HashSet};
+use tva_base::Route;
+
+/// The routes, or the first fault among them. So many nodes are routers.
+#[tactic(auto, unfolding(crate::specs::Routes::routes_of))]
+pub fn number_routes(
+    alloc: Global,
+    routers: usize,
+    numbers: &HashMap<String, u16>,
+    pairs: &HashMap<(u16, u16), u16>,
+    entries: &[RouteEntry],
+) -> Result<Vec<OwnedRoute>, ConfigError>
+    requires { length entries.now ≤ 65536 }
+    ensures answer { AnswersBy (λ v. v.items) (routes_of routers (get_by_text numbers.now) (link_at pairs.now) entries.now) result }
+    ensures count { IfOk result (λ v. length v.items ≡ length entries.now) }
+{
+    let mut routes = Vec::new(alloc);
+    let mut seen = HashSet::new(alloc);
+    for (i, entry) in entries.iter().enumerate() {
+        let place = Place {
+            table: ConfigTable::Route,
+            entry: i as u32,
+        };
+        let owned = resolve(place, routers, numbers, pairs, entry)?;
+        let prefix = owned.route.prefix;
+        if !seen.insert((owned.router, prefix.address.0, prefix.bits))? {
+            return Err(fault(place, ConfigRule::Prefix, "prefix").into());
+        }
+        routes.push(owned)?;
+    }
+    Ok(routes)
+}
+
+// The route with its numbers, or the fault of a name.
+fn resolve(
+    place: Place,
+    routers: usize,
+    numbers: &HashMap<String, u16>,
+    pairs: &HashMap<(u16, u16), u16>,
+    entry: &RouteEntry,
+) -> Result<OwnedRoute, ConfigFault>
+    ensures { result ≡ resolved place routers (get_by_text numbers.now) (link_at pairs.now) entry.now }
+{
+    let Some(router) = router_named(routers, numbers, entry.router.as_str()) else {
+        return Err(fault(place, ConfigRule::Owner, "router"));
+    };
+    let Some(link) = link_to(numbers, pairs, router, entry.via.as_str()) else {
+        return Err(fault(place, ConfigRule::Via, "via"));
+    };
+    Ok(OwnedRoute {
+        router,
+        route: Route {
+            prefix: entry.prefix,
+            link,
+        },
+    })
+}
+
+// The number of the router of a name.
+fn router_named(routers: usize, numbers: &HashMap<String, u16>, name: &str) -> Option<u16>
+    ensures { result ≡ router_named routers (get_by_text numbers.now) name.now }
+{
+    match node(numbers, name) {
+        Some(number) if usize::from(number) < routers => Some(number),
+        _ => None,
+    }
+}
+
+// The number of the link of a router to the node of a name.
+fn link_to(
+    numbers: &HashMap<String, u16>,
+    pairs: &HashMap<(u16, u16), u16>,
+    router: u16,
+    name: &str,
+) -> Option<u16>
+    ensures { result ≡ link_to (get_by_text numbers.now) (link_at pairs.now) router name.now }
+{
+    match node(numbers, name) {
+        Some(number) => link_at(pairs, router, number),
+        None => None,
+    }
+}
+
+// The number of the link between two nodes.
+fn link_at(pairs: &HashMap<(u16, u16), u16>, from: u16, to: u16) -> Option<u16>
+    ensures { result ≡ link_at pairs.now from to }
+{
+    pairs.get(&(from, to)).copied()
+}

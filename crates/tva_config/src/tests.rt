@@ -1,0 +1,168 @@
+// Configurations and the answers that they must have, which are the specification's or come from
+// outside.
+mod keys;
+mod sizes;
+mod steps;
+mod texts;
+
+use crate::{
+    ConfigError, has_host_or_link, link_count, node_count, read_config, route_count, slot_count,
+};
+use std::alloc::{AllocError, Global};
+use std::process::Abort;
+
+pub const EDGE: &str = "horizon_ns = 1000000000000\n\
+max_events = 1000\n\
+[[router]]\n\
+name = \"R1\"\n\
+master = \"000102030405060708090a0b0c0d0e0f101112131415161718191a1b1c1d1e1f\"\n\
+slots = 8\n\
+";
+
+pub const WALK: &str = "horizon_ns = 1000000000\n\
+max_events = 1000\n\
+[[router]]\n\
+name = \"R1\"\n\
+master = \"000102030405060708090a0b0c0d0e0f101112131415161718191a1b1c1d1e1f\"\n\
+slots = 8\n\
+[[host]]\n\
+name = \"A\"\n\
+address = \"10.0.0.1\"\n\
+policy = \"client\"\n\
+[[host]]\n\
+name = \"B\"\n\
+address = \"10.0.1.1\"\n\
+policy = \"server\"\n\
+[[link]]\n\
+from = \"A\"\n\
+to = \"R1\"\n\
+ns_per_byte = 10\n\
+delay_ns = 1000000\n\
+tag = 1\n\
+[[link]]\n\
+from = \"R1\"\n\
+to = \"A\"\n\
+ns_per_byte = 10\n\
+delay_ns = 1000000\n\
+[[link]]\n\
+from = \"R1\"\n\
+to = \"B\"\n\
+ns_per_byte = 10\n\
+delay_ns = 1000000\n\
+[[link]]\n\
+from = \"B\"\n\
+to = \"R1\"\n\
+ns_per_byte = 10\n\
+delay_ns = 1000000\n\
+tag = 2\n\
+[[route]]\n\
+router = \"R1\"\n\
+prefix = \"10.0.0.0/24\"\n\
+via = \"A\"\n\
+[[route]]\n\
+router = \"R1\"\n\
+prefix = \"10.0.1.0/24\"\n\
+via = \"B\"\n\
+";
+
+#[test]
+fn texts_and_the_top_level(rt: HostRuntime) {
+    check(&rt, rt.alloc(), texts::TEXTS);
+    check(&rt, rt.alloc(), texts::TOP);
+}
+
+#[test]
+fn keys_of_each_table(rt: HostRuntime) {
+    check(&rt, rt.alloc(), keys::ROUTERS);
+    check(&rt, rt.alloc(), keys::HOSTS);
+    check(&rt, rt.alloc(), keys::LINKS);
+    check(&rt, rt.alloc(), keys::ROUTES);
+}
+
+#[test]
+fn steps_across_tables(rt: HostRuntime) {
+    check(&rt, rt.alloc(), steps::NAMES);
+    check(&rt, rt.alloc(), steps::RETRIES);
+    check(&rt, rt.alloc(), steps::ENDS);
+    check(&rt, rt.alloc(), steps::OWNERS);
+    check(&rt, rt.alloc(), steps::SUMS);
+    check(&rt, rt.alloc(), steps::ORDER);
+}
+
+// Cases stand apart by an empty line. The first line of a case is its name. Behind it stand, each
+// behind `^`, the text to begin with, changes to it, and the answer. A change is two fields: the
+// first place of the one gets the other, where `|` is a line feed.
+fn check<R: Abort>(rt: &R, alloc: Global, cases: &str) {
+    for case in cases.split("\n\n") {
+        check_case(rt, alloc, case);
+    }
+}
+
+fn check_case<R: Abort>(rt: &R, alloc: Global, case: &str) {
+    let fields: Vec<&str> = case.split("\n^ ").collect(alloc).expect(rt, "memory");
+    let text = text_of(alloc, fields.as_slice()).expect(rt, "memory");
+    let said = said(alloc, text.as_bytes()).expect(rt, "memory");
+    let name = field(fields.as_slice(), 0);
+    let want = field(fields.as_slice(), fields.len().saturating_sub(1));
+    assert_eq!(rt; said.as_str(), want, "{name}");
+}
+
+fn text_of(alloc: Global, fields: &[&str]) -> Result<String, AllocError> {
+    let base = match field(fields, 1) {
+        "edge" => EDGE,
+        "walk" => WALK,
+        _ => "",
+    };
+    let mut text = String::from_str(alloc, base)?;
+    let changes = fields.len().saturating_sub(3) / 2;
+    for k in 0..changes {
+        text = changed(
+            alloc,
+            text.as_str(),
+            field(fields, 2 * k + 2),
+            field(fields, 2 * k + 3),
+        )?;
+    }
+    Ok(text)
+}
+
+fn field<'a>(fields: &[&'a str], at: usize) -> &'a str {
+    match fields.get(at) {
+        Some(field) => field,
+        None => "",
+    }
+}
+
+fn changed(alloc: Global, text: &str, old: &str, new: &str) -> Result<String, AllocError> {
+    let old = old.replace(alloc, "|", "\n")?;
+    let new = if new == "(nothing)" {
+        String::from_str(alloc, "")?
+    } else {
+        new.replace(alloc, "|", "\n")?
+    };
+    if old.as_str() == "(end)" {
+        return format!(in alloc; "{text}{new}");
+    }
+    text.replacen(alloc, old.as_str(), new.as_str(), 1)
+}
+
+// What the command `check` is to write for a text, or the text of the refusal.
+pub fn said(alloc: Global, text: &[u8]) -> Result<String, AllocError> {
+    match read_config(alloc, text) {
+        Ok(config) => format!(in alloc;
+            "config nodes={} links={} routes={} slots={}",
+            node_count(&config),
+            link_count(&config),
+            route_count(&config),
+            slot_count(&config)
+        ),
+        Err(ConfigError::Fault(fault)) => format!(in alloc;
+            "bad config: {} {} {} {}",
+            fault.rule,
+            fault.table,
+            fault.entry,
+            fault.key.as_str()
+        ),
+        Err(ConfigError::OutOfMemory) => format!(in alloc; "out of memory"),
+    }
+}

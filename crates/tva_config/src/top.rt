@@ -1,0 +1,172 @@
+// The top level of a configuration, and its tables entry by entry.
+ghost use Rattle.std.specs.Prelude.{◌≡◌, ◌≤◌, ◌+◌, IfOk, OnOk, All, length, map, codes};
+ghost use Rattle.toml.specs.View.{table_view};
+ghost use Rattle.tva_config.specs.declared.fault.ConfigTable.TheVariants as tables;
+ghost use Rattle.tva_config.specs.declared.fault.ConfigRule.TheVariants as rule;
+ghost use Rattle.tva_config.specs.Faults.{AnswersBy, at, fault_at};
+ghost use Rattle.tva_config.specs.Valid.{IsRouterEntry, IsHostEntry, IsLinkEntry, IsRouteEntry};
+ghost use Rattle.tva_config.specs.Entries.{router_of, host_of, link_of, route_of};
+ghost use Rattle.tva_config.specs.Tables.{top_of, counts_of, entries_of};
+ghost use Rattle.tva_config.specs.Views.{seen_top};
+
+use crate::entries::{HostEntry, LinkEntry, RouteEntry, RouterEntry};
+use crate::fault::{ConfigError, ConfigFault, ConfigRule, ConfigTable};
+use crate::place::Place;
+use crate::{keys, tables};
+use std::alloc::Global;
+use toml::Table;
+
+/// What the top level holds: the horizon in nanoseconds, the greatest number of events, and the
+/// entries of each table.
+#[derive(Drop)]
+pub struct TopTable<'a> {
+    pub horizon: u64,
+    pub max_events: u64,
+    pub routers: Vec<&'a Table>,
+    pub hosts: Vec<&'a Table>,
+    pub links: Vec<&'a Table>,
+    pub routes: Vec<&'a Table>,
+}
+
+const TOP: Place = Place {
+    table: ConfigTable::Top,
+    entry: 0,
+};
+
+/// The top level, or its first fault.
+#[tactic(auto, unfolding(crate::specs::Tables::top_of))]
+pub fn top<'a>(alloc: Global, table: &'a Table) -> Result<TopTable<'a>, ConfigError>
+    ensures answer { AnswersBy seen_top (top_of (table_view table.now)) result }
+    ensures horizon { IfOk result (λ t. t.horizon ≤ 1000000000000000) }
+    ensures max_events { IfOk result (λ t. (1 ≤ t.max_events) × (t.max_events ≤ 4000000)) }
+{
+    keys::only_listed(
+        TOP,
+        table,
+        &[
+            "horizon_ns",
+            "max_events",
+            "router",
+            "host",
+            "link",
+            "route",
+        ],
+    )?;
+    let horizon = keys::number(TOP, table, "horizon_ns", 0, 1_000_000_000_000_000)?;
+    let max_events = keys::number(TOP, table, "max_events", 1, 4_000_000)?;
+    let routers = keys::tables(alloc, TOP, table, "router")?;
+    let hosts = keys::tables(alloc, TOP, table, "host")?;
+    let links = keys::tables(alloc, TOP, table, "link")?;
+    let routes = keys::tables(alloc, TOP, table, "route")?;
+    Ok(TopTable {
+        horizon,
+        max_events,
+        routers,
+        hosts,
+        links,
+        routes,
+    })
+}
+
+/// Refuses too many entries.
+#[tactic(auto, unfolding(crate::specs::Tables::counts_of))]
+pub fn counts(top: &TopTable) -> Result<(), ConfigFault>
+    ensures answer { result ≡ counts_of (length top.now.routers.items + length top.now.hosts.items) (length top.now.links.items) (length top.now.routes.items) }
+    ensures nodes { OnOk result (length top.now.routers.items + length top.now.hosts.items ≤ 1024) }
+    ensures links { OnOk result (length top.now.links.items ≤ 4096) }
+    ensures routes { OnOk result (length top.now.routes.items ≤ 65536) }
+{
+    let routers = top.routers.len();
+    if routers > 1024 || top.hosts.len() > 1024 - routers {
+        return Err(too_many(ConfigTable::Host));
+    }
+    if top.links.len() > 4096 {
+        return Err(too_many(ConfigTable::Link));
+    }
+    if top.routes.len() > 65_536 {
+        return Err(too_many(ConfigTable::Route));
+    }
+    Ok(())
+}
+
+fn too_many(table: ConfigTable) -> ConfigFault
+    ensures { result ≡ fault_at (at table 0) rule.Count (codes "-") }
+{
+    keys::fault(Place { table, entry: 0 }, ConfigRule::Count, "-")
+}
+
+/// The routers, or the first fault in them.
+#[tactic(auto, unfolding(crate::specs::Tables::entries_of))]
+pub fn routers(alloc: Global, entries: &[&Table]) -> Result<Vec<RouterEntry>, ConfigError>
+    requires { length entries.now ≤ 65536 }
+    ensures valid { IfOk result (λ v. All IsRouterEntry v.items) }
+    ensures answer { AnswersBy (λ v. v.items) (entries_of tables.Router router_of (map (λ t. table_view t.now) entries.now)) result }
+    ensures count { IfOk result (λ v. length v.items ≡ length entries.now) }
+{
+    let mut read = Vec::new(alloc);
+    for (i, table) in entries.iter().enumerate() {
+        let place = Place {
+            table: ConfigTable::Router,
+            entry: i as u32,
+        };
+        read.push(tables::router(place, table)?)?;
+    }
+    Ok(read)
+}
+
+/// The hosts, or the first fault in them.
+#[tactic(auto, unfolding(crate::specs::Tables::entries_of))]
+pub fn hosts(alloc: Global, entries: &[&Table]) -> Result<Vec<HostEntry>, ConfigError>
+    requires { length entries.now ≤ 65536 }
+    ensures valid { IfOk result (λ v. All IsHostEntry v.items) }
+    ensures answer { AnswersBy (λ v. v.items) (entries_of tables.Host host_of (map (λ t. table_view t.now) entries.now)) result }
+    ensures count { IfOk result (λ v. length v.items ≡ length entries.now) }
+{
+    let mut read = Vec::new(alloc);
+    for (i, table) in entries.iter().enumerate() {
+        let place = Place {
+            table: ConfigTable::Host,
+            entry: i as u32,
+        };
+        read.push(tables::host(alloc, place, table)?)?;
+    }
+    Ok(read)
+}
+
+/// The links, or the first fault in them.
+#[tactic(auto, unfolding(crate::specs::Tables::entries_of))]
+pub fn links(alloc: Global, entries: &[&Table]) -> Result<Vec<LinkEntry>, ConfigError>
+    requires { length entries.now ≤ 65536 }
+    ensures valid { IfOk result (λ v. All IsLinkEntry v.items) }
+    ensures answer { AnswersBy (λ v. v.items) (entries_of tables.Link link_of (map (λ t. table_view t.now) entries.now)) result }
+    ensures count { IfOk result (λ v. length v.items ≡ length entries.now) }
+{
+    let mut read = Vec::new(alloc);
+    for (i, table) in entries.iter().enumerate() {
+        let place = Place {
+            table: ConfigTable::Link,
+            entry: i as u32,
+        };
+        read.push(tables::link(place, table)?)?;
+    }
+    Ok(read)
+}
+
+/// The routes, or the first fault in them.
+#[tactic(auto, unfolding(crate::specs::Tables::entries_of))]
+pub fn routes(alloc: Global, entries: &[&Table]) -> Result<Vec<RouteEntry>, ConfigError>
+    requires { length entries.now ≤ 65536 }
+    ensures valid { IfOk result (λ v. All IsRouteEntry v.items) }
+    ensures answer { AnswersBy (λ v. v.items) (entries_of tables.Route route_of (map (λ t. table_view t.now) entries.now)) result }
+    ensures count { IfOk result (λ v. length v.items ≡ length entries.now) }
+{
+    let mut read = Vec::new(alloc);
+    for (i, table) in entries.iter().enumerate() {
+        let place = Place {
+            table: ConfigTable::Route,
+            entry: i as u32,
+        };
+        read.push(tables::route(place, table)?)?;
+    }
+    Ok(read)
+}

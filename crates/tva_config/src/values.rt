@@ -1,0 +1,183 @@
+// The kinds of values of keys.
+ghost use Rattle.std.specs.Prelude.{◌≡◌, ◌≤◌, ◌<◌, ◌^◌, IfSome, length};
+ghost use Rattle.std.specs.List.{list_all};
+ghost use Rattle.toml.specs.View.{view};
+ghost use Rattle.tva_config.specs.Values.{within, number, is_name_byte, name_of, name, address, prefix, hex_bytes_of, master, nonce_of, nonce, number_of_bytes, policy_of, policy_kind};
+ghost use Rattle.tva_base.specs.Addresses.{prefix_of};
+ghost use Rattle.tva_base.specs.Plan.{IsPrefix};
+
+use toml::Value;
+use tva_base::{Address, Name, PolicyKind, Prefix};
+
+/// A number from `low` to `high`.
+pub fn number(value: &Value, low: u64, high: u64) -> Option<u64>
+    ensures value { result ≡ number low high (view value.now) }
+    ensures range { IfSome result (λ n. (low ≤ n) × (n ≤ high)) }
+{
+    match value.as_integer() {
+        Some(n) => within(n, low, high),
+        None => None,
+    }
+}
+
+fn within(n: i64, low: u64, high: u64) -> Option<u64>
+    ensures value { result ≡ within low high n }
+    ensures range { IfSome result (λ n. (low ≤ n) × (n ≤ high)) }
+{
+    match u64::try_from(n) {
+        Ok(n) if low <= n && n <= high => Some(n),
+        _ => None,
+    }
+}
+
+/// A name: 1 to 16 ASCII letters, digits, `_` and `-`.
+pub fn name(value: &Value) -> Option<Name>
+    ensures { result ≡ name (view value.now) }
+{
+    match value.as_str() {
+        Some(text) => name_of(text),
+        None => None,
+    }
+}
+
+fn name_of(text: &str) -> Option<Name>
+    ensures { result ≡ name_of text.now }
+{
+    let bytes = text.as_bytes();
+    if bytes.is_empty() || bytes.len() > 16 {
+        return None;
+    }
+    if !are_name_bytes(bytes) {
+        return None;
+    }
+    Some(Name::new(text))
+}
+
+fn are_name_bytes(bytes: &[u8]) -> bool
+    ensures { result ≡ list_all is_name_byte bytes.now }
+{
+    bytes.iter().all(|byte| is_name_byte(*byte))
+}
+
+fn is_name_byte(byte: u8) -> bool
+    ensures { result ≡ is_name_byte byte }
+{
+    matches!(byte, b'A'..=b'Z' | b'a'..=b'z' | b'0'..=b'9' | b'_' | b'-')
+}
+
+/// 64 hexadecimal digits, of either case.
+pub fn master(value: &Value) -> Option<[u8; 32]>
+    ensures { result ≡ master (view value.now) }
+{
+    match value.as_str() {
+        Some(text) => master_of(text),
+        None => None,
+    }
+}
+
+fn master_of(text: &str) -> Option<[u8; 32]>
+    ensures { result ≡ hex_bytes_of 32 text.now }
+{
+    let mut bytes = [0; 32];
+    match hex::decode_to_slice(text, &mut bytes) {
+        Ok(()) => Some(bytes),
+        Err(_) => None,
+    }
+}
+
+/// 12 hexadecimal digits, of either case, as a number.
+pub fn nonce(value: &Value) -> Option<u64>
+    ensures value { result ≡ nonce (view value.now) }
+    ensures range { IfSome result (λ n. n < 2 ^ 48) }
+{
+    match value.as_str() {
+        Some(text) => nonce_of(text),
+        None => None,
+    }
+}
+
+fn nonce_of(text: &str) -> Option<u64>
+    ensures value { result ≡ nonce_of text.now }
+    ensures range { IfSome result (λ n. n < 2 ^ 48) }
+{
+    match six_bytes(text) {
+        Some(bytes) => Some(number_of_bytes(&bytes)),
+        None => None,
+    }
+}
+
+fn six_bytes(text: &str) -> Option<[u8; 6]>
+    ensures { result ≡ hex_bytes_of 6 text.now }
+{
+    let mut bytes = [0; 6];
+    match hex::decode_to_slice(text, &mut bytes) {
+        Ok(()) => Some(bytes),
+        Err(_) => None,
+    }
+}
+
+// The number that some bytes make, the highest first.
+fn number_of_bytes(bytes: &[u8]) -> u64
+    requires { length bytes.now ≤ 6 }
+    ensures value { result ≡ number_of_bytes bytes.now }
+    ensures room { result < 2 ^ 48 }
+{
+    let mut number = 0;
+    for byte in bytes {
+        number = number * 256 + u64::from(*byte);
+    }
+    number
+}
+
+/// A word of a policy.
+pub fn policy_kind(value: &Value) -> Option<PolicyKind>
+    ensures { result ≡ policy_kind (view value.now) }
+{
+    match value.as_str() {
+        Some(text) => policy_of(text),
+        None => None,
+    }
+}
+
+fn policy_of(text: &str) -> Option<PolicyKind>
+    ensures { result ≡ policy_of text.now }
+{
+    if text == "deny" {
+        return Some(PolicyKind::DenyAll);
+    }
+    if text == "client" {
+        return Some(PolicyKind::Client);
+    }
+    if text == "server" {
+        return Some(PolicyKind::Server);
+    }
+    None
+}
+
+/// An address of four numbers.
+pub fn address(value: &Value) -> Option<Address>
+    ensures { result ≡ address (view value.now) }
+{
+    match value.as_str() {
+        Some(text) => tva_base::address(text.as_bytes()),
+        None => None,
+    }
+}
+
+/// A prefix: an address, a slash and a length.
+pub fn prefix(value: &Value) -> Option<Prefix>
+    ensures value { result ≡ prefix (view value.now) }
+    ensures valid { IfSome result IsPrefix }
+{
+    match value.as_str() {
+        Some(text) => prefix_of(text),
+        None => None,
+    }
+}
+
+fn prefix_of(text: &str) -> Option<Prefix>
+    ensures value { result ≡ prefix_of text.now }
+    ensures valid { IfSome result IsPrefix }
+{
+    tva_base::prefix(text.as_bytes())
+}
