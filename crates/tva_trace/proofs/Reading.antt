@@ -1,0 +1,272 @@
+-- How far a trace is read.
+use Rattle.std.proofs.Common.{◌≡◌, ◌∙◌, sym, ap, refl, ℕ, ◌+◌, ◌<◌, ◌≤◌, ◌==◌, List, [], ◌∷◌, ◌++◌, append_assoc, Option, Some, None, Result, Ok, Err, cond, Bool, true, false, Bor, inl, inr, arith}
+use Rattle.std.proofs.lemmas.Bool.Decides.{eqb_tells}
+use Rattle.std.specs.List.{AllZip}
+use Rattle.std.proofs.lemmas.Bool.{eqb-true}
+use Rattle.std.proofs.lemmas.List.{append-nil}
+use Rattle.std.proofs.Common.{eq-eqb}
+use Rattle.csv.proofs.ReadFacts.{rows-end}
+use Rattle.csv.specs.declared.parser.State.TheVariants as st
+use Rattle.csv.specs.Reading.{ReadRecord, Ready, default_config, source_of, strip_bom}
+use Rattle.csv.specs.declared.reader.Reader.{Reader}
+use Rattle.csv.specs.declared.reader.Trim.TheVariants as trim
+use Rattle.tva_config.specs.declared.config.Config.{Config}
+use Rattle.std.proofs.lemmas.List.Elements.{All-push}
+use Rattle.tva_trace.specs.declared.rows.Row.{Row}
+use Rattle.tva_trace.specs.declared.rows.TraceRule.{TraceRule}
+use Rattle.tva_trace.specs.declared.rows.TraceRule.TheVariants as rule
+use Rattle.tva_trace.specs.declared.rows.TraceFault.{TraceFault}
+use Rattle.tva_trace.specs.declared.said.SaidRow.{SaidRow}
+use Rattle.tva_trace.specs.Rows.{Judged, behind, fault_at, is_header, row_of, rows_from, rows_of, rows_under, said_by, some_row, then_rows}
+use Rattle.tva_trace.specs.Meaning.{AreRows, CarriedBy, IsPut, Means, MeansWhat}
+use Rattle.std.proofs.Common.{IfSome, subst}
+use Rattle.std.specs.Prelude.{All}
+use Rattle.tva_shim.specs.Packets.{IsCarried}
+use Rattle.tva_shim.specs.declared.packets.Carried.{Carried}
+use Rattle.tva_shim.specs.declared.packets.Carried.TheVariants as carried
+use Rattle.tva_trace.specs.declared.rows.RowWhat.{RowWhat}
+use Rattle.tva_trace.specs.declared.said.SaidShim.{SaidShim}
+use Rattle.tva_trace.specs.declared.said.SaidShim.TheVariants.{Bytes, Built}
+use Rattle.tva_trace.specs.declared.said.SaidWhat.{SaidWhat}
+use Rattle.tva_trace.specs.declared.said.SaidWhat.TheVariants as say
+use Rattle.tva_trace.specs.Names.{is_host}
+use Rattle.tva_trace.specs.Valid.{AreTraceRows, IsRow, IsRowWhat, IsSaid, IsSaidShim, IsSaidWhat, NeverFall}
+use Rattle.tva_trace.proofs.RecordsLeft.{left_of, left-none, left-read}
+
+-- what records say of which the first has that number
+abbrev pub rows_left : Bool → Config → ℕ → ℕ → List (List (List ℕ)) → Result (List SaidRow) TraceFault
+rows_left first config number last records = cond first (rows_under config records) (rows_from config number last records)
+
+-- the time of the last row, or that before all
+abbrev pub ends_at : ℕ → List Row → ℕ
+ends_at last [] = last
+ends_at last (row ∷ rows) = ends_at row.time.0 rows
+
+-- a text was read as far as a reader stands: its rows are those that were pushed and those that are left
+pub record IsReadTo (config : Config) (text : List ℕ) (reader : Reader (Bor (List ℕ))) (turns number last : ℕ) (rows : List Row) : Type 0 where
+  pub untrimmed : reader.trim ≡ trim.None
+  pub is_ready : Ready reader
+  pub goes_on : 0 < turns
+  pub by_default : reader.config ≡ default_config
+  pub unread : List ℕ
+  pub source : source_of (λ s. Some s.now) reader ≡ Some unread
+  pub said : List SaidRow
+  pub means : AllZip Means said rows
+  pub rest : rows_of config text ≡ behind said (rows_left (number == 1) config number last (left_of default_config reader.state unread))
+  pub counted : (1 ≤ number) × (number ≤ 1000002)
+  pub from_zero : number ≡ 1 → last ≡ 0
+  pub each : All (IsRow config) rows
+  pub order : NeverFall 0 rows
+  pub ends : ends_at 0 rows ≡ last
+
+-- what the first record says, where the test is whether it is the header
+abbrev if_header : Bool → Judged (Option SaidRow)
+if_header b = cond b (Ok None) (Err rule.Header)
+
+not_first : (n : ℕ) → 1 ≤ n → (n + 1 == 1) ≡ false
+not_first n h = elim (eqb_tells (n + 1) 1) [ inl t ↦ absurd (omega arith) | inr f ↦ f.0 ]
+
+-- a record that breaks a rule
+fault_first : (b : Bool) (rest : Result (List SaidRow) TraceFault) (broken : TraceRule) (number : ℕ) → number ≡ 1 → if_header b ≡ Err broken → cond b rest (Err (fault_at 1 rule.Header)) ≡ Err (fault_at number broken)
+fault_first true rest broken number one e = cc
+fault_first false rest broken number one e = cc
+
+fault_row : (r : Result SaidRow TraceRule) (broken : TraceRule) (number : ℕ) (more : ℕ → Result (List SaidRow) TraceFault) → some_row r ≡ Err broken → then_rows number r more ≡ Err (fault_at number broken)
+fault_row (Ok row) broken number more e = cc
+fault_row (Err b) broken number more e = cc
+
+fault_by : (first : Bool) (config : Config) (number last : ℕ) (fields : List (List ℕ)) (records : List (List (List ℕ))) (broken : TraceRule) → (first ≡ true → number ≡ 1) → said_by first config number last fields ≡ Err broken → rows_left first config number last (fields ∷ records) ≡ Err (fault_at number broken)
+unfolding rows_under rows_from
+fault_by true config number last fields records broken one e = fault_first (is_header fields) (rows_from config 2 0 records) broken number (one refl) e
+fault_by false config number last fields records broken one e = fault_row (row_of config number last fields) broken number (λ time. rows_from config (number + 1) time records) e
+
+-- the first record, which names the fields
+header_first : (b : Bool) (rest : Result (List SaidRow) TraceFault) → if_header b ≡ Ok None → cond b rest (Err (fault_at 1 rule.Header)) ≡ rest
+header_first true rest e = refl
+header_first false rest e = cc
+
+no_row : (r : Result SaidRow TraceRule) → some_row r ≡ Ok None → ⊥
+no_row (Ok row) e = cc
+no_row (Err b) e = cc
+
+header_by : (first : Bool) (config : Config) (number last : ℕ) (fields : List (List ℕ)) (records : List (List (List ℕ))) → (first ≡ true → (number ≡ 1) × (last ≡ 0)) → said_by first config number last fields ≡ Ok None → rows_left first config number last (fields ∷ records) ≡ rows_from config (number + 1) last records
+unfolding rows_under
+header_by true config number last fields records start e = header_first (is_header fields) (rows_from config 2 0 records) e ∙ (rw ((start refl).0, (start refl).1) refl)
+header_by false config number last fields records start e = absurd (no_row (row_of config number last fields) e)
+
+-- a row
+row_first : (b : Bool) (said : SaidRow) → if_header b ≡ Ok (Some said) → ⊥
+row_first true said e = cc
+row_first false said e = cc
+
+row_then : (r : Result SaidRow TraceRule) (said : SaidRow) (number : ℕ) (more : ℕ → Result (List SaidRow) TraceFault) → some_row r ≡ Ok (Some said) → then_rows number r more ≡ behind (said ∷ []) (more said.time.0)
+row_then (Ok row) said number more e = let same : row ≡ said = cc in ap (λ r. behind (r ∷ []) (more r.time.0)) same
+row_then (Err b) said number more e = cc
+
+row_by : (first : Bool) (config : Config) (number last : ℕ) (fields : List (List ℕ)) (records : List (List (List ℕ))) (said : SaidRow) → said_by first config number last fields ≡ Ok (Some said) → rows_left first config number last (fields ∷ records) ≡ behind (said ∷ []) (rows_from config (number + 1) said.time.0 records)
+unfolding rows_from
+row_by true config number last fields records said e = absurd (row_first (is_header fields) said e)
+row_by false config number last fields records said e = row_then (row_of config number last fields) said number (λ time. rows_from config (number + 1) time records) e
+
+behind-behind : (a b : List SaidRow) (r : Result (List SaidRow) TraceFault) → behind a (behind b r) ≡ behind (a ++ b) r
+behind-behind a b (Ok rows) = ap Ok (sym (append_assoc a b rows))
+behind-behind a b (Err fault) = refl
+
+AllZip-push : (said : List SaidRow) (rows : List Row) (s : SaidRow) (r : Row) → AllZip Means said rows → Means s r → AllZip Means (said ++ s ∷ []) (rows ++ r ∷ [])
+AllZip-push [] [] s r h m = (m, tt)
+AllZip-push [] (y ∷ ys) s r h m = absurd h
+AllZip-push (x ∷ xs) [] s r h m = absurd h
+AllZip-push (x ∷ xs) (y ∷ ys) s r h m = (h.0, AllZip-push xs ys s r h.1 m)
+
+behind-none : (r : Result (List SaidRow) TraceFault) → behind [] r ≡ r
+behind-none (Ok rows) = refl
+behind-none (Err fault) = refl
+
+abbrev Source : Type 0
+Source = Reader (Bor (List ℕ))
+
+abbrev told : Bor (List ℕ) → Option (List ℕ)
+told s = Some s.now
+
+-- nothing was read
+pub read-start : (config : Config) (text : List ℕ) (reader : Source) (turns : ℕ) → reader.trim ≡ trim.None → Ready reader → 0 < turns → reader.config ≡ default_config → source_of told reader ≡ Some (strip_bom text) → reader.state ≡ st.StartRecord → IsReadTo config text reader turns 1 0 []
+read-start config text reader turns t r l c s st = record {
+  untrimmed = t;
+  is_ready = r;
+  goes_on = l;
+  by_default = c;
+  unread = strip_bom text;
+  source = s;
+  said = [];
+  means = tt;
+  rest = rw st (sym (behind-none (rows_of config text)));
+  counted = (omega arith, omega arith);
+  from_zero = λ _. refl;
+  each = λ k d below. absurd (omega (arith, below));
+  order = tt;
+  ends = refl;
+}
+
+-- the record that is read is the first that was left
+rest-read : (config : Config) (text : List ℕ) (a b : Source) (turns number last : ℕ) (rows : List Row) (fields : List (List ℕ)) (d : IsReadTo config text a turns number last rows) → ReadRecord told a b true fields
+    → (z : List ℕ) × (source_of told b ≡ Some z) × (rows_of config text ≡ behind d.said (rows_left (number == 1) config number last (fields ∷ left_of default_config b.state z)))
+rest-read config text a b turns number last rows fields d r =
+    let m = left-read told a b fields default_config d.unread d.by_default d.source r in
+    (m.0, m.1, d.rest ∙ ap (λ l. behind d.said (rows_left (number == 1) config number last l)) m.2)
+
+-- a record that breaks a rule
+pub read-fault : (config : Config) (text : List ℕ) (a b : Source) (turns number last : ℕ) (rows : List Row) (fields : List (List ℕ)) (broken : TraceRule) → IsReadTo config text a turns number last rows → ReadRecord told a b true fields → said_by (number == 1) config number last fields ≡ Err broken → rows_of config text ≡ Err (fault_at number broken)
+read-fault config text a b turns number last rows fields broken d r e =
+    let m = rest-read config text a b turns number last rows fields d r in
+    m.2 ∙ ap (behind d.said) (fault_by (number == 1) config number last fields (left_of default_config b.state m.0) broken (eqb-true number 1) e)
+
+-- the header
+pub read-header : (config : Config) (text : List ℕ) (a b : Source) (turns next number last : ℕ) (rows : List Row) (fields : List (List ℕ)) → IsReadTo config text a turns number last rows → ReadRecord told a b true fields → Ready b → 0 < next → number ≤ 1000001 → said_by (number == 1) config number last fields ≡ Ok None → IsReadTo config text b next (number + 1) last rows
+read-header config text a b turns next number last rows fields d r ready goes few e =
+    let m = rest-read config text a b turns number last rows fields d r in
+    let records = left_of default_config b.state m.0 in
+    record {
+      untrimmed = r.3 ∙ d.untrimmed;
+      is_ready = ready;
+      goes_on = goes;
+      by_default = r.2 ∙ d.by_default;
+      unread = m.0;
+      source = m.1;
+      said = d.said;
+      means = d.means;
+      rest = m.2 ∙ ap (behind d.said) (header_by (number == 1) config number last fields records (λ one. (eqb-true number 1 one, d.from_zero (eqb-true number 1 one))) e
+          ∙ sym (ap (λ first. rows_left first config (number + 1) last records) (not_first number d.counted.0)));
+      counted = (omega arith, omega arith);
+      from_zero = λ one. absurd (omega (arith, d.counted.0));
+      each = d.each;
+      order = d.order;
+      ends = d.ends;
+    }
+
+-- one row more
+NeverFall-push : (last : ℕ) (rows : List Row) (row : Row) → NeverFall last rows → ends_at last rows ≤ row.time.0 → NeverFall last (rows ++ row ∷ [])
+NeverFall-push last [] row h i = (i, tt)
+NeverFall-push last (r ∷ rs) row h i = (h.0, NeverFall-push r.time.0 rs row h.1 i)
+
+ends_at-push : (last : ℕ) (rows : List Row) (row : Row) → ends_at last (rows ++ row ∷ []) ≡ row.time.0
+ends_at-push last [] row = refl
+ends_at-push last (r ∷ rs) row = ends_at-push r.time.0 rs row
+
+-- what is said within the limits is a row within them
+carried-fits : (shim : SaidShim) (c : Carried) → IsSaidShim shim → CarriedBy shim c → IsCarried c
+carried-fits (Bytes bytes) carried.Nothing h m = tt
+carried-fits (Bytes bytes) (carried.Shim shim) h m = tt
+carried-fits (Bytes bytes) (carried.Malformed count) h m = omega (arith, m.2)
+carried-fits (Built shim) c h m = let P : Carried → Type 0 = λ x. IsCarried x in subst P (sym m) tt
+
+what-fits : (b : Bool) (said : SaidWhat) (w : RowWhat) → IsSaidWhat b said → MeansWhat said w → IsRowWhat b w
+what-fits b (say.Send dst payload) w h m = let P : RowWhat → Type 0 = λ x. IsRowWhat b x in subst P (sym m) h
+what-fits b (say.Inject flow payload shim) w h m = let P : RowWhat → Type 0 = λ x. IsRowWhat b x in subst P (sym m.2) (h.0, carried-fits shim m.0 h.1 m.1)
+
+row-fits : (config : Config) (last : ℕ) (said : SaidRow) (row : Row) → IsSaid config last said → Means said row → IsRow config row
+row-fits config last said row h m = record {
+  time = rw (m.0) h.time;
+  node = rw (m.1) h.node;
+  what = rw (m.1) (what-fits (is_host config.nodes said.node) said.what row.what h.what m.2);
+}
+
+-- a row
+pub read-row : (config : Config) (text : List ℕ) (a b : Source) (turns next number last : ℕ) (rows : List Row) (fields : List (List ℕ)) (said : SaidRow) (row : Row) → IsReadTo config text a turns number last rows → ReadRecord told a b true fields → Ready b → 0 < next → number ≤ 1000001 → said_by (number == 1) config number last fields ≡ Ok (Some said) → IsSaid config last said → Means said row → IsReadTo config text b next (number + 1) said.time.0 (rows ++ row ∷ [])
+read-row config text a b turns next number last rows fields said row d r ready goes few e valid means =
+    let m = rest-read config text a b turns number last rows fields d r in
+    let records = left_of default_config b.state m.0 in
+    record {
+      untrimmed = r.3 ∙ d.untrimmed;
+      is_ready = ready;
+      goes_on = goes;
+      by_default = r.2 ∙ d.by_default;
+      unread = m.0;
+      source = m.1;
+      said = d.said ++ said ∷ [];
+      means = AllZip-push d.said rows said row d.means means;
+      rest = m.2 ∙ ap (behind d.said) (row_by (number == 1) config number last fields records said e
+          ∙ sym (ap (λ first. behind (said ∷ []) (rows_left first config (number + 1) said.time.0 records)) (not_first number d.counted.0)))
+          ∙ behind-behind d.said (said ∷ []) (rows_left (number + 1 == 1) config (number + 1) said.time.0 records);
+      counted = (omega arith, omega arith);
+      from_zero = λ one. absurd (omega (arith, d.counted.0));
+      each = All-push (IsRow config) rows row d.each (row-fits config last said row valid means);
+      order = NeverFall-push 0 rows row d.order (rw (d.ends, means.0) valid.later);
+      ends = ends_at-push 0 rows row ∙ ap (λ t. t.0) means.0;
+    }
+
+-- no record is left
+rest-none : (config : Config) (text : List ℕ) (a b : Source) (turns number last : ℕ) (rows : List Row) (d : IsReadTo config text a turns number last rows) → ReadRecord told a b false [] → rows_of config text ≡ behind d.said (rows_left (number == 1) config number last [])
+rest-none config text a b turns number last rows d r =
+    d.rest ∙ ap (λ l. behind d.said (rows_left (number == 1) config number last l)) (left-none default_config a.state d.unread (rows-end told a b [] default_config d.unread d.by_default d.source r))
+
+no_header : (first : Bool) (config : Config) (number last : ℕ) (said : List SaidRow) → first ≡ true → behind said (rows_left first config number last []) ≡ Err (fault_at 1 rule.Header)
+unfolding rows_under
+no_header true config number last said e = refl
+no_header false config number last said e = cc
+
+pub read-nothing : (config : Config) (text : List ℕ) (a b : Source) (turns number last : ℕ) (rows : List Row) → IsReadTo config text a turns number last rows → ReadRecord told a b false [] → number ≡ 1 → rows_of config text ≡ Err (fault_at 1 rule.Header)
+read-nothing config text a b turns number last rows d r one =
+    rest-none config text a b turns number last rows d r ∙ no_header (number == 1) config number last d.said (eq-eqb number 1 one)
+
+all_rows : (first : Bool) (config : Config) (number last : ℕ) (said : List SaidRow) → first ≡ false → behind said (rows_left first config number last []) ≡ Ok said
+unfolding rows_from
+all_rows true config number last said e = cc
+all_rows false config number last said e = ap Ok (append-nil said)
+
+not_one : (n : ℕ) → (n ≡ 1 → ⊥) → (n == 1) ≡ false
+not_one n h = elim (eqb_tells n 1) [ inl t ↦ absurd (h t.1) | inr f ↦ f.0 ]
+
+pub read-whole : (config : Config) (text : List ℕ) (a b : Source) (turns number last : ℕ) (rows : List Row) → IsReadTo config text a turns number last rows → ReadRecord told a b false [] → (number ≡ 1 → ⊥) → AreRows config text rows
+read-whole config text a b turns number last rows d r more =
+    (d.said, rest-none config text a b turns number last rows d r ∙ all_rows (number == 1) config number last d.said (not_one number more), d.means)
+
+-- what a record says is put behind the rows
+pub read-on : (said : Option SaidRow) (config : Config) (text : List ℕ) (a b : Source) (turns next number last time : ℕ) (rows new : List Row) (fields : List (List ℕ)) → IsReadTo config text a turns number last rows → ReadRecord told a b true fields → Ready b → 0 < next → number ≤ 1000001 → said_by (number == 1) config number last fields ≡ Ok said → IfSome said (IsSaid config last) → IsPut rows new last time said → IsReadTo config text b next (number + 1) time new
+read-on None config text a b turns next number last time rows new fields d r ready goes few e valid put =
+    rw (put.0, put.1) (read-header config text a b turns next number last rows fields d r ready goes few e)
+read-on (Some said) config text a b turns next number last time rows new fields d r ready goes few e valid put =
+    rw (put.2, put.3) (read-row config text a b turns next number last rows fields said put.0 d r ready goes few e valid put.1)
+
+-- the rows that were read are within the limits
+pub read-valid : (config : Config) (text : List ℕ) (a : Source) (turns number last : ℕ) (rows : List Row) → IsReadTo config text a turns number last rows → AreTraceRows config rows
+read-valid config text a turns number last rows d = record { each = d.each; order = d.order }

@@ -1,0 +1,157 @@
+-- The rows of a trace, or the first rule that its first bad record breaks.
+use Rattle.std.specs.Prelude.{ℕ, ◌+◌, ◌==◌, ◌&&◌, nat_le, if◌then◌else◌, Bool, List, [], ◌∷◌, length, Result, Ok, Err, Option, Some, None, unwrap_or, codes, ◌++◌}
+use Rattle.std.specs.Option.{option_and_then, ok_or}
+use Rattle.std.specs.Str.{bytes_eq}
+use Rattle.csv.specs.Reading.{records, default_config, strip_bom}
+use Rattle.csv.specs.Records.{field_at}
+use Rattle.tva_base.specs.declared.addresses.Address.{Address}
+use Rattle.tva_base.specs.declared.packet.Flow.{Flow}
+use Rattle.tva_base.specs.Decimal.{decimal_of}
+use Rattle.tva_base.specs.Addresses.{address_of}
+use Rattle.tva_config.specs.declared.config.Config.{Config}
+use Rattle.tva_config.specs.declared.config.NodePlan.{NodePlan}
+use Rattle.tva_trace.specs.declared.rows.RowKind as kinds
+use Rattle.tva_trace.specs.declared.rows.RowKind.TheVariants as kind
+use Rattle.tva_trace.specs.declared.rows.TraceRule as rules
+use Rattle.tva_trace.specs.declared.rows.TraceRule.TheVariants as rule
+use Rattle.tva_trace.specs.declared.rows.TraceFault.{TraceFault}
+use Rattle.tva_trace.specs.declared.said.SaidWhat as said
+use Rattle.tva_trace.specs.declared.said.SaidWhat.TheVariants as say
+use Rattle.tva_trace.specs.declared.said.SaidRow.{SaidRow}
+use Rattle.tva_trace.specs.Names.{is_host, node_named}
+use Rattle.tva_trace.specs.Items.{shim_of}
+
+-- a value, or the rule that is broken
+abbrev pub Judged : Type 0 → Type 0
+Judged A = Result A rules.TraceRule
+
+-- a step after another: the rule that the first breaks comes before those of the second
+infixl 10 ◌>>=◌
+abbrev pub ◌>>=◌ : {A B : Type 0} → Judged A → (A → Judged B) → Judged B
+(Ok x) >>= next = next x
+(Err broken) >>= next = Err broken
+
+-- a rule that a value meets where there is one
+abbrev pub demand : {A : Type 0} → rules.TraceRule → Option A → Judged A
+demand r value = ok_or value r
+
+-- a rule that a test meets
+abbrev pub hold : rules.TraceRule → Bool → Judged (Unit {0})
+hold r test = if test then Ok tt else Err r
+
+-- the field at a place
+abbrev pub field : List (List ℕ) → ℕ → List ℕ
+field fields i = unwrap_or (field_at fields i) []
+
+abbrev pub is_empty : List ℕ → Bool
+is_empty text = length text == 0
+
+-- the kind that a word names
+unfoldable pub kind_of : List ℕ → Option kinds.RowKind
+kind_of word =
+    if bytes_eq word (codes "send") then Some kind.Send
+    else if bytes_eq word (codes "raw") then Some kind.Raw
+    else if bytes_eq word (codes "list") then Some kind.List
+    else if bytes_eq word (codes "renew") then Some kind.Renew
+    else if bytes_eq word (codes "nonce") then Some kind.Nonce
+    else None
+
+-- only a host sends
+abbrev pub allowed : Bool → kinds.RowKind → Option kinds.RowKind
+allowed at_host kind.Send = if at_host then Some kind.Send else None
+allowed at_host kind.Raw = Some kind.Raw
+allowed at_host kind.List = Some kind.List
+allowed at_host kind.Renew = Some kind.Renew
+allowed at_host kind.Nonce = Some kind.Nonce
+
+unfoldable pub kind_at : List NodePlan → ℕ → List ℕ → Option kinds.RowKind
+kind_at plans node word = option_and_then (allowed (is_host plans node)) (kind_of word)
+
+-- what a row that sends says: its source and its shim are empty
+unfoldable pub sending_of : List (List ℕ) → Judged said.SaidWhat
+sending_of fields = do
+  own ← hold rule.Src (is_empty (field fields 3))
+  dst ← demand rule.Dst (address_of (field fields 4))
+  payload ← demand rule.Payload (decimal_of (field fields 5) 1600)
+  none ← hold rule.Shim (is_empty (field fields 6))
+  Ok (say.Send dst payload)
+
+abbrev pub flow_from : Address → Address → Flow
+flow_from src dst = record { src = src; dst = dst }
+
+-- what a row that injects a packet says
+unfoldable pub injection_of : List NodePlan → kinds.RowKind → List (List ℕ) → Judged said.SaidWhat
+injection_of plans k fields = do
+  src ← demand rule.Src (address_of (field fields 3))
+  dst ← demand rule.Dst (address_of (field fields 4))
+  payload ← demand rule.Payload (decimal_of (field fields 5) 1600)
+  shim ← demand rule.Shim (shim_of plans k (flow_from src dst) (field fields 6))
+  Ok (say.Inject (flow_from src dst) payload shim)
+
+abbrev pub what_of : List NodePlan → kinds.RowKind → List (List ℕ) → Judged said.SaidWhat
+what_of plans kind.Send fields = sending_of fields
+what_of plans kind.Raw fields = injection_of plans kind.Raw fields
+what_of plans kind.List fields = injection_of plans kind.List fields
+what_of plans kind.Renew fields = injection_of plans kind.Renew fields
+what_of plans kind.Nonce fields = injection_of plans kind.Nonce fields
+
+-- what the record of that number says, behind a row of that time
+unfoldable pub row_of : Config → ℕ → ℕ → List (List ℕ) → Judged SaidRow
+row_of config number last fields = do
+  few ← hold rule.Rows (nat_le number 1000001)
+  seven ← hold rule.Fields (length fields == 7)
+  time ← demand rule.Time (decimal_of (field fields 0) config.horizon.0)
+  later ← hold rule.Order (nat_le last time)
+  node ← demand rule.Node (node_named config.nodes (field fields 1))
+  k ← demand rule.Kind (kind_at config.nodes node (field fields 2))
+  what ← what_of config.nodes k fields
+  Ok (record { time = record { 0 = time }; node = node; what = what })
+
+-- the rule that a record breaks, with the record's number
+abbrev pub fault_at : ℕ → rules.TraceRule → TraceFault
+fault_at number r = record { row = number; rule = r }
+
+-- rows behind others
+abbrev pub behind : List SaidRow → Result (List SaidRow) TraceFault → Result (List SaidRow) TraceFault
+behind rows (Ok more) = Ok (rows ++ more)
+behind rows (Err fault) = Err fault
+
+-- a row and those behind it, or the rule that it breaks
+abbrev pub then_rows : ℕ → Judged SaidRow → (ℕ → Result (List SaidRow) TraceFault) → Result (List SaidRow) TraceFault
+then_rows number (Err broken) more = Err (fault_at number broken)
+then_rows number (Ok row) more = behind (row ∷ []) (more row.time.0)
+
+-- the rows of records of which the first has that number, behind a row of that time
+unfoldable pub rows_from : Config → ℕ → ℕ → List (List (List ℕ)) → Result (List SaidRow) TraceFault
+rows_from config number last [] = Ok []
+rows_from config number last (fields ∷ records) = then_rows number (row_of config number last fields) (λ time. rows_from config (number + 1) time records)
+
+-- the first record names the fields
+abbrev pub is_header : List (List ℕ) → Bool
+is_header fields =
+    (length fields == 7) && bytes_eq (field fields 0) (codes "time") && bytes_eq (field fields 1) (codes "node")
+    && bytes_eq (field fields 2) (codes "kind") && bytes_eq (field fields 3) (codes "src") && bytes_eq (field fields 4) (codes "dst")
+    && bytes_eq (field fields 5) (codes "payload") && bytes_eq (field fields 6) (codes "shim")
+
+-- what a record says: nothing where it is the first
+abbrev pub header_of : List (List ℕ) → Judged (Option SaidRow)
+header_of fields = if is_header fields then Ok None else Err rule.Header
+
+abbrev pub some_row : Judged SaidRow → Judged (Option SaidRow)
+some_row (Ok row) = Ok (Some row)
+some_row (Err broken) = Err broken
+
+abbrev pub said_by : Bool → Config → ℕ → ℕ → List (List ℕ) → Judged (Option SaidRow)
+said_by first config number last fields = if first then header_of fields else some_row (row_of config number last fields)
+
+unfoldable pub rows_under : Config → List (List (List ℕ)) → Result (List SaidRow) TraceFault
+rows_under config [] = Err (fault_at 1 rule.Header)
+rows_under config (fields ∷ records) = if is_header fields then rows_from config 2 0 records else Err (fault_at 1 rule.Header)
+
+-- the records that `csv` gives for a text, without a byte order mark
+abbrev pub records_in : List ℕ → List (List (List ℕ))
+records_in text = records default_config (strip_bom text)
+
+-- the rows of a text, or its first fault
+abbrev pub rows_of : Config → List ℕ → Result (List SaidRow) TraceFault
+rows_of config text = rows_under config (records_in text)

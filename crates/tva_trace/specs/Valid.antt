@@ -1,0 +1,58 @@
+-- What every row keeps that was read under a configuration.
+use Rattle.std.specs.Prelude.{◌≡◌, ◌≤◌, ◌<◌, ℕ, Bool, true, List, [], ◌∷◌, length, All}
+use Rattle.tva_shim.specs.Packets.{IsCarried}
+use Rattle.tva_config.specs.declared.config.Config.{Config}
+use Rattle.tva_trace.specs.declared.rows.Row.{Row}
+use Rattle.tva_trace.specs.declared.rows.RowWhat as whats
+use Rattle.tva_trace.specs.declared.rows.RowWhat.TheVariants as what
+use Rattle.tva_trace.specs.declared.rows.RowKind as kinds
+use Rattle.tva_trace.specs.declared.rows.RowKind.TheVariants as kind
+use Rattle.tva_trace.specs.declared.said.SaidShim as says
+use Rattle.tva_trace.specs.declared.said.SaidShim.TheVariants.{Bytes, Built}
+use Rattle.tva_trace.specs.declared.said.SaidWhat as saids
+use Rattle.tva_trace.specs.declared.said.SaidWhat.TheVariants as say
+use Rattle.tva_trace.specs.declared.said.SaidRow.{SaidRow}
+use Rattle.tva_trace.specs.Names.{is_host}
+
+-- what may stand at a node, which is a host or not
+abbrev pub IsRowWhat : Bool → whats.RowWhat → Type 0
+IsRowWhat at_host (what.Send dst payload) = (at_host ≡ true) × (payload ≤ 1600)
+IsRowWhat at_host (what.Inject flow payload carried) = (payload ≤ 1600) × IsCarried carried
+
+-- a row of a node, up to the horizon
+pub record IsRow (config : Config) (row : Row) : Type 0 where
+  pub time : row.time.0 ≤ config.horizon.0
+  pub node : row.node < length config.nodes
+  pub what : IsRowWhat (is_host config.nodes row.node) row.what
+
+-- times that never fall, behind a time
+abbrev pub NeverFall : ℕ → List Row → Type 0
+NeverFall last [] = Unit {0}
+NeverFall last (row ∷ rows) = (last ≤ row.time.0) × NeverFall row.time.0 rows
+
+-- rows that a network can be given
+pub record AreTraceRows (config : Config) (rows : List Row) : Type 0 where
+  pub each : All (IsRow config) rows
+  pub order : NeverFall 0 rows
+
+-- the same of what is said, before the bytes of a raw shim are taken for what they are
+abbrev pub IsSaidShim : says.SaidShim → Type 0
+IsSaidShim (Bytes bytes) = length bytes ≤ 400
+IsSaidShim (Built shim) = Unit {0}
+
+abbrev pub IsAllowed : Bool → kinds.RowKind → Type 0
+IsAllowed at_host kind.Send = at_host ≡ true
+IsAllowed at_host kind.Raw = Unit {0}
+IsAllowed at_host kind.List = Unit {0}
+IsAllowed at_host kind.Renew = Unit {0}
+IsAllowed at_host kind.Nonce = Unit {0}
+
+abbrev pub IsSaidWhat : Bool → saids.SaidWhat → Type 0
+IsSaidWhat at_host (say.Send dst payload) = (at_host ≡ true) × (payload ≤ 1600)
+IsSaidWhat at_host (say.Inject flow payload shim) = (payload ≤ 1600) × IsSaidShim shim
+
+pub record IsSaid (config : Config) (last : ℕ) (said : SaidRow) : Type 0 where
+  pub later : last ≤ said.time.0
+  pub time : said.time.0 ≤ config.horizon.0
+  pub node : said.node < length config.nodes
+  pub what : IsSaidWhat (is_host config.nodes said.node) said.what

@@ -1,0 +1,225 @@
+// What the last field of a row says.
+ghost use Rattle.std.specs.Prelude.{◌≡◌, ◌<◌, ◌≤◌, ◌^◌, ◌==◌, IfSome, length, position};
+ghost use Rattle.std.specs.Option.{option_map};
+ghost use Rattle.byteorder.specs.Endian.{big_number};
+ghost use Rattle.tva_base.specs.Addresses.{parted};
+ghost use Rattle.tva_base.specs.Plan.{AreRights};
+ghost use Rattle.tva_shim.specs.Shims.{IsShown, IsKind};
+ghost use Rattle.tva_trace.specs.declared.said.SaidShim.TheVariants as says;
+ghost use Rattle.tva_trace.specs.Items.{caps_of, hex_number_of, item_of, minted_of, plain_shim, raw_of, rights_of, shim_of, shown_of};
+ghost use Rattle.tva_trace.specs.Numbers.{Numbers};
+ghost use Rattle.tva_trace.specs.Valid.{IsSaidShim};
+
+use crate::names::master_named;
+use crate::rows::RowKind;
+use crate::said::{RawBytes, SaidShim};
+use byteorder::{BigEndian, ByteOrder};
+use std::collections::HashMap;
+use tva_base::{Caps, Flow, Rights, decimal};
+use tva_caps::{capability, precap_at};
+use tva_config::NodePlan;
+use tva_shim::{Kind, ReturnInfo, Shim, Shown};
+
+/// What stands before the first such byte, and what stands behind it.
+#[tactic(auto, unfolding(tva_base::specs::Addresses::parted))]
+fn part(text: &[u8], byte: u8) -> Option<(&[u8], &[u8])>
+    ensures { option_map (λ p. (p.0.now, p.1.now)) result ≡ parted byte text.now }
+{
+    match place_of(text, byte) {
+        Some(at) => Some((&text[..at], &text[at + 1..])),
+        None => None,
+    }
+}
+
+/// The place of the first such byte.
+fn place_of(text: &[u8], byte: u8) -> Option<usize>
+    ensures place { result ≡ position (λ b. b == byte) text.now }
+    ensures within { IfSome result (λ at. at < length text.now) }
+{
+    text.iter().position(|b| *b == byte)
+}
+
+/// A nonce: twelve hexadecimal digits.
+fn nonce_of(text: &[u8]) -> Option<u64>
+    ensures value { result ≡ hex_number_of 6 text.now }
+    ensures bits { IfSome result (λ nonce. nonce < 2 ^ 48) }
+{
+    let mut bytes = [0u8; 6];
+    match hex::decode_to_slice(text, &mut bytes) {
+        Ok(()) => Some(number_in_six(&bytes)),
+        Err(_) => None,
+    }
+}
+
+/// The number in six bytes, the highest first.
+fn number_in_six(bytes: &[u8]) -> u64
+    requires { 6 ≤ length bytes.now }
+    ensures value { result ≡ big_number 6 bytes.now }
+    ensures bits { result < 2 ^ 48 }
+{
+    BigEndian::read_u48(bytes)
+}
+
+/// A capability: sixteen hexadecimal digits.
+fn digits_of(text: &[u8]) -> Option<u64>
+    ensures { result ≡ hex_number_of 8 text.now }
+{
+    let mut bytes = [0u8; 8];
+    match hex::decode_to_slice(text, &mut bytes) {
+        Ok(()) => Some(BigEndian::read_u64(&bytes)),
+        Err(_) => None,
+    }
+}
+
+/// The capability that a router minted in a second, by its name and the second's text.
+#[tactic(auto, unfolding(crate::specs::Items::minted_of))]
+fn minted_of(
+    plans: &[NodePlan],
+    numbers: &HashMap<&[u8], u16>,
+    flow: Flow,
+    rights: Rights,
+    name: &[u8],
+    second: &[u8],
+) -> Option<u64>
+    requires known { Numbers plans.now numbers.now }
+    requires rights { AreRights rights }
+    ensures { result ≡ minted_of plans.now flow rights (name.now, second.now) }
+{
+    let master = master_named(plans, numbers, name)?;
+    let second = decimal(second, 2_000_000)?;
+    Some(capability(precap_at(master, second, flow), rights))
+}
+
+/// An item.
+#[tactic(auto, unfolding(crate::specs::Items::item_of))]
+fn item_of(
+    plans: &[NodePlan],
+    numbers: &HashMap<&[u8], u16>,
+    flow: Flow,
+    rights: Rights,
+    text: &[u8],
+) -> Option<u64>
+    requires known { Numbers plans.now numbers.now }
+    requires rights { AreRights rights }
+    ensures { result ≡ item_of plans.now flow rights text.now }
+{
+    match part(text, b'@') {
+        Some((name, second)) => minted_of(plans, numbers, flow, rights, name, second),
+        None => digits_of(text),
+    }
+}
+
+/// The capabilities of items, at most 16.
+#[tactic(auto, unfolding(crate::specs::Items::caps_of))]
+fn caps_of(
+    plans: &[NodePlan],
+    numbers: &HashMap<&[u8], u16>,
+    flow: Flow,
+    rights: Rights,
+    text: &[u8],
+) -> Option<Caps>
+    requires known { Numbers plans.now numbers.now }
+    requires rights { AreRights rights }
+    ensures { result ≡ caps_of plans.now flow rights text.now }
+{
+    let mut caps = Caps::new();
+    if text.is_empty() {
+        return Some(caps);
+    }
+    for item in text.split(|b| *b == b';') {
+        if caps.as_slice().len() == 16 {
+            return None;
+        }
+        caps.push(item_of(plans, numbers, flow, rights, item)?);
+    }
+    Some(caps)
+}
+
+/// The rights of units and seconds.
+#[tactic(auto, unfolding(crate::specs::Items::rights_of))]
+fn rights_of(units: &[u8], seconds: &[u8]) -> Option<Rights>
+    ensures value { result ≡ rights_of units.now seconds.now }
+    ensures widths { IfSome result AreRights }
+{
+    let n = decimal(units, 1023)?;
+    let t = decimal(seconds, 63)?;
+    Some(Rights {
+        n: n as u32,
+        t: t as u8,
+    })
+}
+
+/// What a list or a renewal shows.
+#[tactic(auto, unfolding(crate::specs::Items::shown_of))]
+fn shown_of(
+    plans: &[NodePlan],
+    numbers: &HashMap<&[u8], u16>,
+    flow: Flow,
+    text: &[u8],
+) -> Option<Shown>
+    requires { Numbers plans.now numbers.now }
+    ensures value { result ≡ shown_of plans.now flow text.now }
+    ensures widths { IfSome result IsShown }
+{
+    let (nonce, rest) = part(text, b'/')?;
+    let (units, rest) = part(rest, b'/')?;
+    let (seconds, rest) = part(rest, b'/')?;
+    let (pointer, items) = part(rest, b'/')?;
+    let nonce = nonce_of(nonce)?;
+    let rights = rights_of(units, seconds)?;
+    let caps = caps_of(plans, numbers, flow, rights, items)?;
+    let pointer = decimal(pointer, caps.as_slice().len() as u64)?;
+    Some(Shown {
+        nonce,
+        pointer: pointer as u8,
+        rights,
+        caps,
+    })
+}
+
+/// The bytes of a raw row.
+#[tactic(auto, unfolding(crate::specs::Items::raw_of))]
+fn raw_of(text: &[u8]) -> Option<RawBytes>
+    ensures value { result ≡ raw_of text.now }
+    ensures few { IfSome result (λ bytes. length bytes ≤ 400) }
+{
+    if text.len() > 800 {
+        return None;
+    }
+    let mut room = [0u8; 400];
+    let bytes = &mut room[..text.len() / 2];
+    match hex::decode_to_slice(text, bytes) {
+        Ok(()) => Some(RawBytes::new(bytes)),
+        Err(_) => None,
+    }
+}
+
+/// What a row's shim is, by the row's kind.
+#[tactic(auto, unfolding(crate::specs::Items::shim_of))]
+pub fn shim_of(
+    plans: &[NodePlan],
+    numbers: &HashMap<&[u8], u16>,
+    kind: RowKind,
+    flow: Flow,
+    text: &[u8],
+) -> Option<SaidShim>
+    requires { Numbers plans.now numbers.now }
+    ensures value { result ≡ shim_of plans.now kind flow text.now }
+    ensures valid { IfSome result IsSaidShim }
+{
+    match kind {
+        RowKind::Send => None,
+        RowKind::Raw => Some(SaidShim::Bytes(raw_of(text)?)),
+        RowKind::List => Some(plain_shim(Kind::List(shown_of(plans, numbers, flow, text)?))),
+        RowKind::Renew => Some(plain_shim(Kind::Renewal(shown_of(plans, numbers, flow, text)?))),
+        RowKind::Nonce => Some(plain_shim(Kind::Nonce(nonce_of(text)?))),
+    }
+}
+
+/// A shim with protocol 6, no mark and no return info.
+fn plain_shim(kind: Kind) -> SaidShim
+    requires { IsKind kind }
+    ensures { result ≡ says.Built (plain_shim kind) }
+{
+    SaidShim::Built(Shim::new(false, 6, kind, ReturnInfo::Nothing))
+}

@@ -1,0 +1,120 @@
+// What a record says, or the first rule that it breaks.
+ghost use Rattle.std.specs.Prelude.{◌≡◌, ◌<◌, ◌≤◌, Bool, true, IfOk, IfSome, OnOk, length};
+ghost use Rattle.csv.specs.Records.{fields_of};
+ghost use Rattle.tva_trace.specs.Numbers.{Numbers};
+ghost use Rattle.tva_trace.specs.Rows.{hold, injection_of, kind_at, row_of, sending_of, what_of};
+ghost use Rattle.tva_trace.specs.Names.{is_host};
+ghost use Rattle.tva_trace.specs.Valid.{IsAllowed, IsSaid, IsSaidWhat};
+
+use crate::fields::{allowed, field, is_empty, kind_of};
+use crate::items::shim_of;
+use crate::names::{is_host, number_of};
+use crate::rows::{RowKind, TraceRule};
+use crate::said::{SaidRow, SaidWhat};
+use csv::ByteRecord;
+use std::collections::HashMap;
+use tva_base::{Flow, Time, address, decimal};
+use tva_config::{Config, NodePlan};
+
+/// A rule that a test meets.
+fn hold(rule: TraceRule, test: bool) -> Result<(), TraceRule>
+    ensures { result ≡ hold rule test }
+{
+    if test { Ok(()) } else { Err(rule) }
+}
+
+/// The kind of a row at a node.
+#[tactic(auto, unfolding(crate::specs::Rows::kind_at))]
+fn kind_at(plans: &[NodePlan], node: u16, word: &[u8]) -> Option<RowKind>
+    requires { node < length plans.now }
+    ensures kind { result ≡ kind_at plans.now node word.now }
+    ensures valid { IfSome result (IsAllowed (is_host plans.now node)) }
+{
+    let kind = kind_of(word)?;
+    allowed(is_host(plans, node), kind)
+}
+
+/// What a row that sends says.
+#[tactic(auto, unfolding(crate::specs::Rows::sending_of))]
+fn sending_of(row: &ByteRecord) -> Result<SaidWhat, TraceRule>
+    ensures said { result ≡ sending_of (fields_of row.now) }
+    ensures valid { IfOk result (λ said. (b : Bool) → b ≡ true → IsSaidWhat b said) }
+{
+    hold(TraceRule::Src, is_empty(field(row, 3)))?;
+    let dst = address(field(row, 4)).ok_or(TraceRule::Dst)?;
+    let payload = decimal(field(row, 5), 1600).ok_or(TraceRule::Payload)?;
+    hold(TraceRule::Shim, is_empty(field(row, 6)))?;
+    Ok(SaidWhat::Send {
+        dst,
+        payload: payload as u16,
+    })
+}
+
+/// What a row that injects a packet says.
+#[tactic(auto, unfolding(crate::specs::Rows::injection_of))]
+fn injection_of(
+    plans: &[NodePlan],
+    numbers: &HashMap<&[u8], u16>,
+    kind: RowKind,
+    row: &ByteRecord,
+) -> Result<SaidWhat, TraceRule>
+    requires { Numbers plans.now numbers.now }
+    ensures said { result ≡ injection_of plans.now kind (fields_of row.now) }
+    ensures valid { IfOk result (λ said. (b : Bool) → IsSaidWhat b said) }
+{
+    let src = address(field(row, 3)).ok_or(TraceRule::Src)?;
+    let dst = address(field(row, 4)).ok_or(TraceRule::Dst)?;
+    let payload = decimal(field(row, 5), 1600).ok_or(TraceRule::Payload)?;
+    let flow = Flow { src, dst };
+    let shim = shim_of(plans, numbers, kind, flow, field(row, 6)).ok_or(TraceRule::Shim)?;
+    Ok(SaidWhat::Inject {
+        flow,
+        payload: payload as u16,
+        shim,
+    })
+}
+
+fn what_of(
+    plans: &[NodePlan],
+    numbers: &HashMap<&[u8], u16>,
+    kind: RowKind,
+    row: &ByteRecord,
+) -> Result<SaidWhat, TraceRule>
+    requires { Numbers plans.now numbers.now }
+    ensures said { result ≡ what_of plans.now kind (fields_of row.now) }
+    ensures valid { IfOk result (λ said. (b : Bool) → IsAllowed b kind → IsSaidWhat b said) }
+{
+    match kind {
+        RowKind::Send => sending_of(row),
+        kind => injection_of(plans, numbers, kind, row),
+    }
+}
+
+/// What the record of that number says, behind a row of that time.
+#[tactic(auto, unfolding(crate::specs::Rows::row_of))]
+pub fn row_of(
+    config: &Config,
+    numbers: &HashMap<&[u8], u16>,
+    number: u64,
+    last: u64,
+    row: &ByteRecord,
+) -> Result<SaidRow, TraceRule>
+    requires { Numbers config.now.nodes numbers.now }
+    ensures said { result ≡ row_of config.now number last (fields_of row.now) }
+    ensures few { OnOk result (number ≤ 1000001) }
+    ensures valid { IfOk result (IsSaid config.now last) }
+{
+    let plans = config.nodes.as_slice();
+    hold(TraceRule::Rows, number <= 1_000_001)?;
+    hold(TraceRule::Fields, row.len() == 7)?;
+    let time = decimal(field(row, 0), config.horizon.0).ok_or(TraceRule::Time)?;
+    hold(TraceRule::Order, last <= time)?;
+    let node = number_of(plans, numbers, field(row, 1)).ok_or(TraceRule::Node)?;
+    let kind = kind_at(plans, node, field(row, 2)).ok_or(TraceRule::Kind)?;
+    let what = what_of(plans, numbers, kind, row)?;
+    Ok(SaidRow {
+        time: Time(time),
+        node,
+        what,
+    })
+}

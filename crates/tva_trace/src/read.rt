@@ -1,0 +1,112 @@
+// Reads a trace.
+ghost use Rattle.std.specs.Prelude.{◌≡◌, ◌≤◌, ◌==◌, IfOk, IfSome, OnOk, length};
+ghost use Rattle.csv.specs.Records.{fields_of};
+ghost use Rattle.tva_trace.specs.Meaning.{Answers, IsPut};
+ghost use Rattle.tva_trace.specs.Numbers.{Numbers};
+ghost use Rattle.tva_trace.specs.Rows.{said_by};
+ghost use Rattle.tva_trace.specs.Valid.{AreTraceRows, IsSaid};
+
+use crate::carried::row_from;
+use crate::fields::is_header;
+use crate::judge::row_of;
+use crate::names::node_numbers;
+use crate::rows::{Row, TraceError, TraceFault, TraceRule};
+use crate::said::SaidRow;
+use csv::{ByteRecord, ReaderBuilder};
+use std::alloc::{AllocError, Global};
+use std::collections::HashMap;
+use tva_config::Config;
+
+/// The rows of a trace, or the first record that breaks a rule with the first rule that it breaks.
+/// The configuration has at most 65,536 nodes, as each that was read has. Rows stand in the order
+/// of their times, up to the horizon; only hosts send; payloads are at most 1,600 bytes, and
+/// malformed shims at most 400.
+pub fn read_trace(alloc: Global, text: &[u8], config: &Config) -> Result<Vec<Row>, TraceError>
+    requires { length config.now.nodes ≤ 65536 }
+    ensures answer { Answers config.now text.now result }
+    ensures valid { IfOk result (λ rows. AreTraceRows config.now rows.items) }
+{
+    match node_numbers(alloc, config.nodes.as_slice()) {
+        Ok(numbers) => read_rows(alloc, text, config, &numbers),
+        Err(_) => Err(TraceError::OutOfMemory),
+    }
+}
+
+/// The same with the numbers of the nodes by their names.
+fn read_rows(
+    alloc: Global,
+    text: &[u8],
+    config: &Config,
+    numbers: &HashMap<&[u8], u16>,
+) -> Result<Vec<Row>, TraceError>
+    requires { Numbers config.now.nodes numbers.now }
+    ensures answer { Answers config.now text.now result }
+    ensures valid { IfOk result (λ rows. AreTraceRows config.now rows.items) }
+{
+    let mut rows = Vec::new(alloc);
+    let mut number = 1u64;
+    let mut last = 0u64;
+    let reader = ReaderBuilder::new()
+        .has_headers(false)
+        .flexible(true)
+        .from_reader(alloc, text);
+    for record in reader.into_byte_records() {
+        let Ok(record) = record else {
+            return Err(TraceError::OutOfMemory);
+        };
+        let said = match said_by(config, numbers, number, last, &record) {
+            Ok(said) => said,
+            Err(rule) => return Err(TraceError::Fault(TraceFault { row: number, rule })),
+        };
+        let Ok(time) = put_row(&mut rows, last, said) else {
+            return Err(TraceError::OutOfMemory);
+        };
+        last = time;
+        number += 1;
+    }
+    if number == 1 {
+        return Err(TraceError::Fault(TraceFault {
+            row: 1,
+            rule: TraceRule::Header,
+        }));
+    }
+    Ok(rows)
+}
+
+/// Puts a row last, if there is one, and answers the last row's time.
+fn put_row(rows: &mut Vec<Row>, last: u64, said: Option<SaidRow>) -> Result<u64, AllocError>
+    ensures { IfOk result (λ time. IsPut rows.old.items rows.new.items last time said) }
+{
+    match said {
+        None => Ok(last),
+        Some(said) => {
+            let time = said.time.0;
+            rows.push(row_from(said))?;
+            Ok(time)
+        }
+    }
+}
+
+/// What the record of that number says, behind a row of that time; the first names the fields.
+fn said_by(
+    config: &Config,
+    numbers: &HashMap<&[u8], u16>,
+    number: u64,
+    last: u64,
+    row: &ByteRecord,
+) -> Result<Option<SaidRow>, TraceRule>
+    requires { Numbers config.now.nodes numbers.now }
+    ensures said { result ≡ said_by (number == 1) config.now number last (fields_of row.now) }
+    ensures few { OnOk result (number ≤ 1000001) }
+    ensures valid { IfOk result (λ said. IfSome said (IsSaid config.now last)) }
+{
+    if number != 1 {
+        let said = row_of(config, numbers, number, last, row)?;
+        return Ok(Some(said));
+    }
+    if is_header(row) {
+        Ok(None)
+    } else {
+        Err(TraceRule::Header)
+    }
+}
