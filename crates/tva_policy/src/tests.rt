@@ -1,5 +1,8 @@
-// Sequences of calls on one policy, with answers from outside.
+// Sequences of calls on one policy, with answers from outside and of a plain program.
+mod plain;
+
 use crate::Policy;
+use plain::{RUNS, compare};
 use std::alloc::{AllocError, Global};
 use std::process::Abort;
 use std::test::Fail;
@@ -167,6 +170,14 @@ fn decides_as_told(rt: HostRuntime) -> Result<(), Fail> {
     crosses::<Policy>();
     for case in &CASES {
         play(&rt, rt.alloc(), case)?;
+    }
+    Ok(())
+}
+
+#[test]
+fn decides_as_defined(rt: HostRuntime) -> Result<(), Fail> {
+    for run in &RUNS {
+        compare(&rt, rt.alloc(), run)?;
     }
     Ok(())
 }

@@ -1,9 +1,12 @@
-// Sequences of calls on one sender, with answers from outside.
+// Sequences of calls on one sender, with answers from outside and of a plain program.
 mod budgets;
+mod plain;
+mod random;
 mod times;
 
 use crate::{Held, Sender, Shape};
 use budgets::BUDGETS;
+use random::{RUNS, compare};
 use std::alloc::{AllocError, Global};
 use std::process::Abort;
 use std::test::Fail;
@@ -104,6 +107,14 @@ fn prepares_as_told(rt: HostRuntime) -> Result<(), Fail> {
     }
     for case in &BUDGETS {
         play(&rt, rt.alloc(), case)?;
+    }
+    Ok(())
+}
+
+#[test]
+fn prepares_as_defined(rt: HostRuntime) -> Result<(), Fail> {
+    for run in &RUNS {
+        compare(&rt, rt.alloc(), run)?;
     }
     Ok(())
 }
