@@ -1,0 +1,31 @@
+-- What words ask for.
+use Rattle.std.specs.Prelude.{ℕ, List, [], ◌∷◌, map, length, nat_le, String, string_bytes, codes, if◌then◌else◌, None, Some}
+use Rattle.std.specs.declared.option.Option.{Option}
+use Rattle.std.specs.declared.alloc.Global.{Global}
+use Rattle.std.specs.Option.{option_map}
+use Rattle.std.specs.Result.{result_ok}
+use Rattle.std.specs.Str.{bytes_eq}
+use Rattle.hex.specs.Hex.{decode_of}
+
+-- a command, with the names of its files or the bytes of its shim
+pub data Command : Type 0 where
+  replay : List ℕ → List ℕ → Command
+  check : List ℕ → Command
+  shim : List ℕ → Command
+
+-- the words as bytes
+abbrev pub texts : List (String Global) → List (List ℕ)
+texts words = map string_bytes words
+
+-- the bytes that a word of at most 800 hexadecimal digits writes, two digits each
+unfoldable pub bytes_of_hex : List ℕ → Option (List ℕ)
+bytes_of_hex word = if nat_le (length word) 800 then result_ok (decode_of word) else None
+
+-- the command that the words are
+abbrev pub command_of : List (List ℕ) → Option Command
+command_of (word ∷ config ∷ trace ∷ []) = if bytes_eq word (codes "replay") then Some (replay config trace) else None
+command_of (word ∷ name ∷ []) =
+    if bytes_eq word (codes "check") then Some (check name)
+    else if bytes_eq word (codes "shim") then option_map shim (bytes_of_hex name)
+    else None
+command_of words = None

@@ -1,0 +1,124 @@
+-- What a command comes to, where the shelf tells what it holds.
+use Rattle.std.specs.Prelude.{◌≡◌, ◌≤◌, ℕ, ◌+◌, true, List, ◌++◌, length, nat_lt, not, if◌then◌else◌, Result, Ok, Err, None, Some, codes}
+use Rattle.std.specs.declared.option.Option.{Option}
+use Rattle.std.specs.Option.{option_map}
+use Rattle.tva_outside.specs.Held.{Held, bytes_at}
+use Rattle.tva_config.specs.declared.config.Config.{Config}
+use Rattle.tva_config.specs.declared.fault.ConfigFault.{ConfigFault}
+use Rattle.tva_config.specs.Read.{read_of}
+use Rattle.tva_trace.specs.declared.rows.Row.{Row}
+use Rattle.tva_trace.specs.declared.rows.TraceFault.{TraceFault}
+use Rattle.tva_trace.specs.declared.said.SaidRow.{SaidRow}
+use Rattle.tva_trace.specs.Rows.{rows_of}
+use Rattle.tva_trace.specs.Meaning.{AreRows}
+use Rattle.tva_trace.specs.ShimText.{IsTextOf}
+use Rattle.tva_config.specs.Counts.{has_host_or_link}
+use Rattle.tva.specs.Arrivals.{are_judged}
+use Rattle.tva.specs.Check.{check_line}
+use Rattle.tva.specs.Command.{Command, replay, check, shim}
+use Rattle.tva.specs.Report.{IsReport}
+use Rattle.tva.specs.declared.status.Status as status
+use Rattle.tva.specs.declared.status.Status.TheVariants.{Done, ReadFault, TooLarge, BadConfig, BadTrace, EventLimit, Unsupported}
+use Rattle.tva.specs.declared.TheConstants.{CONFIG_MAX, TRACE_MAX}
+
+-- a text to write, the text of a shim's bytes, the report of a trace under a plan, or a refusal: nothing
+-- is held under a name, a file passes its limit (with one more than that), a fault of the configuration
+-- or of the trace, or a configuration whose replay isn't built
+pub data Expected : Type 0 where
+  writes : List ℕ → Expected
+  shows : List ℕ → Expected
+  replays : Config → List ℕ → Expected
+  lacks : Expected
+  exceeds : ℕ → Expected
+  misconfigured : ConfigFault → Expected
+  mistraced : TraceFault → Expected
+  refuses : Expected
+
+-- what is found, or the refusal that comes instead
+abbrev pub Found : Type 0 → Type 0
+Found A = Result A Expected
+
+-- what comes of what is found
+abbrev pub followed : {A : Type 0} → Found A → (A → Expected) → Expected
+followed (Ok x) next = next x
+followed (Err refusal) next = refusal
+
+infixl 10 ◌>>=◌
+abbrev pub ◌>>=◌ : {A B : Type 0} → Found A → (A → Found B) → Found B
+(Ok x) >>= next = next x
+(Err refusal) >>= next = Err refusal
+
+-- the bytes that are held under a name, at most so many
+abbrev pub within_limit : ℕ → Option (List ℕ) → Found (List ℕ)
+within_limit max None = Err lacks
+within_limit max (Some bytes) = if nat_lt max (length bytes) then Err (exceeds (max + 1)) else Ok bytes
+
+abbrev pub file_at : ℕ → List ℕ → Held → Found (List ℕ)
+file_at max name files = within_limit max (bytes_at files name)
+
+-- the plan of a configuration, and the plan that is held under a name
+abbrev pub plan_or_fault : Result Config ConfigFault → Found Config
+plan_or_fault (Ok plan) = Ok plan
+plan_or_fault (Err fault) = Err (misconfigured fault)
+
+abbrev pub plan_at : List ℕ → Held → Found Config
+plan_at name files = file_at CONFIG_MAX name files >>= λ bytes. plan_or_fault (read_of bytes)
+
+-- a trace that has rows under a plan, and such a trace that is held under a name
+abbrev pub trace_or_fault : List ℕ → Result (List SaidRow) TraceFault → Found (List ℕ)
+trace_or_fault text (Ok said) = Ok text
+trace_or_fault text (Err fault) = Err (mistraced fault)
+
+abbrev pub trace_at : Config → List ℕ → Held → Found (List ℕ)
+trace_at plan name files = file_at TRACE_MAX name files >>= λ text. trace_or_fault text (rows_of plan text)
+
+-- what comes of a plan, and of the trace behind it
+abbrev pub of_plan : List ℕ → Held → Config → Expected
+of_plan trace files plan = if has_host_or_link plan then refuses else followed (trace_at plan trace files) (replays plan)
+
+-- what comes of a command that reads files, file by file: each is judged before the next one is loaded
+abbrev pub of_replay : List ℕ → List ℕ → Held → Expected
+of_replay config trace files = followed (plan_at config files) (of_plan trace files)
+
+abbrev pub of_check : List ℕ → Held → Expected
+of_check config files = followed (plan_at config files) (λ plan. writes (check_line plan))
+
+-- what comes of a command, where the shelf tells what it holds or the command reads nothing
+abbrev pub told : Option Held → Command → Option Expected
+told held (replay config trace) = option_map (of_replay config trace) held
+told held (check config) = option_map (of_check config) held
+told held (shim bytes) = Some (shows bytes)
+
+-- the fate of each row is built, and they are no more than the configuration allows
+pub record AreFew (plan : Config) (rows : List Row) : Type 0 where
+  pub judged : are_judged rows ≡ true
+  pub few : length rows ≤ plan.max_events
+
+-- the text is what is to be written
+abbrev pub IsText : Expected → List ℕ → Type 0
+IsText (writes whole) text = text ≡ whole
+IsText (shows bytes) text = (line : List ℕ) × IsTextOf bytes line × (text ≡ line ++ codes "\n")
+IsText (replays plan trace) text = (rows : List Row) × AreRows plan trace rows × AreFew plan rows × IsReport plan rows text
+IsText lacks text = ⊥
+IsText (exceeds k) text = ⊥
+IsText (misconfigured fault) text = ⊥
+IsText (mistraced fault) text = ⊥
+IsText refuses text = ⊥
+
+-- how the replay of rows ends where nothing fails
+abbrev pub status_of_rows : Config → List Row → status.Status
+status_of_rows plan rows =
+    if not (are_judged rows) then Unsupported
+    else if nat_lt plan.max_events (length rows) then EventLimit plan.max_events
+    else Done
+
+-- how a run ends where nothing fails
+abbrev pub Ends : status.Status → Expected → Type 0
+Ends s (writes text) = s ≡ Done
+Ends s (shows bytes) = s ≡ Done
+Ends s (replays plan trace) = (rows : List Row) × AreRows plan trace rows × (s ≡ status_of_rows plan rows)
+Ends s lacks = s ≡ ReadFault
+Ends s (exceeds k) = s ≡ TooLarge k
+Ends s (misconfigured fault) = s ≡ BadConfig fault
+Ends s (mistraced fault) = s ≡ BadTrace fault
+Ends s refuses = s ≡ Unsupported

@@ -1,0 +1,39 @@
+-- What the parts of a command answer.
+use Rattle.std.specs.Prelude.{◌≡◌, ◌⊎◌, ℕ, List, take, IfSome, Some, Ok, Err}
+use Rattle.std.specs.declared.option.Option.{Option}
+use Rattle.std.specs.Io.KnownBytes.{append_known}
+use Rattle.tva_outside.specs.Held.{Held}
+use Rattle.tva_config.specs.declared.config.Config.{Config}
+use Rattle.tva_trace.specs.declared.rows.Row.{Row}
+use Rattle.tva_trace.specs.Meaning.{AreRows}
+use Rattle.tva.specs.Expected.{Found, lacks, exceeds, misconfigured, mistraced}
+use Rattle.tva.specs.declared.status.Status as status
+use Rattle.tva.specs.declared.status.Status.TheVariants.{Done, ReadFault, WriteFault, TooLarge, BadConfig, BadTrace, OutOfMemory}
+
+-- that is what is found, where it is told what is held
+abbrev pub IsFound : {A : Type 0} → Option Held → (Held → Found A) → A → Type 0
+IsFound held search x = IfSome held (λ files. search files ≡ Ok x)
+
+-- these are the rows of a trace that is found
+abbrev pub AreRowsOf : Option Held → (Held → Found (List ℕ)) → Config → List Row → Type 0
+AreRowsOf held search plan rows = (trace : List ℕ) × IsFound held search trace × AreRows plan trace rows
+
+-- why it isn't found: the refusal of what is held, where that is told, or a fault of reading
+abbrev pub IsNotFound : {A : Type 0} → Option (Found A) → Type 0 → status.Status → Type 0
+IsNotFound found rose ReadFault = rose ⊎ (found ≡ Some (Err lacks))
+IsNotFound found rose (TooLarge k) = IfSome found (λ x. x ≡ Err (exceeds k))
+IsNotFound found rose (BadConfig fault) = IfSome found (λ x. x ≡ Err (misconfigured fault))
+IsNotFound found rose (BadTrace fault) = IfSome found (λ x. x ≡ Err (mistraced fault))
+IsNotFound found rose OutOfMemory = Unit {0}
+IsNotFound found rose _ = ⊥
+
+-- the first bytes of the text, some or all, are written
+abbrev pub IsCut : Option (List ℕ) → Option (List ℕ) → List ℕ → Type 0
+IsCut old new text = (n : ℕ) × (new ≡ append_known old (take n text))
+
+-- how writing a text ends
+abbrev pub IsWritten : Option (List ℕ) → Option (List ℕ) → Type 0 → List ℕ → status.Status → Type 0
+IsWritten old new rose text Done = new ≡ append_known old text
+IsWritten old new rose text WriteFault = rose × IsCut old new text
+IsWritten old new rose text OutOfMemory = IsCut old new text
+IsWritten old new rose text _ = ⊥

@@ -1,0 +1,72 @@
+//! The program `tva`: replays packet traces through a network of the Traffic Validation Architecture.
+//! `run` does what the words of the command line ask for, over whatever shelf, sink and gate it is
+//! handed. Its contract promises which text is written, that on every status what was written is a
+//! prefix of it, and exactly when each refusal comes.
+#![tactic(auto)]
+
+mod arrivals;
+mod check;
+mod command;
+mod judge;
+mod lines;
+mod parts;
+mod report;
+mod showing;
+mod status;
+mod sums;
+#[cfg(test)]
+mod tests;
+mod top;
+
+use arrayvec::ArrayString;
+use status::{Status, status_text};
+use std::io::ErrorKind;
+use std::process::ExitCode;
+use std::{env, io};
+use top::run;
+use tva_outside::{FileShelf, OpenGate, StdSink};
+
+/// The most bytes of a configuration.
+const CONFIG_MAX: u64 = 1 << 20;
+
+/// The most bytes of a trace.
+const TRACE_MAX: u64 = 1 << 26;
+
+// The words after the program's name.
+fn words(rt: &(impl std::rt::Env + AllocGlobal)) -> io::Result<Vec<String>> {
+    let mut words = Vec::new(rt.alloc());
+    for word in env::args(rt)?.skip(1) {
+        words.push(word)?;
+    }
+    Ok(words)
+}
+
+// Words that can't be taken are a fault of reading, but for want of memory.
+fn status_of_words(error: &io::Error) -> Status {
+    if error.kind() == ErrorKind::OutOfMemory {
+        Status::OutOfMemory
+    } else {
+        Status::ReadFault
+    }
+}
+
+fn main(rt: HostRuntime) -> ExitCode {
+    let status = match words(&rt) {
+        Ok(words) => run(
+            &rt,
+            rt.alloc(),
+            &words,
+            &mut FileShelf::new(&rt),
+            &mut StdSink::new(&rt),
+            &OpenGate,
+        ),
+        Err(error) => status_of_words(&error),
+    };
+    let number = status.number();
+    if number != 0 {
+        let mut text = ArrayString::new();
+        status_text(&status, &mut text);
+        let _ = eprintln!(rt; "{text}");
+    }
+    ExitCode::from(number)
+}

@@ -1,0 +1,98 @@
+// The parts of a command that reach outside.
+ghost use Rattle.std.specs.Prelude.{◌≡◌, ◌≤◌, ◌^◌, ◌++◌, IfOk, IfErr, length};
+ghost use Rattle.tva_outside.specs.Faults.{Rose};
+ghost use Rattle.std.specs.Option.{option_map};
+ghost use Rattle.tva_config.specs.Valid.{IsConfig};
+ghost use Rattle.tva_trace.specs.Valid.{AreTraceRows};
+ghost use Rattle.tva.specs.Expected.{file_at, plan_at, trace_at};
+ghost use Rattle.tva.specs.Parts.{AreRowsOf, IsFound, IsNotFound, IsWritten};
+
+use crate::status::Status;
+use crate::{CONFIG_MAX, TRACE_MAX};
+use std::alloc::Global;
+use tva_config::{Config, ConfigError, read_config};
+use tva_outside::{Loaded, Sent, Shelf, Sink, write_all};
+use tva_trace::{Row, TraceError, read_trace};
+
+/// The bytes that are held under a name, at most `max` of them.
+pub fn load<S: Shelf>(alloc: Global, shelf: &mut S, name: &str, max: u64) -> Result<Vec<u8>, Status>
+    requires { max ≤ 2 ^ 40 }
+    ensures held { S.held shelf.new ≡ S.held shelf.old }
+    ensures never_falls { S.faults shelf.old ≤ S.faults shelf.new }
+    ensures ok { IfOk result (λ bytes. IsFound (S.held shelf.old) (file_at max name.now) bytes.items) }
+    ensures err { IfErr result (IsNotFound (option_map (file_at max name.now) (S.held shelf.old)) (Rose (S.faults shelf.old) (S.faults shelf.new))) }
+{
+    match shelf.load(alloc, name, max) {
+        Loaded::Bytes(bytes) => Ok(bytes),
+        Loaded::Failed => Err(Status::ReadFault),
+        Loaded::TooLarge(size) => Err(Status::TooLarge(size)),
+        Loaded::OutOfMemory => Err(Status::OutOfMemory),
+    }
+}
+
+/// The plan of the configuration that is held under a name.
+pub fn load_plan<S: Shelf>(alloc: Global, shelf: &mut S, name: &str) -> Result<Config, Status>
+    ensures held { S.held shelf.new ≡ S.held shelf.old }
+    ensures never_falls { S.faults shelf.old ≤ S.faults shelf.new }
+    ensures ok { IfOk result (IsFound (S.held shelf.old) (plan_at name.now)) }
+    ensures valid { IfOk result IsConfig }
+    ensures err { IfErr result (IsNotFound (option_map (plan_at name.now) (S.held shelf.old)) (Rose (S.faults shelf.old) (S.faults shelf.new))) }
+{
+    let bytes = match load(alloc, shelf, name, CONFIG_MAX) {
+        Ok(bytes) => bytes,
+        Err(status) => return Err(status),
+    };
+    match read_config(alloc, &bytes) {
+        Ok(plan) => Ok(plan),
+        Err(ConfigError::Fault(fault)) => Err(Status::BadConfig(fault)),
+        Err(ConfigError::OutOfMemory) => Err(Status::OutOfMemory),
+    }
+}
+
+/// The rows of the trace that is held under a name.
+pub fn load_rows<S: Shelf>(
+    alloc: Global,
+    shelf: &mut S,
+    name: &str,
+    plan: &Config,
+) -> Result<Vec<Row>, Status>
+    requires { length plan.now.nodes ≤ 65536 }
+    ensures held { S.held shelf.new ≡ S.held shelf.old }
+    ensures never_falls { S.faults shelf.old ≤ S.faults shelf.new }
+    ensures ok { IfOk result (λ rows. AreRowsOf (S.held shelf.old) (trace_at plan.now name.now) plan.now rows.items) }
+    ensures valid { IfOk result (λ rows. AreTraceRows plan.now rows.items) }
+    ensures err { IfErr result (IsNotFound (option_map (trace_at plan.now name.now) (S.held shelf.old)) (Rose (S.faults shelf.old) (S.faults shelf.new))) }
+{
+    let bytes = match load(alloc, shelf, name, TRACE_MAX) {
+        Ok(bytes) => bytes,
+        Err(status) => return Err(status),
+    };
+    match read_trace(alloc, &bytes, plan) {
+        Ok(rows) => Ok(rows),
+        Err(TraceError::Fault(fault)) => Err(Status::BadTrace(fault)),
+        Err(TraceError::OutOfMemory) => Err(Status::OutOfMemory),
+    }
+}
+
+/// Writes the bytes.
+pub fn send<W: Sink>(out: &mut W, bytes: &[u8]) -> Status
+    ensures never_falls { W.faults out.old ≤ W.faults out.new }
+    ensures answer { IsWritten (W.written out.old) (W.written out.new) (Rose (W.faults out.old) (W.faults out.new)) bytes.now result }
+{
+    match write_all(out, bytes) {
+        Sent::All => Status::Done,
+        Sent::Failed(_) => Status::WriteFault,
+        Sent::OutOfMemory(_) => Status::OutOfMemory,
+    }
+}
+
+/// Writes the first bytes, and then the others.
+pub fn send_both<W: Sink>(out: &mut W, first: &[u8], second: &[u8]) -> Status
+    ensures never_falls { W.faults out.old ≤ W.faults out.new }
+    ensures answer { IsWritten (W.written out.old) (W.written out.new) (Rose (W.faults out.old) (W.faults out.new)) (first.now ++ second.now) result }
+{
+    match send(out, first) {
+        Status::Done => send(out, second),
+        status => status,
+    }
+}
