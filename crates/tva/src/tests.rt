@@ -55,6 +55,23 @@ fn commands_end_as_they_are_to(rt: HostRuntime) -> Result<(), Fail> {
     Ok(())
 }
 
+// Where there is memory a run ends with its text, and not with want of memory.
+#[test]
+fn answers_with_memory(rt: HostRuntime) -> Result<(), Fail> {
+    let mut out = MemorySink::new(rt.alloc(), 4096);
+    let status = run(
+        &rt,
+        rt.alloc(),
+        &words(&rt, "replay edge trace")?,
+        &mut shelf(&rt)?,
+        &mut out,
+        &OpenGate,
+    );
+    assert!(rt; matches!(status, Status::Done));
+    assert_eq!(rt; out.bytes(), report().as_bytes());
+    Ok(())
+}
+
 // Replays whose reports come from outside.
 #[test]
 fn replays_of_one_router(rt: HostRuntime) -> Result<(), Fail> {

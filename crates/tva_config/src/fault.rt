@@ -1,5 +1,5 @@
 // What is wrong with a configuration.
-ghost use Rattle.std.specs.Prelude.{◌≡◌};
+ghost use Rattle.std.specs.Prelude.{◌≡◌, Some};
 ghost use Rattle.tva_config.specs.Words.{table_word, rule_word};
 ghost use Rattle.tva_config.specs.declared.fault.ConfigError.TheVariants.{Fault, OutOfMemory};
 
@@ -122,12 +122,16 @@ impl ConfigRule {
 }
 
 impl Display for ConfigTable {
+    ghost output = { λ table. Some (table_word table) };
+
     fn fmt<W: Write>(&self, f: &mut Formatter<W>) -> fmt::Result {
         f.write_str(self.word())
     }
 }
 
 impl Display for ConfigRule {
+    ghost output = { λ rule. Some (rule_word rule) };
+
     fn fmt<W: Write>(&self, f: &mut Formatter<W>) -> fmt::Result {
         f.write_str(self.word())
     }

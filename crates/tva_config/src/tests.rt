@@ -73,10 +73,10 @@ fn texts_and_the_top_level(rt: HostRuntime) {
 
 #[test]
 fn keys_of_each_table(rt: HostRuntime) {
-    check(&rt, rt.alloc(), keys::ROUTERS);
-    check(&rt, rt.alloc(), keys::HOSTS);
-    check(&rt, rt.alloc(), keys::LINKS);
-    check(&rt, rt.alloc(), keys::ROUTES);
+    check(&rt, rt.alloc(), keys::routers::CASES);
+    check(&rt, rt.alloc(), keys::hosts::CASES);
+    check(&rt, rt.alloc(), keys::links::CASES);
+    check(&rt, rt.alloc(), keys::routes::CASES);
 }
 
 #[test]

@@ -1,9 +1,10 @@
 // The rows of a trace, and what is wrong with one.
-ghost use Rattle.std.specs.Prelude.{◌≡◌};
+ghost use Rattle.std.specs.Prelude.{◌≡◌, Some};
 ghost use Rattle.tva_trace.specs.Words.{rule_word};
 
 use std::fmt;
 use std::fmt::{Display, Formatter, Write};
+use std::mem::size_of;
 use tva_base::{Address, Flow, Time};
 use tva_shim::{Carried, Shim};
 
@@ -29,6 +30,9 @@ pub struct Row {
     pub node: u16,
     pub what: RowWhat,
 }
+
+// A million rows take less than 600 MB.
+const _: () = prove!(size_of::<Row>() < 600);
 
 /// The rules of a trace, in the order in which they are checked.
 #[derive(Clone, Copy, Debug, PartialEq, Eq)]
@@ -93,6 +97,8 @@ impl TraceRule {
 }
 
 impl Display for TraceRule {
+    ghost output = { λ rule. Some (rule_word rule) };
+
     fn fmt<W: Write>(&self, f: &mut Formatter<W>) -> fmt::Result {
         f.write_str(self.word())
     }

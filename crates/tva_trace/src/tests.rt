@@ -2,6 +2,7 @@
 ghost use Rattle.std.specs.Prelude.{◌≤◌, length};
 
 mod lines;
+mod many;
 mod shims;
 mod traces;
 

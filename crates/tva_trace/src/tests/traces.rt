@@ -9,7 +9,7 @@ use std::test::Fail;
 use tva_config::Config;
 use tva_shim::{Carried, Kind};
 
-const HEADER: &str = "time,node,kind,src,dst,payload,shim\n";
+pub const HEADER: &str = "time,node,kind,src,dst,payload,shim\n";
 
 // Whole texts, over a router alone.
 const HEADERS: [(&str, &str); 16] = [
@@ -321,10 +321,10 @@ const HOSTS: [(&str, &str); 21] = [
 ];
 
 // The answer in words.
-fn answer(alloc: Global, config: &Config, text: &str) -> Result<String, AllocError>
+pub fn answer(alloc: Global, config: &Config, text: &[u8]) -> Result<String, AllocError>
     requires { length config.now.nodes ≤ 65536 }
 {
-    match read_trace(alloc, text.as_bytes(), config) {
+    match read_trace(alloc, text, config) {
         Ok(rows) => format!(in alloc; "ok {}", rows.len()),
         Err(TraceError::Fault(fault)) => {
             format!(in alloc; "record {}: {}", fault.row, fault.rule)
@@ -344,7 +344,7 @@ fn expect_all(
     assert!(rt; config.nodes.len() <= 1024);
     for (body, want) in table {
         let text = format!(in alloc; "{front}{body}")?;
-        let given = answer(alloc, config, text.as_str())?;
+        let given = answer(alloc, config, text.as_bytes())?;
         assert_eq!(rt; given.as_str(), *want, "{text}");
     }
     Ok(())
@@ -390,7 +390,7 @@ fn expect_digits(
     for _ in 0..digits {
         text.push_str("0")?;
     }
-    assert_eq!(rt; answer(alloc, config, text.as_str())?.as_str(), want);
+    assert_eq!(rt; answer(alloc, config, text.as_bytes())?.as_str(), want);
     Ok(())
 }
 

@@ -1,0 +1,50 @@
+// Traces of a million rows, and bytes that are no text.
+use super::edge;
+use super::traces::{HEADER, answer};
+use std::alloc::{AllocError, Global};
+use std::process::Abort;
+use std::test::Fail;
+use tva_config::Config;
+
+const ROW: &str = "0,R1,raw,1.1.1.1,1.1.1.1,0,\n";
+
+// So many rows and what stands behind them have their answer.
+fn expect_rows(
+    rt: &impl Abort,
+    alloc: Global,
+    config: &Config,
+    rows: usize,
+    behind: &str,
+    want: &str,
+) -> Result<(), AllocError> {
+    assert!(rt; config.nodes.len() <= 1024);
+    let mut text = String::from_str(alloc, HEADER)?;
+    text.push_str(ROW.repeat(alloc, rows)?.as_str())?;
+    text.push_str(behind)?;
+    assert_eq!(rt; answer(alloc, config, text.as_bytes())?.as_str(), want);
+    Ok(())
+}
+
+#[test]
+fn a_million_rows(rt: HostRuntime) -> Result<(), Fail> {
+    let alloc = rt.alloc();
+    let config = edge(alloc)?;
+    for (rows, behind, want) in [
+        (1_000_000, "", "ok 1000000"),
+        (1_000_000, "x\n", "record 1000002: rows"),
+        (999_999, "x\nx\n", "record 1000001: fields"),
+    ] {
+        expect_rows(&rt, alloc, &config, rows, behind, want)?;
+    }
+    Ok(())
+}
+
+#[test]
+fn bytes_that_are_no_text(rt: HostRuntime) -> Result<(), Fail> {
+    let alloc = rt.alloc();
+    let config = edge(alloc)?;
+    assert!(rt; config.nodes.len() <= 1024);
+    let text = b"time,node,kind,src,dst,payload,shim\n0,R\xff,raw,10.0.0.1,10.0.1.1,0,\n";
+    assert_eq!(rt; answer(alloc, &config, text)?.as_str(), "record 2: node");
+    Ok(())
+}
