@@ -1,0 +1,100 @@
+-- What a router stands for after an arrival.
+use Rattle.std.proofs.Common.{◌≡◌, ℕ, ◌<◌, ◌≤◌, Bool, true, false, cond, leb, List, [], ◌++◌, Option, None, refl, sym, ap, ◌∙◌, subst, arith, append-nil}
+use Rattle.std.proofs.lemmas.Bool.Decides.{nat_tests}
+use Rattle.tva_base.specs.declared.packet.Fate.{Fate}
+use Rattle.tva_base.specs.declared.packet.Outcome.{Outcome}
+use Rattle.tva_base.specs.declared.plan.RouterPlan.{RouterPlan}
+use Rattle.tva_base.specs.declared.packet.Grant.{Grant}
+use Rattle.tva_shim.specs.Packets.{PacketData, packet_length}
+use Rattle.tva_caps.specs.Minting.{MinterState}
+use Rattle.tva_flow.specs.Charges.{Charge}
+use Rattle.tva_flow.specs.Budget.{AreTimely}
+use Rattle.tva_flow.specs.Stands as flows
+use Rattle.tva_port.specs.Stands as port
+use Rattle.tva_router.specs.declared.guard.Guard.{Guard}
+use Rattle.tva_router.specs.declared.judged.Judged.{Judged}
+use Rattle.tva_router.specs.Judging.{judge}
+use Rattle.tva_router.specs.Handling.{Logs, Handled, arrival, goes_on, handle, stopped, forwarded, sent, queued, way_to, nonce_in, charged_by}
+use Rattle.tva_router.specs.Stands.{RouterData, router_data, StandsFor, StandForLogs, MissNone, ◌with◌}
+use Rattle.tva_router.specs.Steps.{IsSound, Keeps}
+use Rattle.tva_router.proofs.Answers.{guard-later}
+use Rattle.tva_router.proofs.Ports.{ports-later, stands-nothing, miss-nothing}
+
+pub sound-later : (plan : RouterPlan) (last now : ℕ) (g : Guard) (ps : List port.PortData) → last ≤ now → IsSound plan last g ps → IsSound plan now g ps
+sound-later plan last now g ps le s = record {
+  valid = s.valid;
+  guard = guard-later plan last now g le s.guard;
+  ports = ports-later plan.outgoing last now ps le s.ports;
+}
+
+pub handle-stopped : (plan : RouterPlan) (h : List Charge) (logs : Logs) (now : ℕ) (from : Option ℕ) (p : PacketData) → 32 ≤ p.hops → handle plan h logs now from p ≡ stopped p
+unfolding handle
+handle-stopped plan h logs now from p many =
+    let full : leb 32 p.hops ≡ true = grind (arith, nat_tests, many) in
+    rw full refl
+
+pub handle-forwarded : (plan : RouterPlan) (h : List Charge) (logs : Logs) (now : ℕ) (from : Option ℕ) (p : PacketData) → p.hops < 32
+    → handle plan h logs now from p ≡ forwarded plan logs now p (judge plan h (arrival now from p) p.carried)
+unfolding handle
+handle-forwarded plan h logs now from p few =
+    let free : leb 32 p.hops ≡ false = grind (arith, nat_tests, few) in
+    rw free refl
+
+-- nothing became of it
+pub stands-stopped : (plan : RouterPlan) (last now : ℕ) (m : MinterState) (c : flows.Cache) (ps : List port.PortData) (h : List Charge) (logs : Logs) (from : Option ℕ) (p : PacketData) → 32 ≤ p.hops
+    → StandsFor (router_data plan last m c ps) h logs
+    → StandsFor (router_data plan now m c ps) (h ++ (handle plan h logs now from p).charges) (logs with (handle plan h logs now from p).queued)
+stands-stopped plan last now m c ps h logs from p many s =
+    subst (λ (z : Handled). StandsFor (router_data plan now m c ps) (h ++ z.charges) (logs with z.queued)) (sym (handle-stopped plan h logs now from p many))
+    (record {
+      charges = subst (λ (z : List Charge). flows.StandsFor c z) (sym (append-nil h)) s.charges;
+      timely = subst (λ (z : List Charge). AreTimely plan.clock_offset z) (sym (append-nil h)) s.timely;
+      links = stands-nothing plan.outgoing ps logs s.links;
+    })
+
+-- the fate of an arrival that was judged, and whose packet then went there
+pub fate-forwarded : (plan : RouterPlan) (h : List Charge) (logs : Logs) (now : ℕ) (from : Option ℕ) (p : PacketData) (j : Judged) (o : Outcome) → p.hops < 32
+    → j ≡ judge plan h (arrival now from p) p.carried → o ≡ sent logs j.class (goes_on p j.carried) (way_to plan p.flow.dst)
+    → record { class = j.class; cause = j.cause; charge = j.charge; outcome = o } ≡ (handle plan h logs now from p).fate
+fate-forwarded plan h logs now from p j o few judged went =
+    let out : Fate = record { class = j.class; cause = j.cause; charge = j.charge; outcome = sent logs j.class (goes_on p j.carried) (way_to plan p.flow.dst) } in
+    let first : record { class = j.class; cause = j.cause; charge = j.charge; outcome = o } ≡ out =
+    ap (λ (z : Outcome). let r : Fate = record { class = j.class; cause = j.cause; charge = j.charge; outcome = z } in r) went in
+    first
+    ∙ ap (λ (z : Judged). (forwarded plan logs now p z).fate) judged
+    ∙ sym (ap (λ (z : Handled). z.fate) (handle-forwarded plan h logs now from p few))
+
+pub stands-forwarded : (plan : RouterPlan) (last now : ℕ) (m n : MinterState) (c d : flows.Cache) (ps qs : List port.PortData) (h : List Charge) (logs : Logs) (from : Option ℕ) (p : PacketData) (j : Judged) → p.hops < 32
+    → j ≡ judge plan h (arrival now from p) p.carried → StandsFor (router_data plan last m c ps) h logs
+    → Keeps plan (arrival now from p) j.charge (nonce_in p.carried) c d
+    → StandForLogs plan.outgoing qs (logs with queued logs now j.class (goes_on p j.carried) (way_to plan p.flow.dst))
+    → StandsFor (router_data plan now n d qs) (h ++ (handle plan h logs now from p).charges) (logs with (handle plan h logs now from p).queued)
+stands-forwarded plan last now m n c d ps qs h logs from p j few judged s keeps links =
+    subst (λ (z : Handled). StandsFor (router_data plan now n d qs) (h ++ z.charges) (logs with z.queued))
+    (ap (forwarded plan logs now p) judged ∙ sym (handle-forwarded plan h logs now from p few))
+    (record { charges = keeps.stands h s.charges; timely = keeps.timely h s.charges s.timely; links = links })
+
+uncharged_if : (b : Bool) (plan : RouterPlan) (logs : Logs) (now : ℕ) (p : PacketData) (j : Judged) → (cond b (stopped p) (forwarded plan logs now p j)).fate.charge ≡ None → (cond b (stopped p) (forwarded plan logs now p j)).charges ≡ []
+uncharged_if true plan logs now p j e = refl
+uncharged_if false plan logs now p j e = ap (λ (z : Option Grant). charged_by z now (nonce_in p.carried) (packet_length p)) e
+
+uncharged : (plan : RouterPlan) (h : List Charge) (logs : Logs) (now : ℕ) (from : Option ℕ) (p : PacketData) → (handle plan h logs now from p).fate.charge ≡ None → (handle plan h logs now from p).charges ≡ []
+unfolding handle
+uncharged plan h logs now from p e = uncharged_if (leb 32 p.hops) plan logs now p (judge plan h (arrival now from p) p.carried) e
+
+-- an arrival without a charge leaves the charges as they were
+pub stands-uncharged : (v : RouterData) (plan : RouterPlan) (h : List Charge) (logs after : Logs) (now : ℕ) (from : Option ℕ) (p : PacketData) (fate : Fate) → fate ≡ (handle plan h logs now from p).fate
+    → StandsFor v (h ++ (handle plan h logs now from p).charges) after → fate.charge ≡ None → StandsFor v h after
+stands-uncharged v plan h logs after now from p fate told s none =
+    let empty : (handle plan h logs now from p).charges ≡ [] = uncharged plan h logs now from p (ap (λ (z : Fate). z.charge) (sym told) ∙ none) in
+    subst (λ (z : List Charge). StandsFor v z after) (ap (λ (z : List Charge). h ++ z) empty ∙ append-nil h) s
+
+-- no start is missed by an arrival
+pub missed-stopped : (plan : RouterPlan) (h : List Charge) (logs : Logs) (now : ℕ) (from : Option ℕ) (p : PacketData) → 32 ≤ p.hops → MissNone plan.outgoing now logs → MissNone plan.outgoing now (logs with (handle plan h logs now from p).queued)
+missed-stopped plan h logs now from p many m =
+    subst (λ (z : Handled). MissNone plan.outgoing now (logs with z.queued)) (sym (handle-stopped plan h logs now from p many)) (miss-nothing plan.outgoing now logs m)
+
+pub missed-forwarded : (plan : RouterPlan) (h : List Charge) (logs : Logs) (now : ℕ) (from : Option ℕ) (p : PacketData) (j : Judged) → p.hops < 32 → j ≡ judge plan h (arrival now from p) p.carried
+    → MissNone plan.outgoing now (logs with queued logs now j.class (goes_on p j.carried) (way_to plan p.flow.dst)) → MissNone plan.outgoing now (logs with (handle plan h logs now from p).queued)
+missed-forwarded plan h logs now from p j few judged m =
+    subst (λ (z : Handled). MissNone plan.outgoing now (logs with z.queued)) (ap (forwarded plan logs now p) judged ∙ sym (handle-forwarded plan h logs now from p few)) m

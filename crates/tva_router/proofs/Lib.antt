@@ -1,0 +1,5 @@
+pub mod Links
+pub mod Ports
+pub mod Answers
+pub mod Queueing
+pub mod Handled

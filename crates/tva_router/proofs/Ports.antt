@@ -1,0 +1,187 @@
+-- The ports of a router by its outgoing links.
+use Rattle.std.proofs.Common.{◌≡◌, ℕ, ◌<◌, ◌≤◌, Bool, true, false, List, [], ◌∷◌, ◌++◌, ◌+◌, length, take, get_or, set, Option, Some, None, eqb, cond, refl, sym, ap, ◌∙◌, subst, zero, suc, arith, append-nil}
+use Rattle.std.specs.Prelude.{Contains}
+use Rattle.std.specs.List.{find, position}
+use Rattle.std.proofs.lemmas.List.{take_more}
+use Rattle.std.proofs.lemmas.Bool.Decides.{nat_tests}
+use Rattle.tva_base.specs.Plan.{AreDistinct, links_of}
+use Rattle.tva_base.specs.declared.limits.LinkLimits.{LinkLimits}
+use Rattle.tva_port.specs.Log.{Entry}
+use Rattle.tva_port.specs.Decide.{MissesNone}
+use Rattle.tva_port.specs.Stands.{PortData, StandsFor}
+use Rattle.tva_router.specs.Handling.{Logs}
+use Rattle.tva_router.specs.Stands.{StandForLogs, MissNone, port_in, ◌with◌}
+use Rattle.tva_router.specs.Steps.{ArePorts}
+use Rattle.tva_router.proofs.Links.{IsAt, find_nowhere}
+
+-- as many as links
+pub ports-length : (os : List (ℕ × LinkLimits)) (last : ℕ) (ps : List PortData) → ArePorts os last ps → length ps ≡ length os
+ports-length [] last [] a = refl
+ports-length [] last (p ∷ ps) a = absurd a
+ports-length (o ∷ os) last [] a = absurd a
+ports-length (o ∷ os) last (p ∷ ps) a = ap suc (ports-length os last ps a.2)
+
+pub ports-later : (os : List (ℕ × LinkLimits)) (last now : ℕ) (ps : List PortData) → last ≤ now → ArePorts os last ps → ArePorts os now ps
+ports-later [] last now [] le a = tt
+ports-later [] last now (p ∷ ps) le a = absurd a
+ports-later (o ∷ os) last now [] le a = absurd a
+ports-later (o ∷ os) last now (p ∷ ps) le a = (a.0, omega (arith, le, a.1), ports-later os last now ps le a.2)
+
+-- the port in a place
+pub port-get : (os : List (ℕ × LinkLimits)) (last : ℕ) (ps : List PortData) (i : ℕ) (p : PortData) (d : ℕ × LinkLimits) → ArePorts os last ps → i < length os
+    → p ≡ get_or ps i p → (p.limits ≡ (get_or os i d).1) × (p.last ≤ last)
+port-get [] last ps i p d a within here = absurd (omega (arith, within))
+port-get (x ∷ xs) last [] i p d a within here = absurd a
+port-get (x ∷ xs) last (y ∷ ys) zero p d a within here = subst (λ (z : PortData). (z.limits ≡ x.1) × (z.last ≤ last)) (sym here) (a.0, a.1)
+port-get (x ∷ xs) last (y ∷ ys) (suc i) p d a within here = port-get xs last ys i p d a.2 (omega (arith, within)) here
+
+pub ports-set : (os : List (ℕ × LinkLimits)) (last : ℕ) (ps : List PortData) (i : ℕ) (p : PortData) (d : ℕ × LinkLimits) → ArePorts os last ps → i < length os
+    → p.limits ≡ (get_or os i d).1 → p.last ≤ last → ArePorts os last (set ps i p)
+ports-set [] last ps i p d a within l k = absurd (omega (arith, within))
+ports-set (x ∷ xs) last [] i p d a within l k = absurd a
+ports-set (x ∷ xs) last (y ∷ ys) zero p d a within l k = (l, k, a.2)
+ports-set (x ∷ xs) last (y ∷ ys) (suc i) p d a within l k = (a.0, a.1, ports-set xs last ys i p d a.2 (omega (arith, within)) l k)
+
+-- the port of a link stands for its log
+pub stands-get : (os : List (ℕ × LinkLimits)) (ps : List PortData) (logs : Logs) (i link : ℕ) (p : PortData) → StandForLogs os ps logs → IsAt os i link
+    → length ps ≡ length os → p ≡ get_or ps i p → StandsFor p (logs link)
+stands-get [] ps logs i link p s at n here = absurd at
+stands-get (o ∷ os) [] logs i link p s at n here = absurd s
+stands-get (o ∷ os) (y ∷ ys) logs zero link p s at n here =
+    subst (λ (z : PortData). StandsFor z (logs link)) (sym here) (subst (λ (k : ℕ). StandsFor y (logs k)) (grind (arith, at)) s.0)
+stands-get (o ∷ os) (y ∷ ys) logs (suc i) link p s at n here = stands-get os ys logs i link p s.1 at.1 (omega (arith, n)) here
+
+-- nothing was added
+pub stands-nothing : (os : List (ℕ × LinkLimits)) (ps : List PortData) (logs : Logs) → StandForLogs os ps logs → StandForLogs os ps (logs with λ k. [])
+stands-nothing [] ps logs s = tt
+stands-nothing (o ∷ os) [] logs s = absurd s
+stands-nothing (o ∷ os) (p ∷ ps) logs s =
+    (subst (λ (z : List Entry). StandsFor p z) (sym (append-nil (logs o.0))) s.0, stands-nothing os ps logs s.1)
+
+-- none of the links is that one
+abbrev pub AreOthers : List (ℕ × LinkLimits) → ℕ → Type 0
+AreOthers [] link = Unit {0}
+AreOthers (o ∷ os) link = (eqb o.0 link ≡ false) × AreOthers os link
+
+same_or_not : (a b : ℕ) → (a ≡ b → ⊥) → eqb a b ≡ false
+same_or_not a b apart = grind (arith, nat_tests, apart)
+
+others : (os : List (ℕ × LinkLimits)) (link : ℕ) → (Contains (links_of os) link → ⊥) → AreOthers os link
+others [] link absent = tt
+others (o ∷ os) link absent = (same_or_not o.0 link (λ e. absent (0, omega arith, e)), others os link (λ there. absent (suc there.0, omega (arith, there.1), there.2)))
+
+pub same_link : (a b : ℕ) → eqb a b ≡ true → a ≡ b
+same_link a b e = grind (arith, nat_tests)
+
+added_other : (p : PortData) (logs : Logs) (k link : ℕ) (added : List Entry) → eqb k link ≡ false → StandsFor p (logs k) → StandsFor p (logs k ++ cond (eqb k link) added [])
+added_other p logs k link added other s = rw other (subst (λ (z : List Entry). StandsFor p z) (sym (append-nil (logs k))) s)
+
+stands-others : (os : List (ℕ × LinkLimits)) (ps : List PortData) (logs : Logs) (link : ℕ) (added : List Entry) → AreOthers os link
+    → StandForLogs os ps logs → StandForLogs os ps (logs with λ k. cond (eqb k link) added [])
+stands-others [] ps logs link added apart s = tt
+stands-others (o ∷ os) [] logs link added apart s = absurd s
+stands-others (o ∷ os) (p ∷ ps) logs link added apart s =
+    (added_other p logs o.0 link added apart.0 s.0, stands-others os ps logs link added apart.1 s.1)
+
+added_here : (p : PortData) (logs : Logs) (k link : ℕ) (added : List Entry) → eqb k link ≡ true → StandsFor p (logs link ++ added) → StandsFor p (logs k ++ cond (eqb k link) added [])
+added_here p logs k link added here s = rw here (subst (λ (z : ℕ). StandsFor p (logs z ++ added)) (sym (same_link k link here)) s)
+
+-- one port has more in its log
+pub stands-set : (os : List (ℕ × LinkLimits)) (ps : List PortData) (logs : Logs) (i link : ℕ) (p : PortData) (added : List Entry) → AreDistinct (links_of os) → IsAt os i link
+    → StandForLogs os ps logs → StandsFor p (logs link ++ added)
+    → StandForLogs os (set ps i p) (logs with λ k. cond (eqb k link) added [])
+stands-set [] ps logs i link p added apart at s new = absurd at
+stands-set (o ∷ os) [] logs i link p added apart at s new = absurd s
+stands-set (o ∷ os) (y ∷ ys) logs zero link p added apart at s new = (
+  added_here p logs o.0 link added at new,
+  stands-others os ys logs link added (others os link (subst (λ (z : ℕ). Contains (links_of os) z → ⊥) (same_link o.0 link at) apart.0)) s.1,
+)
+stands-set (o ∷ os) (y ∷ ys) logs (suc i) link p added apart at s new =
+    (added_other y logs o.0 link added at.0 s.0, stands-set os ys logs i link p added apart.1 at.1 s.1 new)
+
+-- on no link a start is missed, with nothing added
+pub miss-nothing : (os : List (ℕ × LinkLimits)) (until : ℕ) (logs : Logs) → MissNone os until logs → MissNone os until (logs with λ k. [])
+miss-nothing [] until logs m = tt
+miss-nothing (o ∷ os) until logs m =
+    (subst (λ (z : List Entry). MissesNone o.1 until z) (sym (append-nil (logs o.0))) m.0, miss-nothing os until logs m.1)
+
+miss_other : (l : LinkLimits) (until : ℕ) (logs : Logs) (k link : ℕ) (added : List Entry) → eqb k link ≡ false → MissesNone l until (logs k) → MissesNone l until (logs k ++ cond (eqb k link) added [])
+miss_other l until logs k link added other m = rw other (subst (λ (z : List Entry). MissesNone l until z) (sym (append-nil (logs k))) m)
+
+miss_others : (os : List (ℕ × LinkLimits)) (until : ℕ) (logs : Logs) (link : ℕ) (added : List Entry) → AreOthers os link → MissNone os until logs → MissNone os until (logs with λ k. cond (eqb k link) added [])
+miss_others [] until logs link added apart m = tt
+miss_others (o ∷ os) until logs link added apart m = (miss_other o.1 until logs o.0 link added apart.0 m.0, miss_others os until logs link added apart.1 m.1)
+
+miss_here : (l : LinkLimits) (until : ℕ) (logs : Logs) (k link : ℕ) (added : List Entry) → eqb k link ≡ true → MissesNone l until (logs link ++ added) → MissesNone l until (logs k ++ cond (eqb k link) added [])
+miss_here l until logs k link added here m = rw here (subst (λ (z : ℕ). MissesNone l until (logs z ++ added)) (sym (same_link k link here)) m)
+
+pub miss-get : (os : List (ℕ × LinkLimits)) (until : ℕ) (logs : Logs) (i link : ℕ) (d : ℕ × LinkLimits) → IsAt os i link → MissNone os until logs → MissesNone (get_or os i d).1 until (logs link)
+miss-get [] until logs i link d at m = absurd at
+miss-get (o ∷ os) until logs zero link d at m = subst (λ (z : ℕ). MissesNone o.1 until (logs z)) (same_link o.0 link at) m.0
+miss-get (o ∷ os) until logs (suc i) link d at m = miss-get os until logs i link d at.1 m.1
+
+-- with more in the log of one
+pub miss-set : (os : List (ℕ × LinkLimits)) (until : ℕ) (logs : Logs) (i link : ℕ) (d : ℕ × LinkLimits) (added : List Entry) → AreDistinct (links_of os) → IsAt os i link → MissNone os until logs
+    → MissesNone (get_or os i d).1 until (logs link ++ added) → MissNone os until (logs with λ k. cond (eqb k link) added [])
+miss-set [] until logs i link d added apart at m new = absurd at
+miss-set (o ∷ os) until logs zero link d added apart at m new = (
+  miss_here o.1 until logs o.0 link added at new,
+  miss_others os until logs link added (others os link (subst (λ (z : ℕ). Contains (links_of os) z → ⊥) (same_link o.0 link at) apart.0)) m.1,
+)
+miss-set (o ∷ os) until logs (suc i) link d added apart at m new =
+    (miss_other o.1 until logs o.0 link added at.0 m.0, miss-set os until logs i link d added apart.1 at.1 m.1 new)
+
+-- the port of a link is the one in its place
+pub port-at : (os : List (ℕ × LinkLimits)) (ps : List PortData) (i link : ℕ) (p : PortData) → IsAt os i link → length ps ≡ length os → p ≡ get_or ps i p → port_in os ps link ≡ Some p
+port-at [] ps i link p at n here = absurd at
+port-at (o ∷ os) [] i link p at n here = absurd (omega (arith, n))
+port-at (o ∷ os) (y ∷ ys) zero link p at n here = rw at (ap Some (sym here))
+port-at (o ∷ os) (y ∷ ys) (suc i) link p at n here = rw at.0 (port-at os ys i link p at.1 (omega (arith, n)) here)
+
+pub port-after : (os : List (ℕ × LinkLimits)) (ps : List PortData) (i link : ℕ) (p : PortData) → IsAt os i link → length ps ≡ length os → port_in os (set ps i p) link ≡ Some p
+port-after [] ps i link p at n = absurd at
+port-after (o ∷ os) [] i link p at n = absurd (omega (arith, n))
+port-after (o ∷ os) (y ∷ ys) zero link p at n = rw at refl
+port-after (o ∷ os) (y ∷ ys) (suc i) link p at n = rw at.0 (port-after os ys i link p at.1 (omega (arith, n)))
+
+neither : {X : Type 0} (b : Bool) (x : X) (rest : Option X) → cond b (Some x) rest ≡ None → (b ≡ false) × (rest ≡ None)
+neither true x rest h = absurd (cc)
+neither false x rest h = (refl, h)
+
+found_none : (os : List (ℕ × LinkLimits)) (link : ℕ) → find (λ o. eqb o.0 link) os ≡ None → AreOthers os link
+found_none [] link h = tt
+found_none (o ∷ os) link h =
+    let parts = neither (eqb o.0 link) o (find (λ z. eqb z.0 link) os) h in
+    (parts.0, found_none os link parts.1)
+
+port_none : (os : List (ℕ × LinkLimits)) (ps : List PortData) (link : ℕ) → AreOthers os link → port_in os ps link ≡ None
+port_none [] ps link apart = refl
+port_none (o ∷ os) [] link apart = refl
+port_none (o ∷ os) (p ∷ ps) link apart = rw apart.0 (port_none os ps link apart.1)
+
+-- there is none of a link without a place
+pub port-nowhere : (os : List (ℕ × LinkLimits)) (ps : List PortData) (link : ℕ) → position (λ o. eqb o.0 link) os ≡ None → port_in os ps link ≡ None
+port-nowhere os ps link h = port_none os ps link (found_none os link (find_nowhere (λ (o : ℕ × LinkLimits). eqb o.0 link) os h))
+
+-- the place of a link, by a call that looked for it
+pub place-in : (os slice : List (ℕ × LinkLimits)) (link : ℕ) (r x : Option ℕ) → slice ≡ os → r ≡ position (λ o. eqb o.0 link) slice → r ≡ x → position (λ o. eqb o.0 link) os ≡ x
+place-in os slice link r x same looked is = subst (λ (z : List (ℕ × LinkLimits)). position (λ o. eqb o.0 link) z ≡ x) same (sym looked ∙ is)
+
+ports-push : (os : List (ℕ × LinkLimits)) (last : ℕ) (ps : List PortData) (o : ℕ × LinkLimits) (p : PortData) → ArePorts os last ps → p.limits ≡ o.1 → p.last ≤ last → ArePorts (os ++ o ∷ []) last (ps ++ p ∷ [])
+ports-push [] last [] o p a l k = (l, k, tt)
+ports-push [] last (y ∷ ys) o p a l k = absurd a
+ports-push (x ∷ xs) last [] o p a l k = absurd a
+ports-push (x ∷ xs) last (y ∷ ys) o p a l k = (a.0, a.1, ports-push xs last ys o p a.2 l k)
+
+stands-push : (os : List (ℕ × LinkLimits)) (last : ℕ) (ps : List PortData) (logs : Logs) (o : ℕ × LinkLimits) (p : PortData) → ArePorts os last ps → StandForLogs os ps logs → StandsFor p (logs o.0) → StandForLogs (os ++ o ∷ []) (ps ++ p ∷ []) logs
+stands-push [] last [] logs o p a s k = (k, tt)
+stands-push [] last (y ∷ ys) logs o p a s k = absurd a
+stands-push (x ∷ xs) last [] logs o p a s k = absurd a
+stands-push (x ∷ xs) last (y ∷ ys) logs o p a s k = (s.0, stands-push xs last ys logs o p a.2 s.1 k)
+
+-- one port more
+pub ports-more : (os : List (ℕ × LinkLimits)) (i : ℕ) (d : ℕ × LinkLimits) (ps : List PortData) (p : PortData) → i < length os → ArePorts (take i os) 0 ps × StandForLogs (take i os) ps (λ link. [])
+    → p.limits ≡ (get_or os i d).1 → p.last ≤ 0 → StandsFor p [] → ArePorts (take (i + 1) os) 0 (ps ++ p ∷ []) × StandForLogs (take (i + 1) os) (ps ++ p ∷ []) (λ link. [])
+ports-more os i d ps p within so_far l k s =
+    subst (λ (z : List (ℕ × LinkLimits)). ArePorts z 0 (ps ++ p ∷ []) × StandForLogs z (ps ++ p ∷ []) (λ link. [])) (sym (take_more os i d within))
+    (ports-push (take i os) 0 ps (get_or os i d) p so_far.0 l k, stands-push (take i os) 0 ps (λ link. []) (get_or os i d) p so_far.0 so_far.1 s)

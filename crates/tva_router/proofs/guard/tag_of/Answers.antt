@@ -1,0 +1,9 @@
+use Rattle.std.proofs.Common.{◌≡◌, ℕ, List, ◌==◌, subst}
+use Rattle.std.specs.List.{find}
+use Rattle.tva_router.specs.Judging.{tag_or_zero}
+use Rattle.tva_router.proofs.guard.tag_of.Goals as goal
+
+pub returns-in-Some : goal.returns-in-Some
+returns-in-Some c =
+    rw c.in-Some.is
+    (subst (λ (z : List (ℕ × ℕ)). c.tag_in.result ≡ tag_or_zero (find (λ pair. pair.0 == c.in-Some.link) z)) c.as_slice.ensures c.tag_in.ensures)

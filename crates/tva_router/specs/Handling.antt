@@ -1,0 +1,132 @@
+-- What becomes of a packet that arrives at a router.
+use Rattle.std.specs.Prelude.{ℕ, ◌+◌, ◌==◌, nat_le, if◌then◌else◌, List, [], ◌∷◌, Option, Some, None}
+use Rattle.std.specs.List.{find}
+use Rattle.tva_base.specs.declared.addresses.Address.{Address}
+use Rattle.tva_base.specs.declared.limits.LinkLimits.{LinkLimits}
+use Rattle.tva_base.specs.declared.packet.Grant.{Grant}
+use Rattle.tva_base.specs.declared.packet.Fate.{Fate}
+use Rattle.tva_base.specs.declared.packet.Class.{Class}
+use Rattle.tva_base.specs.declared.packet.Class.TheVariants as class
+use Rattle.tva_base.specs.declared.packet.Outcome.{Outcome}
+use Rattle.tva_base.specs.declared.packet.Outcome.TheVariants as outcome
+use Rattle.tva_base.specs.declared.packet.DropCause.TheVariants as drop
+use Rattle.tva_base.specs.declared.plan.RouterPlan.{RouterPlan}
+use Rattle.tva_shim.specs.declared.entries.Entry as entries
+use Rattle.tva_shim.specs.declared.kinds.Kind.{Kind}
+use Rattle.tva_shim.specs.declared.kinds.Kind.TheVariants as kinds
+use Rattle.tva_shim.specs.declared.packets.Carried.{Carried}
+use Rattle.tva_shim.specs.declared.packets.Carried.TheVariants as carried
+use Rattle.tva_shim.specs.Shims.{entries_of}
+use Rattle.tva_shim.specs.Changes.{last_tag}
+use Rattle.tva_shim.specs.Packets.{PacketData, packet_length, class_by_shim}
+use Rattle.tva_flow.specs.Charges.{Charge, charge}
+use Rattle.tva_drr.specs.declared.offered.Offered.{Offered}
+use Rattle.tva_drr.specs.declared.offered.Offered.TheVariants as offers
+use Rattle.tva_port.specs.Log.{Entry}
+use Rattle.tva_port.specs.Waiting.{waiting_after, queue_answer, queued_by}
+use Rattle.tva_router.specs.declared.judged.Arrival.{Arrival}
+use Rattle.tva_router.specs.declared.judged.Judged.{Judged}
+use Rattle.tva_router.specs.Routes.{link_to}
+use Rattle.tva_router.specs.Judging.{judge}
+
+-- the log of each link's port, by the link's number
+abbrev pub Logs : Type 0
+Logs = ℕ → List Entry
+
+-- the entries of a request that a packet carries
+abbrev pub entries_in : Carried → List entries.Entry
+entries_in carried.Nothing = []
+entries_in (carried.Shim shim) = entries_of shim.kind
+entries_in (carried.Malformed bytes) = []
+
+-- the key under which a packet of a class is queued; a legacy packet needs none
+abbrev pub key_of : Class → PacketData → ℕ
+key_of class.Request p = last_tag (entries_in p.carried)
+key_of class.Regular p = p.flow.dst.0
+key_of class.Legacy p = 0
+
+abbrev pub kind_nonce : Kind → ℕ
+kind_nonce (kinds.Request entries) = 0
+kind_nonce (kinds.List shown) = shown.nonce
+kind_nonce (kinds.Nonce nonce) = nonce
+kind_nonce (kinds.Renewal shown) = shown.nonce
+
+-- the nonce that a packet shows, if any
+abbrev pub nonce_in : Carried → ℕ
+nonce_in carried.Nothing = 0
+nonce_in (carried.Shim shim) = kind_nonce shim.kind
+nonce_in (carried.Malformed bytes) = 0
+
+-- what a packet of so many bytes adds to the charges
+abbrev pub charged_by : Option Grant → ℕ → ℕ → ℕ → List Charge
+charged_by None now nonce bytes = []
+charged_by (Some grant) now nonce bytes = charge now grant nonce bytes ∷ []
+
+-- an outgoing link with its limits
+abbrev pub outgoing_link : RouterPlan → ℕ → Option (ℕ × LinkLimits)
+outgoing_link plan link = find (λ o. o.0 == link) plan.outgoing
+
+-- the link that a packet for the destination takes, with its limits
+abbrev pub link_or_none : RouterPlan → Option ℕ → Option (ℕ × LinkLimits)
+link_or_none plan None = None
+link_or_none plan (Some link) = outgoing_link plan link
+
+abbrev pub way_to : RouterPlan → Address → Option (ℕ × LinkLimits)
+way_to plan dst = link_or_none plan (link_to plan.routes dst)
+
+-- what the port of a link with that log answers to the packet
+abbrev pub offered : LinkLimits → List Entry → Class → PacketData → Offered PacketData
+offered limits log class p = queue_answer limits (waiting_after limits log) class (key_of class p) p
+
+abbrev pub outcome_of : ℕ → Offered PacketData → Outcome
+outcome_of link offers.Queued = outcome.Queued link
+outcome_of link (offers.NoQueue p) = outcome.Dropped drop.NoQueue
+outcome_of link (offers.QueueFull p) = outcome.Dropped drop.QueueFull
+
+-- where a packet of a class ends up, by its way
+abbrev pub sent : Logs → Class → PacketData → Option (ℕ × LinkLimits) → Outcome
+sent logs class p None = outcome.Dropped drop.NoRoute
+sent logs class p (Some (link, limits)) = outcome_of link (offered limits (logs link) class p)
+
+-- what it adds to the log of each link
+abbrev pub queued : Logs → ℕ → Class → PacketData → Option (ℕ × LinkLimits) → Logs
+queued logs now class p None k = []
+queued logs now class p (Some (link, limits)) k =
+    if k == link then queued_by (offered limits (logs link) class p) now class (key_of class p) p else []
+
+-- what becomes of an arrival, what it adds to the charges, and to the log of each link
+pub record Handled : Type 0 where
+  pub fate : Fate
+  pub charges : List Charge
+  pub queued : Logs
+
+-- a packet at the hop limit
+abbrev pub stopped : PacketData → Handled
+stopped p = record {
+  fate = record { class = class_by_shim p.carried; cause = None; charge = None; outcome = outcome.Dropped drop.HopLimit };
+  charges = [];
+  queued = λ k. [];
+}
+
+-- a packet after its judgement, one hop further
+abbrev pub goes_on : PacketData → Carried → PacketData
+goes_on p carries = record p { hops = p.hops + 1; carried = carries }
+
+-- a packet that was judged
+abbrev pub forwarded : RouterPlan → Logs → ℕ → PacketData → Judged → Handled
+forwarded plan logs now p j = record {
+  fate = record { class = j.class; cause = j.cause; charge = j.charge; outcome = sent logs j.class (goes_on p j.carried) (way_to plan p.flow.dst) };
+  charges = charged_by j.charge now (nonce_in p.carried) (packet_length p);
+  queued = queued logs now j.class (goes_on p j.carried) (way_to plan p.flow.dst);
+}
+
+-- an arrival of the packet, on a link or from the trace
+abbrev pub arrival : ℕ → Option ℕ → PacketData → Arrival
+arrival now from p = record { time = record { 0 = now }; from = from; flow = p.flow; bytes = packet_length p }
+
+-- what becomes of a packet that comes in on a link, or from the trace, at that time, over the router's
+-- charges and the logs of its links' ports so far
+unfoldable pub handle : RouterPlan → List Charge → Logs → ℕ → Option ℕ → PacketData → Handled
+handle plan h logs now from p =
+    if nat_le 32 p.hops then stopped p
+    else forwarded plan logs now p (judge plan h (arrival now from p) p.carried)

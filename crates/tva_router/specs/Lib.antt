@@ -1,0 +1,5 @@
+pub mod Routes
+pub mod Judging
+pub mod Handling
+pub mod Stands
+pub mod Steps

@@ -1,0 +1,24 @@
+-- Which link leads to a destination.
+use Rattle.std.specs.Prelude.{ℕ, ◌==◌, ◌&&◌, max, Bool, List, map, filter, Option}
+use Rattle.std.specs.Option.{option_map}
+use Rattle.std.specs.List.{fold, find}
+use Rattle.tva_base.specs.declared.addresses.Address.{Address}
+use Rattle.tva_base.specs.declared.addresses.Prefix.{Prefix}
+use Rattle.tva_base.specs.declared.plan.Route.{Route}
+use Rattle.tva_base.specs.Addresses.{kept}
+
+-- the address begins with the prefix
+abbrev pub holds : Prefix → Address → Bool
+holds prefix address = (kept address prefix.bits).0 == prefix.address.0
+
+-- the greatest length of the prefixes that the destination begins with
+abbrev pub longest : List Route → Address → ℕ
+longest routes dst = fold max 0 (map (λ route. route.prefix.bits) (filter (λ route. holds route.prefix dst) routes))
+
+-- the destination begins with a prefix of that length
+abbrev pub leads : ℕ → Address → Route → Bool
+leads bits dst route = holds route.prefix dst && (route.prefix.bits == bits)
+
+-- the link of the longest prefix that the destination begins with
+unfoldable pub link_to : List Route → Address → Option ℕ
+link_to routes dst = option_map (λ route. route.link) (find (leads (longest routes dst) dst) routes)

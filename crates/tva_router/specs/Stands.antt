@@ -1,0 +1,60 @@
+-- What a router keeps, and for which charges and logs it stands.
+use Rattle.std.specs.Prelude.{ℕ, ◌==◌, if◌then◌else◌, List, [], ◌∷◌, ◌++◌, Option, Some, None}
+use Rattle.tva_base.specs.declared.limits.LinkLimits.{LinkLimits}
+use Rattle.tva_base.specs.declared.plan.RouterPlan.{RouterPlan}
+use Rattle.tva_caps.specs.Minting.{MinterState}
+use Rattle.tva_flow.specs.Charges.{Charge}
+use Rattle.tva_flow.specs.Budget.{AreTimely}
+use Rattle.tva_flow.specs.Stands as flows
+use Rattle.tva_port.specs.declared.decision.Decision.{Decision}
+use Rattle.tva_port.specs.Decide.{started_by, MissesNone}
+use Rattle.tva_port.specs.Stands as port
+use Rattle.tva_router.specs.Handling.{Logs}
+
+-- a router: its plan, its last time in nanoseconds, its minter, its flow cache, and the port of each
+-- outgoing link, in their order
+pub record RouterData : Type 0 where
+  pub plan : RouterPlan
+  pub last : ℕ
+  pub minter : MinterState
+  pub cache : flows.Cache
+  pub ports : List port.PortData
+
+abbrev pub router_data : RouterPlan → ℕ → MinterState → flows.Cache → List port.PortData → RouterData
+router_data plan last minter cache ports = record { plan = plan; last = last; minter = minter; cache = cache; ports = ports }
+
+-- each outgoing link's port stands for the link's log
+abbrev pub StandForLogs : List (ℕ × LinkLimits) → List port.PortData → Logs → Type 0
+StandForLogs [] ports logs = Unit {0}
+StandForLogs (o ∷ os) [] logs = ⊥
+StandForLogs (o ∷ os) (p ∷ ps) logs = port.StandsFor p (logs o.0) × StandForLogs os ps logs
+
+-- the router stands for these charges and logs: its cache stands for the charges, each of which came in
+-- one of its grant's seconds, and each port for its link's log
+pub record StandsFor (v : RouterData) (h : List Charge) (logs : Logs) : Type 0 where
+  pub charges : flows.StandsFor v.cache h
+  pub timely : AreTimely v.plan.clock_offset h
+  pub links : StandForLogs v.plan.outgoing v.ports logs
+
+-- on no outgoing link a start was missed before that time
+abbrev pub MissNone : List (ℕ × LinkLimits) → ℕ → Logs → Type 0
+MissNone [] until logs = Unit {0}
+MissNone (o ∷ os) until logs = MissesNone o.1 until (logs o.0) × MissNone os until logs
+
+-- the logs with what was added to each
+infixl 20 ◌with◌
+abbrev pub ◌with◌ : Logs → Logs → Logs
+(logs with added) k = logs k ++ added k
+
+-- the port of an outgoing link
+abbrev pub port_in : List (ℕ × LinkLimits) → List port.PortData → ℕ → Option port.PortData
+port_in [] ports link = None
+port_in (o ∷ os) [] link = None
+port_in (o ∷ os) (p ∷ ps) link = if o.0 == link then Some p else port_in os ps link
+
+abbrev pub port_of : RouterData → ℕ → Option port.PortData
+port_of v link = port_in v.plan.outgoing v.ports link
+
+-- what a decision on a link adds to the log of each
+abbrev pub started_on : ℕ → Decision → ℕ → Logs
+started_on link d now k = if k == link then started_by d now else []

@@ -1,0 +1,54 @@
+-- The parts of a router by its plan, and what they owe. No public clause cites them.
+use Rattle.std.specs.Prelude.{◌≡◌, ℕ, ◌≤◌, List, [], ◌∷◌, ◌++◌, Option, Some, None, Ok, Err}
+use Rattle.tva_base.specs.Plan.{IsRouterPlan}
+use Rattle.tva_base.specs.declared.limits.LinkLimits.{LinkLimits}
+use Rattle.tva_base.specs.declared.packet.Grant.{Grant}
+use Rattle.tva_base.specs.declared.plan.RouterPlan.{RouterPlan}
+use Rattle.tva_flow.specs.Charges.{Charge}
+use Rattle.tva_flow.specs.Budget.{AreTimely}
+use Rattle.tva_flow.specs.Stands as flows
+use Rattle.tva_port.specs.Stands as port
+use Rattle.tva_router.specs.declared.judged.Arrival.{Arrival}
+use Rattle.tva_router.specs.declared.guard.Guard.{Guard}
+use Rattle.tva_router.specs.Judging.{Answer}
+use Rattle.tva_router.specs.Handling.{charged_by}
+
+-- the minter and the cache are the plan's, and were called no later than that
+pub record IsGuard (plan : RouterPlan) (last : ℕ) (g : Guard) : Type 0 where
+  pub master : g.minter.master ≡ plan.master
+  pub clock : g.minter.clock_offset ≡ plan.clock_offset
+  pub slots : g.cache.slots ≡ plan.slots
+  pub offset : g.cache.offset ≡ plan.clock_offset
+  pub minted : g.minter.last ≤ last
+  pub charged : g.cache.last ≤ last
+
+-- a guard of the plan may judge such an arrival
+pub record MayJudge (plan : RouterPlan) (g : Guard) (a : Arrival) : Type 0 where
+  pub guard : IsGuard plan a.time.0 g
+  pub horizon : a.time.0 ≤ 1000000000000000
+  pub sized : (20 ≤ a.bytes) × (a.bytes ≤ 2048)
+
+-- the grant of an answer
+abbrev pub grant_in : Answer → Option Grant
+grant_in (Ok grant) = Some grant
+grant_in (Err cause) = None
+
+-- for all charges for which the cache stood, it then stands for them with what was charged, and they are
+-- timely as before
+pub record Keeps (plan : RouterPlan) (a : Arrival) (charge : Option Grant) (nonce : ℕ) (old new : flows.Cache) : Type 0 where
+  pub stands : (h : List Charge) → flows.StandsFor old h → flows.StandsFor new (h ++ charged_by charge a.time.0 nonce a.bytes)
+  pub timely : (h : List Charge) → flows.StandsFor old h → AreTimely plan.clock_offset h
+      → AreTimely plan.clock_offset (h ++ charged_by charge a.time.0 nonce a.bytes)
+
+-- each port has its link's limits, and was called no later than that
+abbrev pub ArePorts : List (ℕ × LinkLimits) → ℕ → List port.PortData → Type 0
+ArePorts [] last [] = Unit {0}
+ArePorts [] last (p ∷ ps) = ⊥
+ArePorts (o ∷ os) last [] = ⊥
+ArePorts (o ∷ os) last (p ∷ ps) = (p.limits ≡ o.1) × (p.last ≤ last) × ArePorts os last ps
+
+-- a router by its plan, whose parts were called no later than that
+pub record IsSound (plan : RouterPlan) (last : ℕ) (g : Guard) (ps : List port.PortData) : Type 0 where
+  pub valid : IsRouterPlan plan
+  pub guard : IsGuard plan last g
+  pub ports : ArePorts plan.outgoing last ps

@@ -1,0 +1,298 @@
+// What a router makes of the packets that arrive.
+ghost use Rattle.std.specs.Prelude.{◌≡◌, ◌≤◌, ◌<◌, ◌==◌, List, length, slice_get, IfOk, IfSome, Some, None};
+ghost use Rattle.std.specs.List.{find};
+ghost use Rattle.tva_base.specs.Plan.{AreRights};
+ghost use Rattle.tva_shim.specs.Changes.{IsRequest, PointsAtOne, with_next_pointer, with_fresh};
+ghost use Rattle.tva_shim.specs.Packets.{IsCarried};
+ghost use Rattle.tva_caps.specs.Check.{IfValid, IsSecondOf};
+ghost use Rattle.tva_flow.specs.Charges.{Charge};
+ghost use Rattle.tva_flow.specs.Stands.{StandsFor};
+ghost use Rattle.tva_router.specs.Judging.{tag_or_zero, tag_of, second_of, fresh_for, answer_of, answer_to_checked, answer_to_shown, answer_to_nonce, marked, judged, judged_by, judged_request, judged_shim, judge};
+ghost use Rattle.tva_router.specs.Handling.{kind_nonce, nonce_in};
+ghost use Rattle.tva_router.specs.Steps.{IsGuard, MayJudge, Keeps, grant_in};
+
+use crate::judged::{Arrival, Judged};
+use crate::routes::place_of;
+use tva_base::{Cause, Class, Grant, RouterPlan};
+use tva_caps::{Checked, Minter};
+use tva_flow::{FlowCache, Verdict};
+use tva_shim::{Carried, Entry, Kind, Shim, Shown};
+
+/// What a router judges packets with.
+#[derive(Drop)]
+pub(crate) struct Guard {
+    pub minter: Minter,
+    pub cache: FlowCache,
+}
+
+impl Guard {
+    /// What the router makes of an arrival that carries this.
+    pub fn judge(&mut self, plan: &RouterPlan, arrival: &Arrival, carried: Carried) -> Judged
+        requires { MayJudge plan.now self.old arrival.now }
+        ensures guard { IsGuard plan.now arrival.now.time.0 self.new }
+        ensures answer { (h : List Charge) → StandsFor self.old.cache h
+            → result ≡ judge plan.now h arrival.now carried }
+        ensures keeps { Keeps plan.now arrival.now result.charge (nonce_in carried) self.old.cache self.new.cache }
+        ensures carried { IsCarried carried → IsCarried result.carried }
+    {
+        match carried {
+            Carried::Nothing => legacy(None, Carried::Nothing),
+            Carried::Malformed(size) => legacy(Some(Cause::Malformed), Carried::Malformed(size)),
+            Carried::Shim(shim) => self.judge_shim(plan, arrival, shim),
+        }
+    }
+
+    #[tactic(auto, unfolding(crate::specs::Judging::judged_shim))]
+    fn judge_shim(&mut self, plan: &RouterPlan, arrival: &Arrival, shim: Shim) -> Judged
+        requires { MayJudge plan.now self.old arrival.now }
+        ensures guard { IsGuard plan.now arrival.now.time.0 self.new }
+        ensures answer { (h : List Charge) → StandsFor self.old.cache h
+            → result ≡ judged_shim plan.now h arrival.now shim }
+        ensures keeps { Keeps plan.now arrival.now result.charge (kind_nonce shim.kind) self.old.cache self.new.cache }
+        ensures carried { IsCarried result.carried }
+    {
+        if shim.demoted {
+            return legacy(None, Carried::Shim(shim));
+        }
+        match &shim.kind {
+            Kind::Request(_) => self.judge_request(plan, arrival, shim),
+            Kind::List(shown) => {
+                let answer = self.answer_to_shown(plan, arrival, shown);
+                judge_list(shim, answer)
+            }
+            Kind::Nonce(nonce) => {
+                let answer = self.answer_to_nonce(plan, arrival, *nonce);
+                judge_nonce(shim, answer)
+            }
+            Kind::Renewal(shown) => {
+                let answer = self.answer_to_shown(plan, arrival, shown);
+                self.judge_renewal(plan, arrival, shim, answer)
+            }
+        }
+    }
+
+    // A request gets an entry, where it has room.
+    fn judge_request(&mut self, plan: &RouterPlan, arrival: &Arrival, shim: Shim) -> Judged
+        requires may { MayJudge plan.now self.old arrival.now }
+        requires request { IsRequest shim.kind }
+        ensures guard { IsGuard plan.now arrival.now.time.0 self.new }
+        ensures answer { result ≡ judged_request plan.now arrival.now shim }
+        ensures cache { self.new.cache ≡ self.old.cache }
+    {
+        let mut shim = shim;
+        let entry = Entry {
+            tag: tag_of(plan, arrival.from),
+            precap: self.minter.mint(arrival.time, arrival.flow),
+        };
+        match shim.push_entry(entry) {
+            Ok(()) => Judged {
+                class: Class::Request,
+                cause: None,
+                charge: None,
+                carried: Carried::Shim(shim),
+            },
+            Err(_) => marked(shim, Cause::PathFull),
+        }
+    }
+
+    // An authorised renewal gets a fresh pre-capability.
+    fn judge_renewal(
+        &mut self,
+        plan: &RouterPlan,
+        arrival: &Arrival,
+        shim: Shim,
+        answer: Result<Grant, Cause>,
+    ) -> Judged
+        requires may { MayJudge plan.now self.old arrival.now }
+        requires points { IfOk answer (λ g. PointsAtOne shim.kind) }
+        ensures guard { IsGuard plan.now arrival.now.time.0 self.new }
+        ensures answer { result ≡ judged_by shim (with_next_pointer (with_fresh (fresh_for plan.now arrival.now) shim)) answer }
+        ensures charge { result.charge ≡ grant_in answer }
+        ensures cache { self.new.cache ≡ self.old.cache }
+    {
+        match answer {
+            Ok(grant) => {
+                let mut shim = shim;
+                shim.set_fresh(self.minter.mint(arrival.time, arrival.flow));
+                shim.advance_pointer();
+                regular(shim, grant)
+            }
+            Err(cause) => marked(shim, cause),
+        }
+    }
+
+    // The answer to an arrival that shows capabilities.
+    #[tactic(auto, unfolding(crate::specs::Judging::answer_to_shown))]
+    fn answer_to_shown(
+        &mut self,
+        plan: &RouterPlan,
+        arrival: &Arrival,
+        shown: &Shown,
+    ) -> Result<Grant, Cause>
+        requires may { MayJudge plan.now self.old arrival.now }
+        requires rights { AreRights shown.now.rights }
+        ensures guard { IsGuard plan.now arrival.now.time.0 self.new }
+        ensures answer { (h : List Charge) → StandsFor self.old.cache h
+            → result ≡ answer_to_shown plan.now h arrival.now shown.now }
+        ensures keeps { Keeps plan.now arrival.now (grant_in result) shown.now.nonce self.old.cache self.new.cache }
+        ensures points { IfOk result (λ g. shown.now.pointer < length shown.now.caps) }
+    {
+        match cap_at(shown) {
+            Some(cap) => {
+                let checked = self
+                    .minter
+                    .check(arrival.time, arrival.flow, cap, shown.rights);
+                self.answer_to_checked(plan, arrival, checked, shown.nonce)
+            }
+            None => Err(Cause::NoCapability),
+        }
+    }
+
+    // The answer to one whose capability was checked.
+    fn answer_to_checked(
+        &mut self,
+        plan: &RouterPlan,
+        arrival: &Arrival,
+        checked: Checked,
+        nonce: u64,
+    ) -> Result<Grant, Cause>
+        requires may { MayJudge plan.now self.old arrival.now }
+        requires second { IfValid checked (λ g. IsSecondOf g (second_of plan.now arrival.now)) }
+        requires bounded { IfValid checked (λ g. g.second ≤ 2000000) }
+        ensures guard { IsGuard plan.now arrival.now.time.0 self.new }
+        ensures answer { (h : List Charge) → StandsFor self.old.cache h
+            → result ≡ answer_to_checked plan.now h arrival.now checked }
+        ensures keeps { Keeps plan.now arrival.now (grant_in result) nonce self.old.cache self.new.cache }
+    {
+        match checked {
+            Checked::Valid(grant) => answer_of(
+                self.cache
+                    .admit_list(arrival.time, grant, nonce, arrival.bytes),
+            ),
+            Checked::Expired => Err(Cause::Expired),
+            Checked::BadHash => Err(Cause::BadHash),
+        }
+    }
+
+    // The answer to one that shows a nonce alone.
+    #[tactic(auto, unfolding(crate::specs::Judging::answer_to_nonce))]
+    fn answer_to_nonce(
+        &mut self,
+        plan: &RouterPlan,
+        arrival: &Arrival,
+        nonce: u64,
+    ) -> Result<Grant, Cause>
+        requires may { MayJudge plan.now self.old arrival.now }
+        ensures guard { IsGuard plan.now arrival.now.time.0 self.new }
+        ensures answer { (h : List Charge) → StandsFor self.old.cache h
+            → result ≡ answer_to_nonce plan.now h arrival.now nonce }
+        ensures keeps { Keeps plan.now arrival.now (grant_in result) nonce self.old.cache self.new.cache }
+    {
+        answer_of(
+            self.cache
+                .admit_nonce(arrival.time, arrival.flow, nonce, arrival.bytes),
+        )
+    }
+}
+
+// An authorised list goes on with its next capability.
+fn judge_list(shim: Shim, answer: Result<Grant, Cause>) -> Judged
+    requires { IfOk answer (λ g. PointsAtOne shim.kind) }
+    ensures answer { result ≡ judged_by shim (with_next_pointer shim) answer }
+    ensures charge { result.charge ≡ grant_in answer }
+{
+    match answer {
+        Ok(grant) => {
+            let mut shim = shim;
+            shim.advance_pointer();
+            regular(shim, grant)
+        }
+        Err(cause) => marked(shim, cause),
+    }
+}
+
+fn judge_nonce(shim: Shim, answer: Result<Grant, Cause>) -> Judged
+    ensures answer { result ≡ judged_by shim shim answer }
+    ensures charge { result.charge ≡ grant_in answer }
+{
+    match answer {
+        Ok(grant) => regular(shim, grant),
+        Err(cause) => marked(shim, cause),
+    }
+}
+
+// A packet that was authorised.
+fn regular(shim: Shim, grant: Grant) -> Judged
+    ensures { result ≡ judged Class.Regular None (Some grant) (Carried.Shim shim) }
+{
+    Judged {
+        class: Class::Regular,
+        cause: None,
+        charge: Some(grant),
+        carried: Carried::Shim(shim),
+    }
+}
+
+// A packet that isn't what it claims to be.
+fn marked(shim: Shim, cause: Cause) -> Judged
+    ensures { result ≡ marked shim cause }
+{
+    let mut shim = shim;
+    shim.demote();
+    legacy(Some(cause), Carried::Shim(shim))
+}
+
+fn legacy(cause: Option<Cause>, carried: Carried) -> Judged
+    ensures { result ≡ judged Class.Legacy cause None carried }
+{
+    Judged {
+        class: Class::Legacy,
+        cause,
+        charge: None,
+        carried,
+    }
+}
+
+// The grant of a verdict, or the cause of a refusal.
+fn answer_of(verdict: Verdict) -> Result<Grant, Cause>
+    ensures { result ≡ answer_of verdict }
+{
+    match verdict {
+        Verdict::Authorised(grant) => Ok(grant),
+        Verdict::Expired => Err(Cause::Expired),
+        Verdict::OverN => Err(Cause::OverN),
+        Verdict::UnknownNonce => Err(Cause::UnknownNonce),
+        Verdict::CacheFull => Err(Cause::CacheFull),
+        Verdict::Superseded => Err(Cause::Superseded),
+    }
+}
+
+// The capability at the pointer.
+fn cap_at(shown: &Shown) -> Option<u64>
+    ensures cap { result ≡ slice_get shown.now.caps shown.now.pointer }
+    ensures within { IfSome result (λ cap. shown.now.pointer < length shown.now.caps) }
+{
+    match shown.caps.as_slice().get(usize::from(shown.pointer)) {
+        Some(cap) => Some(*cap),
+        None => None,
+    }
+}
+
+// The tag of the link that a packet came in on.
+fn tag_of(plan: &RouterPlan, from: Option<u16>) -> u16
+    ensures { result ≡ tag_of plan.now from }
+{
+    match from {
+        Some(link) => tag_in(plan.incoming.as_slice(), link),
+        None => plan.edge_tag,
+    }
+}
+
+fn tag_in(incoming: &[(u16, u16)], link: u16) -> u16
+    ensures { result ≡ tag_or_zero (find (λ pair. pair.0 == link) incoming.now) }
+{
+    match place_of(incoming, link) {
+        Some(place) => incoming[place].1,
+        None => 0,
+    }
+}

@@ -1,0 +1,15 @@
+//! A router: what becomes of the packets that arrive at it. Its contract promises that every arrival
+//! has the fate that the router's plan, all its charges and the logs of its links' ports so far give,
+//! though it keeps none of these; and that it then stands for them with what the arrival added.
+#![tactic(auto)]
+
+#[cfg(test)]
+mod cases;
+mod guard;
+mod judged;
+mod router;
+mod routes;
+mod sending;
+
+pub use judged::{Arrival, Judged};
+pub use router::Router;

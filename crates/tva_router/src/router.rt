@@ -1,0 +1,219 @@
+// A router.
+ghost use Rattle.std.specs.Prelude.{◌≡◌, ◌≢◌, ◌≤◌, ◌<◌, ℕ, true, List, [], ◌++◌, None, IfOk, IfSome, All};
+ghost use Rattle.tva_base.specs.Plan.{IsRouterPlan, AreLinkLimits};
+ghost use Rattle.tva_flow.specs.Charges.{Charge, living_count};
+ghost use Rattle.tva_flow.specs.Budget.{AreTimely, IsWithinBudget};
+ghost use Rattle.tva_port.specs.Log.{free_after};
+ghost use Rattle.tva_port.specs.Decide.{decision, is_start, started_by, MissesNone, NoneDueBefore};
+ghost use Rattle.tva_router.specs.Handling.{Logs, arrival, stopped, handle};
+ghost use Rattle.tva_router.specs.Stands.{StandsFor, StandForLogs, MissNone, port_of, started_on, ◌with◌};
+ghost use Rattle.tva_router.specs.Steps.{ArePorts};
+
+use crate::guard::Guard;
+use crate::judged::{Arrival, Judged};
+use crate::sending::{decide_on, free_on, send};
+use std::alloc::{AllocError, Global};
+use std::marker::Model;
+use tva_base::{DropCause, Fate, LinkLimits, Listed, Name, Outcome, RouterPlan, Time};
+use tva_caps::Minter;
+use tva_flow::FlowCache;
+use tva_port::{Decision, Port};
+use tva_shim::{Packet, class_of, length};
+
+#[cfg(test)]
+mod tests;
+
+/// What a router keeps: its plan, its last time, what it judges packets with, and a port for each
+/// outgoing link. Contracts speak of all its charges and of the logs of its links' ports, for which
+/// these stand. All memory is taken when it is built.
+#[derive(Drop)]
+pub struct Router {
+    plan: RouterPlan,
+    last: u64,
+    guard: Guard,
+    ports: Vec<Port>,
+}
+
+impl Model for Router {
+    ghost use Rattle.tva_router.specs.Stands.{RouterData, router_data};
+    ghost use Rattle.tva_router.specs.Steps.{IsSound};
+
+    ghost Value = { RouterData };
+
+    ghost view = { λ r. router_data r.plan r.last r.guard.minter r.guard.cache r.ports.items };
+
+    ghost invariant = { λ r. IsSound r.plan r.last r.guard r.ports.items };
+}
+
+impl Router {
+    /// A router by its plan, without charges, and with nothing at the ports of its links. The error is
+    /// want of memory.
+    pub fn build(alloc: Global, plan: &RouterPlan) -> Result<Router, AllocError>
+        requires { IsRouterPlan plan.now }
+        ensures plan { IfOk result (λ router. router.plan ≡ plan.now) }
+        ensures last { IfOk result (λ router. router.last ≡ 0) }
+        ensures stands { IfOk result (λ router. StandsFor router [] (λ link. [])) }
+    {
+        Ok(Router {
+            plan: copied(alloc, plan)?,
+            last: 0,
+            guard: Guard {
+                minter: Minter::new(plan.master, plan.clock_offset),
+                cache: FlowCache::with_slots(alloc, plan.slots, plan.clock_offset)?,
+            },
+            ports: ports_of(alloc, plan.outgoing.as_slice())?,
+        })
+    }
+
+    /// What becomes of a packet that comes in on a link, or from the trace. Times are in nanoseconds
+    /// and never fall. The cases are TVA's, in this order: the hop limit; no shim, or a marked one; a
+    /// malformed one; a request, which gets an entry; a list, a nonce or a renewal, which is authorised
+    /// or marked; then the longest prefix, and the offer to its link's port. A charge is there exactly
+    /// where the packet was authorised, whatever becomes of it then.
+    pub fn arrive(&mut self, now: Time, from: Option<u16>, packet: Packet) -> Fate
+        requires time { self.old.last ≤ now.0 }
+        requires horizon { now.0 ≤ 1000000000000000 }
+        ensures fate { (h : List Charge) (logs : Logs) → StandsFor self.old h logs
+            → result ≡ (handle self.old.plan h logs now.0 from packet).fate }
+        ensures stands { (h : List Charge) (logs : Logs) → StandsFor self.old h logs
+            → StandsFor self.new (h ++ (handle self.old.plan h logs now.0 from packet).charges)
+            (logs with (handle self.old.plan h logs now.0 from packet).queued) }
+        // An arrival without a charge leaves the charges as they were.
+        ensures uncharged { (h : List Charge) (logs : Logs) → StandsFor self.old h logs → result.charge ≡ None
+            → StandsFor self.new h (logs with (handle self.old.plan h logs now.0 from packet).queued) }
+        ensures missed { (h : List Charge) (logs : Logs) → StandsFor self.old h logs
+            → MissNone self.old.plan.outgoing now.0 logs
+            → MissNone self.old.plan.outgoing now.0 (logs with (handle self.old.plan h logs now.0 from packet).queued) }
+        ensures last { self.new.last ≡ now.0 }
+        ensures same { self.new.plan ≡ self.old.plan }
+    {
+        self.last = now.0;
+        if packet.hops >= 32 {
+            return stopped(&packet);
+        }
+        let arrival = arrival_of(now, from, &packet);
+        let Packet {
+            id,
+            flow,
+            hops,
+            payload,
+            carried,
+        } = packet;
+        let Judged {
+            class,
+            cause,
+            charge,
+            carried,
+        } = self.guard.judge(&self.plan, &arrival, carried);
+        let packet = Packet::new(id, flow, hops + 1, payload, carried);
+        let outcome = send(&self.plan, &mut self.ports, now, class, packet);
+        Fate {
+            class,
+            cause,
+            charge,
+            outcome,
+        }
+    }
+
+    /// What an outgoing link does that is free. Times are in nanoseconds and never fall. The decision
+    /// is that of the link's port, over the link's log.
+    pub fn decide(&mut self, now: Time, link: u16) -> Decision
+        requires time { self.old.last ≤ now.0 }
+        requires horizon { now.0 ≤ 1000000000000000 }
+        requires free { IfSome (port_of self.old link) (λ port. port.free_at ≤ now.0) }
+        requires outgoing { port_of self.old link ≢ None }
+        ensures decision { (h : List Charge) (logs : Logs) → StandsFor self.old h logs
+            → IfSome (port_of self.old link) (λ port. result ≡ decision port.limits (logs link) now.0) }
+        ensures stands { (h : List Charge) (logs : Logs) → StandsFor self.old h logs
+            → StandsFor self.new h (logs with started_on link result now.0) }
+        // No start is missed, as the port promises.
+        ensures missed { (h : List Charge) (logs : Logs) (until : ℕ) → StandsFor self.old h logs
+            → IfSome (port_of self.old link) (λ port. IfSome (port_of self.new link) (λ after.
+            MissesNone port.limits now.0 (logs link) → NoneDueBefore result after.free_at until
+            → MissesNone port.limits until (logs link ++ started_by result now.0))) }
+        ensures busy { is_start result ≡ true
+            → IfSome (port_of self.new link) (λ after. now.0 < after.free_at) }
+        ensures last { self.new.last ≡ now.0 }
+        ensures same { self.new.plan ≡ self.old.plan }
+    {
+        self.last = now.0;
+        decide_on(&self.plan, &mut self.ports, now, link)
+    }
+
+    /// When an outgoing link is free, in nanoseconds: the end of its last start, or 0.
+    pub fn free_at(&self, link: u16) -> Time
+        requires outgoing { port_of self.now link ≢ None }
+        ensures value { IfSome (port_of self.now link) (λ port. result.0 ≡ port.free_at) }
+        ensures free { (h : List Charge) (logs : Logs) → StandsFor self.now h logs
+            → IfSome (port_of self.now link) (λ port. result.0 ≡ free_after port.limits (logs link)) }
+    {
+        free_on(&self.plan, &self.ports, link)
+    }
+
+    /// How many flows may live at once. Whatever packets came, each was charged in one of its grant's
+    /// T seconds, and the charges of each grant have less than twice its N units of 1,024 bytes. The
+    /// bound is TVA's.
+    pub fn slots(&self) -> u32
+        ensures slots { result ≡ self.now.plan.slots }
+        ensures timely { (h : List Charge) (logs : Logs) → StandsFor self.now h logs
+            → AreTimely self.now.plan.clock_offset h }
+        ensures budget { (h : List Charge) (logs : Logs) → StandsFor self.now h logs → IsWithinBudget h }
+        ensures living { (h : List Charge) (logs : Logs) → StandsFor self.now h logs
+            → (now : ℕ) → self.now.last ≤ now → living_count h now ≤ self.now.plan.slots }
+    {
+        self.guard.cache.slots()
+    }
+}
+
+// A port for each link.
+fn ports_of(alloc: Global, outgoing: &[(u16, LinkLimits)]) -> Result<Vec<Port>, AllocError>
+    requires { All (λ o. AreLinkLimits o.1) outgoing.now }
+    ensures ports { IfOk result (λ ports. ArePorts outgoing.now 0 ports.items) }
+    ensures stands { IfOk result (λ ports. StandForLogs outgoing.now ports.items (λ link. [])) }
+{
+    let mut ports = Vec::with_capacity(alloc, outgoing.len())?;
+    for (_link, limits) in outgoing {
+        ports.push(Port::build(alloc, *limits)?)?;
+    }
+    Ok(ports)
+}
+
+// The same plan once more.
+fn copied(alloc: Global, plan: &RouterPlan) -> Result<RouterPlan, AllocError>
+    ensures { IfOk result (λ copy. copy ≡ plan.now) }
+{
+    Ok(RouterPlan {
+        name: Name::new(plan.name.as_str()),
+        master: plan.master,
+        clock_offset: plan.clock_offset,
+        slots: plan.slots,
+        edge_tag: plan.edge_tag,
+        incoming: Listed::new(plan.incoming.as_slice().to_vec(alloc)?),
+        outgoing: Listed::new(plan.outgoing.as_slice().to_vec(alloc)?),
+        routes: Listed::new(plan.routes.as_slice().to_vec(alloc)?),
+    })
+}
+
+fn arrival_of(now: Time, from: Option<u16>, packet: &Packet) -> Arrival
+    ensures value { result ≡ arrival now.0 from packet.now }
+    ensures sized { (20 ≤ result.bytes) × (result.bytes ≤ 2048) }
+{
+    Arrival {
+        time: now,
+        from,
+        flow: packet.flow,
+        bytes: length(packet),
+    }
+}
+
+// What becomes of a packet at the hop limit.
+fn stopped(packet: &Packet) -> Fate
+    ensures { result ≡ (stopped packet.now).fate }
+{
+    Fate {
+        class: class_of(packet),
+        cause: None,
+        charge: None,
+        outcome: Outcome::Dropped(DropCause::HopLimit),
+    }
+}
