@@ -1,9 +1,10 @@
 -- A command of the program as the command that it is.
 use Rattle.tva.specs.declared.command.Command as parsed
-use Rattle.tva.specs.declared.command.Command.TheVariants.{Replay, Check, Shim}
-use Rattle.tva.specs.Command.{Command, replay, check, shim}
+use Rattle.tva.specs.declared.command.Command.TheVariants.{Replay, Check, Shim, Gen}
+use Rattle.tva.specs.Command.{Command, replay, check, shim, gen}
 
 abbrev pub asked : parsed.Command → Command
 asked (Replay config trace) = replay config.now trace.now
 asked (Check config) = check config.now
 asked (Shim bytes) = shim bytes
+asked (Gen seed count config) = gen seed count config.now

@@ -6,12 +6,14 @@ use Rattle.std.specs.Option.{option_map}
 use Rattle.std.specs.Result.{result_ok}
 use Rattle.std.specs.Str.{bytes_eq}
 use Rattle.hex.specs.Hex.{decode_of}
+use Rattle.tva_base.specs.Decimal.{decimal_of}
 
--- a command, with the names of its files or the bytes of its shim
+-- a command, with the names of its files, the bytes of its shim, or a seed and a count of rows
 pub data Command : Type 0 where
   replay : List ℕ → List ℕ → Command
   check : List ℕ → Command
   shim : List ℕ → Command
+  gen : ℕ → ℕ → List ℕ → Command
 
 -- the words as bytes
 abbrev pub texts : List (String Global) → List (List ℕ)
@@ -21,8 +23,21 @@ texts words = map string_bytes words
 unfoldable pub bytes_of_hex : List ℕ → Option (List ℕ)
 bytes_of_hex word = if nat_le (length word) 800 then result_ok (decode_of word) else None
 
+infixl 10 ◌>>=◌
+abbrev pub ◌>>=◌ : {A B : Type 0} → Option A → (A → Option B) → Option B
+None >>= f = None
+(Some x) >>= f = f x
+
+-- the command that generates a trace: a seed of 64 bits, and at most 500,000 rows
+abbrev pub gen_of : List ℕ → List ℕ → List ℕ → Option Command
+gen_of seed count config = do
+  number ← decimal_of seed 18446744073709551615
+  rows ← decimal_of count 500000
+  Some (gen number rows config)
+
 -- the command that the words are
 abbrev pub command_of : List (List ℕ) → Option Command
+command_of (word ∷ seed ∷ count ∷ config ∷ []) = if bytes_eq word (codes "gen") then gen_of seed count config else None
 command_of (word ∷ config ∷ trace ∷ []) = if bytes_eq word (codes "replay") then Some (replay config trace) else None
 command_of (word ∷ name ∷ []) =
     if bytes_eq word (codes "check") then Some (check name)

@@ -13,9 +13,10 @@ use Rattle.tva_trace.specs.Rows.{rows_of}
 use Rattle.tva_trace.specs.Meaning.{AreRows}
 use Rattle.tva_trace.specs.ShimText.{IsTextOf}
 use Rattle.tva_config.specs.Counts.{has_host_or_link}
+use Rattle.tva_gen.specs.Text.{generated}
 use Rattle.tva.specs.Arrivals.{are_judged}
 use Rattle.tva.specs.Check.{check_line}
-use Rattle.tva.specs.Command.{Command, replay, check, shim}
+use Rattle.tva.specs.Command.{Command, replay, check, shim, gen}
 use Rattle.tva.specs.Report.{IsReport}
 use Rattle.tva.specs.declared.status.Status as status
 use Rattle.tva.specs.declared.status.Status.TheVariants.{Done, ReadFault, TooLarge, BadConfig, BadTrace, EventLimit, Unsupported}
@@ -83,11 +84,15 @@ of_replay config trace files = followed (plan_at config files) (of_plan trace fi
 abbrev pub of_check : List ℕ → Held → Expected
 of_check config files = followed (plan_at config files) (λ plan. writes (check_line plan))
 
+abbrev pub of_gen : ℕ → ℕ → List ℕ → Held → Expected
+of_gen seed count config files = followed (plan_at config files) (λ plan. writes (generated plan seed count))
+
 -- what comes of a command, where the shelf tells what it holds or the command reads nothing
 abbrev pub told : Option Held → Command → Option Expected
 told held (replay config trace) = option_map (of_replay config trace) held
 told held (check config) = option_map (of_check config) held
 told held (shim bytes) = Some (shows bytes)
+told held (gen seed count config) = option_map (of_gen seed count config) held
 
 -- the fate of each row is built, and they are no more than the configuration allows
 pub record AreFew (plan : Config) (rows : List Row) : Type 0 where

@@ -2,13 +2,17 @@
 ghost use Rattle.std.specs.Prelude.{◌≡◌, IfSome, ◌≤◌, length};
 ghost use Rattle.std.specs.Option.{option_map};
 ghost use Rattle.tva.specs.Asked.{asked};
-ghost use Rattle.tva.specs.Command.{command_of, texts, bytes_of_hex};
+ghost use Rattle.tva.specs.Command.{command_of, texts, bytes_of_hex, gen_of};
 
 use arrayvec::ArrayVec;
 use std::marker::Model;
+use tva_base::decimal;
 
 /// The greatest number of bytes that a word of hexadecimal digits writes.
 const HEX_BYTES_MAX: usize = 400;
+
+/// The greatest number of rows that are generated.
+const ROWS_MAX: u64 = 500_000;
 
 /// The bytes that a word of hexadecimal digits writes, at most 400. Contracts see the list of them.
 #[derive(Debug, Drop)]
@@ -33,12 +37,24 @@ impl ShimBytes {
     }
 }
 
-/// A command, with the names of its files or the bytes of its shim.
+/// A command, with the names of its files, the bytes of its shim, or a seed and a count of rows.
 #[derive(Debug, Drop)]
 pub enum Command<'a> {
-    Replay { config: &'a str, trace: &'a str },
-    Check { config: &'a str },
-    Shim { bytes: ShimBytes },
+    Replay {
+        config: &'a str,
+        trace: &'a str,
+    },
+    Check {
+        config: &'a str,
+    },
+    Shim {
+        bytes: ShimBytes,
+    },
+    Gen {
+        seed: u64,
+        count: u32,
+        config: &'a str,
+    },
 }
 
 /// The command that the words are, if they are one.
@@ -57,8 +73,24 @@ pub fn parse(words: &[String]) -> Option<Command<'_>>
             Some(bytes) => Some(Command::Shim { bytes }),
             None => None,
         },
+        [word, seed, count, config] if word.as_str() == "gen" => {
+            gen_of(seed.as_str(), count.as_str(), config.as_str())
+        }
         _ => None,
     }
+}
+
+// The command that generates a trace.
+fn gen_of<'a>(seed: &str, count: &str, config: &'a str) -> Option<Command<'a>>
+    ensures { option_map asked result ≡ gen_of seed.now count.now config.now }
+{
+    let seed = decimal(seed.as_bytes(), u64::MAX)?;
+    let count = decimal(count.as_bytes(), ROWS_MAX)? as u32;
+    Some(Command::Gen {
+        seed,
+        count,
+        config,
+    })
 }
 
 #[tactic(auto, unfolding(crate::specs::Command::bytes_of_hex), using(crate::proofs::HexWords::decode_sized_half))]

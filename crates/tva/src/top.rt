@@ -8,7 +8,7 @@ ghost use Rattle.tva_trace.specs.Meaning.{AreRows};
 ghost use Rattle.tva_trace.specs.Valid.{AreTraceRows};
 ghost use Rattle.tva_trace.specs.declared.rows.TraceFault.{TraceFault};
 ghost use Rattle.tva.specs.Asked.{asked};
-ghost use Rattle.tva.specs.Command.{command_of, texts, replay, check, shim};
+ghost use Rattle.tva.specs.Command.{command_of, texts, replay, check, shim, gen};
 ghost use Rattle.tva.specs.Expected.{told, shows, replays, lacks, exceeds, misconfigured, mistraced, Ends};
 ghost use Rattle.tva.specs.Answer.{Answers, WroteAll, WrotePart};
 ghost use Rattle.tva.specs.Wanted.{wanted, IsRefusal, Settles, SettlesRefusal};
@@ -23,6 +23,7 @@ use arrayvec::ArrayString;
 use std::alloc::Global;
 use std::thread::Threads;
 use tva_config::{Config, has_host_or_link};
+use tva_gen::generate;
 use tva_outside::{Gate, Shelf, Sink};
 use tva_trace::{Row, shim_text};
 
@@ -98,6 +99,11 @@ fn run_command<R: Threads + Sync, S: Shelf, W: Sink, G: Gate>(
         Command::Replay { config, trace } => run_replay(alloc, config, trace, shelf, out, gate),
         Command::Check { config } => run_check(alloc, config, shelf, out),
         Command::Shim { bytes } => run_shim(alloc, bytes.as_slice(), out),
+        Command::Gen {
+            seed,
+            count,
+            config,
+        } => run_gen(alloc, *seed, *count, config, shelf, out),
     }
 }
 
@@ -193,6 +199,31 @@ fn run_shim<W: Sink>(alloc: Global, bytes: &[u8], out: &mut W) -> Status
 {
     match shim_text(alloc, bytes) {
         Ok(text) => send_both(out, text.as_bytes(), b"\n"),
+        Err(_) => Status::OutOfMemory,
+    }
+}
+
+fn run_gen<S: Shelf, W: Sink>(
+    alloc: Global,
+    seed: u64,
+    count: u32,
+    config: &str,
+    shelf: &mut S,
+    out: &mut W,
+) -> Status
+    ensures held { S.held shelf.new ≡ S.held shelf.old }
+    ensures reads { S.faults shelf.old ≤ S.faults shelf.new }
+    ensures writes { W.faults out.old ≤ W.faults out.new }
+    ensures answer { Answers (told (S.held shelf.old) (gen seed count config.now))
+        (Rose (S.faults shelf.old) (S.faults shelf.new)) (Rose (W.faults out.old) (W.faults out.new))
+        (W.written out.old) (W.written out.new) result }
+{
+    let plan = match load_plan(alloc, shelf, config) {
+        Ok(plan) => plan,
+        Err(status) => return status,
+    };
+    match generate(alloc, seed, count, &plan) {
+        Ok(text) => send(out, &text),
         Err(_) => Status::OutOfMemory,
     }
 }

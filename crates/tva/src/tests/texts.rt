@@ -52,7 +52,7 @@ static FILES: [(&str, &str); 15] = [
 ];
 
 // Words, the number of the status, and what is written or, where nothing is, the status's text.
-static RUNS: [(&str, u8, &str); 45] = [
+static RUNS: [(&str, u8, &str); 51] = [
     (
         "replay edge trace",
         0,
@@ -169,10 +169,28 @@ static RUNS: [(&str, u8, &str); 45] = [
         "usage: tva replay CONFIG TRACE, check CONFIG, shim HEX, gen SEED COUNT CONFIG",
     ),
     (
-        "gen 7 1 edge",
+        "gen 18446744073709551616 1 walk",
         2,
         "usage: tva replay CONFIG TRACE, check CONFIG, shim HEX, gen SEED COUNT CONFIG",
     ),
+    (
+        "gen 7 1",
+        2,
+        "usage: tva replay CONFIG TRACE, check CONFIG, shim HEX, gen SEED COUNT CONFIG",
+    ),
+    ("gen 7 0 walk", 0, "time,node,kind,src,dst,payload,shim\n"),
+    (
+        "gen 7 500000 edge",
+        0,
+        "time,node,kind,src,dst,payload,shim\n",
+    ),
+    (
+        "gen 007 6 walk",
+        0,
+        "time,node,kind,src,dst,payload,shim\n83850,A,send,,10.0.0.1,269,\n123487,B,send,,10.0.1.1,613,\n137838,A,raw,10.0.0.1,10.0.1.1,490,100600\n196394,B,send,,10.0.1.1,521,\n257968,B,send,,10.0.1.1,202,\n329932,B,send,,10.0.0.1,210,\n",
+    ),
+    ("gen 7 1 absent", 3, "read fault"),
+    ("gen 7 1 ends", 6, "bad config: ends link 0 to"),
     (
         "audit a b c",
         2,

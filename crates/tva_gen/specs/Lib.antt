@@ -1,0 +1,4 @@
+pub mod Draws
+pub mod Hosts
+pub mod Rows
+pub mod Text

@@ -1,0 +1,4 @@
+pub mod History
+pub mod Sending
+pub mod Receiving
+pub mod Asked

@@ -1,0 +1,153 @@
+-- What a host makes of the packets that it receives.
+use Rattle.std.specs.Prelude.{ℕ, ◌==◌, Bool, true, false, ◌&&◌, if◌then◌else◌, List, [], ◌∷◌, ◌++◌, length, map, is_some, Option, Some, None}
+use Rattle.tva_base.specs.declared.addresses.Address.{Address}
+use Rattle.tva_base.specs.declared.packet.Rights.{Rights}
+use Rattle.tva_base.specs.declared.plan.HostPlan.{HostPlan}
+use Rattle.tva_base.specs.declared.event.WhatKind.{WhatKind}
+use Rattle.tva_base.specs.declared.event.WhatKind.TheVariants as what
+use Rattle.tva_base.specs.declared.event.BackKind.{BackKind}
+use Rattle.tva_base.specs.declared.event.BackKind.TheVariants as became
+use Rattle.tva_shim.specs.declared.kinds.Kind.{Kind}
+use Rattle.tva_shim.specs.declared.kinds.Kind.TheVariants as kinds
+use Rattle.tva_shim.specs.declared.kinds.ReturnInfo.{ReturnInfo}
+use Rattle.tva_shim.specs.declared.kinds.ReturnInfo.TheVariants as backs
+use Rattle.tva_shim.specs.declared.packets.Carried.{Carried}
+use Rattle.tva_shim.specs.declared.packets.Carried.TheVariants as carried
+use Rattle.tva_shim.specs.Changes.{nonzero_tags}
+use Rattle.tva_shim.specs.Layout.{return_size}
+use Rattle.tva_shim.specs.Packets.{PacketData}
+use Rattle.tva_caps.specs.Formula.{capability_of}
+use Rattle.tva_policy.specs.Grants.{Deed, Decided, decision}
+use Rattle.tva_sender.specs.Contacts.{Contact, Taken, Notice, awaits}
+use Rattle.tva_sender.specs.Book.{of_peer}
+use Rattle.tva_host.specs.declared.made.Made.{Made}
+use Rattle.tva_host.specs.declared.made.Receipt.{Receipt}
+use Rattle.tva_host.specs.History.{History}
+use Rattle.tva_host.specs.Sending.{shim_of, next_shape, next_made, with_made}
+
+-- the return info of a packet
+abbrev pub back_in : Carried → ReturnInfo
+back_in carried.Nothing = backs.Nothing
+back_in (carried.Shim shim) = shim.back
+back_in (carried.Malformed size) = backs.Nothing
+
+abbrev pub taken_or_ignored : Bool → BackKind
+taken_or_ignored is_taken = if is_taken then became.Grant else became.Ignored
+
+-- first, what becomes of the return info: a grant is taken where the source's last ask isn't
+-- answered
+abbrev pub became_of : List (Address × Contact) → Address → ReturnInfo → BackKind
+became_of contacts src backs.Nothing = became.Nothing
+became_of contacts src backs.Notice = became.Notice
+became_of contacts src (backs.Grant rights caps) = taken_or_ignored (awaits (of_peer src contacts))
+
+-- and what the host's sender met by it
+abbrev pub met_by : List (Address × Contact) → Address → ReturnInfo → List (Address × Contact)
+met_by contacts src backs.Nothing = []
+met_by contacts src backs.Notice = (src, Notice) ∷ []
+met_by contacts src (backs.Grant rights caps) = if awaits (of_peer src contacts) then (src, Taken rights caps) ∷ [] else []
+
+abbrev pub after_back : Address → ReturnInfo → History → History
+after_back src back h = record h { contacts = h.contacts ++ met_by h.contacts src back }
+
+-- second, what the packet is, by its mark and then by its kind
+abbrev pub what_kind : Kind → WhatKind
+what_kind (kinds.Request entries) = what.Request
+what_kind (kinds.List shown) = what.Regular
+what_kind (kinds.Nonce nonce) = what.Regular
+what_kind (kinds.Renewal shown) = what.Renewal
+
+abbrev pub what_of : Carried → WhatKind
+what_of carried.Nothing = what.Legacy
+what_of (carried.Shim shim) = if shim.demoted then what.Demoted else what_kind shim.kind
+what_of (carried.Malformed size) = what.Legacy
+
+-- what a packet asks a grant with: the tags that are judged, and the pre-capabilities
+pub record Asking : Type 0 where
+  pub tags : List ℕ
+  pub precaps : List ℕ
+
+-- a request asks with its nonzero tags, and a renewal that passed all its routers with none
+abbrev pub asking_kind : Kind → Option Asking
+asking_kind (kinds.Request entries) = Some (record { tags = nonzero_tags entries; precaps = map (λ e. e.precap) entries })
+asking_kind (kinds.List shown) = None
+asking_kind (kinds.Nonce nonce) = None
+asking_kind (kinds.Renewal shown) = if shown.pointer == length shown.caps then Some (record { tags = []; precaps = shown.caps }) else None
+
+-- a marked packet doesn't ask
+abbrev pub asking_in : Carried → Option Asking
+asking_in carried.Nothing = None
+asking_in (carried.Shim shim) = if shim.demoted then None else asking_kind shim.kind
+asking_in (carried.Malformed size) = None
+
+-- the kind shows what was granted
+abbrev pub shows_grant : Kind → Bool
+shows_grant (kinds.Request entries) = false
+shows_grant (kinds.List shown) = true
+shows_grant (kinds.Nonce nonce) = true
+shows_grant (kinds.Renewal shown) = true
+
+abbrev pub is_nothing : ReturnInfo → Bool
+is_nothing backs.Nothing = true
+is_nothing backs.Notice = false
+is_nothing (backs.Grant rights caps) = false
+
+-- a marked packet that shows a grant is answered with a notice, where it has no return info
+abbrev pub notice_for : Carried → Option ReturnInfo
+notice_for carried.Nothing = None
+notice_for (carried.Shim shim) = if shim.demoted && shows_grant shim.kind && is_nothing shim.back then Some backs.Notice else None
+notice_for (carried.Malformed size) = None
+
+-- a grant has the capability of each pre-capability
+abbrev pub granted : Option Rights → List ℕ → Option ReturnInfo
+granted None precaps = None
+granted (Some rights) precaps = Some (backs.Grant rights (map (λ p. capability_of p rights) precaps))
+
+-- third, what the host answers: to what asks, by its policy
+abbrev pub answer_to : HostPlan → List Deed → Address → Carried → Option Asking → Option ReturnInfo
+answer_to plan deeds src carries None = notice_for carries
+answer_to plan deeds src carries (Some ask) = granted (decision plan.policy deeds src ask.tags) ask.precaps
+
+abbrev pub decided_on : HostPlan → List Deed → Address → Option Asking → List Deed
+decided_on plan deeds src None = []
+decided_on plan deeds src (Some ask) = Decided src (is_some (decision plan.policy deeds src ask.tags)) ∷ []
+
+abbrev pub after_answer : HostPlan → Address → Carried → History → History
+after_answer plan src carries h = record h { deeds = h.deeds ++ decided_on plan h.deeds src (asking_in carries) }
+
+-- fourth, the reply that brings the answer to the source. It has no payload, and its body is the
+-- bytes of its return info
+abbrev pub reply_of : ℕ → HostPlan → History → ℕ → Address → Option ReturnInfo → Option Made
+reply_of node plan h now src None = None
+reply_of node plan h now src (Some back) =
+    Some (next_made node plan h src 0 (carried.Shim (shim_of (next_shape plan h now src (return_size back)) back)) (next_shape plan h now src (return_size back)))
+
+abbrev pub after_reply : HostPlan → ℕ → Address → Option ReturnInfo → History → History
+after_reply plan now src None h = h
+after_reply plan now src (Some back) h = with_made plan now src (return_size back) h
+
+-- what is told of a packet for another host, of which nothing comes
+abbrev pub stray : Receipt
+stray = record { what = what.Stray; back = became.Nothing; reply = None }
+
+-- the history when the reply is made
+abbrev pub before_reply : HostPlan → Address → Carried → History → History
+before_reply plan src carries h = after_answer plan src carries (after_back src (back_in carries) h)
+
+-- what a host tells of a packet for it
+abbrev pub received : ℕ → HostPlan → History → ℕ → Address → Carried → Receipt
+received node plan h now src carries = record {
+  what = what_of carries;
+  back = became_of h.contacts src (back_in carries);
+  reply = reply_of node plan (before_reply plan src carries h) now src (answer_to plan h.deeds src carries (asking_in carries));
+}
+
+-- the receipt of a packet, over what the host did and met
+unfoldable pub receipt_of : ℕ → HostPlan → History → ℕ → PacketData → Receipt
+receipt_of node plan h now p = if p.flow.dst.0 == plan.address.0 then received node plan h now p.flow.src p.carried else stray
+
+unfoldable pub after_receipt : HostPlan → History → ℕ → PacketData → History
+after_receipt plan h now p =
+    if p.flow.dst.0 == plan.address.0
+    then after_reply plan now p.flow.src (answer_to plan h.deeds p.flow.src p.carried (asking_in p.carried)) (before_reply plan p.flow.src p.carried h)
+    else h

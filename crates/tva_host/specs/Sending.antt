@@ -1,0 +1,98 @@
+-- The packets that a host makes.
+use Rattle.std.specs.Prelude.{ℕ, ◌+◌, Bool, true, false, if◌then◌else◌, []}
+use Rattle.tva_base.specs.declared.addresses.Address.{Address}
+use Rattle.tva_base.specs.declared.packet.Flow.{Flow}
+use Rattle.tva_base.specs.declared.plan.HostPlan.{HostPlan}
+use Rattle.tva_base.specs.declared.event.ShapeKind.{ShapeKind}
+use Rattle.tva_base.specs.declared.event.ShapeKind.TheVariants as kind_shown
+use Rattle.tva_shim.specs.declared.kinds.Shown.{Shown}
+use Rattle.tva_shim.specs.declared.kinds.Kind.{Kind}
+use Rattle.tva_shim.specs.declared.kinds.Kind.TheVariants as kinds
+use Rattle.tva_shim.specs.declared.kinds.ReturnInfo.{ReturnInfo}
+use Rattle.tva_shim.specs.declared.kinds.ReturnInfo.TheVariants as backs
+use Rattle.tva_shim.specs.declared.packets.Carried.{Carried}
+use Rattle.tva_shim.specs.declared.packets.Carried.TheVariants as carried
+use Rattle.tva_shim.specs.Shims.{ShimData}
+use Rattle.tva_shim.specs.Packets.{PacketData}
+use Rattle.tva_policy.specs.Grants.{Sent}
+use Rattle.tva_sender.specs.declared.shape.Held.{Held}
+use Rattle.tva_sender.specs.declared.shape.Shape.{Shape}
+use Rattle.tva_sender.specs.declared.shape.Shape.TheVariants as shapes
+use Rattle.tva_sender.specs.Shapes.{shape_of}
+use Rattle.tva_sender.specs.Carried as sent
+use Rattle.tva_sender.specs.Book.{of_peer}
+use Rattle.tva_host.specs.declared.made.Made.{Made}
+use Rattle.tva_host.specs.History.{History, with_deed, with_packet, with_prepared, offered}
+
+-- a shim can carry what the shape shows
+abbrev pub IsShowable : Shape → Type 0
+IsShowable shape = sent.IsCarried shape
+
+-- what is told of a shape
+abbrev pub kind_shown_of : Shape → ShapeKind
+kind_shown_of shapes.Request = kind_shown.Request
+kind_shown_of (shapes.List held) = kind_shown.List
+kind_shown_of (shapes.NonceOnly nonce) = kind_shown.Nonce
+kind_shown_of (shapes.Renewal held) = kind_shown.Renewal
+kind_shown_of shapes.Legacy = kind_shown.Legacy
+
+abbrev pub is_legacy : Shape → Bool
+is_legacy shapes.Request = false
+is_legacy (shapes.List held) = false
+is_legacy (shapes.NonceOnly nonce) = false
+is_legacy (shapes.Renewal held) = false
+is_legacy shapes.Legacy = true
+
+-- what is held of a grant, for the first router to check
+abbrev pub shown_of : Held → Shown
+shown_of held = record { nonce = held.nonce; pointer = 0; rights = held.rights; caps = held.caps }
+
+-- the kind of a packet in that shape: a request has no entries yet
+abbrev pub kind_of : Shape → Kind
+kind_of shapes.Request = kinds.Request []
+kind_of (shapes.List held) = kinds.List (shown_of held)
+kind_of (shapes.NonceOnly nonce) = kinds.Nonce nonce
+kind_of (shapes.Renewal held) = kinds.Renewal (shown_of held)
+kind_of shapes.Legacy = kinds.Request []
+
+-- the shim of a packet in that shape with return info, marked where the shape shows nothing
+abbrev pub shim_of : Shape → ReturnInfo → ShimData
+shim_of shape back = record { demoted = is_legacy shape; protocol = 6; kind = kind_of shape; back = back }
+
+-- what a packet in that shape carries that is no reply
+abbrev pub carried_by : Shape → Carried
+carried_by shape = if is_legacy shape then carried.Nothing else carried.Shim (shim_of shape backs.Nothing)
+
+-- the next packet of the node: it passed no router
+abbrev pub next_packet : ℕ → History → Flow → ℕ → Carried → PacketData
+next_packet node h flow payload carries = record {
+  id = record { node = node; ordinal = h.made + 1 };
+  flow = flow;
+  hops = 0;
+  payload = payload;
+  carried = carries;
+}
+
+-- the shape of the next packet for a peer, with a body of so many bytes
+abbrev pub next_shape : HostPlan → History → ℕ → Address → ℕ → Shape
+next_shape plan h now dst body = shape_of plan.margin plan.retry (of_peer dst h.contacts) now body (offered plan h)
+
+-- the next packet of the host for a peer, in that shape
+abbrev pub next_made : ℕ → HostPlan → History → Address → ℕ → Carried → Shape → Made
+next_made node plan h dst payload carries shape = record {
+  packet = next_packet node h (record { src = plan.address; dst = dst }) payload carries;
+  shape = kind_shown_of shape;
+}
+
+-- the history after a packet for a peer was prepared and made
+abbrev pub with_made : HostPlan → ℕ → Address → ℕ → History → History
+with_made plan now dst body h = with_packet (with_prepared now dst (next_shape plan h now dst body) body h)
+
+-- the packet that a send row gives, over what the host did and met
+unfoldable pub intended : ℕ → HostPlan → History → ℕ → Address → ℕ → Made
+intended node plan h now dst payload =
+    next_made node plan h dst payload (carried_by (next_shape plan h now dst payload)) (next_shape plan h now dst payload)
+
+-- a send row is noted for the policy, and its packet is prepared and made
+unfoldable pub after_intending : HostPlan → History → ℕ → Address → ℕ → History
+after_intending plan h now dst payload = with_made plan now dst payload (with_deed (Sent dst) h)

@@ -1,0 +1,316 @@
+ghost use Rattle.std.specs.Prelude.{◌≡◌, ◌≤◌, IfOk};
+ghost use Rattle.tva_base.specs.Plan.{IsHostPlan};
+ghost use Rattle.tva_shim.specs.Packets.{IsCarried};
+
+use super::*;
+use crate::cases::CASES;
+use arrayvec::ArrayVec;
+use std::process::Abort;
+use std::test::Fail;
+use tva_base::{
+    Listed, Name, PolicyKind, PolicyPlan, Rights, ShapeKind, WhatKind, address, decimal,
+};
+use tva_shim::{decode, encode, length};
+
+fn crosses<T: Send + Sync>() {}
+
+/// A host, a packet and a receipt may be moved to and shared with another thread.
+#[test]
+fn hosts_cross_threads() {
+    crosses::<Host>();
+    crosses::<Made>();
+    crosses::<Receipt>();
+}
+
+/// The number of a word, and 0 where it is none or above the greatest.
+fn number(word: Option<&str>, most: u64) -> u64
+    ensures { result ≤ most }
+{
+    match word {
+        Some(word) => decimal(word.as_bytes(), most).unwrap_or(0),
+        None => 0,
+    }
+}
+
+fn address_of(rt: &impl Abort, word: Option<&str>) -> Address {
+    address(word.unwrap_or("").as_bytes()).expect(rt, "an address")
+}
+
+fn kind_named(word: Option<&str>) -> PolicyKind {
+    match word {
+        Some("client") => PolicyKind::Client,
+        Some("server") => PolicyKind::Server,
+        _ => PolicyKind::DenyAll,
+    }
+}
+
+/// The denied address of a word, where it names one.
+fn denied_address(
+    rt: &impl Abort,
+    alloc: Global,
+    word: Option<&str>,
+) -> Result<Vec<Address>, AllocError> {
+    let mut denied = Vec::new(alloc);
+    if word != Some("-") {
+        denied.push(address_of(rt, word))?;
+    }
+    Ok(denied)
+}
+
+/// The denied tag of a word, where it names one.
+fn denied_tag(alloc: Global, word: Option<&str>) -> Result<Vec<u16>, AllocError> {
+    let mut denied = Vec::new(alloc);
+    if word != Some("-") {
+        denied.push(number(word, 65535) as u16)?;
+    }
+    Ok(denied)
+}
+
+/// The plan of a host in a line.
+fn plan_of(rt: &impl Abort, alloc: Global, line: &str) -> Result<HostPlan, AllocError>
+    ensures { IfOk result IsHostPlan }
+{
+    let mut words = line.split(' ').skip(2);
+    let address = address_of(rt, words.next());
+    let nonce = number(words.next(), (1 << 48) - 1);
+    let kind = kind_named(words.next());
+    let (n, t) = words
+        .next()
+        .unwrap_or("")
+        .split_once("/")
+        .unwrap_or(("", ""));
+    let rights = Rights {
+        n: number(Some(n), 1023) as u32,
+        t: number(Some(t), 63) as u8,
+    };
+    let grants = number(words.next(), 1_000_000) as u32;
+    let deny = Listed::new(denied_address(rt, alloc, words.next())?);
+    let deny_tags = Listed::new(denied_tag(alloc, words.next())?);
+    Ok(HostPlan {
+        name: Name::new("A"),
+        address,
+        nonce,
+        margin: 1_000_000,
+        retry: 2_000_000_000,
+        policy: PolicyPlan {
+            kind,
+            rights,
+            grants,
+            deny,
+            deny_tags,
+        },
+        uplink: 0,
+    })
+}
+
+/// What the digits of a shim stand for in a packet.
+fn carried_of(rt: &impl Abort, alloc: Global, digits: &str) -> Result<Carried, Fail>
+    ensures { IfOk result IsCarried }
+{
+    if digits == "-" {
+        return Ok(Carried::Nothing);
+    }
+    let bytes = hex::decode(alloc, digits).ok().ok_or("hexadecimal")?;
+    assert!(rt; bytes.len() <= 400);
+    Ok(match decode(bytes.as_slice()) {
+        Some(shim) => Carried::Shim(shim),
+        None => Carried::Malformed(bytes.len() as u16),
+    })
+}
+
+/// The flow, payload and shim of a call, from that word on.
+fn parts_of(
+    rt: &impl Abort,
+    alloc: Global,
+    call: &str,
+    from: usize,
+) -> Result<(Flow, u16, Carried), Fail>
+    ensures payload { IfOk result (λ parts. parts.1 ≤ 1600) }
+    ensures carried { IfOk result (λ parts. IsCarried parts.2) }
+{
+    let mut words = call.split(' ').skip(from);
+    let src = address_of(rt, words.next());
+    let dst = address_of(rt, words.next());
+    let payload = number(words.next(), 1600) as u16;
+    let carried = carried_of(rt, alloc, words.next().unwrap_or(""))?;
+    Ok((Flow { src, dst }, payload, carried))
+}
+
+fn shape_word(shape: ShapeKind) -> &'static str {
+    match shape {
+        ShapeKind::Request => "request",
+        ShapeKind::List => "list",
+        ShapeKind::Nonce => "nonce",
+        ShapeKind::Renewal => "renewal",
+        ShapeKind::Legacy => "legacy",
+        ShapeKind::Trace => "trace",
+    }
+}
+
+fn what_word(what: WhatKind) -> &'static str {
+    match what {
+        WhatKind::Stray => "stray",
+        WhatKind::Demoted => "demoted",
+        WhatKind::Request => "request",
+        WhatKind::Renewal => "renewal",
+        WhatKind::Regular => "regular",
+        WhatKind::Legacy => "legacy",
+    }
+}
+
+fn back_word(back: BackKind) -> &'static str {
+    match back {
+        BackKind::Nothing => "-",
+        BackKind::Notice => "notice",
+        BackKind::Grant => "grant",
+        BackKind::Ignored => "ignored",
+    }
+}
+
+/// The digits of what a packet carries.
+fn digits_of(alloc: Global, carried: &Carried) -> Result<String, AllocError> {
+    match carried {
+        Carried::Nothing => String::from_str(alloc, "-"),
+        Carried::Malformed(_) => String::from_str(alloc, "1006"),
+        Carried::Shim(shim) => {
+            let mut bytes = ArrayVec::new();
+            encode(shim, &mut bytes);
+            hex::encode(alloc, bytes.as_slice())
+        }
+    }
+}
+
+/// A packet that the host made for a peer, in words.
+fn made_words(
+    rt: &impl Abort,
+    alloc: Global,
+    host: &Host,
+    made: &Made,
+    dst: Address,
+) -> Result<String, Fail> {
+    let packet = &made.packet;
+    assert_eq!(rt; (packet.hops, packet.id.node), (0, host.node));
+    assert_eq!(rt; (packet.flow.src, packet.flow.dst), (host.address, dst));
+    let ordinal = packet.id.ordinal;
+    let bytes = length(packet);
+    let shape = shape_word(made.shape);
+    let digits = digits_of(alloc, &packet.carried)?;
+    Ok(format!(in alloc; "#{ordinal} {bytes} {shape} {digits}")?)
+}
+
+/// The packet of a send row, in words.
+fn send(
+    rt: &impl Abort,
+    alloc: Global,
+    host: &mut Host,
+    now: u64,
+    call: &str,
+) -> Result<String, Fail>
+    requires { host.old.sender.last ≤ now }
+    ensures { IfOk result (λ told. host.new.sender.last ≤ now) }
+{
+    let mut words = call.split(' ').skip(2);
+    let dst = address_of(rt, words.next());
+    let payload = number(words.next(), 1600) as u16;
+    assert!(rt; host.next <= 1 << 63);
+    let made = host.intend(alloc, Time(now), dst, payload)?;
+    assert_eq!(rt; made.packet.payload, payload);
+    made_words(rt, alloc, host, &made, dst)
+}
+
+/// The packet of a row that injects it, in words.
+fn inject(rt: &impl Abort, alloc: Global, host: &mut Host, call: &str) -> Result<String, Fail>
+    ensures { IfOk result (λ told. host.new.sender.last ≡ host.old.sender.last) }
+{
+    let (flow, payload, carried) = parts_of(rt, alloc, call, 1)?;
+    assert!(rt; host.next <= 1 << 63);
+    let packet = host.inject(flow, payload, carried);
+    assert_eq!(rt; (packet.hops, packet.id.node), (0, host.node));
+    assert_eq!(rt; (packet.flow, packet.payload), (flow, payload));
+    let ordinal = packet.id.ordinal;
+    let bytes = length(&packet);
+    let digits = digits_of(alloc, &packet.carried)?;
+    Ok(format!(in alloc; "#{ordinal} {bytes} {digits}")?)
+}
+
+/// What the host makes of a packet, in words.
+fn receive(
+    rt: &impl Abort,
+    alloc: Global,
+    host: &mut Host,
+    now: u64,
+    call: &str,
+) -> Result<String, Fail>
+    requires { host.old.sender.last ≤ now }
+    ensures { IfOk result (λ told. host.new.sender.last ≤ now) }
+{
+    let (flow, payload, carried) = parts_of(rt, alloc, call, 2)?;
+    let id = PacketId {
+        node: 0,
+        ordinal: 1,
+    };
+    let packet = Packet::new(id, flow, 1, payload, carried);
+    assert!(rt; host.next <= 1 << 63);
+    let receipt = host.receive(alloc, Time(now), packet)?;
+    let what = what_word(receipt.what);
+    let back = back_word(receipt.back);
+    let reply = match &receipt.reply {
+        None => String::from_str(alloc, "-")?,
+        Some(made) => made_words(rt, alloc, host, made, flow.src)?,
+    };
+    Ok(format!(in alloc; "{what} {back} {reply}")?)
+}
+
+/// What the host answers to a call, in words. The last time is kept.
+fn answer(
+    rt: &impl Abort,
+    alloc: Global,
+    host: &mut Host,
+    last: &mut u64,
+    call: &str,
+) -> Result<String, Fail>
+    requires { host.old.sender.last ≤ last.old }
+    ensures { IfOk result (λ told. host.new.sender.last ≤ last.new) }
+{
+    if call.starts_with("inject") {
+        return inject(rt, alloc, host, call);
+    }
+    let now = number(call.split(' ').nth(1), 1_000_000_000_000_000);
+    assert!(rt; *last <= now);
+    *last = now;
+    if call.starts_with("send") {
+        return send(rt, alloc, host, now, call);
+    }
+    receive(rt, alloc, host, now, call)
+}
+
+/// Plays the calls of a case, and counts them.
+fn play(rt: &impl Abort, alloc: Global, case: &str) -> Result<u64, Fail> {
+    let mut lines = case.lines().skip(1);
+    let Some(line) = lines.next() else {
+        return Ok(0);
+    };
+    let node = number(line.split(' ').nth(1), 65535) as u16;
+    let mut host = Host::build(alloc, node, &plan_of(rt, alloc, line)?)?;
+    let mut last = 0u64;
+    let mut calls = 0u64;
+    for line in lines {
+        let Some((call, wanted)) = line.split_once(" -> ") else {
+            continue;
+        };
+        let told = answer(rt, alloc, &mut host, &mut last, call)?;
+        assert_eq!(rt; told.as_str(), wanted, "{line}");
+        calls = calls.wrapping_add(1);
+    }
+    Ok(calls)
+}
+
+#[test]
+fn replays_of_one_host(rt: HostRuntime) -> Result<(), Fail> {
+    let mut calls = 0u64;
+    for case in CASES.split("case ") {
+        calls = calls.wrapping_add(play(&rt, rt.alloc(), case)?);
+    }
+    assert_eq!(rt; calls, 104);
+    Ok(())
+}

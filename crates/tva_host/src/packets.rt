@@ -1,0 +1,89 @@
+// What a packet carries by its shape.
+ghost use Rattle.std.specs.Prelude.{◌≡◌};
+ghost use Rattle.tva_shim.specs.Shims.{IsKind, IsShown, IsReturn};
+ghost use Rattle.tva_shim.specs.Packets.{IsCarried};
+ghost use Rattle.tva_sender.specs.Carried.{IsCarriedHeld};
+ghost use Rattle.tva_host.specs.Sending.{IsShowable, kind_shown_of, is_legacy, shown_of, kind_of, shim_of, carried_by};
+
+use tva_base::ShapeKind;
+use tva_sender::{Held, Shape};
+use tva_shim::{Carried, Entries, Kind, ReturnInfo, Shim, Shown};
+
+/// The protocol byte of the packets that hosts make: TCP's number.
+const PROTOCOL: u8 = 6;
+
+/// What is told of a shape.
+pub fn kind_shown_of(shape: &Shape) -> ShapeKind
+    ensures { result ≡ kind_shown_of shape.now }
+{
+    match shape {
+        Shape::Request => ShapeKind::Request,
+        Shape::List(_) => ShapeKind::List,
+        Shape::NonceOnly(_) => ShapeKind::Nonce,
+        Shape::Renewal(_) => ShapeKind::Renewal,
+        Shape::Legacy => ShapeKind::Legacy,
+    }
+}
+
+fn is_legacy(shape: &Shape) -> bool
+    ensures { result ≡ is_legacy shape.now }
+{
+    match shape {
+        Shape::Legacy => true,
+        Shape::Request | Shape::List(_) | Shape::NonceOnly(_) | Shape::Renewal(_) => false,
+    }
+}
+
+fn shown_of(held: Held) -> Shown
+    requires { IsCarriedHeld held }
+    ensures shown { result ≡ shown_of held }
+    ensures fits { IsShown result }
+{
+    let Held {
+        nonce,
+        rights,
+        caps,
+    } = held;
+    Shown {
+        nonce,
+        pointer: 0,
+        rights,
+        caps,
+    }
+}
+
+// The kind of a packet in that shape. A request has no entries yet.
+fn kind_of(shape: Shape) -> Kind
+    requires { IsShowable shape }
+    ensures kind { result ≡ kind_of shape }
+    ensures fits { IsKind result }
+{
+    match shape {
+        Shape::Request | Shape::Legacy => Kind::Request(Entries::new()),
+        Shape::List(held) => Kind::List(shown_of(held)),
+        Shape::NonceOnly(nonce) => Kind::Nonce(nonce),
+        Shape::Renewal(held) => Kind::Renewal(shown_of(held)),
+    }
+}
+
+/// The shim of a packet in that shape with return info. It is marked where the shape shows nothing.
+pub fn shim_of(shape: Shape, back: ReturnInfo) -> Shim
+    requires shape { IsShowable shape }
+    requires back { IsReturn back }
+    ensures { result ≡ shim_of shape back }
+{
+    let demoted = is_legacy(&shape);
+    Shim::new(demoted, PROTOCOL, kind_of(shape), back)
+}
+
+/// What a packet in that shape carries that is no reply.
+pub fn carried_by(shape: Shape) -> Carried
+    requires { IsShowable shape }
+    ensures carried { result ≡ carried_by shape }
+    ensures fits { IsCarried result }
+{
+    if is_legacy(&shape) {
+        return Carried::Nothing;
+    }
+    Carried::Shim(shim_of(shape, ReturnInfo::Nothing))
+}

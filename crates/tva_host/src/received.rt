@@ -1,0 +1,206 @@
+// What a received packet is, what it asks with, and what is answered.
+ghost use Rattle.std.specs.Prelude.{◌≡◌, ◌<◌, ◌≤◌, ◌+◌, ◌∷◌, [], ◌++◌, ◌==◌, length, map, filter, nat_lt, if◌then◌else◌, IfSome};
+ghost use Rattle.arrayvec.specs.ArrayVec.{array_vec_len};
+ghost use Rattle.tva_base.specs.Plan.{AreRights};
+ghost use Rattle.tva_shim.specs.Shims.{IsReturn};
+ghost use Rattle.tva_shim.specs.Changes.{nonzero_tags};
+ghost use Rattle.tva_shim.specs.Layout.{return_size};
+ghost use Rattle.tva_caps.specs.Formula.{capability_of};
+ghost use Rattle.tva_host.specs.Receiving.{what_kind, what_of, asking_kind, asking_in, shows_grant, is_nothing, notice_for, granted, stray};
+ghost use Rattle.tva_host.specs.Asked.{ask_view};
+
+use crate::made::Receipt;
+use arrayvec::ArrayVec;
+use tva_base::{BackKind, Caps, Rights, WhatKind};
+use tva_caps::capability;
+use tva_shim::{Carried, Entries, Kind, ReturnInfo, Shown};
+
+/// What a packet asks a grant with: the tags that are judged, and the pre-capabilities of the
+/// routers that it passed.
+#[derive(Debug, Drop)]
+pub struct Ask {
+    pub tags: ArrayVec<u16, 16>,
+    pub precaps: Caps,
+}
+
+/// What is told of a packet for another host.
+pub fn stray() -> Receipt
+    ensures { result ≡ stray }
+{
+    Receipt {
+        what: WhatKind::Stray,
+        back: BackKind::Nothing,
+        reply: None,
+    }
+}
+
+/// What a host takes a packet for by what it carries.
+pub fn what_of(carried: &Carried) -> WhatKind
+    ensures { result ≡ what_of carried.now }
+{
+    match carried {
+        Carried::Nothing | Carried::Malformed(_) => WhatKind::Legacy,
+        Carried::Shim(shim) => {
+            if shim.demoted {
+                return WhatKind::Demoted;
+            }
+            what_kind(&shim.kind)
+        }
+    }
+}
+
+fn what_kind(kind: &Kind) -> WhatKind
+    ensures { result ≡ what_kind kind.now }
+{
+    match kind {
+        Kind::Request(_) => WhatKind::Request,
+        Kind::List(_) | Kind::Nonce(_) => WhatKind::Regular,
+        Kind::Renewal(_) => WhatKind::Renewal,
+    }
+}
+
+/// What a packet asks with, if it asks. A marked one doesn't.
+pub fn asking_in(carried: &Carried) -> Option<Ask>
+    ensures { ask_view result ≡ asking_in carried.now }
+{
+    match carried {
+        Carried::Nothing | Carried::Malformed(_) => None,
+        Carried::Shim(shim) => {
+            if shim.demoted {
+                return None;
+            }
+            asking_kind(&shim.kind)
+        }
+    }
+}
+
+fn asking_kind(kind: &Kind) -> Option<Ask>
+    ensures { ask_view result ≡ asking_kind kind.now }
+{
+    match kind {
+        Kind::Request(entries) => Some(Ask {
+            tags: nonzero_tags(entries),
+            precaps: precaps_of(entries),
+        }),
+        Kind::List(_) | Kind::Nonce(_) => None,
+        Kind::Renewal(shown) => asking_renewal(shown),
+    }
+}
+
+// A renewal asks that passed all its routers.
+fn asking_renewal(shown: &Shown) -> Option<Ask>
+    ensures { ask_view result ≡ asking_kind (Kind.Renewal shown.now) }
+{
+    if usize::from(shown.pointer) != shown.caps.as_slice().len() {
+        return None;
+    }
+    Some(Ask {
+        tags: ArrayVec::new(),
+        precaps: shown.caps.copied(),
+    })
+}
+
+fn nonzero_tags(entries: &Entries) -> ArrayVec<u16, 16>
+    ensures { result.items ≡ nonzero_tags entries.now }
+{
+    let mut tags = ArrayVec::new();
+    for entry in entries.as_slice() {
+        push_nonzero(&mut tags, entry.tag);
+    }
+    tags
+}
+
+fn push_nonzero(tags: &mut ArrayVec<u16, 16>, tag: u16)
+    requires { array_vec_len tags.old < 16 }
+    ensures items { tags.new.items ≡ tags.old.items ++ filter (nat_lt 0) (tag ∷ []) }
+    ensures len { array_vec_len tags.new ≤ array_vec_len tags.old + 1 }
+{
+    if tag != 0 {
+        tags.push(tag);
+    }
+}
+
+fn precaps_of(entries: &Entries) -> Caps
+    ensures { result ≡ map (λ e. e.precap) entries.now }
+{
+    let mut precaps = Caps::new();
+    for entry in entries.as_slice() {
+        precaps.push(entry.precap);
+    }
+    precaps
+}
+
+/// The answer to a packet that doesn't ask: a notice for a marked one that shows a grant and has no
+/// return info.
+pub fn notice_for(carried: &Carried) -> Option<ReturnInfo>
+    ensures answer { result ≡ notice_for carried.now }
+    ensures fits { IfSome result IsReturn }
+{
+    match carried {
+        Carried::Nothing | Carried::Malformed(_) => None,
+        Carried::Shim(shim) => {
+            let shows = shows_grant(&shim.kind);
+            let is_nothing = is_nothing(&shim.back);
+            if shim.demoted && shows && is_nothing {
+                return Some(ReturnInfo::Notice);
+            }
+            None
+        }
+    }
+}
+
+fn shows_grant(kind: &Kind) -> bool
+    ensures { result ≡ shows_grant kind.now }
+{
+    match kind {
+        Kind::Request(_) => false,
+        Kind::List(_) | Kind::Nonce(_) | Kind::Renewal(_) => true,
+    }
+}
+
+fn is_nothing(back: &ReturnInfo) -> bool
+    ensures { result ≡ is_nothing back.now }
+{
+    match back {
+        ReturnInfo::Nothing => true,
+        ReturnInfo::Notice | ReturnInfo::Grant { .. } => false,
+    }
+}
+
+/// The grant of the rights, with the capability of each pre-capability.
+pub fn granted(rights: Option<Rights>, precaps: &Caps) -> Option<ReturnInfo>
+    requires { IfSome rights AreRights }
+    ensures answer { result ≡ granted rights precaps.now }
+    ensures fits { IfSome result IsReturn }
+{
+    match rights {
+        None => None,
+        Some(rights) => Some(ReturnInfo::Grant {
+            rights,
+            caps: capabilities(rights, precaps),
+        }),
+    }
+}
+
+fn capabilities(rights: Rights, precaps: &Caps) -> Caps
+    requires { AreRights rights }
+    ensures { result ≡ map (λ p. capability_of p rights) precaps.now }
+{
+    let mut caps = Caps::new();
+    for precap in precaps.as_slice() {
+        caps.push(capability(*precap, rights));
+    }
+    caps
+}
+
+/// The bytes of return info in a packet.
+pub fn return_size(back: &ReturnInfo) -> u32
+    ensures bytes { result ≡ return_size back.now }
+    ensures few { result ≤ 132 }
+{
+    match back {
+        ReturnInfo::Nothing => 0,
+        ReturnInfo::Notice => 1,
+        ReturnInfo::Grant { caps, .. } => 4 + 8 * caps.as_slice().len() as u32,
+    }
+}
