@@ -1,5 +1,5 @@
 -- The history after one more deed, contact or packet.
-use Rattle.std.proofs.Common.{◌≡◌, ℕ, ◌+◌, ◌%◌, ◌^◌, ◌<◌, Bool, true, false, cond, List, [], ◌∷◌, ◌++◌, Option, Some, None, Result, Ok, Err, OnOk, OnErr, IfOk, append-nil, ap, sym, subst, ◌∙◌, arith}
+use Rattle.std.proofs.Common.{◌≡◌, ℕ, ◌+◌, ◌%◌, ◌^◌, ◌<◌, min, Bool, true, false, cond, List, [], ◌∷◌, ◌++◌, Option, Some, None, Result, Ok, Err, OnOk, OnErr, IfOk, append-nil, ap, sym, subst, ◌∙◌, arith}
 use Rattle.std.specs.Option.{IfSome}
 use Rattle.std.proofs.Math.Nat.{mod-add-mod}
 use Rattle.tva_base.specs.declared.addresses.Address.{Address}
@@ -30,11 +30,14 @@ first-nonce n small = omega (arith, small)
 pub next-nonce : (n p : ℕ) → ((n + p) % 2 ^ 48 + 1) % 2 ^ 48 ≡ (n + (p + 1)) % 2 ^ 48
 next-nonce n p = let e : n + p + 1 ≡ n + (p + 1) = omega arith in mod-add-mod (n + p) (2 ^ 48) 1 ∙ ap (λ z. z % 2 ^ 48) e
 
-pub stands-packet : (node : ℕ) (plan : HostPlan) (v : HostData) (h : History) → StandsFor node plan v h → StandsFor node plan (host_data v.node v.address (v.next + 1) v.offered v.policy v.sender) (with_packet h)
+one_more : (made : ℕ) → min (min (made + 1) 18446744073709551615 + 1) 18446744073709551615 ≡ min (made + 1 + 1) 18446744073709551615
+one_more made = grind arith
+
+pub stands-packet : (node : ℕ) (plan : HostPlan) (v : HostData) (h : History) → StandsFor node plan v h → StandsFor node plan (host_data v.node v.address (min (v.next + 1) 18446744073709551615) v.offered v.policy v.sender) (with_packet h)
 stands-packet node plan v h s = record {
   node = s.node;
   address = s.address;
-  next = ap (λ n. n + 1) s.next;
+  next = ap (λ n. min (n + 1) 18446744073709551615) s.next ∙ one_more h.made;
   offered = s.offered;
   margin = s.margin;
   retry = s.retry;
@@ -42,7 +45,7 @@ stands-packet node plan v h s = record {
   sender = s.sender;
 }
 
-pub has-packet : (v : HostData) → HasHistory v → HasHistory (host_data v.node v.address (v.next + 1) v.offered v.policy v.sender)
+pub has-packet : (v : HostData) → HasHistory v → HasHistory (host_data v.node v.address (min (v.next + 1) 18446744073709551615) v.offered v.policy v.sender)
 has-packet v has = record {
   node = has.node;
   plan = has.plan;

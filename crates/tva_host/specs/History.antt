@@ -1,5 +1,5 @@
 -- What a host did and met, what it keeps of that, and for which history it stands.
-use Rattle.std.specs.Prelude.{◌≡◌, ℕ, ◌+◌, ◌%◌, ◌^◌, List, [], ◌∷◌, ◌++◌}
+use Rattle.std.specs.Prelude.{◌≡◌, ℕ, ◌+◌, ◌%◌, ◌^◌, min, List, [], ◌∷◌, ◌++◌}
 use Rattle.tva_base.specs.declared.addresses.Address.{Address}
 use Rattle.tva_base.specs.declared.plan.HostPlan.{HostPlan}
 use Rattle.tva_base.specs.Plan.{IsHostPlan}
@@ -43,6 +43,10 @@ with_prepared now dst shape body h = record h {
 abbrev pub offered : HostPlan → History → ℕ
 offered plan h = (plan.nonce + h.prepared) % 2 ^ 48
 
+-- the ordinal of the packet behind so many: one more, as far as 64 bits go
+abbrev pub ordinal_behind : ℕ → ℕ
+ordinal_behind made = min (made + 1) 18446744073709551615
+
 -- what a host keeps: its node's number, its address, the ordinal of its next packet, the nonce that
 -- it offers next, and what its policy and its sender keep
 pub record HostData : Type 0 where
@@ -57,11 +61,11 @@ abbrev pub host_data : ℕ → Address → ℕ → ℕ → policy.Notes → send
 host_data node address next offered notes book = record { node = node; address = address; next = next; offered = offered; policy = notes; sender = book }
 
 -- the host of that node and plan stands for the history: its policy and its sender do, its next
--- ordinal is one more than the packets, and it offers the nonce after those that were offered
+-- ordinal is the one behind its packets, and it offers the nonce after those that were offered
 pub record StandsFor (number : ℕ) (plan : HostPlan) (v : HostData) (h : History) : Type 0 where
   pub node : v.node ≡ number
   pub address : v.address ≡ plan.address
-  pub next : v.next ≡ h.made + 1
+  pub next : v.next ≡ ordinal_behind h.made
   pub offered : v.offered ≡ offered plan h
   pub margin : v.sender.margin ≡ plan.margin
   pub retry : v.sender.retry ≡ plan.retry

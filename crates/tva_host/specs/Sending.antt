@@ -1,5 +1,5 @@
 -- The packets that a host makes.
-use Rattle.std.specs.Prelude.{ℕ, ◌+◌, Bool, true, false, if◌then◌else◌, []}
+use Rattle.std.specs.Prelude.{ℕ, Bool, true, false, if◌then◌else◌, []}
 use Rattle.tva_base.specs.declared.addresses.Address.{Address}
 use Rattle.tva_base.specs.declared.packet.Flow.{Flow}
 use Rattle.tva_base.specs.declared.plan.HostPlan.{HostPlan}
@@ -22,7 +22,7 @@ use Rattle.tva_sender.specs.Shapes.{shape_of}
 use Rattle.tva_sender.specs.Carried as sent
 use Rattle.tva_sender.specs.Book.{of_peer}
 use Rattle.tva_host.specs.declared.made.Made.{Made}
-use Rattle.tva_host.specs.History.{History, with_deed, with_packet, with_prepared, offered}
+use Rattle.tva_host.specs.History.{History, ordinal_behind, with_deed, with_packet, with_prepared, offered}
 
 -- a shim can carry what the shape shows
 abbrev pub IsShowable : Shape → Type 0
@@ -66,7 +66,7 @@ carried_by shape = if is_legacy shape then carried.Nothing else carried.Shim (sh
 -- the next packet of the node: it passed no router
 abbrev pub next_packet : ℕ → History → Flow → ℕ → Carried → PacketData
 next_packet node h flow payload carries = record {
-  id = record { node = node; ordinal = h.made + 1 };
+  id = record { node = node; ordinal = ordinal_behind h.made };
   flow = flow;
   hops = 0;
   payload = payload;

@@ -1,5 +1,5 @@
 // A host.
-ghost use Rattle.std.specs.Prelude.{◌≡◌, ◌≤◌, ◌+◌, ◌^◌, ◌==◌, ℕ, IfOk, IfSome, OnErr};
+ghost use Rattle.std.specs.Prelude.{◌≡◌, ◌≤◌, ◌+◌, min, ◌==◌, ℕ, IfOk, IfSome, OnErr};
 ghost use Rattle.tva_base.specs.declared.plan.HostPlan.{HostPlan};
 ghost use Rattle.tva_base.specs.Plan.{IsHostPlan};
 ghost use Rattle.tva_shim.specs.Shims.{IsReturn};
@@ -66,22 +66,21 @@ impl Host {
     }
 
     /// A packet of the trace with that payload in bytes, which gets the next ordinal of the host and
-    /// passed no router. It takes no memory.
+    /// passed no router. Ordinals count from 1, and stand still at the end of 64 bits. It takes no memory.
     pub fn inject(&mut self, flow: Flow, payload: u16, carried: Carried) -> Packet
-        requires few { self.old.next ≤ 2 ^ 63 }
         requires payload { payload ≤ 1600 }
         requires carried { IsCarried carried }
         ensures packet { (node : ℕ) (plan : HostPlan) (h : History) → StandsFor node plan self.old h
             → result ≡ next_packet node h flow payload carried }
         ensures stands { (node : ℕ) (plan : HostPlan) (h : History) → StandsFor node plan self.old h
             → StandsFor node plan self.new (with_packet h) }
-        ensures after { self.new ≡ record self.old { next = self.old.next + 1 } }
+        ensures after { self.new ≡ record self.old { next = min (self.old.next + 1) 18446744073709551615 } }
     {
         let id = PacketId {
             node: self.node,
             ordinal: self.next,
         };
-        self.next += 1;
+        self.next = self.next.saturating_add(1);
         Packet::new(id, flow, 0, payload, carried)
     }
 
@@ -96,7 +95,6 @@ impl Host {
         payload: u16,
     ) -> Result<Made, AllocError>
         requires time { self.old.sender.last ≤ now.0 }
-        requires few { self.old.next ≤ 2 ^ 63 }
         requires payload { payload ≤ 1600 }
         ensures made { (node : ℕ) (plan : HostPlan) (h : History) → StandsFor node plan self.old h
             → IfOk result (λ made. made ≡ intended node plan h now.0 dst payload) }
@@ -130,7 +128,6 @@ impl Host {
         packet: Packet,
     ) -> Result<Receipt, AllocError>
         requires time { self.old.sender.last ≤ now.0 }
-        requires few { self.old.next ≤ 2 ^ 63 }
         ensures receipt { (node : ℕ) (plan : HostPlan) (h : History) → StandsFor node plan self.old h
             → IfOk result (λ receipt. receipt ≡ receipt_of node plan h now.0 packet) }
         ensures stands { (node : ℕ) (plan : HostPlan) (h : History) → StandsFor node plan self.old h
@@ -277,7 +274,6 @@ impl Host {
     // The reply that brings an answer to the source.
     fn reply(&mut self, now: Time, src: Address, answer: Option<ReturnInfo>) -> Option<Made>
         requires time { self.old.sender.last ≤ now.0 }
-        requires few { self.old.next ≤ 2 ^ 63 }
         requires room { 1 ≤ self.old.sender.spare }
         requires fits { IfSome answer IsReturn }
         ensures reply { (node : ℕ) (plan : HostPlan) (h : History) → StandsFor node plan self.old h
