@@ -1,5 +1,6 @@
 // Calls on one host, from replays that were worked out apart from this code, by two programs over the
-// definitions; the bytes of shims by another SHA-256. `host` begins a host: its node, its address, the
+// definitions; the bytes of shims by another SHA-256. Two calls stand in no replay, and their answers are
+// those of the rules: a renewal below its end, and a marked request. `host` begins a host: its node, its address, the
 // first nonce that it offers, the kind of its policy, its rights, the grants to one source, and an
 // address and a tag that it denies; it stays 1,000,000 ns clear of the end of a grant and asks again
 // after 2,000,000,000 ns. Then come its calls, each with its answer. `send TIME DESTINATION PAYLOAD`
