@@ -2,4 +2,6 @@ pub mod Addresses
 pub mod Clock
 pub mod Credit
 pub mod Decimal
+pub mod Lives
+pub mod Ordinals
 pub mod Plan

@@ -4,6 +4,7 @@
 #![tactic(auto)]
 
 mod addresses;
+mod constants;
 mod credits;
 mod event;
 mod limits;
@@ -15,6 +16,7 @@ mod readers;
 mod texts;
 
 pub use addresses::{Address, Prefix};
+pub use constants::{LENGTH_MAX, SECOND, TIME_MAX, UNIT, constants_hold};
 pub use credits::credit;
 pub use event::{BackKind, Event, Happened, ReplyLine, ShapeKind, Totals, WhatKind};
 pub use limits::{DrrLimits, LinkLimits};
@@ -24,18 +26,6 @@ pub use packet::{Cause, Class, DropCause, Fate, Flow, Grant, Outcome, PacketId, 
 pub use plan::{HostPlan, LinkPlan, PolicyKind, PolicyPlan, Route, RouterPlan};
 pub use readers::{address, prefix};
 pub use texts::{Key, Line, Name};
-
-/// The greatest time of an event and the greatest clock offset, in nanoseconds.
-pub const TIME_MAX: u64 = 1_000_000_000_000_000;
-
-/// The nanoseconds of a second.
-pub const SECOND: u64 = 1_000_000_000;
-
-/// The bytes of a unit, in which rights count.
-pub const UNIT: u64 = 1024;
-
-/// The greatest length of a packet, in bytes.
-pub const LENGTH_MAX: u32 = 2048;
 
 #[cfg(test)]
 mod tests;
