@@ -2,4 +2,5 @@ pub mod Addresses
 pub mod Clock
 pub mod Credit
 pub mod Decimal
+pub mod Lives
 pub mod Plan
