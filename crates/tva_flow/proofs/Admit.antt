@@ -10,8 +10,8 @@ use Rattle.tva_flow.specs.declared.kept.Entry.{Entry}
 use Rattle.tva_flow.specs.declared.verdicts.Verdict.{Verdict}
 use Rattle.tva_flow.specs.declared.verdicts.Verdict.TheVariants.{Authorised, Expired, OverN, UnknownNonce, CacheFull, Superseded}
 use Rattle.tva_flow.specs.Charges.{Charge, charge, end_of, run, bytes_of, of_flow, living_count}
-use Rattle.tva_flow.specs.Verdicts.{charged, is_authorised, list_verdict, nonce_verdict}
-use Rattle.tva_flow.specs.Stands.{IsPacket, cache, entry_of, IsKept, StandsFor}
+use Rattle.tva_flow.specs.Verdicts.{is_authorised, list_verdict, nonce_verdict}
+use Rattle.tva_flow.specs.Stands.{IsChargeable, cache, entry_of, IsKept, StandsFor}
 use Rattle.tva_flow.specs.Steps.{blocks, counted, living_verdict, held_verdict, opening_verdict, renewed, opened, Admits}
 use Rattle.tva_flow.proofs.Steps.{holds_now, dead_now, not_living, end_from_dead, holds-new, holds-more}
 use Rattle.tva_flow.proofs.Rising.{rising}
@@ -19,10 +19,7 @@ use Rattle.tva_flow.proofs.Standing.{stands-later, stands-set, stands-push, entr
 use Rattle.tva_flow.proofs.Counting.{living_count_is, live_flows, length-live_flows-le, length-live_flows-lt, length-live_flows-all}
 use Rattle.tva_flow.proofs.ByEntry.{verdict-living, verdict-opening, living_rows, some_last, bytes_known, nonce-living, nonce-gone}
 use Rattle.tva_flow.proofs.Near.{own_counted}
-
-no_charge : (r : Verdict) (now nonce bytes : ℕ) → is_authorised r ≡ false → charged r now nonce bytes ≡ []
-no_charge (Authorised g) now nonce bytes h = absurd (cc)
-no_charge r now nonce bytes h = refl
+use Rattle.tva_flow.proofs.Places.{no_charge}
 
 -- a refusal
 pub admits-refused : (s o last now : ℕ) (es : List Entry) (h : List Charge) (wanted : Verdict) (nonce bytes : ℕ) (r : Verdict) → StandsFor (cache s o last es) h → last ≤ now → r ≡ wanted → is_authorised r ≡ false → Admits s o h now nonce bytes wanted r es
@@ -52,7 +49,7 @@ bytes_at s o last now es h i e g len v l n q k a t =
     sym (bytes_known (of_flow g.flow h) e p.0 g w (rising s o h v.charges g.flow) p.1 (living_rows e g len t).0)
 
 pub admits-renewed : (s o last now : ℕ) (es : List Entry) (h : List Charge) (i : ℕ) (e : Entry) (g : Grant) (nonce len : ℕ) → StandsFor (cache s o last es) h → last ≤ now → i < length es → e ≡ get_or es i e → e.grant.flow ≡ g.flow → now < e.end
-    → living_verdict e g len ≡ Authorised g → IsPacket g len → Admits s o h now nonce len (list_verdict s h now g len) (Authorised g) (set es i (renewed e g nonce len))
+    → living_verdict e g len ≡ Authorised g → IsChargeable g len → Admits s o h now nonce len (list_verdict s h now g len) (Authorised g) (set es i (renewed e g nonce len))
 admits-renewed s o last now es h i e g nonce len v l n q k a t m =
     let w = holds_now (of_flow g.flow h) last now e l (kept_at s o last es h g.flow i e v n q k) a in
     let j = verdict_at s o last now es h i e g len v l n q k a ∙ t in
@@ -76,7 +73,7 @@ count_at : (s o last now : ℕ) (es : List Entry) (h : List Charge) → StandsFo
 count_at s o last now es h v l = living_count_is s o now es h (stands-later s o last now es h v l)
 
 pub admits-opened_own : (s o last now : ℕ) (es : List Entry) (h : List Charge) (i : ℕ) (e : Entry) (g : Grant) (nonce len : ℕ) → StandsFor (cache s o last es) h → last ≤ now → i < length es → e ≡ get_or es i e → e.grant.flow ≡ g.flow → e.end ≤ now
-    → len ≤ 1024 * g.rights.n → IsPacket g len → Admits s o h now nonce len (list_verdict s h now g len) (Authorised g) (set es i (opened now g nonce len))
+    → len ≤ 1024 * g.rights.n → IsChargeable g len → Admits s o h now nonce len (list_verdict s h now g len) (Authorised g) (set es i (opened now g nonce len))
 admits-opened_own s o last now es h i e g nonce len v l n q k a t m =
     let d = dead_now (of_flow g.flow h) last now e l (kept_at s o last es h g.flow i e v n q k) a in
     let j = verdict-opening s h now g len (not_living (of_flow g.flow h) now d) ∙ opening_row s (living_count h now) g len t (omega (arith, count_at s o last now es h v l, length-live_flows-lt now es i e n q a, v.few)) in
@@ -86,14 +83,14 @@ none_dead : (s o last now : ℕ) (es : List Entry) (h : List Charge) (f : Flow) 
 none_dead s o last now es h f v l n = let k = end_from_dead (of_flow f h) last (subst (λ z. IsKept z (of_flow f h) last) n (v.kept f)) in omega arith
 
 pub admits-opened_over : (s o last now : ℕ) (es : List Entry) (h : List Charge) (i : ℕ) (e : Entry) (g : Grant) (nonce len : ℕ) → StandsFor (cache s o last es) h → last ≤ now → i < length es → e ≡ get_or es i e → entry_of g.flow es ≡ None → e.end ≤ now
-    → len ≤ 1024 * g.rights.n → IsPacket g len → Admits s o h now nonce len (list_verdict s h now g len) (Authorised g) (set es i (opened now g nonce len))
+    → len ≤ 1024 * g.rights.n → IsChargeable g len → Admits s o h now nonce len (list_verdict s h now g len) (Authorised g) (set es i (opened now g nonce len))
 admits-opened_over s o last now es h i e g nonce len v l n q k a t m =
     let d = none_dead s o last now es h g.flow v l k in
     let j = verdict-opening s h now g len (not_living (of_flow g.flow h) now d) ∙ opening_row s (living_count h now) g len t (omega (arith, count_at s o last now es h v l, length-live_flows-lt now es i e n q a, v.few)) in
     (sym j, stands-set s o last es h (charge now g nonce len) i e (opened now g nonce len) v l n q refl (inr (a, k)) (holds-new (of_flow g.flow h) now g nonce len d) (inl j) m)
 
 pub admits-opened_next : (s o last now : ℕ) (es : List Entry) (h : List Charge) (g : Grant) (nonce len : ℕ) → StandsFor (cache s o last es) h → last ≤ now → length es < s → entry_of g.flow es ≡ None
-    → len ≤ 1024 * g.rights.n → IsPacket g len → Admits s o h now nonce len (list_verdict s h now g len) (Authorised g) (es ++ opened now g nonce len ∷ [])
+    → len ≤ 1024 * g.rights.n → IsChargeable g len → Admits s o h now nonce len (list_verdict s h now g len) (Authorised g) (es ++ opened now g nonce len ∷ [])
 admits-opened_next s o last now es h g nonce len v l n k t m =
     let d = none_dead s o last now es h g.flow v l k in
     let j = verdict-opening s h now g len (not_living (of_flow g.flow h) now d) ∙ opening_row s (living_count h now) g len t (omega (arith, count_at s o last now es h v l, length-live_flows-le now es)) in
@@ -122,7 +119,7 @@ authorised_is e g len = three (blocks e g) (ltb (1024 * g.rights.n) (counted e g
 pub judged : (e : Entry) (g : Grant) (len : ℕ) (r : Verdict) → r ≡ living_verdict e g len → is_authorised r ≡ true → living_verdict e g len ≡ Authorised g
 judged e g len r t a = authorised_is e g len (subst (λ z. is_authorised z ≡ true) t a)
 
-pub answers-renewed : (now : ℕ) (es : List Entry) (i : ℕ) (e : Entry) (g : Grant) (nonce len : ℕ) (r : Verdict) → i < length es → e ≡ get_or es i e → (e.grant.flow ≡ g.flow) × (now < e.end) → r ≡ living_verdict e g len → is_authorised r ≡ true → IsPacket g len
+pub answers-renewed : (now : ℕ) (es : List Entry) (i : ℕ) (e : Entry) (g : Grant) (nonce len : ℕ) (r : Verdict) → i < length es → e ≡ get_or es i e → (e.grant.flow ≡ g.flow) × (now < e.end) → r ≡ living_verdict e g len → is_authorised r ≡ true → IsChargeable g len
     → (s o last : ℕ) (h : List Charge) → last ≤ now → StandsFor (cache s o last es) h → Admits s o h now nonce len (list_verdict s h now g len) r (set es i (renewed e g nonce len))
 answers-renewed now es i e g nonce len r n q k t a m s o last h l v =
     let j = judged e g len r t a in
@@ -153,7 +150,7 @@ nonce_at s o last now es h i e nonce bytes v l n q a =
     nonce-living o h now e.grant.flow e nonce bytes (holds_now (of_flow e.grant.flow h) last now e l (kept_at s o last es h e.grant.flow i e v n q refl) a) refl a
 
 admits-held : (s o last now : ℕ) (es : List Entry) (h : List Charge) (i : ℕ) (e : Entry) (nonce bytes : ℕ) → StandsFor (cache s o last es) h → last ≤ now → i < length es → e ≡ get_or es i e → now < e.end
-    → held_verdict (router_second o now) e nonce bytes ≡ Authorised e.grant → IsPacket e.grant bytes → Admits s o h now nonce bytes (nonce_verdict o h now e.grant.flow nonce bytes) (Authorised e.grant) (set es i (renewed e e.grant nonce bytes))
+    → held_verdict (router_second o now) e nonce bytes ≡ Authorised e.grant → IsChargeable e.grant bytes → Admits s o h now nonce bytes (nonce_verdict o h now e.grant.flow nonce bytes) (Authorised e.grant) (set es i (renewed e e.grant nonce bytes))
 admits-held s o last now es h i e nonce bytes v l n q a t m =
     let w = holds_now (of_flow e.grant.flow h) last now e l (kept_at s o last es h e.grant.flow i e v n q refl) a in
     let j = nonce_at s o last now es h i e nonce bytes v l n q a ∙ t in (
@@ -172,7 +169,7 @@ pub held_judged : (second : ℕ) (e : Entry) (nonce bytes : ℕ) (r : Verdict) �
 held_judged second e nonce bytes r t a =
     held_three (not (eqb e.nonce nonce)) (leb (e.grant.second + e.grant.rights.t) second) (ltb (1024 * e.grant.rights.n) (e.used + bytes)) e.grant (subst (λ z. is_authorised z ≡ true) t a)
 
-pub answers-held : (now second : ℕ) (es : List Entry) (i : ℕ) (e : Entry) (nonce bytes : ℕ) (r : Verdict) → i < length es → e ≡ get_or es i e → now < e.end → r ≡ held_verdict second e nonce bytes → is_authorised r ≡ true → IsPacket e.grant bytes
+pub answers-held : (now second : ℕ) (es : List Entry) (i : ℕ) (e : Entry) (nonce bytes : ℕ) (r : Verdict) → i < length es → e ≡ get_or es i e → now < e.end → r ≡ held_verdict second e nonce bytes → is_authorised r ≡ true → IsChargeable e.grant bytes
     → (f : Flow) (s o last : ℕ) (h : List Charge) → e.grant.flow ≡ f → second ≡ router_second o now → last ≤ now → StandsFor (cache s o last es) h → Admits s o h now nonce bytes (nonce_verdict o h now f nonce bytes) r (set es i (renewed e e.grant nonce bytes))
 answers-held now second es i e nonce bytes r n q a t b m f s o last h k c l v =
     let j = held_judged second e nonce bytes r t b in

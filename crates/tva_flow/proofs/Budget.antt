@@ -12,12 +12,12 @@ use Rattle.tva_base.specs.declared.packet.Grant.{Grant}
 use Rattle.tva_base.specs.Credit.{credit_of}
 use Rattle.tva_base.specs.Clock.{router_second}
 use Rattle.tva_flow.specs.declared.kept.Entry.{Entry}
-use Rattle.tva_flow.specs.Charges.{Charge, credits, end_of, is_living, restarts, run, same_flow, same_grant, bytes_under, bytes_of, of_flow, living_count}
+use Rattle.tva_flow.specs.Charges.{Charge, end_of, is_living, restarts, run, same_flow, same_grant, bytes_under, bytes_of, of_flow, living_count}
 use Rattle.tva_flow.specs.Verdicts.{IsAuthorised}
 use Rattle.tva_flow.specs.Stands.{NoneLater, IsNext, AreNext, StandsFor, cache}
 use Rattle.tva_flow.specs.Budget.{IsWithinSeconds, AreTimely, IsWithinBudget}
 use Rattle.tva_flow.proofs.Same.{by_bool, by_flow, same_is, same_grant-self, same_flow-self}
-use Rattle.tva_flow.proofs.Laws.{credit, of_flow-push, past-push}
+use Rattle.tva_flow.proofs.Pushes.{credit, credits, of_flow-push, past-push}
 use Rattle.tva_flow.proofs.Steps.{run_new, run_more, end_from_dead}
 use Rattle.tva_flow.proofs.Rows.{authorised_rows}
 use Rattle.tva_flow.proofs.Standing.{stands-later}

@@ -29,10 +29,10 @@ length-without f [] h = absurd (cc)
 length-without f (x ∷ xs) h =
     by_flow x f (λ b. cond b true (has f xs) ≡ true → length (cond b xs (x ∷ without f xs)) + 1 ≡ length (x ∷ xs)) (λ e k. omega arith) (λ e k. omega (arith, length-without f xs k)) h
 
-has_first : (x f : Flow) (xs : List Flow) → x ≡ f → has f (x ∷ xs) ≡ true
+pub has_first : (x f : Flow) (xs : List Flow) → x ≡ f → has f (x ∷ xs) ≡ true
 has_first x f xs e = by_flow x f (λ b. cond b true (has f xs) ≡ true) (λ q. refl) (λ q. absurd (q e))
 
-has_later : (x f : Flow) (xs : List Flow) → (x ≡ f → ⊥) → has f (x ∷ xs) ≡ has f xs
+pub has_later : (x f : Flow) (xs : List Flow) → (x ≡ f → ⊥) → has f (x ∷ xs) ≡ has f xs
 has_later x f xs n = by_flow x f (λ b. cond b true (has f xs) ≡ has f xs) (λ q. absurd (n q)) (λ q. refl)
 
 has-without : (f k : Flow) (xs : List Flow) → (f ≡ k → ⊥) → has k xs ≡ true → has k (without f xs) ≡ true
@@ -54,14 +54,14 @@ pub same_length : (xs ys : List Flow) → AreDistinct xs → AreDistinct ys → 
 same_length xs ys d e s = omega (arith, length-subset xs ys d (λ f h. sym (s f) ∙ h), length-subset ys xs e (λ f h. s f ∙ h))
 
 -- the flows of a history
-has-flows : (f : Flow) (h : List Charge) → has f (flows h) ≡ has_flow f h
+pub has-flows : (f : Flow) (h : List Charge) → has f (flows h) ≡ has_flow f h
 has-flows f [] = refl
 has-flows f (c ∷ cs) =
     by_flow c.grant.flow f (λ b. has f (cond (has_flow c.grant.flow cs) (flows cs) (c.grant.flow ∷ flows cs)) ≡ cond b true (has_flow f cs))
     (λ e. by_bool (has_flow c.grant.flow cs) (λ b. has f (cond b (flows cs) (c.grant.flow ∷ flows cs)) ≡ true) (λ k. has-flows f cs ∙ subst (λ z. has_flow z cs ≡ true) e k) (λ k. has_first c.grant.flow f (flows cs) e))
     (λ e. by_bool (has_flow c.grant.flow cs) (λ b. has f (cond b (flows cs) (c.grant.flow ∷ flows cs)) ≡ has_flow f cs) (λ k. has-flows f cs) (λ k. has_later c.grant.flow f (flows cs) e ∙ has-flows f cs))
 
-distinct-flows : (h : List Charge) → AreDistinct (flows h)
+pub distinct-flows : (h : List Charge) → AreDistinct (flows h)
 distinct-flows [] = tt
 distinct-flows (c ∷ cs) =
     by_bool (has_flow c.grant.flow cs) (λ b. AreDistinct (cond b (flows cs) (c.grant.flow ∷ flows cs))) (λ k. distinct-flows cs) (λ k. (has-flows c.grant.flow cs ∙ k, distinct-flows cs))
@@ -71,14 +71,14 @@ abbrev pub living_among : List Charge → ℕ → List Flow → List Flow
 living_among h now [] = []
 living_among h now (f ∷ fs) = cond (lives h f now) (f ∷ living_among h now fs) (living_among h now fs)
 
-length-living_among : (h : List Charge) (now : ℕ) (fs : List Flow) → length (living_among h now fs) ≡ count_by (λ f. lives h f now) fs
+pub length-living_among : (h : List Charge) (now : ℕ) (fs : List Flow) → length (living_among h now fs) ≡ count_by (λ f. lives h f now) fs
 length-living_among h now [] = refl
 length-living_among h now (f ∷ fs) =
     by_bool (lives h f now) (λ b. length (cond b (f ∷ living_among h now fs) (living_among h now fs)) ≡ cond b 1 0 + count_by (λ x. lives h x now) fs)
     (λ k. omega (arith, length-living_among h now fs)) (λ k. omega (arith, length-living_among h now fs))
     ∙ sym (sum_by-cons (λ x. cond (lives h x now) 1 0) f fs)
 
-has-living_among : (h : List Charge) (now : ℕ) (fs : List Flow) (f : Flow) → has f (living_among h now fs) ≡ (has f fs && lives h f now)
+pub has-living_among : (h : List Charge) (now : ℕ) (fs : List Flow) (f : Flow) → has f (living_among h now fs) ≡ (has f fs && lives h f now)
 has-living_among h now [] f = refl
 has-living_among h now (g ∷ fs) f =
     let ih = has-living_among h now fs f in
@@ -90,7 +90,7 @@ has-living_among h now (g ∷ fs) f =
     (λ k. by_flow g f (λ b. cond b true (has f (living_among h now fs)) ≡ (has f fs && lives h f now)) (λ q. absurd (e q)) (λ q. ih))
     (λ k. ih))
 
-distinct-living_among : (h : List Charge) (now : ℕ) (fs : List Flow) → AreDistinct fs → AreDistinct (living_among h now fs)
+pub distinct-living_among : (h : List Charge) (now : ℕ) (fs : List Flow) → AreDistinct fs → AreDistinct (living_among h now fs)
 distinct-living_among h now [] d = tt
 distinct-living_among h now (g ∷ fs) d =
     by_bool (lives h g now) (λ b. AreDistinct (cond b (g ∷ living_among h now fs) (living_among h now fs)))
@@ -130,7 +130,7 @@ of_flow_none : (f : Flow) (h : List Charge) → has_flow f h ≡ false → of_fl
 of_flow_none f [] k = refl
 of_flow_none f (c ∷ cs) k = by_flow c.grant.flow f (λ b. cond b true (has_flow f cs) ≡ false → cond b (c ∷ of_flow f cs) (of_flow f cs) ≡ []) (λ e q. absurd (cc)) (λ e q. of_flow_none f cs q) k
 
-has_and_lives : (h : List Charge) (now : ℕ) (f : Flow) → (has_flow f h && lives h f now) ≡ lives h f now
+pub has_and_lives : (h : List Charge) (now : ℕ) (f : Flow) → (has_flow f h && lives h f now) ≡ lives h f now
 has_and_lives h now f = by_bool (has_flow f h) (λ b. (b && lives h f now) ≡ lives h f now) (λ k. refl) (λ k. rw (of_flow_none f h k) (grind (arith, nat_tests)))
 
 -- as many flows live as entries do

@@ -1,5 +1,5 @@
 pub mod Same
-pub mod Laws
+pub mod Pushes
 pub mod Entries
 pub mod Steps
 pub mod Rows
@@ -10,4 +10,6 @@ pub mod ByEntry
 pub mod Admit
 pub mod Near
 pub mod Timely
+pub mod Places
+pub mod Few
 pub mod Budget

@@ -8,7 +8,7 @@ use Rattle.tva_base.specs.declared.packet.Grant.{Grant}
 use Rattle.tva_base.specs.Credit.{credit_of}
 use Rattle.tva_flow.specs.declared.kept.Entry.{Entry}
 use Rattle.tva_flow.specs.Charges.{same_grant}
-use Rattle.tva_flow.specs.Stands.{IsPacket}
+use Rattle.tva_flow.specs.Stands.{IsChargeable}
 use Rattle.tva_flow.specs.Steps.{IsNear, AreNear, blocks, counted, renewed, opened}
 use Rattle.tva_flow.proofs.Same.{by_bool, same_is, same_grant-self}
 
@@ -37,7 +37,7 @@ pub credit-le : (bytes : ℕ) (r : Rights) → 1 ≤ r.n → r.t < 2 ^ 8 → cre
 unfolding credit_of
 credit-le bytes r n t = omega (arith, ceil-le (bytes * r.t * 1000000000) (1024 * r.n) (omega arith), mul-le-mul_left bytes (let w : r.t ≤ 256 = omega arith in w))
 
-pub near-renewed : (now : ℕ) (e : Entry) (g : Grant) (nonce bytes : ℕ) → IsNear now e → IsPacket g bytes → g.rights.n < 2 ^ 32 → g.rights.t < 2 ^ 8 → blocks e g ≡ false → counted e g + bytes ≤ 1024 * g.rights.n → IsNear now (renewed e g nonce bytes)
+pub near-renewed : (now : ℕ) (e : Entry) (g : Grant) (nonce bytes : ℕ) → IsNear now e → IsChargeable g bytes → g.rights.n < 2 ^ 32 → g.rights.t < 2 ^ 8 → blocks e g ≡ false → counted e g + bytes ≤ 1024 * g.rights.n → IsNear now (renewed e g nonce bytes)
 near-renewed now e g nonce bytes k p n t b u =
     let some : 1 ≤ g.rights.n = omega (arith, u, p.length) in
     let c = credit-le bytes g.rights some t in
@@ -52,7 +52,7 @@ near-renewed now e g nonce bytes k p n t b u =
       second = p.second;
     }
 
-pub near-opened : (now : ℕ) (g : Grant) (nonce bytes : ℕ) → IsPacket g bytes → g.rights.n < 2 ^ 32 → g.rights.t < 2 ^ 8 → bytes ≤ 1024 * g.rights.n → IsNear now (opened now g nonce bytes)
+pub near-opened : (now : ℕ) (g : Grant) (nonce bytes : ℕ) → IsChargeable g bytes → g.rights.n < 2 ^ 32 → g.rights.t < 2 ^ 8 → bytes ≤ 1024 * g.rights.n → IsNear now (opened now g nonce bytes)
 near-opened now g nonce bytes p n t h =
     let some : 1 ≤ g.rights.n = omega (arith, p.length) in
     let c = credit-le bytes g.rights some t in
@@ -65,7 +65,7 @@ own_free e = ap (λ x. not x && leb e.grant.second e.grant.second) (same_grant-s
 pub own_counted : (e : Entry) → counted e e.grant ≡ e.used
 own_counted e = ap (λ x. cond x e.used 0) (same_grant-self e.grant)
 
-pub packet_of : (now : ℕ) (e : Entry) (bytes : ℕ) → IsNear now e → (20 ≤ bytes) × (bytes ≤ 2048) → IsPacket e.grant bytes
+pub packet_of : (now : ℕ) (e : Entry) (bytes : ℕ) → IsNear now e → (20 ≤ bytes) × (bytes ≤ 2048) → IsChargeable e.grant bytes
 packet_of now e bytes n b = record { seconds = n.seconds.0; second = n.second; length = b }
 
 pub near-held : (now : ℕ) (e : Entry) (nonce bytes : ℕ) → IsNear now e → (20 ≤ bytes) × (bytes ≤ 2048) → e.used + bytes ≤ 1024 * e.grant.rights.n → IsNear now (renewed e e.grant nonce bytes)

@@ -8,7 +8,7 @@ use Rattle.tva_flow.specs.Charges.{Charge, end_of, is_living, run, same_grant, b
 use Rattle.tva_flow.specs.Verdicts.{supersedes, IsAuthorised}
 use Rattle.tva_flow.specs.Stands.{AreNext}
 use Rattle.tva_flow.proofs.Same.{by_bool, by_flow, and_false, same_is}
-use Rattle.tva_flow.proofs.Laws.{of_flow-push}
+use Rattle.tva_flow.proofs.Pushes.{of_flow-push}
 use Rattle.tva_flow.proofs.Steps.{by_lt, same_last, run_new, run_more}
 use Rattle.tva_flow.proofs.Rows.{authorised_rows}
 

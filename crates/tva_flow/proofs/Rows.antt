@@ -1,5 +1,5 @@
 -- What holds where a packet is authorised, row by row.
-use Rattle.std.proofs.Common.{◌≡◌, ℕ, ◌+◌, ◌*◌, ◌<◌, ◌≤◌, Bool, true, false, not, ◌&&◌, ◌||◌, cond, eqb, ltb, leb, List, Option, Some, None, refl, sym, ap, ◌∙◌, subst, inl, inr, arith}
+use Rattle.std.proofs.Common.{◌≡◌, ℕ, ◌+◌, ◌*◌, ◌<◌, ◌≤◌, Bool, true, false, not, ◌&&◌, ◌||◌, cond, eqb, ltb, leb, List, Option, Some, None, refl, sym, ap, ◌∙◌, subst, inl, inr, ◌⊎◌, arith}
 use Rattle.std.proofs.lemmas.Bool.Decides.{nat_tests}
 use Rattle.tva_base.specs.declared.packet.Flow.{Flow}
 use Rattle.tva_base.specs.declared.packet.Grant.{Grant}
@@ -33,6 +33,10 @@ pub record IsHeld (offset : ℕ) (h : List Charge) (now bytes : ℕ) (g : Grant)
   pub until : router_second offset now < charge.grant.second + charge.grant.rights.t
   pub room : used h charge.grant now + bytes ≤ 1024 * charge.grant.rights.n
   pub grant : charge.grant ≡ g
+
+first_false : (a b d : Bool) (g k : Grant) → cond a UnknownNonce (cond b Expired (cond d OverN (Authorised g))) ≡ Authorised k → a ≡ false
+first_false true b d g k h = absurd (cc)
+first_false false b d g k h = refl
 
 held_rows : (a b d : Bool) (g k : Grant) → cond a UnknownNonce (cond b Expired (cond d OverN (Authorised g))) ≡ Authorised k → (b ≡ false) × (d ≡ false) × (g ≡ k)
 held_rows true b d g k h = absurd (cc)
@@ -71,4 +75,34 @@ authorised_rows slots offset before c v = elim v [
     ap (λ x. lives before c.grant.flow c.time && x) (subst (λ o. supersedes o c.grant ≡ false) (sym r.is) (own_passes r.charge.grant c.grant r.grant)) ∙ and_false_right (lives before c.grant.flow c.time),
     subst (λ (z : Grant). used before z c.time + c.length ≤ 1024 * z.rights.n) r.grant r.room,
   ))
+]
+
+-- an authorised packet's flow lives, or fewer flows live than there are slots
+opens : (b : Bool) (slots count : ℕ) → (not b && leb slots count) ≡ false → (b ≡ true) ⊎ (count < slots)
+opens true slots count h = inl refl
+opens false slots count h = inr (before_end slots count h)
+
+both_false : (a b : Bool) → (not a || b) ≡ false → a ≡ true
+both_false true b h = refl
+both_false false b h = absurd (cc)
+
+list_room : (slots : ℕ) (h : List Charge) (now : ℕ) (g k : Grant) (bytes : ℕ) → list_verdict slots h now g bytes ≡ Authorised k → (lives h g.flow now ≡ true) ⊎ (living_count h now < slots)
+unfolding list_verdict
+list_room slots h now g k bytes t =
+    let r = rows_of (lives h g.flow now && supersedes (holder h g.flow) g) (ltb (1024 * g.rights.n) (used h g now + bytes)) (not (lives h g.flow now) && leb slots (living_count h now)) g k t in
+    opens (lives h g.flow now) slots (living_count h now) r.2
+
+nonce_lives : (offset : ℕ) (h : List Charge) (now : ℕ) (f : Flow) (nonce bytes : ℕ) (g : Grant) (o : Option Charge) → nonce_rows offset h now f nonce bytes o ≡ Authorised g → lives h f now ≡ true
+nonce_lives offset h now f nonce bytes g None t = absurd (cc)
+nonce_lives offset h now f nonce bytes g (Some c) t =
+    both_false (lives h f now) (not (eqb c.nonce nonce)) (first_false (not (lives h f now) || not (eqb c.nonce nonce)) (leb (c.grant.second + c.grant.rights.t) (router_second offset now)) (ltb (1024 * c.grant.rights.n) (used h c.grant now + bytes)) c.grant g t)
+
+held_room : (offset : ℕ) (h : List Charge) (now : ℕ) (f : Flow) (nonce bytes : ℕ) (g : Grant) → nonce_verdict offset h now f nonce bytes ≡ Authorised g → lives h f now ≡ true
+unfolding nonce_verdict
+held_room offset h now f nonce bytes g t = nonce_lives offset h now f nonce bytes g (holder h f) t
+
+pub authorised_room : (slots offset : ℕ) (before : List Charge) (c : Charge) → IsAuthorised slots offset before c → (lives before c.grant.flow c.time ≡ true) ⊎ (living_count before c.time < slots)
+authorised_room slots offset before c v = elim v [
+  | inl t ↦ list_room slots before c.time c.grant c.grant c.length t
+  | inr t ↦ inl (held_room offset before c.time c.grant.flow c.nonce c.length c.grant t)
 ]

@@ -6,9 +6,9 @@ use Rattle.tva_flow.specs.declared.kept.Entry.{Entry}
 use Rattle.tva_base.specs.declared.packet.Flow.{Flow}
 use Rattle.tva_flow.specs.Charges.{Charge, same_flow, of_flow}
 use Rattle.tva_flow.specs.Verdicts.{IsAuthorised}
-use Rattle.tva_flow.specs.Stands.{Holds, IsKept, StandsFor, cache, entry_of, AreApart, IsPacket}
+use Rattle.tva_flow.specs.Stands.{Holds, IsKept, StandsFor, cache, entry_of, AreApart, IsChargeable}
 use Rattle.tva_flow.proofs.Same.{by_flow}
-use Rattle.tva_flow.proofs.Laws.{of_flow-push, past-push, past-later, next-push}
+use Rattle.tva_flow.proofs.Pushes.{of_flow-push, past-push, past-later, next-push}
 use Rattle.tva_flow.proofs.Entries.{not_there, entry_of-set, apart-set, entry_of-push, apart-push}
 use Rattle.tva_flow.proofs.Steps.{not_living, kept_later, kept-from_holds, dead_now}
 
@@ -36,7 +36,7 @@ flow_of_new f h x new g = subst (λ z. of_flow f (h ++ x ∷ []) ≡ cond (same_
 -- a charge whose entry is written over its own, or over that of a flow that no longer lives
 pub stands-set : (s o last : ℕ) (es : List Entry) (h : List Charge) (x : Charge) (i : ℕ) (old new : Entry) → StandsFor (cache s o last es) h → last ≤ x.time → i < length es → old ≡ get_or es i old
     → new.grant ≡ x.grant → (old.grant.flow ≡ x.grant.flow) ⊎ ((old.end ≤ x.time) × (entry_of x.grant.flow es ≡ None))
-    → Holds (of_flow x.grant.flow h ++ x ∷ []) new → IsAuthorised s o h x → IsPacket x.grant x.length → StandsFor (cache s o x.time (set es i new)) (h ++ x ∷ [])
+    → Holds (of_flow x.grant.flow h ++ x ∷ []) new → IsAuthorised s o h x → IsChargeable x.grant x.length → StandsFor (cache s o x.time (set es i new)) (h ++ x ∷ [])
 stands-set s o last es h x i old new v l n r g w k t m =
     let gf : new.grant.flow ≡ x.grant.flow = ap (λ (y : Grant). y.flow) g in
     let side : (new.grant.flow ≡ old.grant.flow) ⊎ (entry_of new.grant.flow es ≡ None) = elim w [ inl y ↦ inl (gf ∙ sym y) | inr y ↦ inr (rw gf y.1) ] in
@@ -59,7 +59,7 @@ stands-set s o last es h x i old new v l n r g w k t m =
 -- a charge whose entry is a further one
 pub stands-push : (s o last : ℕ) (es : List Entry) (h : List Charge) (x : Charge) (new : Entry) → StandsFor (cache s o last es) h → last ≤ x.time → length es < s
     → new.grant ≡ x.grant → entry_of x.grant.flow es ≡ None
-    → Holds (of_flow x.grant.flow h ++ x ∷ []) new → IsAuthorised s o h x → IsPacket x.grant x.length → StandsFor (cache s o x.time (es ++ new ∷ [])) (h ++ x ∷ [])
+    → Holds (of_flow x.grant.flow h ++ x ∷ []) new → IsAuthorised s o h x → IsChargeable x.grant x.length → StandsFor (cache s o x.time (es ++ new ∷ [])) (h ++ x ∷ [])
 stands-push s o last es h x new v l n g w k t m =
     let gf : new.grant.flow ≡ x.grant.flow = ap (λ (y : Grant). y.flow) g in
     let side : entry_of new.grant.flow es ≡ None = rw gf w in

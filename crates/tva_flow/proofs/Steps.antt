@@ -10,7 +10,7 @@ use Rattle.tva_flow.specs.Charges.{Charge, charge, end_of, is_living, run, bytes
 use Rattle.tva_flow.specs.Steps.{entry}
 use Rattle.tva_flow.specs.Stands.{Holds, IsKept}
 use Rattle.tva_flow.proofs.Same.{same_grant-self}
-use Rattle.tva_flow.proofs.Laws.{end_of-push, run-push, last_charge-push}
+use Rattle.tva_flow.proofs.Pushes.{end_of-push, run-push, last_charge-push}
 
 -- by whether a < b
 pub by_lt : (a b : ℕ) (P : Bool → Type 0) → (a < b → P true) → (b ≤ a → P false) → P (ltb a b)

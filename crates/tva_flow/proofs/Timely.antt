@@ -33,12 +33,16 @@ list-timely s o h now g nonce bytes r t a w = timely-charged o h now nonce bytes
 later_within : (o time now : ℕ) (g : Grant) → time ≤ now → IsWithinSeconds o time g → router_second o now < g.second + g.rights.t → IsWithinSeconds o now g
 later_within o time now g l w u = record { from = (let q = w.from in omega arith); until = u }
 
-pub nonce-timely : (o : ℕ) (h : List Charge) (now : ℕ) (f : Flow) (nonce bytes : ℕ) (r : Verdict) → NoneLater now h → r ≡ nonce_verdict o h now f nonce bytes → AreTimely o h → AreTimely o (h ++ charged r now nonce bytes)
-nonce-timely o h now f nonce bytes r p t a = timely-charged o h now nonce bytes r a (λ k e.
-    let w = held o h now f nonce bytes k (sym t ∙ e) in
+-- a grant that a nonce is authorised by is in its seconds, where the charges before were
+pub held-timely : (o : ℕ) (h : List Charge) (now : ℕ) (f : Flow) (nonce bytes : ℕ) (k : Grant) → NoneLater now h → nonce_verdict o h now f nonce bytes ≡ Authorised k → AreTimely o h → IsWithinSeconds o now k
+held-timely o h now f nonce bytes k p e a =
+    let w = held o h now f nonce bytes k e in
     let own : Charge → Type 0 = λ c. IsWithinSeconds o c.time c.grant in
     let past : Charge → Type 0 = λ c. c.time ≤ now in
     subst (IsWithinSeconds o now) w.grant
     (later_within o w.charge.time now w.charge.grant
     (last_all past (of_flow f h) w.charge (All-filter (λ c. same_flow c.grant.flow f) past h p) w.is)
-    (last_all own (of_flow f h) w.charge (All-filter (λ c. same_flow c.grant.flow f) own h a) w.is) w.until))
+    (last_all own (of_flow f h) w.charge (All-filter (λ c. same_flow c.grant.flow f) own h a) w.is) w.until)
+
+pub nonce-timely : (o : ℕ) (h : List Charge) (now : ℕ) (f : Flow) (nonce bytes : ℕ) (r : Verdict) → NoneLater now h → r ≡ nonce_verdict o h now f nonce bytes → AreTimely o h → AreTimely o (h ++ charged r now nonce bytes)
+nonce-timely o h now f nonce bytes r p t a = timely-charged o h now nonce bytes r a (λ k e. held-timely o h now f nonce bytes k p (sym t ∙ e) a)

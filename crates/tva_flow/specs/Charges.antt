@@ -1,9 +1,10 @@
 -- The charges of a router, and what they say of a flow: whether it lives, its run, its holder
 -- and the bytes that are used.
-use Rattle.std.specs.Prelude.{ℕ, ◌+◌, ◌==◌, max, nat_lt, Bool, true, false, not, ◌&&◌, ◌||◌, if◌then◌else◌, List, [], ◌∷◌, ◌++◌, filter, sum_by, count_by, Option, Some, None}
+use Rattle.std.specs.Prelude.{ℕ, ◌==◌, nat_lt, Bool, true, false, not, ◌&&◌, ◌||◌, if◌then◌else◌, List, [], ◌∷◌, ◌++◌, filter, sum_by, count_by, Option, Some, None}
 use Rattle.tva_base.specs.declared.packet.Flow.{Flow}
 use Rattle.tva_base.specs.declared.packet.Grant.{Grant}
 use Rattle.tva_base.specs.Credit.{credit_of}
+use Rattle.tva_base.specs.Lives.{latest_end}
 
 -- an authorised packet: when it came, in nanoseconds, by which grant, with which nonce, and its length
 pub record Charge : Type 0 where
@@ -25,15 +26,10 @@ same_grant a b = same_flow a.flow b.flow && (a.rights.n == b.rights.n) && (a.rig
 abbrev pub of_flow : Flow → List Charge → List Charge
 of_flow f h = filter (λ c. same_flow c.grant.flow f) h
 
--- the sum of the credits of some charges, in nanoseconds
-abbrev pub credits : List Charge → ℕ
-credits cs = sum_by (λ c. credit_of c.length c.grant.rights) cs
-
 -- the end of a flow's life, from the flow's charges: over these charges, the greatest of a charge's
 -- time plus the credits of the charges from it on
 abbrev pub end_of : List Charge → ℕ
-end_of [] = 0
-end_of (c ∷ cs) = max (c.time + credits (c ∷ cs)) (end_of cs)
+end_of cs = latest_end (λ c. c.time) (λ c. credit_of c.length c.grant.rights) cs
 
 -- a flow with these charges lives until its end, and one without charges doesn't live
 abbrev pub is_living : List Charge → ℕ → Bool

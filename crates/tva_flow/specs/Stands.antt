@@ -40,7 +40,7 @@ IsKept None cs last = is_living cs last ≡ false
 IsKept (Some e) cs last = MatchBool (is_living cs last) (Holds cs e) (e.end ≤ last)
 
 -- a packet that may be charged: its grant's T seconds and second, and its length in bytes
-pub record IsPacket (g : Grant) (bytes : ℕ) : Type 0 where
+pub record IsChargeable (g : Grant) (bytes : ℕ) : Type 0 where
   pub seconds : 1 ≤ g.rights.t
   pub second : g.second ≤ 2000000
   pub length : (20 ≤ bytes) × (bytes ≤ 2048)
@@ -52,7 +52,7 @@ NoneLater time h = All (λ c. c.time ≤ time) h
 -- a charge of such a packet, which is no earlier than the charges before it and authorised over them
 pub record IsNext (slots offset : ℕ) (before : List Charge) (c : Charge) : Type 0 where
   pub order : NoneLater c.time before
-  pub packet : IsPacket c.grant c.length
+  pub packet : IsChargeable c.grant c.length
   pub authorised : IsAuthorised slots offset before c
 
 -- after the charges before, each charge is the next one

@@ -1,4 +1,4 @@
--- The steps of a flow cache on one entry. No public clause cites them.
+-- Kit: the steps of a flow cache on one entry, for the contracts of the functions that take them.
 use Rattle.std.specs.Prelude.{◌≡◌, ℕ, ◌+◌, ◌*◌, ◌^◌, ◌==◌, ◌≤◌, ◌<◌, nat_lt, nat_le, Bool, not, ◌&&◌, if◌then◌else◌, List, [], ◌∷◌, ◌++◌}
 use Rattle.tva_base.specs.declared.packet.Grant.{Grant}
 use Rattle.tva_base.specs.Credit.{credit_of}

@@ -4,7 +4,7 @@ ghost use Rattle.tva_base.specs.Clock.{router_second};
 ghost use Rattle.tva_flow.specs.declared.kept.Entry.{Entry};
 ghost use Rattle.tva_flow.specs.Charges.{Charge, living_count};
 ghost use Rattle.tva_flow.specs.Verdicts.{list_verdict, nonce_verdict, charged, is_authorised};
-ghost use Rattle.tva_flow.specs.Stands.{cache, entry_of, IsPacket, StandsFor};
+ghost use Rattle.tva_flow.specs.Stands.{cache, entry_of, IsChargeable, StandsFor};
 ghost use Rattle.tva_flow.specs.Budget.{IsWithinSeconds, AreTimely, IsWithinBudget};
 ghost use Rattle.tva_flow.specs.Steps.{AreNear, Admits};
 
@@ -100,7 +100,7 @@ fn renew(
     requires live { (e : Entry) → e ≡ slice_index_or entries.old.items at e
         → (e.grant.flow ≡ grant.flow) × (now < e.end) }
     requires near { AreNear now entries.old.items }
-    requires packet { IsPacket grant bytes }
+    requires packet { IsChargeable grant bytes }
     ensures answer { (s o last : ℕ) (h : List Charge) → last ≤ now
         → StandsFor (cache s o last entries.old.items) h
         → Admits s o h now nonce bytes (list_verdict s h now grant bytes) result entries.new.items }
@@ -166,7 +166,7 @@ fn open(
         → (e.grant.flow ≡ grant.flow) × (e.end ≤ now))) }
     requires room { (length entries.old.items ≤ slots) × (slots ≤ vec_capacity entries.old) }
     requires near { AreNear now entries.old.items }
-    requires packet { IsPacket grant bytes }
+    requires packet { IsChargeable grant bytes }
     ensures answer { (o last : ℕ) (h : List Charge) → last ≤ now
         → StandsFor (cache slots o last entries.old.items) h
         → Admits slots o h now nonce bytes (list_verdict slots h now grant bytes) result
@@ -225,7 +225,7 @@ impl FlowCache {
     /// and the third of them, are this project's own.
     pub fn admit_list(&mut self, now: Time, grant: Grant, nonce: u64, length: u32) -> Verdict
         requires time { self.old.last ≤ now.0 }
-        requires packet { IsPacket grant length }
+        requires packet { IsChargeable grant length }
         ensures verdict { (h : List Charge) → StandsFor self.old h
             → result ≡ list_verdict self.old.slots h now.0 grant length }
         ensures stands { (h : List Charge) → StandsFor self.old h

@@ -9,9 +9,13 @@ mod cache;
 #[cfg(test)]
 mod cases;
 mod kept;
+mod laws;
 #[cfg(test)]
 mod plain;
 mod verdicts;
 
 pub use cache::FlowCache;
+pub use laws::{
+    charges_have_places, charges_keep_budgets, living_flows_are_few, nonces_keep_seconds,
+};
 pub use verdicts::Verdict;

@@ -4,7 +4,7 @@ use Rattle.tva_flow.specs.Stands.{Cache, StandsFor}
 use Rattle.tva_flow.proofs.Admit.{answers-none, answers-ended}
 use Rattle.tva_flow.proofs.Near.{near-later}
 use Rattle.tva_flow.proofs.Timely.{nonce-timely}
-use Rattle.tva_flow.proofs.Laws.{past-later}
+use Rattle.tva_flow.proofs.Pushes.{past-later}
 use Rattle.tva_flow.proofs.cache.FlowCache.admit_nonce.Goals as goal
 
 ended_by : (now end : ℕ) (t : Bool) → t ≡ ltb now end → t ≡ false → end ≤ now

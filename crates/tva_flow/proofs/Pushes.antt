@@ -1,5 +1,5 @@
 -- What one more charge changes.
-use Rattle.std.proofs.Common.{◌≡◌, ℕ, ◌+◌, ◌≤◌, Bool, true, false, not, ◌||◌, cond, List, [], ◌∷◌, ◌++◌, Some, refl, sym, ap, ◌∙◌, subst, max, arith, append_assoc, append-nil}
+use Rattle.std.proofs.Common.{◌≡◌, ℕ, ◌+◌, ◌≤◌, Bool, true, false, not, ◌||◌, cond, List, [], ◌∷◌, ◌++◌, Some, refl, sym, ap, ◌∙◌, subst, max, arith, append_assoc, append-nil, sum_by}
 use Rattle.std.proofs.lemmas.List.Sums.{sum_by-cons, sum_by_push}
 use Rattle.std.proofs.lemmas.List.Elements.{All-push, All-weaker}
 use Rattle.tva_base.specs.declared.packet.Flow.{Flow}
@@ -9,6 +9,9 @@ use Rattle.tva_flow.specs.Stands.{NoneLater, IsNext, AreNext}
 
 abbrev pub credit : Charge → ℕ
 credit c = credit_of c.length c.grant.rights
+
+abbrev pub credits : List Charge → ℕ
+credits cs = sum_by credit cs
 
 -- the cache's step: the greater of the end and the time, and the credit
 pub end_of-push : (cs : List Charge) (c : Charge) → end_of (cs ++ c ∷ []) ≡ max (end_of cs) c.time + credit c
