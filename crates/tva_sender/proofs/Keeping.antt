@@ -13,7 +13,7 @@ use Rattle.tva_sender.specs.declared.grant.Grant.{Grant}
 use Rattle.tva_sender.specs.declared.peer.Peer.{Peer}
 use Rattle.tva_sender.specs.Contacts.{Contact, Prepared, Taken, Notice, is_taking, is_notice, asks, Ask, last_ask, Taking, last_taking, notices, unless_given_up, Use, uses_in, uses, since_notice, life_of, first_nonce, time_of, time, grant_of, is_open}
 use Rattle.tva_sender.specs.Shapes.{length_of, list_length, nonce_length}
-use Rattle.tva_sender.specs.Steps.{charged, used_by, grant_used_by, prepared, answered, noticed, asking}
+use Rattle.tva_sender.specs.Steps.{charged, used_by, grant_used_by, prepared, answered, noticed, first_asked}
 use Rattle.tva_sender.specs.Book.{Keeps, IsStrange}
 use Rattle.tva_sender.proofs.Pushes.{ask_more, last_ask-push, taking_more, last_taking-push, notices-push, uses-push, since_notice-push, since_notice-first, life_of-push, first_nonce-push}
 
@@ -88,8 +88,8 @@ keeps_prepared p h now body s k =
     }
 
 -- the first request
-pub keeps_asking : (h : List Contact) (now : Time) (body : ℕ) → IsStrange h → Keeps (asking now) (h ++ Prepared now.0 shape.Request (length_of shape.Request body) ∷ [])
-keeps_asking h now body strange =
+pub keeps_first : (h : List Contact) (now : Time) (body : ℕ) → IsStrange h → Keeps (first_asked now) (h ++ Prepared now.0 shape.Request (length_of shape.Request body) ∷ [])
+keeps_first h now body strange =
     let c : Contact = Prepared now.0 shape.Request (length_of shape.Request body) in
     record {
       asked = rw (last_ask-push h c) refl;

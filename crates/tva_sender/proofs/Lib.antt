@@ -1,5 +1,6 @@
 pub mod Bounds
 pub mod Pushes
 pub mod Keeping
+pub mod Playing
 pub mod Standing
-pub mod Carrying
+pub mod Showing

@@ -1,9 +1,11 @@
 -- What a sender keeps, and for which history it stands.
-use Rattle.std.specs.Prelude.{◌≡◌, ℕ, Bool, nat_eq, ◌==◌, if◌then◌else◌, List, [], ◌∷◌, Option, Some, None, not, is_some}
+use Rattle.std.specs.Prelude.{◌≡◌, ℕ, Bool, nat_eq, ◌==◌, if◌then◌else◌, not, List, [], ◌∷◌}
+use Rattle.std.specs.Prelude.{Option, Some, None, is_some}
 use Rattle.std.specs.Map.{lookup}
 use Rattle.tva_base.specs.declared.addresses.Address.{Address}
 use Rattle.tva_sender.specs.declared.peer.Peer.{Peer}
 use Rattle.tva_sender.specs.Contacts.{Contact, last_ask, held_grant, asked_at, awaits, grant_held}
+use Rattle.tva_sender.specs.Played.{IsPlayed, NoneLater}
 
 -- its rules, the number of peers that it has room for, the last time, and its peers
 pub record Book : Type 0 where
@@ -45,6 +47,9 @@ abbrev pub IsKept : Option Peer → List Contact → Type 0
 IsKept None h = IsStrange h
 IsKept (Some p) h = Keeps p h
 
--- each peer is kept by what happened with it
+-- each peer is kept by what happened with it, which a sender with these rules can have, and no packet
+-- was prepared later than the last time
 pub record StandsFor (v : Book) (h : List (Address × Contact)) : Type 0 where
   pub kept : (a : Address) → IsKept (peer_at a v.peers) (of_peer a h)
+  pub played : (a : Address) → IsPlayed v.margin v.retry (of_peer a h)
+  pub times : (a : Address) → NoneLater v.last (of_peer a h)

@@ -1,10 +1,12 @@
 -- What happened with one peer: the asks, and the grants that were taken.
-use Rattle.std.specs.Prelude.{ℕ, Bool, true, false, not, ◌+◌, max, nat_lt, if◌then◌else◌, List, [], ◌∷◌, ◌++◌, sum_by, count_by, Option, Some, None, unwrap_or}
+use Rattle.std.specs.Prelude.{ℕ, Bool, true, false, not, nat_lt, if◌then◌else◌, List, [], ◌∷◌, ◌++◌, sum_by, count_by}
+use Rattle.std.specs.Prelude.{Option, Some, None, unwrap_or}
 use Rattle.std.specs.List.{list_any}
 use Rattle.std.specs.Option.{option_or, option_map, option_and_then}
 use Rattle.tva_base.specs.declared.packet.Rights.{Rights}
 use Rattle.tva_base.specs.declared.packet.Time.{Time}
 use Rattle.tva_base.specs.Credit.{credit_of}
+use Rattle.tva_base.specs.Lives.{latest_end}
 use Rattle.tva_sender.specs.declared.shape.Shape.{Shape}
 use Rattle.tva_sender.specs.declared.shape.Shape.TheVariants as shape
 use Rattle.tva_sender.specs.declared.grant.Grant.{Grant}
@@ -61,7 +63,8 @@ pub record Taking : Type 0 where
 
 abbrev pub taking_in : List Contact → Contact → List Contact → Option Taking
 taking_in before (Prepared time shape length) after = None
-taking_in before (Taken rights caps) after = Some (record { before = before; rights = rights; caps = caps; after = after })
+taking_in before (Taken rights caps) after =
+    Some (record { before = before; rights = rights; caps = caps; after = after })
 taking_in before Notice after = None
 
 -- the last grant that was taken among the contacts that come after those before
@@ -109,13 +112,9 @@ after_notice (c ∷ cs) = if is_notice c then Some cs else after_notice cs
 abbrev pub since_notice : List Contact → List Contact
 since_notice cs = unwrap_or (after_notice cs) cs
 
-abbrev pub credits : Rights → List Use → ℕ
-credits rights us = sum_by (λ u. credit_of u.length rights) us
-
 -- the greatest, over the packets, of a packet's time and the credits from it on
 abbrev pub life_of : Rights → List Use → ℕ
-life_of rights [] = 0
-life_of rights (u ∷ us) = max (u.time + credits rights (u ∷ us)) (life_of rights us)
+life_of rights us = latest_end (λ u. u.time) (λ u. credit_of u.length rights) us
 
 abbrev pub first_nonce : List Use → Option ℕ
 first_nonce [] = None

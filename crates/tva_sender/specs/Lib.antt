@@ -1,6 +1,7 @@
 pub mod Contacts
 pub mod Shapes
-pub mod Steps
+pub mod Played
 pub mod Book
+pub mod Showable
+pub mod Steps
 pub mod Near
-pub mod Carried

@@ -1,4 +1,4 @@
--- The bounds on what a sender keeps of its peers.
+-- Kit: the bounds on what a sender keeps of its peers, for the invariant of its model.
 use Rattle.std.specs.Prelude.{ℕ, nat_eq, List}
 use Rattle.std.specs.Map.{lookup}
 use Rattle.std.specs.Option.{ForSome}

@@ -1,5 +1,6 @@
 -- The shape of the next packet.
-use Rattle.std.specs.Prelude.{ℕ, Bool, true, ◌+◌, ◌-◌, ◌*◌, nat_lt, nat_le, ◌&&◌, ◌||◌, if◌then◌else◌, List, length, Option, Some, None, unwrap_or}
+use Rattle.std.specs.Prelude.{ℕ, Bool, true, ◌+◌, ◌-◌, ◌*◌, nat_lt, nat_le, ◌&&◌, ◌||◌, if◌then◌else◌}
+use Rattle.std.specs.Prelude.{List, length, Option, Some, None, unwrap_or}
 use Rattle.tva_sender.specs.declared.shape.Held.{Held}
 use Rattle.tva_sender.specs.declared.shape.Shape.{Shape}
 use Rattle.tva_sender.specs.declared.shape.Shape.TheVariants as shape
@@ -29,7 +30,8 @@ length_of shape.Legacy body = 0
 -- and within its bytes
 abbrev pub fits : ℕ → ℕ → Grant → ℕ → Bool
 fits margin now g bytes =
-    nat_le (now + margin + 1000000000) (g.asked.0 + g.rights.t * 1000000000) && nat_le (g.used + bytes) (1024 * g.rights.n)
+    nat_le (now + margin + 1000000000) (g.asked.0 + g.rights.t * 1000000000)
+    && nat_le (g.used + bytes) (1024 * g.rights.n)
 
 -- more than half of its bytes or of its time would be used
 abbrev pub is_half_used : ℕ → Grant → ℕ → Bool
@@ -77,4 +79,5 @@ may_ask retry (Some asked) now = nat_le (asked.0 + retry) now
 
 -- the shape of a packet for a peer with which so much happened
 abbrev pub shape_of : ℕ → ℕ → List Contact → ℕ → ℕ → ℕ → Shape
-shape_of margin retry h now body offered = by_grant margin (may_ask retry (asked_at h) now) (grant_held h) now body offered
+shape_of margin retry h now body offered =
+    by_grant margin (may_ask retry (asked_at h) now) (grant_held h) now body offered

@@ -1,5 +1,6 @@
--- What one more contact makes of a peer.
-use Rattle.std.specs.Prelude.{ℕ, true, false, not, ◌+◌, ◌*◌, ◌^◌, ◌<◌, ◌≤◌, max, ◌==◌, ◌&&◌, if◌then◌else◌, List, Option, Some, None, unwrap_or}
+-- Kit: what one more contact makes of a peer, for the code within the crate.
+use Rattle.std.specs.Prelude.{ℕ, true, false, not, ◌+◌, ◌*◌, ◌^◌, ◌<◌, ◌≤◌, max, ◌==◌, ◌&&◌, if◌then◌else◌}
+use Rattle.std.specs.Prelude.{List, Option, Some, None, unwrap_or}
 use Rattle.std.specs.Option.{ForSome}
 use Rattle.tva_base.specs.declared.packet.Rights.{Rights}
 use Rattle.tva_base.specs.declared.packet.Time.{Time}
@@ -13,11 +14,16 @@ use Rattle.tva_sender.specs.Shapes.{list_length, nonce_length}
 
 -- a grant as it is taken
 abbrev pub taken_grant : Rights → List ℕ → Time → Grant
-taken_grant rights caps asked = record { rights = rights; caps = caps; nonce = None; asked = asked; used = 0; life = 0; notices = 0 }
+taken_grant rights caps asked =
+    record { rights = rights; caps = caps; nonce = None; asked = asked; used = 0; life = 0; notices = 0 }
 
 -- a grant after a packet that used it
 abbrev pub charged : Grant → ℕ → ℕ → ℕ → Grant
-charged g now bytes nonce = record g { nonce = Some (unwrap_or g.nonce nonce); used = g.used + bytes; life = max g.life now + credit_of bytes g.rights }
+charged g now bytes nonce = record g {
+  nonce = Some (unwrap_or g.nonce nonce);
+  used = g.used + bytes;
+  life = max g.life now + credit_of bytes g.rights;
+}
 
 -- a grant after a packet in that shape
 abbrev pub used_by : Grant → ℕ → Shape → ℕ → Grant
@@ -33,7 +39,11 @@ grant_used_by (Some g) now s body = Some (used_by g now s body)
 
 -- a peer after a packet in that shape
 abbrev pub prepared : Peer → ℕ → Shape → ℕ → Peer
-prepared p now s body = record { asked = if asks s then time now else p.asked; is_answered = not (asks s) && p.is_answered; grant = grant_used_by p.grant now s body }
+prepared p now s body = record {
+  asked = if asks s then time now else p.asked;
+  is_answered = not (asks s) && p.is_answered;
+  grant = grant_used_by p.grant now s body;
+}
 
 -- a peer after its grant was taken
 abbrev pub answered : Peer → Rights → List ℕ → Peer
@@ -58,5 +68,5 @@ pub record IsNearPeer (last : ℕ) (p : Peer) : Type 0 where
   pub grant : ForSome p.grant (λ g. IsNear last g)
 
 -- a peer after the first packet, a request
-abbrev pub asking : Time → Peer
-asking now = record { asked = now; is_answered = false; grant = None }
+abbrev pub first_asked : Time → Peer
+first_asked now = record { asked = now; is_answered = false; grant = None }

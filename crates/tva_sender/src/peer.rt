@@ -2,7 +2,7 @@
 ghost use Rattle.std.specs.Prelude.{◌≡◌, ◌≤◌, ◌<◌, ◌^◌, ℕ, true, false, None, not, length, IfSome, if◌then◌else◌};
 ghost use Rattle.tva_sender.specs.Contacts.{time, asks};
 ghost use Rattle.tva_sender.specs.Shapes.{under_grant, by_grant, may_ask, without_grant};
-ghost use Rattle.tva_sender.specs.Steps.{prepared, answered, noticed, used_by, grant_used_by, IsNear, IsNearPeer, asking};
+ghost use Rattle.tva_sender.specs.Steps.{prepared, answered, noticed, used_by, grant_used_by, IsNear, IsNearPeer, first_asked};
 
 use crate::grant::Grant;
 use crate::shape::Shape;
@@ -72,7 +72,7 @@ impl Grant {
 impl Peer {
     /// A peer for which a request is prepared now.
     pub fn new(now: Time) -> Peer
-        ensures peer { result ≡ asking now }
+        ensures peer { result ≡ first_asked now }
         ensures near { IsNearPeer now.0 result }
     {
         Peer {

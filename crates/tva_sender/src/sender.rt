@@ -3,7 +3,7 @@ ghost use Rattle.std.specs.Prelude.{◌≡◌, ◌⊎◌, ℕ, ◌+◌, ◌-◌,
 ghost use Rattle.tva_base.specs.declared.addresses.Address.{Address};
 ghost use Rattle.tva_sender.specs.Contacts.{Contact, Prepared, Taken, Notice, awaits};
 ghost use Rattle.tva_sender.specs.Shapes.{shape_of, length_of};
-ghost use Rattle.tva_sender.specs.Carried.{AreCarried, IsCarried};
+ghost use Rattle.tva_sender.specs.Showable.{AreShowable, IsShowable};
 ghost use Rattle.tva_sender.specs.Book.{Book, empty_book, StandsFor, of_peer, knows};
 
 use crate::peer::Peer;
@@ -80,7 +80,7 @@ impl Sender {
         requires nonce { nonce < 2 ^ 48 }
         ensures shape { (h : List (Address × Contact)) → StandsFor self.old h → result ≡ shape_of self.old.margin self.old.retry (of_peer dst h) now.0 body nonce }
         ensures stands { (h : List (Address × Contact)) → StandsFor self.old h → StandsFor self.new (h ++ (dst, Prepared now.0 result (length_of result body)) ∷ []) }
-        ensures carried { (h : List (Address × Contact)) → StandsFor self.old h → AreCarried h → IsCarried result }
+        ensures showable { (h : List (Address × Contact)) → StandsFor self.old h → AreShowable h → IsShowable result }
         ensures spare { self.new.spare ≡ (if knows self.old dst then self.old.spare else self.old.spare - 1) }
         ensures last { self.new.last ≡ now.0 }
         ensures rest { self.new ≡ record self.old { spare = self.new.spare; last = self.new.last; peers = self.new.peers } }

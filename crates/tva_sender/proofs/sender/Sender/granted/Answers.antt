@@ -1,10 +1,11 @@
-use Rattle.std.proofs.Common.{ℕ, List, sym, subst, ap, ◌∙◌}
+use Rattle.std.proofs.Common.{ℕ, List, refl, sym, subst, ap, ◌∙◌}
+use Rattle.std.proofs.Math.Nat.{le_refl}
 use Rattle.std.specs.Map.{set_value}
 use Rattle.std.specs.Prelude.{nat_eq, is_some}
 use Rattle.std.proofs.lemmas.Map.Steps.{set_value_same}
 use Rattle.tva_sender.specs.declared.peer.Peer.{Peer}
 use Rattle.tva_sender.specs.Book.{Book, StandsFor}
-use Rattle.tva_sender.proofs.Standing.{stands_taken}
+use Rattle.tva_sender.proofs.Standing.{same_rules, stands_taken}
 use Rattle.tva_sender.proofs.sender.Sender.granted.Goals as goal
 
 pub returns-clause-stands : goal.returns-clause-stands
@@ -13,7 +14,8 @@ returns-clause-stands c h s =
     let found = c.in-Some.ensures.value in
     let written = c.get_mut.follows.holds c.take.new.self in
     let updated = written.3 (ap is_some (sym found)) in
-    stands_taken _ _ h c.args.src c.args.rights c.args.caps.now c.in-Some.peer.now c.take.new.self c.take.result stood found updated.1 updated.2
+    stands_taken _ _ h c.args.src c.args.rights c.args.caps.now c.in-Some.peer.now c.take.new.self c.take.result stood
+    (same_rules _ _ refl refl (le_refl _)) c.take.ensures.taken found updated.1 updated.2
     c.take.ensures.answered c.take.ensures.ignored
 
 -- the peer is written back as it was

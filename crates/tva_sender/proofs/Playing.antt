@@ -1,0 +1,47 @@
+-- What one more contact leaves of a list that a sender can have.
+use Rattle.std.proofs.Common.{◌≡◌, ℕ, ◌≤◌, List, [], ◌∷◌, ◌++◌, Some, refl, sym, subst, arith, append_assoc, append-nil}
+use Rattle.std.proofs.lemmas.List.Elements.{All-push, All-weaker}
+use Rattle.tva_sender.specs.declared.shape.Shape.{Shape}
+use Rattle.tva_sender.specs.declared.shape.Shape.TheVariants as shape
+use Rattle.tva_sender.specs.declared.peer.Peer.{Peer}
+use Rattle.tva_sender.specs.Contacts.{Contact, Prepared, Taken, Notice}
+use Rattle.tva_sender.specs.Shapes.{shape_of, length_of, by_grant, may_ask}
+use Rattle.tva_sender.specs.Played.{IsUpTo, NoneLater, IsNext, AreNext}
+use Rattle.tva_sender.specs.Book.{Keeps, IsStrange}
+
+up_to-later : (last now : ℕ) → last ≤ now → (c : Contact) → IsUpTo last c → IsUpTo now c
+up_to-later last now l (Prepared time s length) q = omega (arith, l, q)
+up_to-later last now l (Taken rights caps) q = tt
+up_to-later last now l Notice q = tt
+
+pub none-later : (last now : ℕ) (cs : List Contact) → last ≤ now → NoneLater last cs → NoneLater now cs
+none-later last now cs l p = All-weaker (IsUpTo last) (IsUpTo now) (up_to-later last now l) cs p
+
+pub none-push : (last : ℕ) (cs : List Contact) (c : Contact) → NoneLater last cs → IsUpTo last c → NoneLater last (cs ++ c ∷ [])
+none-push last cs c p q = All-push (IsUpTo last) cs c p q
+
+pub next-push : (margin retry : ℕ) (before cs : List Contact) (c : Contact) → AreNext margin retry before cs → IsNext margin retry (before ++ cs) c
+    → AreNext margin retry before (cs ++ c ∷ [])
+next-push margin retry before [] c a n = (subst (λ z. IsNext margin retry z c) (append-nil before) n, tt)
+next-push margin retry before (d ∷ ds) c a n =
+    (a.0, next-push margin retry (before ++ d ∷ []) ds c a.1 (subst (λ z. IsNext margin retry z c) (sym (append_assoc before (d ∷ []) ds)) n))
+
+-- a packet in the shape that the contacts before it give
+pub next-prepared : (margin retry last : ℕ) (h : List Contact) (now body offered : ℕ) (s : Shape) → last ≤ now → NoneLater last h
+    → s ≡ shape_of margin retry h now body offered → IsNext margin retry h (Prepared now s (length_of s body))
+next-prepared margin retry last h now body offered s l p is = record {
+  body = body;
+  offered = offered;
+  order = none-later last now h l p;
+  shape = is;
+  length = refl;
+}
+
+-- the shape by what is kept of a peer is that by what happened with it
+pub shape-kept : (margin retry : ℕ) (p : Peer) (h : List Contact) (now body offered : ℕ) → Keeps p h
+    → by_grant margin (may_ask retry (Some p.asked) now) p.grant now body offered ≡ shape_of margin retry h now body offered
+shape-kept margin retry p h now body offered k = rw (k.asked, k.grant) refl
+
+-- for a peer that isn't known it is a request
+pub shape-strange : (margin retry : ℕ) (h : List Contact) (now body offered : ℕ) → IsStrange h → shape.Request ≡ shape_of margin retry h now body offered
+shape-strange margin retry h now body offered strange = rw (strange.asked, strange.grant) refl
