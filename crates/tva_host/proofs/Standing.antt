@@ -12,12 +12,12 @@ use Rattle.tva_policy.specs.Notes as policy
 use Rattle.tva_sender.specs.declared.shape.Shape.{Shape}
 use Rattle.tva_sender.specs.Contacts.{Contact, Prepared, Taken}
 use Rattle.tva_sender.specs.Shapes.{length_of}
-use Rattle.tva_sender.specs.Carried.{IsCarriedContact, AreCarried}
+use Rattle.tva_sender.specs.Showable.{IsShowableContact, AreShowable}
 use Rattle.tva_sender.specs.Book as sender
 use Rattle.tva_host.specs.History.{History, beginning, with_deed, with_packet, with_prepared, HostData, host_data, StandsFor, HasHistory}
 
 -- one more contact that a shim could carry
-pub carried-push : (h : List (Address × Contact)) (a : Address) (c : Contact) → AreCarried h → IsCarriedContact c → AreCarried (h ++ (a, c) ∷ [])
+pub carried-push : (h : List (Address × Contact)) (a : Address) (c : Contact) → AreShowable h → IsShowableContact c → AreShowable (h ++ (a, c) ∷ [])
 carried-push [] a c k x = (x, tt)
 carried-push (d ∷ ds) a c k x = (k.0, carried-push ds a c k.1 x)
 
@@ -127,7 +127,7 @@ stands-prepared node plan v book h now dst shape body s more margin retry = reco
 }
 
 pub has-prepared : (v : HostData) (book : sender.Book) (now : ℕ) (dst : Address) (shape : Shape) (body : ℕ) → (has : HasHistory v)
-    → sender.StandsFor book (has.history.contacts ++ (dst, Prepared now shape (length_of shape body)) ∷ []) → IsCarriedContact (Prepared now shape (length_of shape body))
+    → sender.StandsFor book (has.history.contacts ++ (dst, Prepared now shape (length_of shape body)) ∷ []) → IsShowableContact (Prepared now shape (length_of shape body))
     → book.margin ≡ v.sender.margin → book.retry ≡ v.sender.retry
     → HasHistory (host_data v.node v.address v.next ((v.offered + 1) % 2 ^ 48) v.policy book)
 has-prepared v book now dst shape body has more fits margin retry = record {
@@ -139,12 +139,12 @@ has-prepared v book now dst shape body has more fits margin retry = record {
   carried = carried-push has.history.contacts dst (Prepared now shape (length_of shape body)) has.carried fits;
 }
 
-pub carried-granted : (h : List (Address × Contact)) (src : Address) (rights : Rights) (caps : List ℕ) (is_taken : Bool) → AreCarried h → AreRights rights → AreCarried (h ++ cond is_taken ((src, Taken rights caps) ∷ []) [])
+pub carried-granted : (h : List (Address × Contact)) (src : Address) (rights : Rights) (caps : List ℕ) (is_taken : Bool) → AreShowable h → AreRights rights → AreShowable (h ++ cond is_taken ((src, Taken rights caps) ∷ []) [])
 carried-granted h src rights caps true k fits = carried-push h src (Taken rights caps) k fits
-carried-granted h src rights caps false k fits = subst (λ (cs : List (Address × Contact)). AreCarried cs) (sym (append-nil h)) k
+carried-granted h src rights caps false k fits = subst (λ (cs : List (Address × Contact)). AreShowable cs) (sym (append-nil h)) k
 
 pub has-book : (v : HostData) (book : sender.Book) (more : List (Address × Contact)) → (has : HasHistory v)
-    → sender.StandsFor book (has.history.contacts ++ more) → AreCarried (has.history.contacts ++ more) → book.margin ≡ v.sender.margin → book.retry ≡ v.sender.retry
+    → sender.StandsFor book (has.history.contacts ++ more) → AreShowable (has.history.contacts ++ more) → book.margin ≡ v.sender.margin → book.retry ≡ v.sender.retry
     → HasHistory (host_data v.node v.address v.next v.offered v.policy book)
 has-book v book more has stands carried margin retry = record {
   node = has.node;

@@ -8,7 +8,7 @@ use Rattle.tva_policy.specs.Notes as policy
 use Rattle.tva_sender.specs.declared.shape.Shape.{Shape}
 use Rattle.tva_sender.specs.Contacts.{Contact, Prepared}
 use Rattle.tva_sender.specs.Shapes.{length_of}
-use Rattle.tva_sender.specs.Carried.{AreCarried}
+use Rattle.tva_sender.specs.Showable.{AreShowable}
 use Rattle.tva_sender.specs.Book as sender
 
 -- what its policy goes by, what happened with each peer, the number of packets that were made or
@@ -80,7 +80,7 @@ pub record HasHistory (v : HostData) : Type 0 where
   pub history : History
   pub valid : IsHostPlan plan
   pub stands : StandsFor node plan v history
-  pub carried : AreCarried history.contacts
+  pub carried : AreShowable history.contacts
 
 -- what a refusal may change: the room for peers
 abbrev pub with_room : sender.Book → HostData → HostData

@@ -19,14 +19,14 @@ use Rattle.tva_sender.specs.declared.shape.Held.{Held}
 use Rattle.tva_sender.specs.declared.shape.Shape.{Shape}
 use Rattle.tva_sender.specs.declared.shape.Shape.TheVariants as shapes
 use Rattle.tva_sender.specs.Shapes.{shape_of}
-use Rattle.tva_sender.specs.Carried as sent
+use Rattle.tva_sender.specs.Showable as sent
 use Rattle.tva_sender.specs.Book.{of_peer}
 use Rattle.tva_host.specs.declared.made.Made.{Made}
 use Rattle.tva_host.specs.History.{History, ordinal_behind, with_deed, with_packet, with_prepared, offered}
 
 -- a shim can carry what the shape shows
 abbrev pub IsShowable : Shape → Type 0
-IsShowable shape = sent.IsCarried shape
+IsShowable shape = sent.IsShowable shape
 
 -- what is told of a shape
 abbrev pub kind_shown_of : Shape → ShapeKind

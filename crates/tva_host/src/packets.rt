@@ -2,7 +2,7 @@
 ghost use Rattle.std.specs.Prelude.{◌≡◌};
 ghost use Rattle.tva_shim.specs.Shims.{IsKind, IsShown, IsReturn};
 ghost use Rattle.tva_shim.specs.Packets.{IsCarried};
-ghost use Rattle.tva_sender.specs.Carried.{IsCarriedHeld};
+ghost use Rattle.tva_sender.specs.Showable.{IsShowableHeld};
 ghost use Rattle.tva_host.specs.Sending.{IsShowable, kind_shown_of, is_legacy, shown_of, kind_of, shim_of, carried_by};
 
 use tva_base::ShapeKind;
@@ -35,7 +35,7 @@ fn is_legacy(shape: &Shape) -> bool
 }
 
 fn shown_of(held: Held) -> Shown
-    requires { IsCarriedHeld held }
+    requires { IsShowableHeld held }
     ensures shown { result ≡ shown_of held }
     ensures fits { IsShown result }
 {
