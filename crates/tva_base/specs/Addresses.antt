@@ -1,15 +1,11 @@
 -- The texts of addresses and prefixes.
-use Rattle.std.specs.Prelude.{ℕ, ◌+◌, ◌-◌, ◌*◌, ◌/◌, ◌^◌, ◌==◌, List, take, drop, position, Some, None}
+use Rattle.std.specs.Prelude.{ℕ, ◌+◌, ◌-◌, ◌*◌, ◌/◌, ◌^◌, ◌==◌, Bool, List, take, drop, position, Some}
 use Rattle.std.specs.declared.option.Option.{Option}
 use Rattle.std.specs.Option.{option_map}
 use Rattle.tva_base.specs.declared.addresses.Address.{Address}
 use Rattle.tva_base.specs.declared.addresses.Prefix.{Prefix}
 use Rattle.tva_base.specs.Decimal.{plain_decimal_of}
-
-infixl 10 ◌>>=◌
-abbrev pub ◌>>=◌ : {A B : Type 0} → Option A → (A → Option B) → Option B
-None >>= f = None
-(Some x) >>= f = f x
+use Rattle.tva_base.specs.Options.{◌>>=◌}
 
 -- what stands before the first such byte, and what stands behind it
 unfoldable pub parted : ℕ → List ℕ → Option (List ℕ × List ℕ)
@@ -38,6 +34,10 @@ address_of text = do
 -- an address whose bits past the length are zero
 abbrev pub kept : Address → ℕ → Address
 kept address bits = record { 0 = address.0 / 2 ^ (32 - bits) * 2 ^ (32 - bits) }
+
+-- the address begins with the prefix
+abbrev pub holds : Prefix → Address → Bool
+holds prefix address = (kept address prefix.bits).0 == prefix.address.0
 
 -- the prefix of a text: an address, a slash and a length from 0 to 32
 unfoldable pub prefix_of : List ℕ → Option Prefix

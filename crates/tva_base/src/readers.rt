@@ -1,10 +1,10 @@
 // The texts of addresses and prefixes.
-ghost use Rattle.std.specs.Prelude.{◌≡◌, ◌≤◌, ◌<◌, ◌==◌, ◌%◌, ◌^◌, ◌-◌, IfSome, position, length};
+ghost use Rattle.std.specs.Prelude.{◌≡◌, ◌≤◌, ◌<◌, ◌==◌, IfSome, position, length};
 ghost use Rattle.std.specs.Option.{option_map};
 ghost use Rattle.tva_base.specs.Plan.{IsPrefix};
-ghost use Rattle.tva_base.specs.Addresses.{parted, octet_of, address_of, prefix_of, kept};
+ghost use Rattle.tva_base.specs.Addresses.{parted, octet_of, address_of, prefix_of};
 
-use crate::addresses::{Address, Prefix};
+use crate::addresses::{Address, Prefix, cut};
 use crate::numbers::plain_decimal;
 
 /// The address of a text. `None` exactly where it isn't four numbers from 0 to 255 without leading
@@ -67,24 +67,4 @@ fn octet(text: &[u8]) -> Option<u32>
         Some(number) => Some(number as u32),
         None => None,
     }
-}
-
-// The address with zeros past the first bits.
-#[tactic(auto, using(crate::proofs::Prefixes::multiple))]
-fn cut(address: Address, bits: u8) -> Address
-    requires { bits ≤ 32 }
-    ensures kept { result ≡ kept address bits }
-    ensures zeros { result.0 % 2 ^ (32 - bits) ≡ 0 }
-{
-    let size = size_past(bits);
-    Address((u64::from(address.0) / size * size) as u32)
-}
-
-// How many addresses begin with the same first bits.
-fn size_past(bits: u8) -> u64
-    requires { bits ≤ 32 }
-    ensures size { result ≡ 2 ^ (32 - bits) }
-    ensures some { 1 ≤ result }
-{
-    1 << (32 - bits)
 }

@@ -97,6 +97,22 @@ const PREFIXES: [(&str, Option<(u32, u8)>); 28] = [
     ("10.0.1.77/2a", None),
 ];
 
+// Texts of prefixes, texts of addresses, and whether the one begins with the other.
+const HELD: [(&str, &str, bool); 12] = [
+    ("10.0.1.0/24", "10.0.1.0", true),
+    ("10.0.1.0/24", "10.0.1.255", true),
+    ("10.0.1.0/24", "10.0.2.0", false),
+    ("10.0.1.0/24", "10.0.0.255", false),
+    ("0.0.0.0/0", "0.0.0.0", true),
+    ("0.0.0.0/0", "255.255.255.255", true),
+    ("128.0.0.0/1", "127.255.255.255", false),
+    ("128.0.0.0/1", "128.0.0.0", true),
+    ("10.0.1.77/32", "10.0.1.77", true),
+    ("10.0.1.77/32", "10.0.1.76", false),
+    ("10.0.1.76/31", "10.0.1.77", true),
+    ("10.0.1.76/31", "10.0.1.78", false),
+];
+
 // Texts, the greatest number that is taken, and the number.
 const DECIMALS: [(&str, u64, Option<u64>); 28] = [
     ("0", 0, Some(0)),
@@ -156,6 +172,12 @@ fn texts_of_numbers_and_addresses(rt: HostRuntime) {
     for (text, want) in PREFIXES {
         let got = prefix(text.as_bytes()).map(|p| (p.address.0, p.bits));
         assert_eq!(rt; got, want, "{text}");
+    }
+    for (text, other, want) in HELD {
+        let held = prefix(text.as_bytes())
+            .zip(address(other.as_bytes()))
+            .map(|p| p.0.holds(p.1));
+        assert_eq!(rt; held, Some(want), "{text} {other}");
     }
 }
 
