@@ -44,7 +44,7 @@ module _ {T : Type 0} where
   items_of-push-other k (p ∷ qs) q n = grind (arith, nat_tests, items_of-push-other k qs q n)
 
   module _ (measure : T → ℕ) (quantum : ℕ) where
-    items_of-settled-own : (key deficit : ℕ) (xs : List T) (qs : List (Queue T)) → has_key key qs ≡ false → items_of key (settled measure quantum key deficit xs qs) ≡ xs
+    pub items_of-settled-own : (key deficit : ℕ) (xs : List T) (qs : List (Queue T)) → has_key key qs ≡ false → items_of key (settled measure quantum key deficit xs qs) ≡ xs
     items_of-settled-own key deficit [] qs h = items_of-refilled key quantum qs ∙ items_of_none key qs h
     items_of-settled-own key deficit (x ∷ xs) qs h =
         elim (leb_tells (suc deficit) (measure x)) [

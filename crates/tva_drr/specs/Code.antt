@@ -1,4 +1,4 @@
--- How fair queues are stored as plain data.
+-- Kit: how fair queues are stored as plain data, for their model.
 use Rattle.std.specs.Prelude.{ℕ, List, refl}
 use Rattle.std.specs.Coded.{Coded, code_by, coded×, coded_list, coded_ℕ}
 use Rattle.tva_base.specs.declared.limits.DrrLimits.{DrrLimits}

@@ -3,6 +3,8 @@ pub mod Offer
 pub mod Take
 pub mod Fair
 pub mod Order
+pub mod Service
+pub mod Ahead
 pub mod Code
 pub mod Slots
 pub mod Places

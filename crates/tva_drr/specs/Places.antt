@@ -1,4 +1,4 @@
--- Where a key's queue stands in the list. No public clause speaks of it.
+-- Kit: where a key's queue stands in the list, for the contracts of the functions that look it up.
 use Rattle.std.specs.Prelude.{◌≡◌, ℕ, ◌<◌, false, List, length, take, slice_index_or, Option, Some, None}
 use Rattle.tva_drr.specs.Queues.{Queue, has_key}
 

@@ -1,4 +1,4 @@
--- The rings that are kept for queues. No public clause speaks of them.
+-- Kit: the rings that are kept for queues, for the invariant and the contracts of the functions on them.
 use Rattle.std.specs.Prelude.{◌≡◌, ℕ, ◌+◌, List, [], ◌∷◌, length, map, refl}
 use Rattle.std.specs.Coded.{Coded, code_by, coded×, coded_ℕ}
 use Rattle.tva_drr.specs.Queues.{Queue}

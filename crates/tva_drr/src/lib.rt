@@ -1,12 +1,15 @@
 //! Fair queues by deficit round robin (Shreedhar and Varghese, 1996): items wait in queues by
 //! their keys, and each queue in turn sends about a quantum of bytes. A set of fair queues is one
 //! list of keys, deficits and items in ring order; its contract says of each call exactly what it
-//! answers and leaves of that list. All memory is taken when the queues are made.
+//! answers and leaves of that list, and its laws say what no flood of offers can change: how many bytes
+//! go before a waiting item, and that two queues get about as much as each other. All memory is taken
+//! when the queues are made.
 #![tactic(auto)]
 
 #[cfg(test)]
 mod cases;
 mod fair_queues;
+mod laws;
 mod measured;
 mod offered;
 mod places;
@@ -14,5 +17,6 @@ mod slot;
 mod turns;
 
 pub use fair_queues::FairQueues;
+pub use laws::{bytes_ahead_fall, items_go_within_bounds, queues_are_served_alike};
 pub use measured::Measured;
 pub use offered::Offered;
