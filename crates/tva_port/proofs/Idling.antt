@@ -1,5 +1,5 @@
 -- A link is idle exactly where nothing waits, and waits only where requests alone wait.
-use Rattle.std.proofs.Common.{◌≡◌, ◌≢◌, ℕ, ◌↔◌, List, [], ◌∷◌, length, Some, None, refl, sym, ap, ◌∙◌, arith, append-nil}
+use Rattle.std.proofs.Common.{◌≡◌, ℕ, ◌↔◌, List, [], ◌∷◌, length, None, refl, sym, ap, ◌∙◌, arith, append-nil}
 use Rattle.tva_base.specs.declared.limits.LinkLimits.{LinkLimits}
 use Rattle.tva_base.specs.declared.packet.Time.{Time}
 use Rattle.tva_base.specs.Plan.{AreLinkLimits}
@@ -9,7 +9,7 @@ use Rattle.tva_drr.specs.Fair.{AreFair}
 use Rattle.tva_port.specs.declared.decision.Decision.{Decision}
 use Rattle.tva_port.specs.declared.decision.Decision.TheVariants.{WaitUntil, Idle}
 use Rattle.tva_port.specs.Log.{Entry}
-use Rattle.tva_port.specs.Waiting.{Waiting, waiting_after, IsEmpty, IsRequestsAlone}
+use Rattle.tva_port.specs.Waiting.{Waiting, waiting_after, IsEmpty, IsRequestAlone}
 use Rattle.tva_port.specs.Decide.{covered, wait_for, decision, credit_after, is_start}
 use Rattle.tva_port.specs.Legal.{IsLegal}
 use Rattle.tva_port.specs.Keeps.{IsWithinLimits}
@@ -26,11 +26,7 @@ no_head : (f : Fair PacketData) (qs : List (Queue PacketData)) → AreFair packe
 no_head f [] a e = refl
 no_head f (q ∷ qs) a e = absurd (let n : q.items ≡ [] = no_first q.items e in omega (arith, a.each.0.filled, ap length n))
 
-some_head : (qs : List (Queue PacketData)) (p : PacketData) → head qs ≡ Some p → qs ≢ []
-some_head [] p e = λ n. absurd (cc)
-some_head (q ∷ qs) p e = λ n. cc
-
-within : (l : LinkLimits) (log : List Entry) → AreLinkLimits l → IsLegal l log → IsWithinLimits l (waiting_after l log)
+pub within : (l : LinkLimits) (log : List Entry) → AreLinkLimits l → IsLegal l log → IsWithinLimits l (waiting_after l log)
 within l log a g = stays_within l log a g log [] (sym (append-nil log))
 
 idle_none : (l : LinkLimits) (log : List Entry) (now : ℕ) → Idle ≡ decision l log now → (head (waiting_after l log).requests.queues ≡ None) × Rests l (waiting_after l log) (credit_after l log now)
@@ -45,7 +41,7 @@ empty_rests l w credit e = record {
   legacy = ap (λ (xs : List PacketData). first xs) e.legacy;
 }
 
-empty_idles : (l : LinkLimits) (log : List Entry) (now : ℕ) → IsEmpty (waiting_after l log) → decision l log now ≡ Idle
+pub empty_idles : (l : LinkLimits) (log : List Entry) (now : ℕ) → IsEmpty (waiting_after l log) → decision l log now ≡ Idle
 unfolding decision
 empty_idles l log now e =
     rests_is l (waiting_after l log) (credit_after l log now) now (empty_rests l (waiting_after l log) (credit_after l log now) e)
@@ -65,14 +61,16 @@ idles l log now d a g e = (
   λ i. e ∙ empty_idles l log now i,
 )
 
--- a link waits only for a request, where nothing else waits
-pub waits_alone : (l : LinkLimits) (log : List Entry) (now : ℕ) (u : Time) → AreLinkLimits l → IsLegal l log → WaitUntil u ≡ decision l log now → IsRequestsAlone (waiting_after l log)
+-- a link waits only for a request, where nothing but requests waits
+pub waits_alone : (l : LinkLimits) (log : List Entry) (now : ℕ) (u : Time) → AreLinkLimits l → IsLegal l log → WaitUntil u ≡ decision l log now → (p : PacketData) × IsRequestAlone (waiting_after l log) p
 waits_alone l log now u a g e =
     let r = resting l log now (ap is_start (sym e)) in
     let x = wait_is l (credit_after l log now) now (head (waiting_after l log).requests.queues) u (sym r.1 ∙ sym e) in
-    let w = within l log a g in
-    record {
-      requests = some_head (waiting_after l log).requests.queues x.0 x.1.0;
-      regulars = no_head (waiting_after l log).regulars (waiting_after l log).regulars.queues w.regulars.0.queues r.0.regulars;
-      legacy = no_first (waiting_after l log).legacy r.0.legacy;
-    }
+    let w = within l log a g in (
+      x.0,
+      record {
+        request = x.1.0;
+        regulars = no_head (waiting_after l log).regulars (waiting_after l log).regulars.queues w.regulars.0.queues r.0.regulars;
+        legacy = no_first (waiting_after l log).legacy r.0.legacy;
+      },
+    )

@@ -113,7 +113,7 @@ IsApart l log = AreRising (start_times log) × All (λ u. u < free_after l log) 
 times-push : (log : List Entry) (e : Entry) → start_times (log ++ e ∷ []) ≡ start_times log ++ start_times (e ∷ [])
 times-push log e = filter_map-append start_time log (e ∷ [])
 
-occupies : (l : LinkLimits) (t : ℕ) (p : PacketData) → AreLinkLimits l → t < t + packet_length p * l.ns_per_byte
+pub occupies : (l : LinkLimits) (t : ℕ) (p : PacketData) → AreLinkLimits l → t < t + packet_length p * l.ns_per_byte
 occupies l t p a = let one : 1 ≤ packet_length p = omega arith in let k = mul-le-mul one a.ns_per_byte.0 in omega (arith, k)
 
 apart-step : (l : LinkLimits) → AreLinkLimits l → (before : List Entry) (e : Entry) → Follows l before e → IsApart l before → IsApart l (before ++ e ∷ [])

@@ -7,3 +7,4 @@ pub mod Limits
 pub mod Standing
 pub mod Resting
 pub mod Idling
+pub mod Steady

@@ -19,7 +19,7 @@ use Rattle.tva_port.specs.Waiting.{Waiting, waiting_after, lacks_legacy_room}
 use Rattle.tva_port.specs.Legal.{Follows, GoesOn, IsLegal}
 use Rattle.tva_port.specs.Keeps.{IsWithinLimits, StaysWithinLimits}
 use Rattle.tva_port.specs.Steps.{put_leaves, start_leaves}
-use Rattle.tva_port.proofs.Logs.{FewStarted, legal-all}
+use Rattle.tva_port.proofs.Logs.{FewStarted, legal-all, legal-front}
 use Rattle.tva_port.proofs.Legality.{few-step}
 use Rattle.tva_port.proofs.Waits.{waits-queued, waits-started}
 
@@ -94,10 +94,6 @@ bounded-step l a before (Started t class p) f h =
 
 begins : (l : LinkLimits) → AreLinkLimits l → IsBounded l []
 begins l a = (record { requests = fair_empty l.request a.request; regulars = fair_empty l.regular a.regular; legacy = (omega arith, omega arith) }, omega arith)
-
-legal-front : (l : LinkLimits) (before log rest : List Entry) → GoesOn l before (log ++ rest) → GoesOn l before log
-legal-front l before [] rest g = tt
-legal-front l before (e ∷ es) rest g = (g.0, legal-front l (before ++ e ∷ []) es rest g.1)
 
 pub stays_within : (l : LinkLimits) (log : List Entry) → AreLinkLimits l → IsLegal l log → StaysWithinLimits l log
 stays_within l log a g = λ before rest e. (legal-all l (IsBounded l) (begins l a) (bounded-step l a) before (legal-front l [] before rest (subst (λ z. GoesOn l [] z) e g))).0

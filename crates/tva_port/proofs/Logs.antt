@@ -12,7 +12,7 @@ use Rattle.tva_shim.specs.Packets.{PacketData, packet_length}
 use Rattle.tva_drr.specs.Queues.{Fair}
 use Rattle.tva_port.specs.Requests.{Start}
 use Rattle.tva_port.specs.Log.{Entry, Queued, Started, entry_time, NoneLater, cut, request_start, request_starts, free_from}
-use Rattle.tva_port.specs.Waiting.{fair_step, fair_after, queued_legacy, is_legacy_start, legacy_after}
+use Rattle.tva_port.specs.Waiting.{fair_step, after, queued_legacy, is_legacy_start, legacy_after}
 use Rattle.tva_port.specs.Legal.{Follows, GoesOn, IsLegal}
 use Rattle.tva_port.proofs.Debts.{AreBy}
 
@@ -82,6 +82,9 @@ free-started l free (Started u d q ∷ es) t c p = free-started l (u + packet_le
 
 -- ## what waits
 
+abbrev pub fair_after : Class → Fair PacketData → List Entry → Fair PacketData
+fair_after c f log = after (fair_step c) f log
+
 pub fair-push : (c : Class) (f : Fair PacketData) (log : List Entry) (e : Entry) → fair_after c f (log ++ e ∷ []) ≡ fair_step c (fair_after c f log) e
 fair-push c f [] e = refl
 fair-push c f (d ∷ ds) e = fair-push c (fair_step c f d) ds e
@@ -138,3 +141,12 @@ along l P s before (e ∷ es) b g = subst P (append_assoc before (e ∷ []) es) 
 
 pub legal-all : (l : LinkLimits) (P : List Entry → Type 0) → P [] → ((before : List Entry) (e : Entry) → Follows l before e → P before → P (before ++ e ∷ [])) → (log : List Entry) → IsLegal l log → P log
 legal-all l P b s log g = along l P s [] log b g
+
+-- the entries before any place of a legal log are legal, and the entry there follows them
+pub legal-front : (l : LinkLimits) (before log rest : List Entry) → GoesOn l before (log ++ rest) → GoesOn l before log
+legal-front l before [] rest g = tt
+legal-front l before (e ∷ es) rest g = (g.0, legal-front l (before ++ e ∷ []) es rest g.1)
+
+pub legal-here : (l : LinkLimits) (before log : List Entry) (e : Entry) (rest : List Entry) → GoesOn l before (log ++ e ∷ rest) → Follows l (before ++ log) e
+legal-here l before [] e rest g = subst (λ z. Follows l z e) (sym (append-nil before)) g.0
+legal-here l before (d ∷ ds) e rest g = subst (λ z. Follows l z e) (append_assoc before (d ∷ []) ds) (legal-here l (before ++ d ∷ []) ds e rest g.1)

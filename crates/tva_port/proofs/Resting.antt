@@ -24,7 +24,7 @@ use Rattle.tva_port.proofs.Legality.{debt_capped}
 pub credit-later : (l : LinkLimits) (log : List Entry) (now time : ℕ) → IsLegal l log → NoneLater now log → now ≤ time → credit_after l log time ≡ min (cap l) (credit_after l log now + (time - now))
 credit-later l log now time g n h = omega (arith, debt_capped l log g now n, debt-later l (request_starts log) now time (starts_by now log n) h)
 
-still_lacks : (l : LinkLimits) (later : ℕ) (o : Option PacketData) → ((p : PacketData) → o ≡ Some p → later < cost l (packet_length p)) → covered l later o ≡ None
+pub still_lacks : (l : LinkLimits) (later : ℕ) (o : Option PacketData) → ((p : PacketData) → o ≡ Some p → later < cost l (packet_length p)) → covered l later o ≡ None
 still_lacks l later None h = refl
 still_lacks l later (Some p) h = not_covered l later p (h p refl)
 
@@ -56,10 +56,10 @@ resting l log now e =
     (r, rests_is l (waiting_after l log) (credit_after l log now) now r)
 
 -- before the wait is over, the request's cost isn't covered
-lacks_before : (l : LinkLimits) (log : List Entry) (now time u : ℕ) (p : PacketData) → IsLegal l log → NoneLater now log → u ≡ now + (cost l (packet_length p) - credit_after l log now) → now ≤ time → time < u → credit_after l log time < cost l (packet_length p)
+pub lacks_before : (l : LinkLimits) (log : List Entry) (now time u : ℕ) (p : PacketData) → IsLegal l log → NoneLater now log → u ≡ now + (cost l (packet_length p) - credit_after l log now) → now ≤ time → time < u → credit_after l log time < cost l (packet_length p)
 lacks_before l log now time u p g n e h k = omega (arith, credit-later l log now time g n h)
 
-same_head : (o : Option PacketData) (p q : PacketData) → o ≡ Some p → o ≡ Some q → p ≡ q
+pub same_head : (o : Option PacketData) (p q : PacketData) → o ≡ Some p → o ≡ Some q → p ≡ q
 same_head o p q e f = cc
 
 none_or_some : (o : Option PacketData) (q : PacketData) → o ≡ None → o ≡ Some q → ⊥
@@ -78,7 +78,7 @@ stays_idle l log now time e =
     no_start_later l log (credit_after l log now) time r.0
     (λ q hq. absurd (none_or_some (head (waiting_after l log).requests.queues) q (idle_is l (credit_after l log now) now (head (waiting_after l log).requests.queues) (sym r.1 ∙ sym e)) hq))
 
-rests_same : (l : LinkLimits) (log : List Entry) (time : ℕ) → is_start (decision l log time) ≡ false → RestsAt l (log ++ []) time
+pub rests_same : (l : LinkLimits) (log : List Entry) (time : ℕ) → is_start (decision l log time) ≡ false → RestsAt l (log ++ []) time
 rests_same l log time e = subst (λ z. RestsAt l z time) (sym (append-nil log)) (inr e)
 
 -- nothing starts before the next decision is due
@@ -105,7 +105,7 @@ misses l log now free d until g n e m i = λ time k. elim (leb_tells (suc time) 
 ]
 
 -- no packet costs more than the cap
-cost_within : (l : LinkLimits) (n : ℕ) → AreLinkLimits l → n ≤ 2048 → cost l n ≤ cap l
+pub cost_within : (l : LinkLimits) (n : ℕ) → AreLinkLimits l → n ≤ 2048 → cost l n ≤ cap l
 cost_within l n a h = let b : n ≤ l.burst = omega (arith, a.burst.0) in mul-le-mul_right l.ns_per_byte (mul-le-mul_right l.share b)
 
 -- a wait ends at the first time at which the request at the head is covered

@@ -9,9 +9,9 @@ use Rattle.tva_drr.specs.Queues.{Fair, fair}
 use Rattle.tva_drr.specs.Offer.{lacks_queue, lacks_room, put, offer_answer, offer_leaves}
 use Rattle.tva_drr.specs.Take.{take_leaves}
 use Rattle.tva_port.specs.Log.{Entry, Queued, Started}
-use Rattle.tva_port.specs.Waiting.{Waiting, waiting, fair_after, legacy_after, waiting_after, lacks_legacy_room, queue_answer, queued_by}
+use Rattle.tva_port.specs.Waiting.{Waiting, waiting, legacy_after, waiting_after, lacks_legacy_room, queue_answer, queued_by}
 use Rattle.tva_port.specs.Steps.{put_leaves, start_leaves}
-use Rattle.tva_port.proofs.Logs.{fair-push, FewStarted, legacy-same, legacy-queued, legacy-started}
+use Rattle.tva_port.proofs.Logs.{fair_after, fair-push, FewStarted, legacy-same, legacy-queued, legacy-started}
 
 same_waiting : (a b c d : Fair PacketData) (xs ys : List PacketData) → a ≡ b → c ≡ d → xs ≡ ys → waiting a c xs ≡ waiting b d ys
 same_waiting a b c d xs ys e f g = cc

@@ -1,5 +1,6 @@
 -- What a free link starts, or how long it rests.
-use Rattle.std.specs.Prelude.{◌≡◌, ◌⊎◌, ℕ, ◌+◌, ◌-◌, ◌<◌, ◌≤◌, nat_le, Bool, true, false, if◌then◌else◌, List, [], ◌∷◌, Option, Some, None}
+use Rattle.std.specs.Prelude.{◌≡◌, ◌⊎◌, ℕ, ◌+◌, ◌-◌, ◌<◌, ◌≤◌, nat_le, Bool, true, false, if◌then◌else◌, List, [], ◌∷◌, ◌++◌}
+use Rattle.std.specs.Prelude.{Option, Some, None}
 use Rattle.tva_base.specs.declared.limits.LinkLimits.{LinkLimits}
 use Rattle.tva_base.specs.declared.packet.Class.{Class}
 use Rattle.tva_base.specs.declared.packet.Class.TheVariants.{Request, Regular, Legacy}
@@ -9,9 +10,9 @@ use Rattle.tva_port.specs.declared.decision.Decision.{Decision}
 use Rattle.tva_port.specs.declared.decision.Decision.TheVariants.{Start, WaitUntil, Idle}
 use Rattle.tva_port.specs.Requests.{cost, credit}
 use Rattle.tva_port.specs.Log.{Entry, Started, request_starts, free_after, cut}
-use Rattle.tva_port.specs.Waiting.{Waiting, waiting_after}
+use Rattle.tva_port.specs.Waiting.{Waiting, waiting_after, next_request}
 
--- the request at the head, where the credit covers its cost
+-- the next request, where the credit covers its cost
 abbrev pub covered : LinkLimits → ℕ → Option PacketData → Option PacketData
 covered l credit None = None
 covered l credit (Some packet) = if nat_le (cost l (packet_length packet)) credit then Some packet else None
@@ -21,7 +22,7 @@ abbrev pub start_or : Class → Option PacketData → Decision → Decision
 start_or class None other = other
 start_or class (Some packet) other = Start class packet
 
--- a request at the head waits for its credit, which grows by one each nanosecond
+-- the next request waits for its credit, which grows by one each nanosecond
 abbrev pub wait_for : LinkLimits → ℕ → ℕ → Option PacketData → Decision
 wait_for l credit now None = Idle
 wait_for l credit now (Some packet) = WaitUntil (record { 0 = now + (cost l (packet_length packet) - credit) })
@@ -30,10 +31,10 @@ wait_for l credit now (Some packet) = WaitUntil (record { 0 = now + (cost l (pac
 -- else a request waits, or the link is idle
 abbrev pub decide_on : LinkLimits → Waiting → ℕ → ℕ → Decision
 decide_on l w credit now =
-    start_or Request (covered l credit (head w.requests.queues))
+    start_or Request (covered l credit (next_request w))
     (start_or Regular (head w.regulars.queues)
     (start_or Legacy (first w.legacy)
-    (wait_for l credit now (head w.requests.queues))))
+    (wait_for l credit now (next_request w))))
 
 abbrev pub credit_after : LinkLimits → List Entry → ℕ → ℕ
 credit_after l log now = credit l (request_starts log) now
@@ -52,6 +53,10 @@ abbrev pub started_by : Decision → ℕ → List Entry
 started_by (Start class packet) now = Started now class packet ∷ []
 started_by d now = []
 
+-- the entries with what the link starts at that time
+abbrev pub after_decision : LinkLimits → List Entry → ℕ → List Entry
+after_decision l log now = log ++ started_by (decision l log now) now
+
 -- after these entries the link is busy past that time, or starts nothing then
 abbrev pub RestsAt : LinkLimits → List Entry → ℕ → Type 0
 RestsAt l log time = (time < free_after l log) ⊎ (is_start (decision l log time) ≡ false)
@@ -67,7 +72,7 @@ NoneDueBefore (Start class packet) free until = until ≤ free
 NoneDueBefore (WaitUntil time) free until = until ≤ time.0
 NoneDueBefore Idle free until = Unit {0}
 
--- that time is the first from `now` on at which the credit covers the cost of the request at the head
+-- that time is the first from `now` on at which the credit covers the cost of the next request
 pub record IsFirstCovered (l : LinkLimits) (log : List Entry) (packet : PacketData) (now time : ℕ) : Type 0 where
   pub later : now < time
   pub covers : cost l (packet_length packet) ≤ credit_after l log time

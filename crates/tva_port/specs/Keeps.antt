@@ -14,7 +14,8 @@ is_between from to s = nat_le from s.time && nat_le s.time to
 
 -- the requests that start from one time to another cost at most the cap and the time between
 abbrev pub IsWithinRate : LinkLimits → List Entry → Type 0
-IsWithinRate l log = (from to : ℕ) → from ≤ to → costs l (filter (is_between from to) (request_starts log)) ≤ cap l + (to - from)
+IsWithinRate l log =
+    (from to : ℕ) → from ≤ to → costs l (filter (is_between from to) (request_starts log)) ≤ cap l + (to - from)
 
 abbrev pub start_time : Entry → Option ℕ
 start_time (Queued time class key packet) = None

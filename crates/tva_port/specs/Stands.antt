@@ -16,7 +16,8 @@ pub record PortData : Type 0 where
   pub waiting : Waiting
 
 abbrev pub port_data : LinkLimits → ℕ → ℕ → ℕ → Waiting → PortData
-port_data limits last credit free_at waiting = record { limits = limits; last = last; credit = credit; free_at = free_at; waiting = waiting }
+port_data limits last credit free_at waiting =
+    record { limits = limits; last = last; credit = credit; free_at = free_at; waiting = waiting }
 
 -- the port stands for this log: it is legal and has no entry later than the last time, and what
 -- waits, the end of the last start and the credit are those after the log

@@ -1,4 +1,4 @@
--- The steps of a port on what it keeps. No public clause cites them.
+-- Kit: the steps of a port on what it keeps.
 use Rattle.std.specs.Prelude.{ℕ, ◌+◌, ◌-◌, ◌*◌, ◌≤◌, min, if◌then◌else◌, [], ◌∷◌, ◌++◌, drop}
 use Rattle.tva_base.specs.declared.limits.LinkLimits.{LinkLimits}
 use Rattle.tva_base.specs.declared.packet.Class.{Class}
@@ -19,7 +19,8 @@ grown l credit passed = min (cap l) (credit + passed)
 abbrev pub put_leaves : LinkLimits → Waiting → Class → ℕ → PacketData → Waiting
 put_leaves l w Request key packet = waiting (offer_leaves packet_length w.requests key packet) w.regulars w.legacy
 put_leaves l w Regular key packet = waiting w.requests (offer_leaves packet_length w.regulars key packet) w.legacy
-put_leaves l w Legacy key packet = waiting w.requests w.regulars (if lacks_legacy_room l w.legacy packet then w.legacy else w.legacy ++ packet ∷ [])
+put_leaves l w Legacy key packet =
+    waiting w.requests w.regulars (if lacks_legacy_room l w.legacy packet then w.legacy else w.legacy ++ packet ∷ [])
 
 -- what waits after a start of the class
 abbrev pub start_leaves : Class → Waiting → Waiting

@@ -1,5 +1,5 @@
 -- What waits at a port after a log, by the offers and takes of fair queues.
-use Rattle.std.specs.Prelude.{◌≡◌, ◌≢◌, ℕ, ◌+◌, nat_lt, Bool, true, false, ◌||◌, if◌then◌else◌, List, [], ◌∷◌, drop, length, count_by, Option, Some, None}
+use Rattle.std.specs.Prelude.{◌≡◌, ℕ, ◌+◌, nat_lt, Bool, true, false, ◌||◌, if◌then◌else◌, List, [], ◌∷◌, drop, length, count_by, Option, Some, None}
 use Rattle.std.specs.List.{filter_map}
 use Rattle.tva_base.specs.declared.limits.LinkLimits.{LinkLimits}
 use Rattle.tva_base.specs.declared.packet.Class.{Class}
@@ -7,7 +7,7 @@ use Rattle.tva_base.specs.declared.packet.Class.TheVariants.{Request, Regular, L
 use Rattle.tva_shim.specs.Packets.{PacketData, packet_length}
 use Rattle.tva_drr.specs.declared.offered.Offered.{Offered}
 use Rattle.tva_drr.specs.declared.offered.Offered.TheVariants as offers
-use Rattle.tva_drr.specs.Queues.{Fair, fair, bytes_in}
+use Rattle.tva_drr.specs.Queues.{Fair, fair, bytes_in, head}
 use Rattle.tva_drr.specs.Offer.{offer_answer, offer_leaves}
 use Rattle.tva_drr.specs.Take.{take_leaves}
 use Rattle.tva_port.specs.Log.{Entry, Queued, Started}
@@ -29,13 +29,22 @@ same_class a b = false
 
 -- the fair queues of a class after one more entry: a queued packet is offered, and a start takes
 abbrev pub fair_step : Class → Fair PacketData → Entry → Fair PacketData
-fair_step c queues (Queued time class key packet) = if same_class class c then offer_leaves packet_length queues key packet else queues
-fair_step c queues (Started time class packet) = if same_class class c then take_leaves packet_length queues else queues
+fair_step c queues (Queued time class key packet) =
+    if same_class class c then offer_leaves packet_length queues key packet else queues
+fair_step c queues (Started time class packet) =
+    if same_class class c then take_leaves packet_length queues else queues
 
--- the fair queues of a class after these entries
-abbrev pub fair_after : Class → Fair PacketData → List Entry → Fair PacketData
-fair_after c queues [] = queues
-fair_after c queues (e ∷ es) = fair_after c (fair_step c queues e) es
+-- the requests that wait, and the regular packets that do, after one more entry
+abbrev pub request_step : Fair PacketData → Entry → Fair PacketData
+request_step queues e = fair_step Request queues e
+
+abbrev pub regular_step : Fair PacketData → Entry → Fair PacketData
+regular_step queues e = fair_step Regular queues e
+
+-- what these entries, one after another, make of a beginning
+abbrev pub after : {A : Type 0} → (A → Entry → A) → A → List Entry → A
+after step begin [] = begin
+after step begin (e ∷ es) = after step (step begin e) es
 
 abbrev pub queued_legacy : Entry → Option PacketData
 queued_legacy (Queued time Legacy key packet) = Some packet
@@ -51,18 +60,25 @@ legacy_after log = drop (count_by is_legacy_start log) (filter_map queued_legacy
 
 -- what waits after these entries at a port that began empty
 abbrev pub waiting_after : LinkLimits → List Entry → Waiting
-waiting_after l log = waiting (fair_after Request (fair l.request []) log) (fair_after Regular (fair l.regular []) log) (legacy_after log)
+waiting_after l log =
+    waiting (after request_step (fair l.request []) log) (after regular_step (fair l.regular []) log) (legacy_after log)
+
+-- the request that is the next to start
+abbrev pub next_request : Waiting → Option PacketData
+next_request w = head w.requests.queues
 
 -- with the packet too many legacy packets would wait, or too many of their bytes
 abbrev pub lacks_legacy_room : LinkLimits → List PacketData → PacketData → Bool
 lacks_legacy_room l packets packet =
-    nat_lt l.legacy_ring (length packets + 1) || nat_lt l.legacy_bytes (bytes_in packet_length packets + packet_length packet)
+    nat_lt l.legacy_ring (length packets + 1)
+    || nat_lt l.legacy_bytes (bytes_in packet_length packets + packet_length packet)
 
 -- what the port answers to a packet of a class with a key, of which a legacy packet needs none
 abbrev pub queue_answer : LinkLimits → Waiting → Class → ℕ → PacketData → Offered PacketData
 queue_answer l w Request key packet = offer_answer packet_length w.requests key packet
 queue_answer l w Regular key packet = offer_answer packet_length w.regulars key packet
-queue_answer l w Legacy key packet = if lacks_legacy_room l w.legacy packet then offers.QueueFull packet else offers.Queued
+queue_answer l w Legacy key packet =
+    if lacks_legacy_room l w.legacy packet then offers.QueueFull packet else offers.Queued
 
 abbrev pub is_queued : Offered PacketData → Bool
 is_queued offers.Queued = true
@@ -74,9 +90,9 @@ pub record IsEmpty (w : Waiting) : Type 0 where
   pub regulars : w.regulars.queues ≡ []
   pub legacy : w.legacy ≡ []
 
--- a request waits, and nothing else does
-pub record IsRequestsAlone (w : Waiting) : Type 0 where
-  pub requests : w.requests.queues ≢ []
+-- that request is the next to start, and nothing but requests waits
+pub record IsRequestAlone (w : Waiting) (packet : PacketData) : Type 0 where
+  pub request : next_request w ≡ Some packet
   pub regulars : w.regulars.queues ≡ []
   pub legacy : w.legacy ≡ []
 

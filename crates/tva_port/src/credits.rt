@@ -55,7 +55,9 @@ pub(crate) fn pay(limits: &LinkLimits, credit: u64, decision: &Decision) -> u64
 pub(crate) fn occupy(limits: &LinkLimits, free_at: u64, now: u64, decision: &Decision) -> u64
     requires limits { AreLinkLimits limits.now }
     requires time { now ≤ 1000000000000000 }
-    ensures { result ≡ freed limits.now free_at now decision.now }
+    requires free { free_at ≤ now }
+    ensures value { result ≡ freed limits.now free_at now decision.now }
+    ensures soon { result ≤ now + 2048000000 }
 {
     match decision {
         Decision::Start(_, packet) => now + u64::from(length(packet)) * limits.ns_per_byte,

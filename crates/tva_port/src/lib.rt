@@ -9,9 +9,13 @@ mod cases;
 mod credits;
 mod decision;
 mod held;
+mod laws;
 mod legacy;
 mod parts;
 mod port;
 
 pub use decision::Decision;
+pub use laws::{
+    links_rest, logs_have_places, queues_keep_limits, requests_keep_their_rate, starts_rise,
+};
 pub use port::Port;

@@ -1,13 +1,13 @@
 // The port of a link.
-ghost use Rattle.std.specs.Prelude.{◌≡◌, ℕ, ◌+◌, ◌≤◌, ◌<◌, ◌↔◌, true, false, List, Some, [], ◌++◌, IfOk};
+ghost use Rattle.std.specs.Prelude.{◌≡◌, ℕ, ◌+◌, ◌*◌, ◌≤◌, ◌<◌, ◌↔◌, max, true, false, List, Some, [], ◌++◌, IfOk};
 ghost use Rattle.tva_base.specs.Plan.{AreLinkLimits};
-ghost use Rattle.tva_drr.specs.Queues.{fair, head};
+ghost use Rattle.tva_drr.specs.Queues.{fair};
 ghost use Rattle.tva_shim.specs.Packets.{PacketData, packet_length};
 ghost use Rattle.tva_port.specs.Requests.{cap};
 ghost use Rattle.tva_port.specs.Log.{Entry, free_after};
-ghost use Rattle.tva_port.specs.Waiting.{waiting, waiting_after, queue_answer, queued_by, is_queued, IsEmpty, IsRequestsAlone};
+ghost use Rattle.tva_port.specs.Waiting.{waiting, waiting_after, next_request, queue_answer, queued_by, is_queued, IsEmpty, IsRequestAlone};
 ghost use Rattle.tva_port.specs.Decide.{decision, is_start, started_by, RestsAt, MissesNone, NoneDueBefore, IsFirstCovered};
-ghost use Rattle.tva_port.specs.declared.decision.Decision.TheVariants.{WaitUntil, Idle};
+ghost use Rattle.tva_port.specs.declared.decision.Decision.TheVariants.{Start, WaitUntil, Idle};
 ghost use Rattle.tva_port.specs.Stands.{port_data, StandsFor};
 ghost use Rattle.tva_port.specs.Keeps.{IsWithinRate, start_times, AreRising, StaysWithinLimits};
 
@@ -55,7 +55,7 @@ impl Model for Port {
     ghost view = { λ w. port_data w.limits w.last w.credit w.free_at
         (waiting w.requests w.regulars w.legacy.packets) };
 
-    ghost invariant = { λ w. IsSound w.limits w.credit w.requests w.regulars w.legacy };
+    ghost invariant = { λ w. IsSound w.limits w.last w.credit w.free_at w.requests w.regulars w.legacy };
 }
 
 impl Port {
@@ -66,6 +66,8 @@ impl Port {
         ensures value { IfOk result (λ port. port ≡ port_data limits 0 (cap limits) 0
             (waiting (fair limits.request []) (fair limits.regular []) [])) }
         ensures stands { IfOk result (λ port. StandsFor port []) }
+        // No start is missed, as long as nothing comes.
+        ensures missed { IfOk result (λ port. (until : ℕ) → MissesNone limits until []) }
     {
         Ok(Port {
             limits,
@@ -91,9 +93,10 @@ impl Port {
             → result ≡ queue_answer self.old.limits (waiting_after self.old.limits log) class key packet }
         ensures stands { (log : List Entry) → StandsFor self.old log
             → StandsFor self.new (log ++ queued_by result now.0 class key packet) }
-        ensures missed { (log : List Entry) → StandsFor self.old log
-            → MissesNone self.old.limits now.0 log
-            → MissesNone self.old.limits now.0 (log ++ queued_by result now.0 class key packet) }
+        // No start is missed up to now, nor while the link is busy.
+        ensures missed { (log : List Entry) (until : ℕ) → StandsFor self.old log
+            → until ≤ max now.0 self.old.free_at → MissesNone self.old.limits until log
+            → MissesNone self.old.limits until (log ++ queued_by result now.0 class key packet) }
         ensures refused { is_queued result ≡ false → self.new.waiting ≡ self.old.waiting }
         ensures last { self.new.last ≡ now.0 }
         ensures same { (self.new.limits ≡ self.old.limits) × (self.new.free_at ≡ self.old.free_at) }
@@ -126,11 +129,17 @@ impl Port {
         ensures idle { (log : List Entry) → StandsFor self.old log
             → ((result ≡ Idle) ↔ IsEmpty self.old.waiting) }
         ensures alone { (log : List Entry) (u : Time) → StandsFor self.old log
-            → result ≡ WaitUntil u → IsRequestsAlone self.old.waiting }
-        // A wait ends at the first time at which the credit covers the request at the head.
+            → result ≡ WaitUntil u → (packet : PacketData) × IsRequestAlone self.old.waiting packet }
+        // A wait ends at the first time at which the credit covers the next request.
         ensures wait { (log : List Entry) (u : Time) (packet : PacketData) → StandsFor self.old log
-            → result ≡ WaitUntil u → head self.old.waiting.requests.queues ≡ Some packet
+            → result ≡ WaitUntil u → next_request self.old.waiting ≡ Some packet
             → IsFirstCovered self.old.limits log packet now.0 u.0 }
+        ensures later { (log : List Entry) (u : Time) → StandsFor self.old log
+            → result ≡ WaitUntil u → now.0 < u.0 }
+        // A link that starts nothing decides the same until the wait is over, or for good.
+        ensures steady { (log : List Entry) (until : ℕ) → StandsFor self.old log → is_start result ≡ false
+            → NoneDueBefore result self.new.free_at until → (time : ℕ) → now.0 ≤ time → time < until
+            → decision self.old.limits log time ≡ result }
         // Until then, until the end of what started, or for good, nothing else starts.
         ensures rests { (log : List Entry) (until : ℕ) → StandsFor self.old log
             → NoneDueBefore result self.new.free_at until → (time : ℕ) → now.0 ≤ time → time < until
@@ -140,6 +149,10 @@ impl Port {
             → MissesNone self.old.limits until (log ++ started_by result now.0) }
         // What starts occupies the link for some time, so that nothing starts twice at one time.
         ensures busy { is_start result ≡ true → now.0 < self.new.free_at }
+        ensures occupied { (class : Class) (packet : PacketData) → result ≡ Start class packet
+            → self.new.free_at ≡ now.0 + packet_length packet * self.old.limits.ns_per_byte }
+        // 2,048 bytes take at most 2,048,000,000 ns.
+        ensures soon { self.new.free_at ≤ now.0 + 2048000000 }
         ensures rested { is_start result ≡ false → (self.new.waiting ≡ self.old.waiting)
             × (self.new.free_at ≡ self.old.free_at) }
         ensures last { self.new.last ≡ now.0 }
@@ -165,6 +178,7 @@ impl Port {
         ensures value { result.0 ≡ self.now.free_at }
         ensures free { (log : List Entry) → StandsFor self.now log
             → result.0 ≡ free_after self.now.limits log }
+        ensures soon { result.0 ≤ self.now.last + 2048000000 }
     {
         Time(self.free_at)
     }

@@ -1,7 +1,8 @@
-use Rattle.std.proofs.Common.{◌≡◌, ◌↔◌, ℕ, Some, ap, sym, ◌∙◌, subst}
+use Rattle.std.proofs.Common.{◌≡◌, ◌↔◌, ℕ, ◌+◌, ◌*◌, Some, ap, sym, ◌∙◌, subst}
+use Rattle.tva_shim.specs.Packets.{PacketData, packet_length}
 use Rattle.tva_base.specs.Plan.{AreLinkLimits}
 use Rattle.tva_drr.specs.Queues.{head}
-use Rattle.tva_port.specs.Waiting.{Waiting, IsEmpty, IsRequestsAlone}
+use Rattle.tva_port.specs.Waiting.{Waiting, IsEmpty, IsRequestAlone}
 use Rattle.tva_port.specs.Decide.{NoneDueBefore}
 use Rattle.tva_port.specs.Stands.{PortData}
 use Rattle.tva_port.specs.Steps.{freed}
@@ -9,7 +10,9 @@ use Rattle.tva_port.proofs.Logs.{later-weaker}
 use Rattle.tva_port.proofs.Standing.{decided, stands_by_decide}
 use Rattle.tva_port.proofs.Resting.{rests, misses, first_covered}
 use Rattle.tva_port.proofs.Idling.{idles, waits_alone}
+use Rattle.tva_port.specs.declared.decision.Decision.{Decision}
 use Rattle.tva_port.specs.declared.decision.Decision.TheVariants.{Idle}
+use Rattle.tva_port.proofs.Steady.{steady, ends_later}
 use Rattle.tva_port.proofs.port.Port.decide.Goals as goal
 
 pub returns-clause-decision : goal.returns-clause-decision
@@ -18,7 +21,7 @@ returns-clause-decision c log s = decided _ c.args.self.now log c.args.now.0 c.g
 pub returns-clause-stands : goal.returns-clause-stands
 returns-clause-stands c log s =
     stands_by_decide _ c.args.self.now log c.args.now.0 c.grow-self-inside.result c.pay-self-inside.result c.occupy-self-inside.result _ c.start_next-decision.result c.self.view_is s c.requires.time c.requires.free
-    c.grow-self-inside.ensures c.start_next-decision.ensures.decision c.pay-self-inside.ensures c.occupy-self-inside.ensures c.start_next-decision.ensures.left
+    c.grow-self-inside.ensures c.start_next-decision.ensures.decision c.pay-self-inside.ensures c.occupy-self-inside.ensures.value c.start_next-decision.ensures.left
 
 pub returns-clause-wait : goal.returns-clause-wait
 returns-clause-wait c log u p s e h =
@@ -40,8 +43,31 @@ returns-clause-idle c log s =
 pub returns-clause-alone : goal.returns-clause-alone
 returns-clause-alone c log u s e =
     let d = decided _ c.args.self.now log c.args.now.0 c.grow-self-inside.result c.start_next-decision.result c.self.view_is s c.requires.time c.grow-self-inside.ensures c.start_next-decision.ensures.decision in
-    subst (λ (w : Waiting). IsRequestsAlone w) (sym s.waiting)
+    subst (λ (w : Waiting). (p : PacketData) × IsRequestAlone w p) (sym s.waiting)
     (waits_alone c.args.self.now.limits log c.args.now.0 u (subst (λ (z : PortData). AreLinkLimits z.limits) c.self.view_is c.self.invariant.limits) s.legal (sym e ∙ d))
+
+pub returns-clause-later : goal.returns-clause-later
+returns-clause-later c log u s e =
+    let d = decided _ c.args.self.now log c.args.now.0 c.grow-self-inside.result c.start_next-decision.result c.self.view_is s c.requires.time c.grow-self-inside.ensures c.start_next-decision.ensures.decision in
+    ends_later c.args.self.now.limits log c.args.now.0 u
+    (subst (λ (z : PortData). AreLinkLimits z.limits) c.self.view_is c.self.invariant.limits)
+    s.legal
+    (later-weaker c.args.self.now.last c.args.now.0 log c.requires.time s.past)
+    (sym e ∙ d)
+
+pub returns-clause-steady : goal.returns-clause-steady
+returns-clause-steady c log until s n i time h k =
+    steady c.args.self.now.limits log c.args.now.0 c.occupy-self-inside.result c.start_next-decision.result until time
+    (subst (λ (z : PortData). AreLinkLimits z.limits) c.self.view_is c.self.invariant.limits)
+    s.legal
+    (later-weaker c.args.self.now.last c.args.now.0 log c.requires.time s.past)
+    (decided _ c.args.self.now log c.args.now.0 c.grow-self-inside.result c.start_next-decision.result c.self.view_is s c.requires.time c.grow-self-inside.ensures c.start_next-decision.ensures.decision)
+    n i h k
+
+pub returns-clause-occupied : goal.returns-clause-occupied
+returns-clause-occupied c class packet e =
+    subst (λ (z : PortData). c.occupy-self-inside.result ≡ c.args.now.0 + packet_length packet * z.limits.ns_per_byte) c.self.view_is
+    (c.occupy-self-inside.ensures.value ∙ ap (λ (d : Decision). freed c.self.inside.limits c.self.inside.free_at c.args.now.0 d) e)
 
 pub returns-clause-rests : goal.returns-clause-rests
 returns-clause-rests c log until s i time h k =
@@ -50,7 +76,7 @@ returns-clause-rests c log until s i time h k =
     (later-weaker c.args.self.now.last c.args.now.0 log c.requires.time s.past)
     (decided _ c.args.self.now log c.args.now.0 c.grow-self-inside.result c.start_next-decision.result c.self.view_is s c.requires.time c.grow-self-inside.ensures c.start_next-decision.ensures.decision)
     (subst (λ (z : PortData). NoneDueBefore c.start_next-decision.result (freed z.limits z.free_at c.args.now.0 c.start_next-decision.result) until) c.self.view_is
-    (subst (λ (x : ℕ). NoneDueBefore c.start_next-decision.result x until) c.occupy-self-inside.ensures i))
+    (subst (λ (x : ℕ). NoneDueBefore c.start_next-decision.result x until) c.occupy-self-inside.ensures.value i))
     h k
 
 pub returns-clause-missed : goal.returns-clause-missed
@@ -61,4 +87,4 @@ returns-clause-missed c log until s m i =
     (decided _ c.args.self.now log c.args.now.0 c.grow-self-inside.result c.start_next-decision.result c.self.view_is s c.requires.time c.grow-self-inside.ensures c.start_next-decision.ensures.decision)
     m
     (subst (λ (z : PortData). NoneDueBefore c.start_next-decision.result (freed z.limits z.free_at c.args.now.0 c.start_next-decision.result) until) c.self.view_is
-    (subst (λ (x : ℕ). NoneDueBefore c.start_next-decision.result x until) c.occupy-self-inside.ensures i))
+    (subst (λ (x : ℕ). NoneDueBefore c.start_next-decision.result x until) c.occupy-self-inside.ensures.value i))
