@@ -16,7 +16,8 @@ use Rattle.tva.specs.declared.judge.Judge.{Judge}
 use Rattle.tva.specs.declared.showing.Showing.{Showing}
 use Rattle.tva_caps.specs.declared.minters.Checked as checks
 use Rattle.tva_caps.specs.declared.minters.Checked.TheVariants.{Valid, Expired, BadHash}
-use Rattle.tva_config.specs.Counts.{has_host_or_link, has_some, is_host}
+use Rattle.tva_config.specs.Counts.{has_host_or_link, has_some}
+use Rattle.tva_config.specs.Names.{is_host_plan}
 use Rattle.tva_config.specs.Valid.{IsConfig}
 use Rattle.tva_trace.specs.Valid.{AreTraceRows, IsRowWhat, NeverFall}
 use Rattle.tva_trace.specs.Lines.{HasEvent, HasOutcome}
@@ -27,7 +28,7 @@ use Rattle.tva.specs.Arrivals.{IsWithin, are_judged, arrival, checked_by, fate_o
 use Rattle.tva.specs.Judges.{masters_of, offsets_of, new_judge, judge_after, times_of, IsJudge, AreJudges}
 
 -- where there is no host, each node is a router
-no_hosts : (plans : List nodes.NodePlan) → list_any is_host plans ≡ false → list_all is_router plans ≡ true
+no_hosts : (plans : List nodes.NodePlan) → list_any is_host_plan plans ≡ false → list_all is_router plans ≡ true
 no_hosts [] none = refl
 no_hosts (Router plan ∷ plans) none = no_hosts plans none
 no_hosts (Host plan ∷ plans) none = absurd (cc)
@@ -37,7 +38,7 @@ either_not true b h = absurd (cc)
 either_not false b h = refl
 
 pub routers_where : (config : Config) → has_host_or_link config ≡ false → list_all is_router config.nodes ≡ true
-routers_where config h = no_hosts config.nodes (either_not (list_any is_host config.nodes) (has_some config.links) h)
+routers_where config h = no_hosts config.nodes (either_not (list_any is_host_plan config.nodes) (has_some config.links) h)
 
 -- the rows at a node, with one more row
 rows_at_push : (node : ℕ) (rows : List Row) (row : Row) → rows_at node (rows ++ row ∷ []) ≡ rows_at node rows + rows_at node (row ∷ [])

@@ -1,5 +1,5 @@
 -- The number that a few bytes make.
-use Rattle.std.proofs.Common.{◌<◌, ◌≤◌, ℕ, ◌^◌, zero, suc, arith}
+use Rattle.std.proofs.Common.{◌<◌, ℕ, ◌^◌, zero, suc, arith}
 
 -- a number of at most five bytes is below 2^40
 pub five_bytes : (i n : ℕ) → i < 6 → n < 256 ^ i → n < 2 ^ 40
@@ -10,14 +10,3 @@ five_bytes (suc (suc (suc zero))) n few below = omega arith
 five_bytes (suc (suc (suc (suc zero)))) n few below = omega arith
 five_bytes (suc (suc (suc (suc (suc zero))))) n few below = omega arith
 five_bytes (suc (suc (suc (suc (suc (suc i)))))) n few below = absurd (omega arith)
-
--- one of at most six bytes is below 2^48
-pub six_bytes : (i n : ℕ) → i ≤ 6 → n < 256 ^ i → n < 2 ^ 48
-six_bytes zero n few below = omega arith
-six_bytes (suc zero) n few below = omega arith
-six_bytes (suc (suc zero)) n few below = omega arith
-six_bytes (suc (suc (suc zero))) n few below = omega arith
-six_bytes (suc (suc (suc (suc zero)))) n few below = omega arith
-six_bytes (suc (suc (suc (suc (suc zero))))) n few below = omega arith
-six_bytes (suc (suc (suc (suc (suc (suc zero)))))) n few below = omega arith
-six_bytes (suc (suc (suc (suc (suc (suc (suc i))))))) n few below = absurd (omega arith)

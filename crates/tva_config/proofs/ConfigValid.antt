@@ -4,10 +4,11 @@ use Rattle.std.specs.List.{cons_option, filter_map}
 use Rattle.std.proofs.lemmas.Bool.{ltb-false}
 use Rattle.std.proofs.lemmas.Bool.Decides.{nat_tests}
 use Rattle.std.proofs.lemmas.List.{map-append, length-map}
-use Rattle.std.proofs.lemmas.List.Elements.{All-append, All-nil}
+use Rattle.std.proofs.lemmas.List.Elements.{All-append, All-map, All-nil}
 use Rattle.std.proofs.lemmas.List.Sums.{sum_by-cons, sum_by-append}
 use Rattle.tva_base.specs.declared.plan.LinkPlan.{LinkPlan}
 use Rattle.tva_base.specs.declared.plan.Route.{Route}
+use Rattle.tva_base.specs.Plan.{AreDistinct}
 use Rattle.tva_config.specs.declared.config.NodePlan as nodes
 use Rattle.tva_config.specs.declared.config.NodePlan.TheVariants as node
 use Rattle.tva_config.specs.declared.fault.ConfigTable.TheVariants as table
@@ -18,14 +19,14 @@ use Rattle.tva_config.specs.declared.entries.LinkEntry.{LinkEntry}
 use Rattle.tva_config.specs.declared.entries.RouteEntry.{RouteEntry}
 use Rattle.tva_config.specs.declared.entries.OwnedRoute.{OwnedRoute}
 use Rattle.tva_config.specs.Faults.{at, fault_at}
-use Rattle.tva_config.specs.Nodes.{node_names, node_of, names_of, addresses_of, retries_of, all_slots, slots_of}
+use Rattle.tva_config.specs.Nodes.{node_names, node_of, all_slots, slots_of}
 use Rattle.tva_config.specs.Links.{link_between, links_of, uplinks_of, all_places, rings_of}
 use Rattle.tva_config.specs.Routes.{routes_of}
+use Rattle.tva_config.specs.Names.{name_at, is_host_plan}
 use Rattle.tva_config.specs.Counts.{routes_in, slots_in}
 use Rattle.tva_config.specs.Read.{if_owned, routes_at, router_plan, host_plan, router_plans, host_plans, config_of}
-use Rattle.tva_config.specs.Valid.{IsRouterEntry, IsHostEntry, IsLinkEntry, IsRouteEntry, IsNodePlan, IsLinkPlan, AreWired, name_at, addresses_at, IsConfig}
+use Rattle.tva_config.specs.Valid.{IsRouterEntry, IsHostEntry, IsLinkEntry, IsRouteEntry, IsName, IsNodePlan, IsLinkPlan, AreWired, AreRoutersFirst, addresses_at, IsConfig}
 use Rattle.tva_config.proofs.Turns.{all_cons, unless_gave}
-use Rattle.tva_config.proofs.StepsKeep.{names_distinct, addresses_distinct, retries_late}
 use Rattle.tva_config.proofs.StepsLinks.{AreLinks, links_keep, AreUplinks, uplinks_keep}
 use Rattle.tva_config.proofs.StepsRoutes.{AreRoutes, routes_keep}
 use Rattle.tva_config.proofs.PlanValid.{router_valid, host_valid}
@@ -68,6 +69,11 @@ routers_slots links routes k (r ∷ rs) =
     sum_by-cons slots_in (node.Router (router_plan links routes k r)) (router_plans links routes (k + 1) rs)
     ∙ ap (λ n. r.slots + n) (routers_slots links routes (k + 1) rs)
     ∙ sym (sum_by-cons (λ (x : RouterEntry). x.slots) r rs)
+
+routers_before : (links : List LinkPlan) (routes : List OwnedRoute) (k : ℕ) (rs : List RouterEntry) (more : List nodes.NodePlan)
+    → AreRoutersFirst more → AreRoutersFirst (router_plans links routes k rs ++ more)
+routers_before links routes k [] more last = last
+routers_before links routes k (r ∷ rs) more last = routers_before links routes (k + 1) rs more last
 
 -- ---- the routes of the routers are among all routes
 
@@ -134,6 +140,17 @@ hosts_addressed [] us same = refl
 hosts_addressed (h ∷ hs) [] same = absurd (omega arith)
 hosts_addressed (h ∷ hs) (u ∷ us) same = ap (λ addresses. h.address ∷ addresses) (hosts_addressed hs us (omega arith))
 
+all_hosts : (hs : List HostEntry) (us : List ℕ) → All (λ q. is_host_plan q ≡ true) (host_plans hs us)
+all_hosts [] us = All-nil _
+all_hosts (h ∷ hs) [] = All-nil _
+all_hosts (h ∷ hs) (u ∷ us) =
+    all_cons (λ q. is_host_plan q ≡ true) (node.Host (host_plan h u)) (host_plans hs us) refl (all_hosts hs us)
+
+hosts_last : (hs : List HostEntry) (us : List ℕ) → AreRoutersFirst (host_plans hs us)
+hosts_last [] us = tt
+hosts_last (h ∷ hs) [] = tt
+hosts_last (h ∷ hs) (u ∷ us) = all_hosts hs us
+
 hosts_wired : (links : List LinkPlan) (k : ℕ) (hs : List HostEntry) (us : List ℕ) → AreUplinks links k us → AreWired links k (host_plans hs us)
 unfolding host_plan
 hosts_wired links k [] us known = tt
@@ -171,9 +188,9 @@ pub record Passed (horizon max_events : ℕ) (rs : List RouterEntry) (hs : List 
   pub hosts : All IsHostEntry hs
   pub link_entries : All IsLinkEntry les
   pub route_entries : All IsRouteEntry res
-  pub names : names_of rs hs ≡ Ok (node_names rs hs)
-  pub addresses : addresses_of hs ≡ Ok (map (λ h. h.address) hs)
-  pub retries : retries_of hs ≡ Ok (map (λ h. h.retry) hs)
+  pub names : AreDistinct (node_names rs hs)
+  pub addresses : AreDistinct (map (λ h. h.address) hs)
+  pub late : All (λ h. 1000000000 + h.margin ≤ h.retry) hs
   pub linked : links_of (node_of (node_names rs hs)) les ≡ Ok links
   pub uplinks : uplinks_of (length rs) links hs ≡ Ok us
   pub as_many : length us ≡ length hs
@@ -189,7 +206,6 @@ config_valid horizon max_events rs hs les res links us routes passed =
     length-append (map (λ (r : RouterEntry). r.name) rs) (map (λ (h : HostEntry). h.name) hs) ∙ rw (length-map rs (λ (r : RouterEntry). r.name), length-map hs (λ (h : HostEntry). h.name)) refl in
     let kept : AreLinks (length (node_names rs hs)) links = links_keep (node_names rs hs) les links passed.link_entries passed.linked in
     let owned : AreRoutes links routes = routes_keep (length rs) (node_of (node_names rs hs)) links res routes passed.route_entries passed.routed in
-    let late = retries_late hs (map (λ h. h.retry) hs) passed.retries in
     let made = router_plans links routes 0 rs in
     let hosted = host_plans hs us in
     let made_count = routers_long links routes 0 rs in
@@ -211,10 +227,14 @@ config_valid horizon max_events rs hs les res links us routes passed =
       few_routes = let most = passed.few_routes in omega (arith, sum_routes, most_routes, most);
       few_slots = omega (arith, slots, most_slots);
       few_places = few_places links passed.rings;
-      nodes = All-append IsNodePlan made hosted (routers_valid (length (node_names rs hs)) links routes 0 rs passed.routers kept.each owned) (hosts_valid hs us passed.hosts late);
+      nodes = All-append IsNodePlan made hosted (routers_valid (length (node_names rs hs)) links routes 0 rs passed.routers kept.each owned) (hosts_valid hs us passed.hosts passed.late);
+      routers_first = routers_before links routes 0 rs hosted (hosts_last hs us);
       links = rw long kept.each;
-      names = rw (map-append name_at made hosted, routers_named links routes 0 rs, hosts_named hs us passed.as_many) (names_distinct rs hs (node_names rs hs) passed.names);
-      addresses = rw (routers_addressed links routes 0 rs hosted, hosts_addressed hs us passed.as_many) (addresses_distinct hs (map (λ h. h.address) hs) passed.addresses);
+      names = rw (map-append name_at made hosted, routers_named links routes 0 rs, hosts_named hs us passed.as_many) passed.names;
+      named = rw (map-append name_at made hosted, routers_named links routes 0 rs, hosts_named hs us passed.as_many) (All-append IsName (map (λ r. r.name) rs) (map (λ h. h.name) hs)
+          (All-map IsName (λ (r : RouterEntry). r.name) rs (λ j d within. (passed.routers j d within).name))
+          (All-map IsName (λ (h : HostEntry). h.name) hs (λ j d within. (passed.hosts j d within).name)));
+      addresses = rw (routers_addressed links routes 0 rs hosted, hosts_addressed hs us passed.as_many) passed.addresses;
       pairs = kept.pairs;
       wired = routers_wired links routes 0 rs hosted (hosts_wired links (0 + length rs) hs us uplinked);
     }

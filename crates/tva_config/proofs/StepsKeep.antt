@@ -1,8 +1,9 @@
 -- What the steps across tables show of what they accept.
-use Rattle.std.proofs.Common.{◌≡◌, ◌<◌, ◌≤◌, ◌==◌, ℕ, ◌+◌, zero, suc, Bool, true, false, ◌||◌, nat_lt, List, [], ◌∷◌, ◌++◌, length, get_or, map, Ok, All, Contains, refl, ap, ◌∙◌, subst, arith}
+use Rattle.std.proofs.Common.{◌≡◌, ◌<◌, ◌≤◌, ◌==◌, ℕ, ◌+◌, zero, suc, Bool, true, false, ◌||◌, nat_lt, List, [], ◌∷◌, ◌++◌, length, get_or, map, Ok, All, Contains, refl, ap, sym, ◌∙◌, subst, arith}
 use Rattle.std.specs.List.{list_any}
 use Rattle.std.specs.Str.{bytes_eq}
 use Rattle.std.proofs.lemmas.Bool.{eq-eqb, ltb-false}
+use Rattle.std.proofs.lemmas.List.{map-id}
 use Rattle.std.proofs.lemmas.Slice.Eq.{bytes_eq-Decides}
 use Rattle.tva_base.specs.declared.addresses.Address.{Address}
 use Rattle.tva_base.specs.Plan.{AreDistinct}
@@ -12,7 +13,7 @@ use Rattle.tva_config.specs.declared.entries.RouterEntry.{RouterEntry}
 use Rattle.tva_config.specs.declared.entries.HostEntry.{HostEntry}
 use Rattle.tva_config.specs.Faults.{at, fault_at, unless}
 use Rattle.tva_config.specs.Nodes.{node_names, node_place, name_step, names_of, address_step, addresses_of, retry_step, retries_of}
-use Rattle.tva_config.proofs.Turns.{first_gave, unless_gave, in_turn_keeps, in_turn_shows, distinct_push}
+use Rattle.tva_config.proofs.Turns.{first_gave, unless_gave, in_turn_keeps, in_turn_maps, in_turn_shows, distinct_push}
 
 or_false : (a b : Bool) → (a || b) ≡ false → (a ≡ false) × (b ≡ false)
 or_false true b is = absurd (cc)
@@ -34,7 +35,18 @@ pub any_of_map : {A B : Type 0} (f : A → B) (test : B → Bool) (xs : List A) 
 any_of_map f test [] = refl
 any_of_map f test (x ∷ xs) = ap (λ b. test (f x) || b) (any_of_map f test xs)
 
--- the names are distinct
+-- the names are those of the nodes
+pub names_are : (routers : List RouterEntry) (hosts : List HostEntry) (names : List (List ℕ)) → names_of routers hosts ≡ Ok names → names ≡ node_names routers hosts
+unfolding names_of
+names_are routers hosts names gave =
+    sym (in_turn_maps (λ x. x) (name_step (length routers)) (λ done x y made.
+    let (u, apart, same) = first_gave (unless (list_any (bytes_eq x) done) (fault_at (node_place (length routers) (length done)) rule.Names _)) (λ _. Ok x) y made in
+    let is : x ≡ y = cc in
+    sym is)
+    [] (node_names routers hosts) names gave)
+    ∙ map-id (node_names routers hosts)
+
+-- they are distinct
 pub names_distinct : (routers : List RouterEntry) (hosts : List HostEntry) (names : List (List ℕ)) → names_of routers hosts ≡ Ok names → AreDistinct names
 unfolding names_of
 names_distinct routers hosts names gave =
@@ -45,7 +57,17 @@ names_distinct routers hosts names gave =
     subst (λ z. AreDistinct (done ++ z ∷ [])) is (distinct_push done x distinct (not_in (bytes_eq x) x done new ((bytes_eq-Decides x x).1 refl))))
     [] (node_names routers hosts) names tt gave
 
--- so are the addresses
+-- the addresses are those of the hosts
+pub addresses_are : (hosts : List HostEntry) (addresses : List Address) → addresses_of hosts ≡ Ok addresses → addresses ≡ map (λ h. h.address) hosts
+unfolding addresses_of
+addresses_are hosts addresses gave =
+    sym (in_turn_maps (λ h. h.address) address_step (λ done x y made.
+    let (u, apart, same) = first_gave (unless (list_any (λ a. a.0 == x.address.0) done) (fault_at (at table.Host (length done)) rule.Addresses _)) (λ _. Ok x.address) y made in
+    let is : x.address ≡ y = cc in
+    sym is)
+    [] hosts addresses gave)
+
+-- they are distinct too
 pub addresses_distinct : (hosts : List HostEntry) (addresses : List Address) → addresses_of hosts ≡ Ok addresses → AreDistinct addresses
 unfolding addresses_of
 addresses_distinct hosts addresses gave =

@@ -1,5 +1,5 @@
 -- What steps in turn keep and leave.
-use Rattle.std.proofs.Common.{◌≡◌, ◌<◌, ℕ, zero, suc, Bool, true, false, List, [], ◌∷◌, ◌++◌, length, get_or, map, Ok, Err, Option, Some, None, All, Contains, inl, inr, refl, ap, sym, ◌∙◌, subst, append_assoc, append-nil, arith}
+use Rattle.std.proofs.Common.{◌≡◌, ◌<◌, ◌+◌, ℕ, zero, suc, Bool, true, false, List, [], ◌∷◌, ◌++◌, length, get_or, map, Ok, Err, Option, Some, None, All, Contains, inl, inr, refl, ap, sym, ◌∙◌, subst, append_assoc, append-nil, arith, length-append}
 use Rattle.std.proofs.lemmas.List.Elements.{Contains-append_cases, All-append, All-nil}
 use Rattle.tva_base.specs.Plan.{AreDistinct}
 use Rattle.tva_config.specs.declared.fault.ConfigFault.{ConfigFault}
@@ -10,6 +10,14 @@ use Rattle.tva_config.specs.Links.{found}
 pub first_gave : {A B : Type 0} (r : Read A) (next : A → Read B) (y : B) → (r >>= next) ≡ Ok y → (x : A) × (r ≡ Ok x) × (next x ≡ Ok y)
 first_gave (Ok x) next y gave = (x, refl, gave)
 first_gave (Err fault) next y gave = absurd (cc)
+
+-- what a step gave is one value
+abbrev is_given : {A : Type 0} → A → Read A → Type 0
+is_given x (Ok y) = x ≡ y
+is_given x (Err fault) = ⊥
+
+pub gave_one : {A : Type 0} (x y : A) → ◌≡◌ {A = Read A} (Ok x) (Ok y) → x ≡ y
+gave_one x y is = subst (is_given x) is refl
 
 pub unless_gave : (broken : Bool) (fault : ConfigFault) (u : Unit {0}) → unless broken fault ≡ Ok u → broken ≡ false
 unless_gave true fault u gave = absurd (cc)
@@ -41,6 +49,16 @@ pub in_turn_keeps_of : {A B : Type 0} (Q : A → Type 0) (P : List B → Type 0)
 in_turn_keeps_of Q P step more done [] ys known holds gave = let same : done ≡ ys = cc in subst P same holds
 in_turn_keeps_of Q P step more done (x ∷ xs) ys known holds gave =
     keeps_next P step done x xs ys (λ y made rest. in_turn_keeps_of Q P step more (done ++ y ∷ []) xs ys (λ k d within. known (suc k) d (omega arith)) (more done x y (known 0 x (omega arith)) holds made) rest) gave
+
+-- each step gives one element
+pub in_turn_long : {A B : Type 0} (step : List B → A → Read B) (done : List B) (xs : List A) (ys : List B)
+    → in_turn step done xs ≡ Ok ys → length ys ≡ length done + length xs
+in_turn_long step done [] ys gave = let same : done ≡ ys = cc in subst (λ zs. length zs ≡ length done + 0) same (omega arith)
+in_turn_long step done (x ∷ xs) ys gave =
+    let (y, made, rest) = first_gave (step done x) (λ y. in_turn step (done ++ y ∷ []) xs) ys gave in
+    let more = in_turn_long step (done ++ y ∷ []) xs ys rest in
+    let pushed = length-append done (y ∷ []) in
+    omega (arith, more, pushed)
 
 -- steps whose results are known beforehand
 pub in_turn_maps : {A B : Type 0} (f : A → B) (step : List B → A → Read B)

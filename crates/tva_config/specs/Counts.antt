@@ -4,6 +4,7 @@ use Rattle.std.specs.List.{list_any}
 use Rattle.tva_config.specs.declared.config.Config.{Config}
 use Rattle.tva_config.specs.declared.config.NodePlan as nodes
 use Rattle.tva_config.specs.declared.config.NodePlan.TheVariants as node
+use Rattle.tva_config.specs.Names.{is_host_plan}
 
 -- the routes of a node, and its slots
 abbrev pub routes_in : nodes.NodePlan → ℕ
@@ -27,14 +28,10 @@ route_count c = sum_by routes_in c.nodes
 abbrev pub slot_count : Config → ℕ
 slot_count c = sum_by slots_in c.nodes
 
-abbrev pub is_host : nodes.NodePlan → Bool
-is_host (node.Router p) = false
-is_host (node.Host p) = true
-
 abbrev pub has_some : {A : Type 0} → List A → Bool
 has_some [] = false
 has_some (x ∷ xs) = true
 
 -- whether there is a host or a link
 abbrev pub has_host_or_link : Config → Bool
-has_host_or_link c = list_any is_host c.nodes || has_some c.links
+has_host_or_link c = list_any is_host_plan c.nodes || has_some c.links

@@ -1,6 +1,7 @@
 -- The keys of each table, in the order of their faults: a key, its kind, and its default.
 use Rattle.std.specs.Prelude.{ℕ, List, [], ◌∷◌, Ok, codes}
 use Rattle.toml.specs.Data.{Members}
+use Rattle.tva_base.specs.declared.limits.DrrLimits.{DrrLimits}
 use Rattle.tva_base.specs.declared.limits.LinkLimits.{LinkLimits}
 use Rattle.tva_base.specs.declared.plan.PolicyKind.TheVariants as policy
 use Rattle.tva_config.specs.declared.place.Place.{Place}
@@ -28,7 +29,8 @@ router_of p ms = do
 
 -- the keys of `host`
 abbrev pub host_keys : List (List ℕ)
-host_keys = codes "name" ∷ codes "address" ∷ codes "nonce" ∷ codes "margin_ns" ∷ codes "retry_ns" ∷ codes "policy" ∷ codes "n" ∷ codes "t" ∷ codes "grants" ∷ codes "deny" ∷ codes "deny_tags" ∷ []
+host_keys = codes "name" ∷ codes "address" ∷ codes "nonce" ∷ codes "margin_ns" ∷ codes "retry_ns" ∷ codes "policy"
+    ∷ codes "n" ∷ codes "t" ∷ codes "grants" ∷ codes "deny" ∷ codes "deny_tags" ∷ []
 
 unfoldable pub host_of : Place → Members → Read HostEntry
 host_of p ms = do
@@ -50,37 +52,58 @@ host_of p ms = do
     nonce = nonce;
     margin = margin;
     retry = retry;
-    policy = record { kind = kind; rights = record { n = n; t = t }; grants = grants; deny = deny; deny_tags = deny_tags };
+    policy = record {
+      kind = kind;
+      rights = record { n = n; t = t };
+      grants = grants;
+      deny = deny;
+      deny_tags = deny_tags;
+    };
   })
 
 -- the keys of `link`
 abbrev pub link_keys : List (List ℕ)
 link_keys = codes "from" ∷ codes "to" ∷ codes "ns_per_byte" ∷ codes "delay_ns" ∷ codes "tag" ∷ codes "share" ∷ codes "burst" ∷ codes "quantum"
-    ∷ codes "request_queues" ∷ codes "regular_queues" ∷ codes "request_ring" ∷ codes "regular_ring" ∷ codes "request_queue_bytes" ∷ codes "regular_queue_bytes"
-    ∷ codes "request_bytes" ∷ codes "regular_bytes" ∷ codes "legacy_ring" ∷ codes "legacy_bytes" ∷ []
+    ∷ codes "request_queues" ∷ codes "regular_queues" ∷ codes "request_ring" ∷ codes "regular_ring"
+    ∷ codes "request_queue_bytes" ∷ codes "regular_queue_bytes" ∷ codes "request_bytes" ∷ codes "regular_bytes"
+    ∷ codes "legacy_ring" ∷ codes "legacy_bytes" ∷ []
 
--- those behind `tag`; `max` of both sets of fair queues is 2,048
+-- a row of two keys: one of requests, and one of regular packets
+abbrev pub row : Place → Members → List ℕ → List ℕ → ℕ → ℕ → ℕ → Read (ℕ × ℕ)
+row p ms request regular low high default = do
+  first ← optional p ms request (value.number low high) default
+  second ← optional p ms regular (value.number low high) default
+  Ok (first, second)
+
+-- the limits of a set of fair queues; `max` is 2,048
+abbrev pub class_limits : ℕ → ℕ → ℕ → ℕ → ℕ → DrrLimits
+class_limits queues ring queue_bytes class_bytes quantum = record {
+  queues = queues;
+  ring = ring;
+  queue_bytes = queue_bytes;
+  class_bytes = class_bytes;
+  quantum = quantum;
+  max = 2048;
+}
+
+-- the keys behind `tag`
 unfoldable pub limits_of : Place → ℕ → Members → Read LinkLimits
 limits_of p ns_per_byte ms = do
   share ← optional p ms (codes "share") (value.number 2 1000) 20
   burst ← optional p ms (codes "burst") (value.number 4096 1000000) 8192
   quantum ← optional p ms (codes "quantum") (value.number 2048 1000000) 2048
-  request_queues ← optional p ms (codes "request_queues") (value.number 1 65536) 64
-  regular_queues ← optional p ms (codes "regular_queues") (value.number 1 65536) 64
-  request_ring ← optional p ms (codes "request_ring") (value.number 1 65536) 32
-  regular_ring ← optional p ms (codes "regular_ring") (value.number 1 65536) 32
-  request_queue_bytes ← optional p ms (codes "request_queue_bytes") (value.number 2048 1073741824) 65536
-  regular_queue_bytes ← optional p ms (codes "regular_queue_bytes") (value.number 2048 1073741824) 65536
-  request_bytes ← optional p ms (codes "request_bytes") (value.number 2048 1073741824) 1048576
-  regular_bytes ← optional p ms (codes "regular_bytes") (value.number 2048 1073741824) 1048576
+  queues ← row p ms (codes "request_queues") (codes "regular_queues") 1 65536 64
+  rings ← row p ms (codes "request_ring") (codes "regular_ring") 1 65536 32
+  queue_bytes ← row p ms (codes "request_queue_bytes") (codes "regular_queue_bytes") 2048 1073741824 65536
+  class_bytes ← row p ms (codes "request_bytes") (codes "regular_bytes") 2048 1073741824 1048576
   legacy_ring ← optional p ms (codes "legacy_ring") (value.number 1 65536) 256
   legacy_bytes ← optional p ms (codes "legacy_bytes") (value.number 2048 1073741824) 262144
   Ok (record {
     ns_per_byte = ns_per_byte;
     share = share;
     burst = burst;
-    request = record { queues = request_queues; ring = request_ring; queue_bytes = request_queue_bytes; class_bytes = request_bytes; quantum = quantum; max = 2048 };
-    regular = record { queues = regular_queues; ring = regular_ring; queue_bytes = regular_queue_bytes; class_bytes = regular_bytes; quantum = quantum; max = 2048 };
+    request = class_limits queues.0 rings.0 queue_bytes.0 class_bytes.0 quantum;
+    regular = class_limits queues.1 rings.1 queue_bytes.1 class_bytes.1 quantum;
     legacy_ring = legacy_ring;
     legacy_bytes = legacy_bytes;
   })

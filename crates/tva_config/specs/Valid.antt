@@ -1,5 +1,6 @@
 -- What every configuration keeps that is read.
-use Rattle.std.specs.Prelude.{◌≡◌, ◌<◌, ◌≤◌, ◌+◌, ◌^◌, ℕ, List, [], ◌∷◌, All, length, map}
+use Rattle.std.specs.Prelude.{◌≡◌, ◌<◌, ◌≤◌, ◌+◌, ◌^◌, ℕ, List, [], ◌∷◌, All, true, length, map}
+use Rattle.std.specs.List.{list_all}
 use Rattle.tva_base.specs.declared.addresses.Address.{Address}
 use Rattle.tva_base.specs.declared.plan.LinkPlan.{LinkPlan}
 use Rattle.tva_base.specs.Plan.{AreRights, AreLinkLimits, AreDistinct, IsPrefix, IsRouterPlan, IsHostPlan}
@@ -12,14 +13,23 @@ use Rattle.tva_config.specs.declared.entries.LinkEntry.{LinkEntry}
 use Rattle.tva_config.specs.declared.entries.RouteEntry.{RouteEntry}
 use Rattle.tva_config.specs.Counts.{node_count, link_count, route_count, slot_count}
 use Rattle.tva_config.specs.Links.{links_from, all_places}
+use Rattle.tva_config.specs.Names.{name_at, is_host_plan}
 use Rattle.tva_config.specs.Read.{incoming_of, outgoing_of}
+use Rattle.tva_config.specs.Values.{is_name_byte}
 
--- the ranges of an entry's numbers
+-- a name: 1 to 16 letters, digits, `_` and `-`
+pub record IsName (text : List ℕ) : Type 0 where
+  pub size : (1 ≤ length text) × (length text ≤ 16)
+  pub bytes : list_all is_name_byte text ≡ true
+
+-- the ranges of an entry's name and numbers
 pub record IsRouterEntry (r : RouterEntry) : Type 0 where
+  pub name : IsName r.name
   pub slots : r.slots ≤ 1000000
   pub clock_offset : r.clock_offset ≤ 1000000000000000
 
 pub record IsHostEntry (h : HostEntry) : Type 0 where
+  pub name : IsName h.name
   pub nonce : h.nonce < 2 ^ 48
   pub margin : h.margin ≤ 1000000000000
   pub retry : h.retry ≤ 10000000000000
@@ -54,9 +64,11 @@ abbrev pub AreWired : List LinkPlan → ℕ → List nodes.NodePlan → Type 0
 AreWired links n [] = Unit {0}
 AreWired links n (p ∷ ps) = IsWired links n p × AreWired links (n + 1) ps
 
-abbrev pub name_at : nodes.NodePlan → List ℕ
-name_at (node.Router p) = p.name
-name_at (node.Host p) = p.name
+-- behind a host stand hosts alone
+abbrev pub AreRoutersFirst : List nodes.NodePlan → Type 0
+AreRoutersFirst [] = Unit {0}
+AreRoutersFirst (node.Router p ∷ ps) = AreRoutersFirst ps
+AreRoutersFirst (node.Host p ∷ ps) = All (λ q. is_host_plan q ≡ true) ps
 
 -- the addresses of the hosts among the nodes
 abbrev pub addresses_at : List nodes.NodePlan → List Address
@@ -77,7 +89,9 @@ pub record IsConfig (c : Config) : Type 0 where
   pub few_slots : slot_count c ≤ 1000000
   pub few_places : all_places c.links ≤ 1000000
   pub nodes : All IsNodePlan c.nodes
+  pub routers_first : AreRoutersFirst c.nodes
   pub links : All (IsLinkPlan (length c.nodes)) c.links
+  pub named : All IsName (map name_at c.nodes)
   pub names : AreDistinct (map name_at c.nodes)
   pub addresses : AreDistinct (addresses_at c.nodes)
   pub pairs : AreDistinct (map ends_of c.links)

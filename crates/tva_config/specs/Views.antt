@@ -1,5 +1,5 @@
--- What the values of the code stand for.
-use Rattle.std.specs.Prelude.{◌≡◌, ◌==◌, ◌&&◌, ℕ, Bool, List, All, map, Option, String}
+-- Kit: what the values of the code stand for, for the clauses within the crate.
+use Rattle.std.specs.Prelude.{◌≡◌, ◌==◌, ◌&&◌, ℕ, Bool, List, map, Option, String}
 use Rattle.std.specs.HashMap.{HashMap, get, get_by_text}
 use Rattle.std.specs.HashSet.{HashSet, contains}
 use Rattle.std.specs.List.{list_any}
@@ -15,7 +15,6 @@ use Rattle.tva_config.specs.declared.entries.OwnedRoute.{OwnedRoute}
 use Rattle.tva_config.specs.Nodes.{node_of}
 use Rattle.tva_config.specs.Links.{link_between}
 use Rattle.tva_config.specs.Routes.{is_for}
-use Rattle.tva_config.specs.Valid.{IsRouterEntry, IsHostEntry, IsLinkEntry, IsRouteEntry}
 
 abbrev pub seen_top : TopTable → Top
 seen_top t = record {
@@ -29,13 +28,6 @@ seen_top t = record {
 
 abbrev pub seen_entries : EntryLists → Entries
 seen_entries e = record { routers = e.routers.items; hosts = e.hosts.items; links = e.links.items; routes = e.routes.items }
-
--- each entry's numbers are in their ranges
-pub record AreEntries (e : EntryLists) : Type 0 where
-  pub routers : All IsRouterEntry e.routers.items
-  pub hosts : All IsHostEntry e.hosts.items
-  pub links : All IsLinkEntry e.links.items
-  pub routes : All IsRouteEntry e.routes.items
 
 -- a map from names to numbers of nodes
 abbrev pub Numbers : Type 0
@@ -69,4 +61,5 @@ same_route x y = (x.0 == y.0) && (x.1 == y.1) && (x.2 == y.2)
 
 -- it has the router and the prefix of each route, and nothing else
 abbrev pub IsSeen : Seen → List OwnedRoute → Type 0
-IsSeen seen routes = (router address bits : ℕ) → contains same_route seen (router, address, bits) ≡ list_any (is_for router (record { address = record { 0 = address }; bits = bits })) routes
+IsSeen seen routes = (router address bits : ℕ) → contains same_route seen (router, address, bits)
+    ≡ list_any (is_for router (record { address = record { 0 = address }; bits = bits })) routes

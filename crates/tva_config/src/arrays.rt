@@ -56,8 +56,8 @@ fn each_tag(alloc: Global, array: &Array) -> Result<Option<Vec<u16>>, AllocError
 {
     let mut found = Vec::new(alloc);
     for value in array {
-        match values::number(value, 1, 65_535) {
-            Some(tag) => found.push(tag as u16)?,
+        match values::tag(value, 1) {
+            Some(tag) => found.push(tag)?,
             None => return Ok(None),
         }
     }

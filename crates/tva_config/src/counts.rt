@@ -2,9 +2,11 @@
 ghost use Rattle.std.specs.Prelude.{◌≡◌, sum_by};
 ghost use Rattle.std.specs.List.{list_any};
 ghost use Rattle.tva_config.specs.Counts.{routes_in, slots_in};
-ghost use Rattle.tva_config.specs.Counts.{node_count, link_count, route_count, slot_count, is_host, has_some, has_host_or_link};
+ghost use Rattle.tva_config.specs.Counts.{node_count, link_count, route_count, slot_count, has_some, has_host_or_link};
+ghost use Rattle.tva_config.specs.Names.{is_host_plan};
 
 use crate::config::{Config, NodePlan};
+use crate::names::is_host_plan;
 
 /// The number of nodes.
 pub fn node_count(config: &Config) -> usize
@@ -83,18 +85,9 @@ pub fn has_host_or_link(config: &Config) -> bool
 }
 
 fn has_host(nodes: &[NodePlan]) -> bool
-    ensures { result ≡ list_any is_host nodes.now }
+    ensures { result ≡ list_any is_host_plan nodes.now }
 {
-    nodes.iter().any(|node| is_host(node))
-}
-
-fn is_host(node: &NodePlan) -> bool
-    ensures { result ≡ is_host node.now }
-{
-    match node {
-        NodePlan::Router(_) => false,
-        NodePlan::Host(_) => true,
-    }
+    nodes.iter().any(|node| is_host_plan(node))
 }
 
 fn has_link(config: &Config) -> bool

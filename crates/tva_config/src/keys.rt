@@ -1,5 +1,5 @@
 // What stands at the keys of an entry.
-ghost use Rattle.std.specs.Prelude.{◌≡◌, ◌≤◌, ◌<◌, ◌^◌, IfOk, [], length, map, option_map, codes, string_bytes};
+ghost use Rattle.std.specs.Prelude.{◌≡◌, ◌≤◌, [], length, map, option_map, codes, string_bytes};
 ghost use Rattle.std.specs.List.{list_all, list_any};
 ghost use Rattle.std.specs.Str.{bytes_eq};
 ghost use Rattle.std.specs.BTreeMap.{keys};
@@ -9,7 +9,6 @@ ghost use Rattle.tva_config.specs.declared.fault.ConfigRule.TheVariants as rule;
 ghost use Rattle.tva_config.specs.Faults.{fault_at, Answers, AnswersBy};
 ghost use Rattle.tva_config.specs.Keys.{is_listed, are_listed, only_listed, value_or_fault, required, optional};
 ghost use Rattle.tva_config.specs.Values as kind;
-ghost use Rattle.tva_base.specs.Plan.{IsPrefix};
 
 use crate::fault::{ConfigError, ConfigFault, ConfigRule};
 use crate::place::Place;
@@ -100,12 +99,28 @@ pub fn number(
     high: u64,
 ) -> Result<u64, ConfigFault>
     requires { length key.now ≤ 24 }
-    ensures value { result ≡ required place (table_view table.now) key.now (kind.number low high) }
-    ensures range { IfOk result (λ n. (low ≤ n) × (n ≤ high)) }
+    ensures { result ≡ required place (table_view table.now) key.now (kind.number low high) }
 {
     match value_at(table, key) {
         None => Err(missing(place, key)),
         Some(value) => value_or_fault(place, key, values::number(value, low, high)),
+    }
+}
+
+/// A number that must be there, from `low` to `high`, of at most 32 bits.
+pub fn count(
+    place: Place,
+    table: &Table,
+    key: &str,
+    low: u32,
+    high: u32,
+) -> Result<u32, ConfigFault>
+    requires { length key.now ≤ 24 }
+    ensures { result ≡ required place (table_view table.now) key.now (kind.number low high) }
+{
+    match value_at(table, key) {
+        None => Err(missing(place, key)),
+        Some(value) => value_or_fault(place, key, values::count(value, low, high)),
     }
 }
 
@@ -118,15 +133,52 @@ pub fn number_or(
     high: u64,
     default: u64,
 ) -> Result<u64, ConfigFault>
-    requires short { length key.now ≤ 24 }
-    requires from { low ≤ default }
-    requires to { default ≤ high }
-    ensures value { result ≡ optional place (table_view table.now) key.now (kind.number low high) default }
-    ensures range { IfOk result (λ n. (low ≤ n) × (n ≤ high)) }
+    requires { length key.now ≤ 24 }
+    ensures { result ≡ optional place (table_view table.now) key.now (kind.number low high) default }
 {
     match value_at(table, key) {
         None => Ok(default),
         Some(value) => value_or_fault(place, key, values::number(value, low, high)),
+    }
+}
+
+/// A number from `low` to `high`, of at most 32 bits, or the default.
+pub fn count_or(
+    place: Place,
+    table: &Table,
+    key: &str,
+    low: u32,
+    high: u32,
+    default: u32,
+) -> Result<u32, ConfigFault>
+    requires { length key.now ≤ 24 }
+    ensures { result ≡ optional place (table_view table.now) key.now (kind.number low high) default }
+{
+    match value_at(table, key) {
+        None => Ok(default),
+        Some(value) => value_or_fault(place, key, values::count(value, low, high)),
+    }
+}
+
+/// A tag of at most 16 bits, or 0.
+pub fn tag(place: Place, table: &Table, key: &str) -> Result<u16, ConfigFault>
+    requires { length key.now ≤ 24 }
+    ensures { result ≡ optional place (table_view table.now) key.now (kind.number 0 65535) 0 }
+{
+    match value_at(table, key) {
+        None => Ok(0),
+        Some(value) => value_or_fault(place, key, values::tag(value, 0)),
+    }
+}
+
+/// Seconds from 0 to 63, or 10.
+pub fn seconds(place: Place, table: &Table, key: &str) -> Result<u8, ConfigFault>
+    requires { length key.now ≤ 24 }
+    ensures { result ≡ optional place (table_view table.now) key.now (kind.number 0 63) 10 }
+{
+    match value_at(table, key) {
+        None => Ok(10),
+        Some(value) => value_or_fault(place, key, values::seconds(value)),
     }
 }
 
@@ -154,10 +206,8 @@ pub fn master(place: Place, table: &Table, key: &str) -> Result<[u8; 32], Config
 
 /// A nonce, or the default.
 pub fn nonce_or(place: Place, table: &Table, key: &str, default: u64) -> Result<u64, ConfigFault>
-    requires short { length key.now ≤ 24 }
-    requires range { default < 2 ^ 48 }
-    ensures range { IfOk result (λ n. n < 2 ^ 48) }
-    ensures value { result ≡ optional place (table_view table.now) key.now kind.nonce default }
+    requires { length key.now ≤ 24 }
+    ensures { result ≡ optional place (table_view table.now) key.now kind.nonce default }
 {
     match value_at(table, key) {
         None => Ok(default),
@@ -195,8 +245,7 @@ pub fn address(place: Place, table: &Table, key: &str) -> Result<Address, Config
 /// A prefix that must be there.
 pub fn prefix(place: Place, table: &Table, key: &str) -> Result<Prefix, ConfigFault>
     requires { length key.now ≤ 24 }
-    ensures valid { IfOk result IsPrefix }
-    ensures value { result ≡ required place (table_view table.now) key.now kind.prefix }
+    ensures { result ≡ required place (table_view table.now) key.now kind.prefix }
 {
     match value_at(table, key) {
         None => Err(missing(place, key)),

@@ -9,6 +9,7 @@ mod entries;
 mod fault;
 mod keys;
 mod links;
+mod names;
 mod nodes;
 mod place;
 mod plans;
@@ -21,7 +22,5 @@ mod values;
 pub use config::{Config, NodePlan};
 pub use counts::{has_host_or_link, link_count, node_count, route_count, slot_count};
 pub use fault::{ConfigError, ConfigFault, ConfigRule, ConfigTable};
+pub use names::{is_host, is_host_plan, name_at, node_numbers, number_of};
 pub use reading::read_config;
-
-#[cfg(test)]
-mod tests;

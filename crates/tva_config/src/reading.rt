@@ -1,10 +1,13 @@
 // The steps of a configuration, in their order.
-ghost use Rattle.std.specs.Prelude.{◌≡◌, ◌≤◌, ◌+◌, IfOk, length, option_map};
+ghost use Rattle.std.specs.Prelude.{◌≡◌, ◌≤◌, ◌+◌, IfOk, Ok, Err, length, option_map};
 ghost use Rattle.toml.specs.View.{table_view};
-ghost use Rattle.tva_config.specs.Faults.{Answers, AnswersBy};
+ghost use Rattle.tva_config.specs.declared.fault.ConfigFault.{ConfigFault};
+ghost use Rattle.tva_config.specs.declared.fault.ConfigError.TheVariants.{Fault};
+ghost use Rattle.tva_config.specs.declared.config.Config.{Config};
+ghost use Rattle.tva_config.specs.Faults.{Answers, AnswersBy, IsOrLacksMemory};
 ghost use Rattle.tva_config.specs.Valid.{IsConfig};
 ghost use Rattle.tva_config.specs.Tables.{all_entries_of};
-ghost use Rattle.tva_config.specs.Views.{seen_top, seen_entries, AreEntries};
+ghost use Rattle.tva_config.specs.Views.{seen_top, seen_entries};
 ghost use Rattle.tva_config.specs.Read.{config_of, plan_of, members_read, document_of, read_of};
 
 use crate::config::Config;
@@ -22,10 +25,21 @@ use tva_base::{LinkPlan, Listed, Time};
 ///
 /// A fault is the first one in the stated order; a text that isn't UTF-8, or that `toml` refuses, is
 /// a fault of syntax. Want of memory is the one answer that the text doesn't determine.
-#[tactic(auto, unfolding(crate::specs::Read::read_of))]
 pub fn read_config(alloc: Global, text: &[u8]) -> Result<Config, ConfigError>
     ensures answer { Answers (read_of text.now) result }
+    ensures read { IfOk result (λ config. read_of text.now ≡ Ok config) }
+    ensures refused { (fault : ConfigFault) → result ≡ Err (Fault fault) → read_of text.now ≡ Err fault }
+    ensures reads { (config : Config) → read_of text.now ≡ Ok config → IsOrLacksMemory (Ok config) result }
+    ensures refuses { (fault : ConfigFault) → read_of text.now ≡ Err fault → IsOrLacksMemory (Err (Fault fault)) result }
     ensures valid { IfOk result IsConfig }
+{
+    read_text(alloc, text)
+}
+
+// The same, by cases of the answer.
+#[tactic(auto, unfolding(crate::specs::Read::read_of))]
+fn read_text(alloc: Global, text: &[u8]) -> Result<Config, ConfigError>
+    ensures { Answers (read_of text.now) result }
 {
     match document(alloc, text)? {
         Some(table) => read_table(alloc, &table),
@@ -57,8 +71,7 @@ fn document(alloc: Global, text: &[u8]) -> Result<Option<Table>, AllocError>
 // What a table is read as.
 #[tactic(auto, unfolding(crate::specs::Read::members_read))]
 fn read_table(alloc: Global, table: &Table) -> Result<Config, ConfigError>
-    ensures answer { Answers (members_read (table_view table.now)) result }
-    ensures valid { IfOk result IsConfig }
+    ensures { Answers (members_read (table_view table.now)) result }
 {
     let top = top::top(alloc, table)?;
     top::counts(&top)?;
@@ -73,7 +86,6 @@ fn read_entries(alloc: Global, top: &TopTable) -> Result<EntryLists, ConfigError
     requires links { length top.now.links.items ≤ 4096 }
     requires routes { length top.now.routes.items ≤ 65536 }
     ensures answer { AnswersBy seen_entries (all_entries_of (seen_top top.now)) result }
-    ensures valid { IfOk result AreEntries }
     ensures nodes { IfOk result (λ e. length e.routers.items + length e.hosts.items ≤ 1024) }
     ensures links { IfOk result (λ e. length e.links.items ≤ 4096) }
     ensures routes { IfOk result (λ e. length e.routes.items ≤ 65536) }
@@ -101,11 +113,7 @@ fn plan(
     requires nodes { length entries.routers.items + length entries.hosts.items ≤ 1024 }
     requires links { length entries.links.items ≤ 4096 }
     requires routes { length entries.routes.items ≤ 65536 }
-    requires horizon { horizon ≤ 1000000000000000 }
-    requires events { (1 ≤ max_events) × (max_events ≤ 4000000) }
-    requires valid { AreEntries entries }
-    ensures answer { Answers (plan_of horizon max_events (seen_entries entries)) result }
-    ensures valid { IfOk result IsConfig }
+    ensures { Answers (plan_of horizon max_events (seen_entries entries)) result }
 {
     let EntryLists {
         routers,

@@ -1,10 +1,8 @@
 // The entries of each table, by the keys in their order.
-ghost use Rattle.std.specs.Prelude.{◌≡◌, ◌≤◌, IfOk};
+ghost use Rattle.std.specs.Prelude.{◌≡◌, ◌≤◌, length};
 ghost use Rattle.toml.specs.View.{table_view};
 ghost use Rattle.tva_config.specs.Faults.{Answers};
-ghost use Rattle.tva_base.specs.Plan.{AreLinkLimits};
-ghost use Rattle.tva_config.specs.Valid.{IsRouterEntry, IsHostEntry, IsLinkEntry, IsRouteEntry};
-ghost use Rattle.tva_config.specs.Entries.{router_of, host_of, link_of, limits_of, route_of};
+ghost use Rattle.tva_config.specs.Entries.{router_of, host_of, link_of, row, class_limits, limits_of, route_of};
 
 use crate::entries::{HostEntry, LinkEntry, RouteEntry, RouterEntry};
 use crate::fault::{ConfigError, ConfigFault};
@@ -24,13 +22,12 @@ const MARGIN_MAX: u64 = 1_000_000_000_000;
 const RETRY_MAX: u64 = 10_000_000_000_000;
 
 /// The greatest number of bytes in a queue or in the queues of a class.
-const BYTES_MAX: u64 = 1 << 30;
+const BYTES_MAX: u32 = 1 << 30;
 
 /// A router, or its first fault.
 #[tactic(auto, unfolding(crate::specs::Entries::router_of))]
 pub fn router(place: Place, table: &Table) -> Result<RouterEntry, ConfigFault>
-    ensures entry { result ≡ router_of place (table_view table.now) }
-    ensures valid { IfOk result IsRouterEntry }
+    ensures { result ≡ router_of place (table_view table.now) }
 {
     keys::only_listed(
         place,
@@ -39,23 +36,22 @@ pub fn router(place: Place, table: &Table) -> Result<RouterEntry, ConfigFault>
     )?;
     let name = keys::name(place, table, "name")?;
     let master = keys::master(place, table, "master")?;
-    let slots = keys::number(place, table, "slots", 0, 1_000_000)?;
+    let slots = keys::count(place, table, "slots", 0, 1_000_000)?;
     let clock_offset = keys::number_or(place, table, "clock_offset_ns", 0, TIME_MAX, 0)?;
-    let edge_tag = keys::number_or(place, table, "edge_tag", 0, 65_535, 0)?;
+    let edge_tag = keys::tag(place, table, "edge_tag")?;
     Ok(RouterEntry {
         name,
         master,
-        slots: slots as u32,
+        slots,
         clock_offset,
-        edge_tag: edge_tag as u16,
+        edge_tag,
     })
 }
 
 /// A route, or its first fault.
 #[tactic(auto, unfolding(crate::specs::Entries::route_of))]
 pub fn route(place: Place, table: &Table) -> Result<RouteEntry, ConfigFault>
-    ensures entry { result ≡ route_of place (table_view table.now) }
-    ensures valid { IfOk result IsRouteEntry }
+    ensures { result ≡ route_of place (table_view table.now) }
 {
     keys::only_listed(place, table, &["router", "prefix", "via"])?;
     let router = keys::name(place, table, "router")?;
@@ -92,21 +88,20 @@ const LINK_KEYS: [&str; 18] = [
 /// A link, or its first fault.
 #[tactic(auto, unfolding(crate::specs::Entries::link_of))]
 pub fn link(place: Place, table: &Table) -> Result<LinkEntry, ConfigFault>
-    ensures entry { result ≡ link_of place (table_view table.now) }
-    ensures valid { IfOk result IsLinkEntry }
+    ensures { result ≡ link_of place (table_view table.now) }
 {
     keys::only_listed(place, table, &LINK_KEYS)?;
     let from = keys::name(place, table, "from")?;
     let to = keys::name(place, table, "to")?;
     let ns_per_byte = keys::number(place, table, "ns_per_byte", 1, 1_000_000)?;
     let delay = keys::number(place, table, "delay_ns", 1, 1_000_000_000_000)?;
-    let tag = keys::number_or(place, table, "tag", 0, 65_535, 0)?;
+    let tag = keys::tag(place, table, "tag")?;
     let limits = limits(place, ns_per_byte, table)?;
     Ok(LinkEntry {
         from,
         to,
         delay,
-        tag: tag as u16,
+        tag,
         limits,
     })
 }
@@ -114,61 +109,89 @@ pub fn link(place: Place, table: &Table) -> Result<LinkEntry, ConfigFault>
 /// The limits of a link, or the first fault of the keys behind `tag`.
 #[tactic(auto, unfolding(crate::specs::Entries::limits_of))]
 fn limits(place: Place, ns_per_byte: u64, table: &Table) -> Result<LinkLimits, ConfigFault>
-    requires from { 1 ≤ ns_per_byte }
-    requires to { ns_per_byte ≤ 1000000 }
-    ensures limits { result ≡ limits_of place ns_per_byte (table_view table.now) }
-    ensures valid { IfOk result AreLinkLimits }
+    ensures { result ≡ limits_of place ns_per_byte (table_view table.now) }
 {
     let share = keys::number_or(place, table, "share", 2, 1000, 20)?;
     let burst = keys::number_or(place, table, "burst", 4096, 1_000_000, 8192)?;
-    let quantum = keys::number_or(place, table, "quantum", 2048, 1_000_000, 2048)?;
-    let request_queues = keys::number_or(place, table, "request_queues", 1, 65_536, 64)?;
-    let regular_queues = keys::number_or(place, table, "regular_queues", 1, 65_536, 64)?;
-    let request_ring = keys::number_or(place, table, "request_ring", 1, 65_536, 32)?;
-    let regular_ring = keys::number_or(place, table, "regular_ring", 1, 65_536, 32)?;
-    let request_queue_bytes = keys::number_or(
+    let quantum = keys::count_or(place, table, "quantum", 2048, 1_000_000, 2048)?;
+    let queues = row(
+        place,
+        table,
+        "request_queues",
+        "regular_queues",
+        1,
+        65_536,
+        64,
+    )?;
+    let rings = row(place, table, "request_ring", "regular_ring", 1, 65_536, 32)?;
+    let queue_bytes = row(
         place,
         table,
         "request_queue_bytes",
-        2048,
-        BYTES_MAX,
-        65_536,
-    )?;
-    let regular_queue_bytes = keys::number_or(
-        place,
-        table,
         "regular_queue_bytes",
         2048,
         BYTES_MAX,
         65_536,
     )?;
-    let request_bytes = keys::number_or(place, table, "request_bytes", 2048, BYTES_MAX, 1_048_576)?;
-    let regular_bytes = keys::number_or(place, table, "regular_bytes", 2048, BYTES_MAX, 1_048_576)?;
-    let legacy_ring = keys::number_or(place, table, "legacy_ring", 1, 65_536, 256)?;
-    let legacy_bytes = keys::number_or(place, table, "legacy_bytes", 2048, BYTES_MAX, 262_144)?;
+    let class_bytes = row(
+        place,
+        table,
+        "request_bytes",
+        "regular_bytes",
+        2048,
+        BYTES_MAX,
+        1_048_576,
+    )?;
+    let legacy_ring = keys::count_or(place, table, "legacy_ring", 1, 65_536, 256)?;
+    let legacy_bytes = keys::count_or(place, table, "legacy_bytes", 2048, BYTES_MAX, 262_144)?;
     Ok(LinkLimits {
         ns_per_byte,
         share,
         burst,
-        request: DrrLimits {
-            queues: request_queues as u32,
-            ring: request_ring as u32,
-            queue_bytes: request_queue_bytes as u32,
-            class_bytes: request_bytes as u32,
-            quantum: quantum as u32,
-            max: 2048,
-        },
-        regular: DrrLimits {
-            queues: regular_queues as u32,
-            ring: regular_ring as u32,
-            queue_bytes: regular_queue_bytes as u32,
-            class_bytes: regular_bytes as u32,
-            quantum: quantum as u32,
-            max: 2048,
-        },
-        legacy_ring: legacy_ring as u32,
-        legacy_bytes: legacy_bytes as u32,
+        request: class_limits(queues.0, rings.0, queue_bytes.0, class_bytes.0, quantum),
+        regular: class_limits(queues.1, rings.1, queue_bytes.1, class_bytes.1, quantum),
+        legacy_ring,
+        legacy_bytes,
     })
+}
+
+// A row of two keys: one of requests, and one of regular packets.
+fn row(
+    place: Place,
+    table: &Table,
+    request: &str,
+    regular: &str,
+    low: u32,
+    high: u32,
+    default: u32,
+) -> Result<(u32, u32), ConfigFault>
+    requires request { length request.now ≤ 24 }
+    requires regular { length regular.now ≤ 24 }
+    ensures { result ≡ row place (table_view table.now) request.now regular.now low high default }
+{
+    let first = keys::count_or(place, table, request, low, high, default)?;
+    let second = keys::count_or(place, table, regular, low, high, default)?;
+    Ok((first, second))
+}
+
+// The limits of a set of fair queues.
+fn class_limits(
+    queues: u32,
+    ring: u32,
+    queue_bytes: u32,
+    class_bytes: u32,
+    quantum: u32,
+) -> DrrLimits
+    ensures { result ≡ class_limits queues ring queue_bytes class_bytes quantum }
+{
+    DrrLimits {
+        queues,
+        ring,
+        queue_bytes,
+        class_bytes,
+        quantum,
+        max: 2048,
+    }
 }
 
 const HOST_KEYS: [&str; 11] = [
@@ -188,8 +211,7 @@ const HOST_KEYS: [&str; 11] = [
 /// A host, or its first fault.
 #[tactic(auto, unfolding(crate::specs::Entries::host_of))]
 pub fn host(alloc: Global, place: Place, table: &Table) -> Result<HostEntry, ConfigError>
-    ensures entry { Answers (host_of place (table_view table.now)) result }
-    ensures valid { IfOk result IsHostEntry }
+    ensures { Answers (host_of place (table_view table.now)) result }
 {
     keys::only_listed(place, table, &HOST_KEYS)?;
     let name = keys::name(place, table, "name")?;
@@ -198,9 +220,9 @@ pub fn host(alloc: Global, place: Place, table: &Table) -> Result<HostEntry, Con
     let margin = keys::number_or(place, table, "margin_ns", 0, MARGIN_MAX, 1_000_000)?;
     let retry = keys::number_or(place, table, "retry_ns", 0, RETRY_MAX, 2_000_000_000)?;
     let kind = keys::policy_or(place, table, "policy", PolicyKind::DenyAll)?;
-    let n = keys::number_or(place, table, "n", 0, 1023, 32)?;
-    let t = keys::number_or(place, table, "t", 0, 63, 10)?;
-    let grants = keys::number_or(place, table, "grants", 0, 1_000_000, 1000)?;
+    let n = keys::count_or(place, table, "n", 0, 1023, 32)?;
+    let t = keys::seconds(place, table, "t")?;
+    let grants = keys::count_or(place, table, "grants", 0, 1_000_000, 1000)?;
     let deny = keys::addresses(alloc, place, table, "deny")?;
     let deny_tags = keys::tags(alloc, place, table, "deny_tags")?;
     Ok(HostEntry {
@@ -211,11 +233,8 @@ pub fn host(alloc: Global, place: Place, table: &Table) -> Result<HostEntry, Con
         retry,
         policy: PolicyPlan {
             kind,
-            rights: Rights {
-                n: n as u32,
-                t: t as u8,
-            },
-            grants: grants as u32,
+            rights: Rights { n, t },
+            grants,
             deny,
             deny_tags,
         },

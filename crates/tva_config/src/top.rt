@@ -1,10 +1,9 @@
 // The top level of a configuration, and its tables entry by entry.
-ghost use Rattle.std.specs.Prelude.{◌≡◌, ◌≤◌, ◌+◌, IfOk, OnOk, All, length, map, codes};
+ghost use Rattle.std.specs.Prelude.{◌≡◌, ◌≤◌, ◌+◌, IfOk, OnOk, length, map, codes};
 ghost use Rattle.toml.specs.View.{table_view};
 ghost use Rattle.tva_config.specs.declared.fault.ConfigTable.TheVariants as tables;
 ghost use Rattle.tva_config.specs.declared.fault.ConfigRule.TheVariants as rule;
 ghost use Rattle.tva_config.specs.Faults.{AnswersBy, at, fault_at};
-ghost use Rattle.tva_config.specs.Valid.{IsRouterEntry, IsHostEntry, IsLinkEntry, IsRouteEntry};
 ghost use Rattle.tva_config.specs.Entries.{router_of, host_of, link_of, route_of};
 ghost use Rattle.tva_config.specs.Tables.{top_of, counts_of, entries_of};
 ghost use Rattle.tva_config.specs.Views.{seen_top};
@@ -36,9 +35,7 @@ const TOP: Place = Place {
 /// The top level, or its first fault.
 #[tactic(auto, unfolding(crate::specs::Tables::top_of))]
 pub fn top<'a>(alloc: Global, table: &'a Table) -> Result<TopTable<'a>, ConfigError>
-    ensures answer { AnswersBy seen_top (top_of (table_view table.now)) result }
-    ensures horizon { IfOk result (λ t. t.horizon ≤ 1000000000000000) }
-    ensures max_events { IfOk result (λ t. (1 ≤ t.max_events) × (t.max_events ≤ 4000000)) }
+    ensures { AnswersBy seen_top (top_of (table_view table.now)) result }
 {
     keys::only_listed(
         TOP,
@@ -99,7 +96,6 @@ fn too_many(table: ConfigTable) -> ConfigFault
 #[tactic(auto, unfolding(crate::specs::Tables::entries_of))]
 pub fn routers(alloc: Global, entries: &[&Table]) -> Result<Vec<RouterEntry>, ConfigError>
     requires { length entries.now ≤ 65536 }
-    ensures valid { IfOk result (λ v. All IsRouterEntry v.items) }
     ensures answer { AnswersBy (λ v. v.items) (entries_of tables.Router router_of (map (λ t. table_view t.now) entries.now)) result }
     ensures count { IfOk result (λ v. length v.items ≡ length entries.now) }
 {
@@ -118,7 +114,6 @@ pub fn routers(alloc: Global, entries: &[&Table]) -> Result<Vec<RouterEntry>, Co
 #[tactic(auto, unfolding(crate::specs::Tables::entries_of))]
 pub fn hosts(alloc: Global, entries: &[&Table]) -> Result<Vec<HostEntry>, ConfigError>
     requires { length entries.now ≤ 65536 }
-    ensures valid { IfOk result (λ v. All IsHostEntry v.items) }
     ensures answer { AnswersBy (λ v. v.items) (entries_of tables.Host host_of (map (λ t. table_view t.now) entries.now)) result }
     ensures count { IfOk result (λ v. length v.items ≡ length entries.now) }
 {
@@ -137,7 +132,6 @@ pub fn hosts(alloc: Global, entries: &[&Table]) -> Result<Vec<HostEntry>, Config
 #[tactic(auto, unfolding(crate::specs::Tables::entries_of))]
 pub fn links(alloc: Global, entries: &[&Table]) -> Result<Vec<LinkEntry>, ConfigError>
     requires { length entries.now ≤ 65536 }
-    ensures valid { IfOk result (λ v. All IsLinkEntry v.items) }
     ensures answer { AnswersBy (λ v. v.items) (entries_of tables.Link link_of (map (λ t. table_view t.now) entries.now)) result }
     ensures count { IfOk result (λ v. length v.items ≡ length entries.now) }
 {
@@ -156,7 +150,6 @@ pub fn links(alloc: Global, entries: &[&Table]) -> Result<Vec<LinkEntry>, Config
 #[tactic(auto, unfolding(crate::specs::Tables::entries_of))]
 pub fn routes(alloc: Global, entries: &[&Table]) -> Result<Vec<RouteEntry>, ConfigError>
     requires { length entries.now ≤ 65536 }
-    ensures valid { IfOk result (λ v. All IsRouteEntry v.items) }
     ensures answer { AnswersBy (λ v. v.items) (entries_of tables.Route route_of (map (λ t. table_view t.now) entries.now)) result }
     ensures count { IfOk result (λ v. length v.items ≡ length entries.now) }
 {

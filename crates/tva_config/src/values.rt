@@ -1,10 +1,8 @@
 // The kinds of values of keys.
-ghost use Rattle.std.specs.Prelude.{◌≡◌, ◌≤◌, ◌<◌, ◌^◌, IfSome, length};
+ghost use Rattle.std.specs.Prelude.{◌≡◌, ◌≤◌, IfSome, length};
 ghost use Rattle.std.specs.List.{list_all};
 ghost use Rattle.toml.specs.View.{view};
 ghost use Rattle.tva_config.specs.Values.{within, number, is_name_byte, name_of, name, address, prefix, hex_bytes_of, master, nonce_of, nonce, number_of_bytes, policy_of, policy_kind};
-ghost use Rattle.tva_base.specs.Addresses.{prefix_of};
-ghost use Rattle.tva_base.specs.Plan.{IsPrefix};
 
 use toml::Value;
 use tva_base::{Address, Name, PolicyKind, Prefix};
@@ -27,6 +25,36 @@ fn within(n: i64, low: u64, high: u64) -> Option<u64>
     match u64::try_from(n) {
         Ok(n) if low <= n && n <= high => Some(n),
         _ => None,
+    }
+}
+
+/// A number from `low` to `high`, of at most 32 bits.
+pub fn count(value: &Value, low: u32, high: u32) -> Option<u32>
+    ensures { result ≡ number low high (view value.now) }
+{
+    match number(value, u64::from(low), u64::from(high)) {
+        Some(n) => Some(n as u32),
+        None => None,
+    }
+}
+
+/// A number from `low` to 65,535.
+pub fn tag(value: &Value, low: u64) -> Option<u16>
+    ensures { result ≡ number low 65535 (view value.now) }
+{
+    match number(value, low, 65_535) {
+        Some(n) => Some(n as u16),
+        None => None,
+    }
+}
+
+/// A number from 0 to 63.
+pub fn seconds(value: &Value) -> Option<u8>
+    ensures { result ≡ number 0 63 (view value.now) }
+{
+    match number(value, 0, 63) {
+        Some(n) => Some(n as u8),
+        None => None,
     }
 }
 
@@ -87,8 +115,7 @@ fn master_of(text: &str) -> Option<[u8; 32]>
 
 /// 12 hexadecimal digits, of either case, as a number.
 pub fn nonce(value: &Value) -> Option<u64>
-    ensures value { result ≡ nonce (view value.now) }
-    ensures range { IfSome result (λ n. n < 2 ^ 48) }
+    ensures { result ≡ nonce (view value.now) }
 {
     match value.as_str() {
         Some(text) => nonce_of(text),
@@ -97,8 +124,7 @@ pub fn nonce(value: &Value) -> Option<u64>
 }
 
 fn nonce_of(text: &str) -> Option<u64>
-    ensures value { result ≡ nonce_of text.now }
-    ensures range { IfSome result (λ n. n < 2 ^ 48) }
+    ensures { result ≡ nonce_of text.now }
 {
     match six_bytes(text) {
         Some(bytes) => Some(number_of_bytes(&bytes)),
@@ -119,8 +145,7 @@ fn six_bytes(text: &str) -> Option<[u8; 6]>
 // The number that some bytes make, the highest first.
 fn number_of_bytes(bytes: &[u8]) -> u64
     requires { length bytes.now ≤ 6 }
-    ensures value { result ≡ number_of_bytes bytes.now }
-    ensures room { result < 2 ^ 48 }
+    ensures { result ≡ number_of_bytes bytes.now }
 {
     let mut number = 0;
     for byte in bytes {
@@ -166,18 +191,10 @@ pub fn address(value: &Value) -> Option<Address>
 
 /// A prefix: an address, a slash and a length.
 pub fn prefix(value: &Value) -> Option<Prefix>
-    ensures value { result ≡ prefix (view value.now) }
-    ensures valid { IfSome result IsPrefix }
+    ensures { result ≡ prefix (view value.now) }
 {
     match value.as_str() {
-        Some(text) => prefix_of(text),
+        Some(text) => tva_base::prefix(text.as_bytes()),
         None => None,
     }
-}
-
-fn prefix_of(text: &str) -> Option<Prefix>
-    ensures value { result ≡ prefix_of text.now }
-    ensures valid { IfSome result IsPrefix }
-{
-    tva_base::prefix(text.as_bytes())
 }

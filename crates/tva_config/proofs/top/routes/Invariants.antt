@@ -1,8 +1,7 @@
-use Rattle.std.proofs.Common.{◌≡◌, All, length, drop, map}
+use Rattle.std.proofs.Common.{◌≡◌, length, drop, map}
 use Rattle.toml.specs.View.{table_view}
 use Rattle.tva_config.specs.declared.fault.ConfigTable.TheVariants as tables
 use Rattle.tva_config.specs.Entries.{route_of}
-use Rattle.tva_config.specs.Valid.{IsRouteEntry}
 use Rattle.tva_config.specs.Tables.{entry_step}
 use Rattle.tva_config.proofs.InTurn.{Continues}
 use Rattle.tva_config.proofs.top.routes.Given as goal
@@ -10,6 +9,5 @@ use Rattle.tva_config.proofs.top.routes.Given as goal
 abbrev pub invariant-loop-i : goal.invariant-loop-i
 invariant-loop-i l = record {
   read : Continues (entry_step tables.Route route_of) l.read.items (map (λ t. table_view t.now) (drop l.i l.entries)) (map (λ t. table_view t.now) l.entries);
-  valid : All IsRouteEntry l.read.items;
   count : length l.read.items ≡ l.i;
 }

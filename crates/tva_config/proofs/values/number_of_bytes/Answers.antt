@@ -1,5 +1,5 @@
-use Rattle.std.proofs.Common.{◌<◌, ◌≤◌, ◌^◌, arith}
-use Rattle.tva_config.proofs.Bytes.{five_bytes, six_bytes}
+use Rattle.std.proofs.Common.{◌<◌, ◌^◌, arith}
+use Rattle.tva_config.proofs.Bytes.{five_bytes}
 use Rattle.tva_config.proofs.values.number_of_bytes.Goals as goal
 
 pub overflow_mul-number : goal.overflow_mul-number
@@ -13,8 +13,3 @@ overflow_add-number c =
     let few : c.loop-byte.byte-index < 6 = omega arith in
     let room : c.loop-byte.number < 2 ^ 40 = five_bytes c.loop-byte.byte-index c.loop-byte.number few c.loop-byte.invariant.room in
     omega arith
-
-pub returns-clause-room : goal.returns-clause-room
-returns-clause-room c =
-    let few : c.loop-byte.byte-index ≤ 6 = omega arith in
-    six_bytes c.loop-byte.byte-index c.loop-byte.number few c.loop-byte.invariant.room

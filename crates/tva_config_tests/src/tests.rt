@@ -1,15 +1,14 @@
 // Configurations and the answers that they must have, which are the specification's or come from
 // outside.
 mod keys;
+mod plans;
 mod sizes;
 mod steps;
 mod texts;
 
-use crate::{
-    ConfigError, has_host_or_link, link_count, node_count, read_config, route_count, slot_count,
-};
 use std::alloc::{AllocError, Global};
 use std::process::Abort;
+use tva_config::{ConfigError, link_count, node_count, read_config, route_count, slot_count};
 
 pub const EDGE: &str = "horizon_ns = 1000000000000\n\
 max_events = 1000\n\
@@ -100,14 +99,14 @@ fn check<R: Abort>(rt: &R, alloc: Global, cases: &str) {
 
 fn check_case<R: Abort>(rt: &R, alloc: Global, case: &str) {
     let fields: Vec<&str> = case.split("\n^ ").collect(alloc).expect(rt, "memory");
-    let text = text_of(alloc, fields.as_slice()).expect(rt, "memory");
+    let text = text_of(rt, alloc, fields.as_slice()).expect(rt, "memory");
     let said = said(alloc, text.as_bytes()).expect(rt, "memory");
     let name = field(fields.as_slice(), 0);
     let want = field(fields.as_slice(), fields.len().saturating_sub(1));
     assert_eq!(rt; said.as_str(), want, "{name}");
 }
 
-fn text_of(alloc: Global, fields: &[&str]) -> Result<String, AllocError> {
+fn text_of<R: Abort>(rt: &R, alloc: Global, fields: &[&str]) -> Result<String, AllocError> {
     let base = match field(fields, 1) {
         "edge" => EDGE,
         "walk" => WALK,
@@ -116,12 +115,8 @@ fn text_of(alloc: Global, fields: &[&str]) -> Result<String, AllocError> {
     let mut text = String::from_str(alloc, base)?;
     let changes = fields.len().saturating_sub(3) / 2;
     for k in 0..changes {
-        text = changed(
-            alloc,
-            text.as_str(),
-            field(fields, 2 * k + 2),
-            field(fields, 2 * k + 3),
-        )?;
+        let (old, new) = (field(fields, 2 * k + 2), field(fields, 2 * k + 3));
+        text = changed(rt, alloc, text.as_str(), old, new)?;
     }
     Ok(text)
 }
@@ -133,7 +128,14 @@ fn field<'a>(fields: &[&'a str], at: usize) -> &'a str {
     }
 }
 
-fn changed(alloc: Global, text: &str, old: &str, new: &str) -> Result<String, AllocError> {
+// The text with one change. What is to be changed must be there.
+fn changed<R: Abort>(
+    rt: &R,
+    alloc: Global,
+    text: &str,
+    old: &str,
+    new: &str,
+) -> Result<String, AllocError> {
     let old = old.replace(alloc, "|", "\n")?;
     let new = if new == "(nothing)" {
         String::from_str(alloc, "")?
@@ -143,6 +145,7 @@ fn changed(alloc: Global, text: &str, old: &str, new: &str) -> Result<String, Al
     if old.as_str() == "(end)" {
         return format!(in alloc; "{text}{new}");
     }
+    assert!(rt; text.contains(old.as_str()), "{old} is not in the text");
     text.replacen(alloc, old.as_str(), new.as_str(), 1)
 }
 

@@ -1,0 +1,194 @@
+-- What the entries of the tables keep that were read.
+use Rattle.std.proofs.Common.{◌≡◌, ◌≤◌, ◌<◌, ◌^◌, ◌&&◌, nat_le, true, ℕ, List, [], Ok, All, codes, refl, subst, arith}
+use Rattle.std.proofs.lemmas.Bool.{and_parts, leb-true}
+use Rattle.std.proofs.lemmas.List.Elements.{All-nil}
+use Rattle.toml.specs.Data.{Members}
+use Rattle.tva_base.specs.declared.limits.LinkLimits.{LinkLimits}
+use Rattle.tva_base.specs.Plan.{AreClassLimits, AreLinkLimits, IsPrefix}
+use Rattle.tva_base.specs.declared.plan.PolicyKind.TheVariants as policy
+use Rattle.tva_config.specs.declared.place.Place.{Place}
+use Rattle.tva_config.specs.declared.fault.ConfigTable as tables
+use Rattle.tva_config.specs.declared.entries.RouterEntry.{RouterEntry}
+use Rattle.tva_config.specs.declared.entries.HostEntry.{HostEntry}
+use Rattle.tva_config.specs.declared.entries.LinkEntry.{LinkEntry}
+use Rattle.tva_config.specs.declared.entries.RouteEntry.{RouteEntry}
+use Rattle.tva_config.specs.Faults.{Read}
+use Rattle.tva_config.specs.Keys.{only_listed, required, optional}
+use Rattle.tva_config.specs.Values as value
+use Rattle.tva_config.specs.Entries.{router_keys, router_of, host_keys, host_of, link_keys, row, class_limits, limits_of, link_of, route_keys, route_of}
+use Rattle.tva_config.specs.Tables.{entry_step, entries_of}
+use Rattle.tva_config.specs.Valid.{IsName, IsRouterEntry, IsHostEntry, IsLinkEntry, IsRouteEntry}
+use Rattle.tva_config.proofs.KindsValid.{IsWithin, required_valid, optional_valid, number_valid, name_valid, prefix_kind_valid, nonce_valid}
+use Rattle.tva_config.proofs.Turns.{first_gave, gave_one, in_turn_keeps, all_push}
+
+pub number_needed : (low high : ℕ) (p : Place) (ms : Members) (key : List ℕ) (n : ℕ)
+    → required p ms key (value.number low high) ≡ Ok n → IsWithin low high n
+number_needed low high p ms key n gave =
+    required_valid (IsWithin low high) (value.number low high) p ms key n (number_valid low high) gave
+
+decided : (low high n : ℕ) → (nat_le low n && nat_le n high) ≡ true → IsWithin low high n
+decided low high n both =
+    let (least, most) = and_parts (nat_le low n) (nat_le n high) both in
+    (leb-true low n least, leb-true n high most)
+
+number_or : (low high default : ℕ) (p : Place) (ms : Members) (key : List ℕ) (n : ℕ) → (nat_le low default && nat_le default high) ≡ true
+    → optional p ms key (value.number low high) default ≡ Ok n → IsWithin low high n
+number_or low high default p ms key n usual gave =
+    optional_valid (IsWithin low high) (value.number low high) p ms key default n (number_valid low high) (decided low high default usual) gave
+
+one_below : 1 < 2 ^ 48
+one_below = omega arith
+
+bytes_within : (n : ℕ) → IsWithin 2048 1073741824 n → (2048 ≤ n) × (n ≤ 2 ^ 30)
+bytes_within n (least, most) = (least, omega arith)
+
+pub router_valid : (p : Place) (ms : Members) (r : RouterEntry) → router_of p ms ≡ Ok r → IsRouterEntry r
+unfolding router_of
+router_valid p ms r gave =
+    let (u, known, g1) = first_gave (only_listed p router_keys ms) _ r gave in
+    let (name, k1, g2) = first_gave (required p ms (codes "name") value.name) _ r g1 in
+    let (master, k2, g3) = first_gave (required p ms (codes "master") value.master) _ r g2 in
+    let (slots, k3, g4) = first_gave (required p ms (codes "slots") (value.number 0 1000000)) _ r g3 in
+    let (offset, k4, g5) = first_gave (optional p ms (codes "clock_offset_ns") (value.number 0 1000000000000000) 0) _ r g4 in
+    let (tag, k5, g6) = first_gave (optional p ms (codes "edge_tag") (value.number 0 65535) 0) _ r g5 in
+    let made : RouterEntry = record { name = name; master = master; slots = slots; clock_offset = offset; edge_tag = tag } in
+    let same : made ≡ r = gave_one made r g6 in
+    let valid : IsRouterEntry made = record {
+      name = required_valid IsName value.name p ms (codes "name") name name_valid k1;
+      slots = (number_needed 0 1000000 p ms (codes "slots") slots k3).1;
+      clock_offset = (number_or 0 1000000000000000 0 p ms (codes "clock_offset_ns") offset refl k4).1;
+    } in
+    subst IsRouterEntry same valid
+
+pub host_valid : (p : Place) (ms : Members) (h : HostEntry) → host_of p ms ≡ Ok h → IsHostEntry h
+unfolding host_of
+host_valid p ms h gave =
+    let (u, known, g1) = first_gave (only_listed p host_keys ms) _ h gave in
+    let (name, k1, g2) = first_gave (required p ms (codes "name") value.name) _ h g1 in
+    let (address, k2, g3) = first_gave (required p ms (codes "address") value.address) _ h g2 in
+    let (nonce, k3, g4) = first_gave (optional p ms (codes "nonce") value.nonce 1) _ h g3 in
+    let (margin, k4, g5) = first_gave (optional p ms (codes "margin_ns") (value.number 0 1000000000000) 1000000) _ h g4 in
+    let (retry, k5, g6) = first_gave (optional p ms (codes "retry_ns") (value.number 0 10000000000000) 2000000000) _ h g5 in
+    let (kind, k6, g7) = first_gave (optional p ms (codes "policy") value.policy_kind policy.DenyAll) _ h g6 in
+    let (n, k7, g8) = first_gave (optional p ms (codes "n") (value.number 0 1023) 32) _ h g7 in
+    let (t, k8, g9) = first_gave (optional p ms (codes "t") (value.number 0 63) 10) _ h g8 in
+    let (grants, k9, g10) = first_gave (optional p ms (codes "grants") (value.number 0 1000000) 1000) _ h g9 in
+    let (deny, k10, g11) = first_gave (optional p ms (codes "deny") value.addresses []) _ h g10 in
+    let (deny_tags, k11, g12) = first_gave (optional p ms (codes "deny_tags") value.tags []) _ h g11 in
+    let made : HostEntry = record {
+      name = name;
+      address = address;
+      nonce = nonce;
+      margin = margin;
+      retry = retry;
+      policy = record { kind = kind; rights = record { n = n; t = t }; grants = grants; deny = deny; deny_tags = deny_tags };
+    } in
+    let same : made ≡ h = gave_one made h g12 in
+    let valid : IsHostEntry made = record {
+      name = required_valid IsName value.name p ms (codes "name") name name_valid k1;
+      nonce = optional_valid (λ k. k < 2 ^ 48) value.nonce p ms (codes "nonce") 1 nonce nonce_valid one_below k3;
+      margin = (number_or 0 1000000000000 1000000 p ms (codes "margin_ns") margin refl k4).1;
+      retry = (number_or 0 10000000000000 2000000000 p ms (codes "retry_ns") retry refl k5).1;
+      rights = record {
+        units = (number_or 0 1023 32 p ms (codes "n") n refl k7).1;
+        seconds = (number_or 0 63 10 p ms (codes "t") t refl k8).1;
+      };
+    } in
+    subst IsHostEntry same valid
+
+row_valid : (p : Place) (ms : Members) (request regular : List ℕ) (low high default : ℕ) (q : ℕ × ℕ) → (nat_le low default && nat_le default high) ≡ true
+    → row p ms request regular low high default ≡ Ok q → IsWithin low high q.0 × IsWithin low high q.1
+row_valid p ms request regular low high default q usual gave =
+    let (first, k1, g1) = first_gave (optional p ms request (value.number low high) default) _ q gave in
+    let (second, k2, g2) = first_gave (optional p ms regular (value.number low high) default) _ q g1 in
+    let same : (first, second) ≡ q = gave_one (first, second) q g2 in
+    subst (λ (r : ℕ × ℕ). IsWithin low high r.0 × IsWithin low high r.1) same
+    (number_or low high default p ms request first usual k1, number_or low high default p ms regular second usual k2)
+
+class_valid : (queues ring queue_bytes class_bytes quantum : ℕ) → IsWithin 1 65536 queues → IsWithin 1 65536 ring
+    → IsWithin 2048 1073741824 queue_bytes → IsWithin 2048 1073741824 class_bytes → IsWithin 2048 1000000 quantum
+    → AreClassLimits (class_limits queues ring queue_bytes class_bytes quantum)
+class_valid queues ring queue_bytes class_bytes quantum a b c d e = record {
+  queues = a;
+  ring = b;
+  queue_bytes = bytes_within queue_bytes c;
+  class_bytes = bytes_within class_bytes d;
+  max = refl;
+  quantum = e;
+}
+
+limits_valid : (p : Place) (ns : ℕ) (ms : Members) (l : LinkLimits) → IsWithin 1 1000000 ns → limits_of p ns ms ≡ Ok l → AreLinkLimits l
+unfolding limits_of
+limits_valid p ns ms l rate gave =
+    let (share, k1, g1) = first_gave (optional p ms (codes "share") (value.number 2 1000) 20) _ l gave in
+    let (burst, k2, g2) = first_gave (optional p ms (codes "burst") (value.number 4096 1000000) 8192) _ l g1 in
+    let (quantum, k3, g3) = first_gave (optional p ms (codes "quantum") (value.number 2048 1000000) 2048) _ l g2 in
+    let (queues, k4, g4) = first_gave (row p ms (codes "request_queues") (codes "regular_queues") 1 65536 64) _ l g3 in
+    let (rings, k5, g5) = first_gave (row p ms (codes "request_ring") (codes "regular_ring") 1 65536 32) _ l g4 in
+    let (queue_bytes, k6, g6) = first_gave (row p ms (codes "request_queue_bytes") (codes "regular_queue_bytes") 2048 1073741824 65536) _ l g5 in
+    let (class_bytes, k7, g7) = first_gave (row p ms (codes "request_bytes") (codes "regular_bytes") 2048 1073741824 1048576) _ l g6 in
+    let (legacy_ring, k8, g8) = first_gave (optional p ms (codes "legacy_ring") (value.number 1 65536) 256) _ l g7 in
+    let (legacy_bytes, k9, g9) = first_gave (optional p ms (codes "legacy_bytes") (value.number 2048 1073741824) 262144) _ l g8 in
+    let made : LinkLimits = record {
+      ns_per_byte = ns;
+      share = share;
+      burst = burst;
+      request = class_limits queues.0 rings.0 queue_bytes.0 class_bytes.0 quantum;
+      regular = class_limits queues.1 rings.1 queue_bytes.1 class_bytes.1 quantum;
+      legacy_ring = legacy_ring;
+      legacy_bytes = legacy_bytes;
+    } in
+    let same : made ≡ l = gave_one made l g9 in
+    let few = number_or 2048 1000000 2048 p ms (codes "quantum") quantum refl k3 in
+    let (q0, q1) = row_valid p ms (codes "request_queues") (codes "regular_queues") 1 65536 64 queues refl k4 in
+    let (r0, r1) = row_valid p ms (codes "request_ring") (codes "regular_ring") 1 65536 32 rings refl k5 in
+    let (b0, b1) = row_valid p ms (codes "request_queue_bytes") (codes "regular_queue_bytes") 2048 1073741824 65536 queue_bytes refl k6 in
+    let (c0, c1) = row_valid p ms (codes "request_bytes") (codes "regular_bytes") 2048 1073741824 1048576 class_bytes refl k7 in
+    let legacy = number_or 2048 1073741824 262144 p ms (codes "legacy_bytes") legacy_bytes refl k9 in
+    let valid : AreLinkLimits made = record {
+      ns_per_byte = rate;
+      share = number_or 2 1000 20 p ms (codes "share") share refl k1;
+      burst = number_or 4096 1000000 8192 p ms (codes "burst") burst refl k2;
+      request = class_valid queues.0 rings.0 queue_bytes.0 class_bytes.0 quantum q0 r0 b0 c0 few;
+      regular = class_valid queues.1 rings.1 queue_bytes.1 class_bytes.1 quantum q1 r1 b1 c1 few;
+      legacy_ring = number_or 1 65536 256 p ms (codes "legacy_ring") legacy_ring refl k8;
+      legacy_bytes = bytes_within legacy_bytes legacy;
+    } in
+    subst AreLinkLimits same valid
+
+pub link_valid : (p : Place) (ms : Members) (l : LinkEntry) → link_of p ms ≡ Ok l → IsLinkEntry l
+unfolding link_of
+link_valid p ms l gave =
+    let (u, known, g1) = first_gave (only_listed p link_keys ms) _ l gave in
+    let (from, k1, g2) = first_gave (required p ms (codes "from") value.name) _ l g1 in
+    let (to, k2, g3) = first_gave (required p ms (codes "to") value.name) _ l g2 in
+    let (ns, k3, g4) = first_gave (required p ms (codes "ns_per_byte") (value.number 1 1000000)) _ l g3 in
+    let (delay, k4, g5) = first_gave (required p ms (codes "delay_ns") (value.number 1 1000000000000)) _ l g4 in
+    let (tag, k5, g6) = first_gave (optional p ms (codes "tag") (value.number 0 65535) 0) _ l g5 in
+    let (limits, k6, g7) = first_gave (limits_of p ns ms) _ l g6 in
+    let made : LinkEntry = record { from = from; to = to; delay = delay; tag = tag; limits = limits } in
+    let same : made ≡ l = gave_one made l g7 in
+    let valid : IsLinkEntry made = record {
+      delay = number_needed 1 1000000000000 p ms (codes "delay_ns") delay k4;
+      limits = limits_valid p ns ms limits (number_needed 1 1000000 p ms (codes "ns_per_byte") ns k3) k6;
+    } in
+    subst IsLinkEntry same valid
+
+pub route_valid : (p : Place) (ms : Members) (r : RouteEntry) → route_of p ms ≡ Ok r → IsRouteEntry r
+unfolding route_of
+route_valid p ms r gave =
+    let (u, known, g1) = first_gave (only_listed p route_keys ms) _ r gave in
+    let (router, k1, g2) = first_gave (required p ms (codes "router") value.name) _ r g1 in
+    let (prefix, k2, g3) = first_gave (required p ms (codes "prefix") value.prefix) _ r g2 in
+    let (via, k3, g4) = first_gave (required p ms (codes "via") value.name) _ r g3 in
+    let made : RouteEntry = record { router = router; prefix = prefix; via = via } in
+    let same : made ≡ r = gave_one made r g4 in
+    subst IsRouteEntry same (required_valid IsPrefix value.prefix p ms (codes "prefix") prefix prefix_kind_valid k2)
+
+-- what each entry keeps, all of a table keep
+pub entries_valid : {A : Type 0} (P : A → Type 0) (t : tables.ConfigTable) (entry_of : Place → Members → Read A)
+    → ((p : Place) (ms : Members) (x : A) → entry_of p ms ≡ Ok x → P x)
+    → (entries : List Members) (xs : List A) → entries_of t entry_of entries ≡ Ok xs → All P xs
+unfolding entries_of
+entries_valid P t entry_of each entries xs gave =
+    in_turn_keeps (All P) (entry_step t entry_of) (λ done ms x all made. all_push P done x all (each _ ms x made)) [] entries xs (All-nil P) gave

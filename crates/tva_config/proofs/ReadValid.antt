@@ -1,0 +1,149 @@
+-- What is read of a text is valid.
+use Rattle.std.proofs.Common.{◌≡◌, ◌≤◌, ℕ, ◌+◌, nat_lt, List, [], length, Result, Ok, Err, Option, Some, None, IfOk, All, codes, subst, arith}
+use Rattle.std.proofs.lemmas.Bool.{ltb-false}
+use Rattle.toml.specs.Data.{Members}
+use Rattle.tva_base.specs.Plan.{AreDistinct}
+use Rattle.tva_config.specs.declared.config.Config.{Config}
+use Rattle.tva_config.specs.declared.fault.ConfigTable.TheVariants as table
+use Rattle.tva_config.specs.declared.fault.ConfigRule.TheVariants as rule
+use Rattle.tva_config.specs.declared.fault.ConfigError.{ConfigError}
+use Rattle.tva_config.specs.Faults.{Answers, at, top, fault_at, unless}
+use Rattle.tva_config.specs.Keys.{only_listed, required, optional}
+use Rattle.tva_config.specs.Values as value
+use Rattle.tva_config.specs.Entries.{router_of, host_of, link_of, route_of}
+use Rattle.tva_config.specs.Tables.{Top, top_keys, top_of, counts_of, entry_step, entries_of, Entries, all_entries_of}
+use Rattle.tva_config.specs.Nodes.{node_names, node_of, names_of, addresses_of, retries_of, slots_of}
+use Rattle.tva_config.specs.Links.{link_between, link_step, links_of, uplink_step, uplinks_of, rings_of}
+use Rattle.tva_config.specs.Routes.{route_step, routes_of}
+use Rattle.tva_config.specs.Read.{config_of, plan_of, members_read, document_of, document_read, read_of}
+use Rattle.tva_config.specs.Valid.{IsRouterEntry, IsHostEntry, IsLinkEntry, IsRouteEntry, IsConfig}
+use Rattle.tva_config.proofs.ConfigValid.{Passed, config_valid}
+use Rattle.tva_config.proofs.EntriesValid.{number_needed, router_valid, host_valid, link_valid, route_valid, entries_valid}
+use Rattle.tva_config.proofs.StepsKeep.{names_are, names_distinct, addresses_are, addresses_distinct, retries_late}
+use Rattle.tva_config.proofs.Turns.{first_gave, gave_one, unless_gave, in_turn_long}
+
+top_valid : (ms : Members) (t : Top) → top_of ms ≡ Ok t → (t.horizon ≤ 1000000000000000) × (1 ≤ t.max_events) × (t.max_events ≤ 4000000)
+unfolding top_of
+top_valid ms t gave =
+    let (u, known, g1) = first_gave (only_listed top top_keys ms) _ t gave in
+    let (horizon, k1, g2) = first_gave (required top ms (codes "horizon_ns") (value.number 0 1000000000000000)) _ t g1 in
+    let (events, k2, g3) = first_gave (required top ms (codes "max_events") (value.number 1 4000000)) _ t g2 in
+    let (routers, k3, g4) = first_gave (optional top ms (codes "router") value.tables []) _ t g3 in
+    let (hosts, k4, g5) = first_gave (optional top ms (codes "host") value.tables []) _ t g4 in
+    let (links, k5, g6) = first_gave (optional top ms (codes "link") value.tables []) _ t g5 in
+    let (routes, k6, g7) = first_gave (optional top ms (codes "route") value.tables []) _ t g6 in
+    let made : Top = record { horizon = horizon; max_events = events; routers = routers; hosts = hosts; links = links; routes = routes } in
+    let same : made ≡ t = gave_one made t g7 in
+    let most = number_needed 0 1000000000000000 top ms (codes "horizon_ns") horizon k1 in
+    let some = number_needed 1 4000000 top ms (codes "max_events") events k2 in
+    subst (λ (x : Top). (x.horizon ≤ 1000000000000000) × (1 ≤ x.max_events) × (x.max_events ≤ 4000000)) same (most.1, some.0, some.1)
+
+counts_valid : (nodes links routes : ℕ) → counts_of nodes links routes ≡ Ok tt → (nodes ≤ 1024) × (links ≤ 4096) × (routes ≤ 65536)
+unfolding counts_of
+counts_valid nodes links routes gave =
+    let (a, few_nodes, g1) = first_gave (unless (nat_lt 1024 nodes) (fault_at (at table.Host 0) rule.Count _)) _ tt gave in
+    let (b, few_links, g2) = first_gave (unless (nat_lt 4096 links) (fault_at (at table.Link 0) rule.Count _)) _ tt g1 in (
+      ltb-false 1024 nodes (unless_gave _ _ a few_nodes),
+      ltb-false 4096 links (unless_gave _ _ b few_links),
+      ltb-false 65536 routes (unless_gave _ _ tt g2),
+    )
+
+-- what the entries of all tables keep
+record AreRead (t : Top) (e : Entries) : Type 0 where
+  routers : All IsRouterEntry e.routers
+  hosts : All IsHostEntry e.hosts
+  links : All IsLinkEntry e.links
+  routes : All IsRouteEntry e.routes
+  nodes_long : length e.routers + length e.hosts ≡ length t.routers + length t.hosts
+  links_long : length e.links ≡ length t.links
+  routes_long : length e.routes ≡ length t.routes
+
+entries_read : (t : Top) (e : Entries) → all_entries_of t ≡ Ok e → AreRead t e
+unfolding all_entries_of entries_of
+entries_read t e gave =
+    let (routers, k1, g1) = first_gave (entries_of table.Router router_of t.routers) _ e gave in
+    let (hosts, k2, g2) = first_gave (entries_of table.Host host_of t.hosts) _ e g1 in
+    let (links, k3, g3) = first_gave (entries_of table.Link link_of t.links) _ e g2 in
+    let (routes, k4, g4) = first_gave (entries_of table.Route route_of t.routes) _ e g3 in
+    let made : Entries = record { routers = routers; hosts = hosts; links = links; routes = routes } in
+    let same : made ≡ e = gave_one made e g4 in
+    let n1 = in_turn_long (entry_step table.Router router_of) [] t.routers routers k1 in
+    let n2 = in_turn_long (entry_step table.Host host_of) [] t.hosts hosts k2 in
+    let n3 = in_turn_long (entry_step table.Link link_of) [] t.links links k3 in
+    let n4 = in_turn_long (entry_step table.Route route_of) [] t.routes routes k4 in
+    let valid : AreRead t made = record {
+      routers = entries_valid IsRouterEntry table.Router router_of router_valid t.routers routers k1;
+      hosts = entries_valid IsHostEntry table.Host host_of host_valid t.hosts hosts k2;
+      links = entries_valid IsLinkEntry table.Link link_of link_valid t.links links k3;
+      routes = entries_valid IsRouteEntry table.Route route_of route_valid t.routes routes k4;
+      nodes_long = omega (arith, n1, n2);
+      links_long = omega (arith, n3);
+      routes_long = omega (arith, n4);
+    } in
+    subst (AreRead t) same valid
+
+plan_valid : (t : Top) (e : Entries) (c : Config) → (t.horizon ≤ 1000000000000000) × (1 ≤ t.max_events) × (t.max_events ≤ 4000000)
+    → (length t.routers + length t.hosts ≤ 1024) × (length t.links ≤ 4096) × (length t.routes ≤ 65536)
+    → AreRead t e → plan_of t.horizon t.max_events e ≡ Ok c → IsConfig c
+unfolding plan_of names_of addresses_of links_of uplinks_of routes_of
+plan_valid t e c times counts known gave =
+    let rs = e.routers in
+    let hs = e.hosts in
+    let (names, k1, g1) = first_gave (names_of rs hs) _ c gave in
+    let (addresses, k2, g2) = first_gave (addresses_of hs) _ c g1 in
+    let (retries, k3, g3) = first_gave (retries_of hs) _ c g2 in
+    let (links, k4, g4) = first_gave (links_of (node_of names) e.links) _ c g3 in
+    let (us, k5, g5) = first_gave (uplinks_of (length rs) links hs) _ c g4 in
+    let (routes, k6, g6) = first_gave (routes_of (length rs) (node_of names) (link_between links) e.routes) _ c g5 in
+    let (a, k7, g7) = first_gave (slots_of rs) _ c g6 in
+    let (b, k8, g8) = first_gave (rings_of links) _ c g7 in
+    let named : names ≡ node_names rs hs = names_are rs hs names k1 in
+    let made : config_of t.horizon t.max_events rs hs links us routes ≡ c = gave_one (config_of t.horizon t.max_events rs hs links us routes) c g8 in
+    let u_long = in_turn_long (uplink_step (length rs) links) [] hs us k5 in
+    let l_long = in_turn_long (link_step (node_of names)) [] e.links links k4 in
+    let r_long = in_turn_long (route_step (length rs) (node_of names) (link_between links)) [] e.routes routes k6 in
+    let n_long = known.nodes_long in
+    let m_long = known.links_long in
+    let o_long = known.routes_long in
+    let passed : Passed t.horizon t.max_events rs hs e.links e.routes links us routes = record {
+      horizon_most = times.0;
+      events_most = (times.1, times.2);
+      nodes = omega (arith, n_long, counts);
+      few_links = omega (arith, l_long, m_long, counts);
+      few_routes = omega (arith, r_long, o_long, counts);
+      routers = known.routers;
+      hosts = known.hosts;
+      link_entries = known.links;
+      route_entries = known.routes;
+      names = subst (λ ns. AreDistinct ns) named (names_distinct rs hs names k1);
+      addresses = subst (λ xs. AreDistinct xs) (addresses_are hs addresses k2) (addresses_distinct hs addresses k2);
+      late = retries_late hs retries k3;
+      linked = subst (λ ns. links_of (node_of ns) e.links ≡ Ok links) named k4;
+      uplinks = k5;
+      as_many = omega (arith, u_long);
+      routed = subst (λ ns. routes_of (length rs) (node_of ns) (link_between links) e.routes ≡ Ok routes) named k6;
+      slots = k7;
+      rings = k8;
+    } in
+    subst IsConfig made (config_valid t.horizon t.max_events rs hs e.links e.routes links us routes passed)
+
+members_valid : (ms : Members) (c : Config) → members_read ms ≡ Ok c → IsConfig c
+unfolding members_read
+members_valid ms c gave =
+    let (t, k1, g1) = first_gave (top_of ms) _ c gave in
+    let (few, k2, g2) = first_gave (counts_of (length t.routers + length t.hosts) (length t.links) (length t.routes)) _ c g1 in
+    let (e, k3, g3) = first_gave (all_entries_of t) _ c g2 in
+    plan_valid t e c (top_valid ms t k1) (counts_valid _ _ _ k2) (entries_read t e k3) g3
+
+document_valid : (o : Option Members) (c : Config) → document_read o ≡ Ok c → IsConfig c
+document_valid None c gave = absurd (cc)
+document_valid (Some ms) c gave = members_valid ms c gave
+
+-- what a text is read as is valid
+pub read_valid : (text : List ℕ) (c : Config) → read_of text ≡ Ok c → IsConfig c
+unfolding read_of
+read_valid text c gave = document_valid (document_of text) c gave
+
+pub answer_valid : (text : List ℕ) (answer : Result Config ConfigError) → Answers (read_of text) answer → IfOk answer IsConfig
+answer_valid text (Ok c) is = read_valid text c is
+answer_valid text (Err e) is = tt

@@ -1,0 +1,27 @@
+-- The names of nodes, which node has a name, and which are hosts.
+use Rattle.std.specs.Prelude.{ℕ, List, Option, Bool, true, false, slice_get}
+use Rattle.std.specs.Option.{option_map_or}
+use Rattle.std.specs.List.{position_from}
+use Rattle.std.specs.Str.{bytes_eq}
+use Rattle.tva_config.specs.declared.config.NodePlan as nodes
+use Rattle.tva_config.specs.declared.config.NodePlan.TheVariants as node
+
+-- the name of a node, by its plan
+abbrev pub name_at : nodes.NodePlan → List ℕ
+name_at (node.Router p) = p.name
+name_at (node.Host p) = p.name
+
+-- the number of the node that has a name, of plans that are numbered from that number on
+abbrev pub named_from : List ℕ → ℕ → List nodes.NodePlan → Option ℕ
+named_from name number plans = position_from (λ plan. bytes_eq (name_at plan) name) number plans
+
+unfoldable pub node_named : List nodes.NodePlan → List ℕ → Option ℕ
+node_named plans name = named_from name 0 plans
+
+abbrev pub is_host_plan : nodes.NodePlan → Bool
+is_host_plan (node.Router p) = false
+is_host_plan (node.Host p) = true
+
+-- whether the node of that number is a host
+abbrev pub is_host : List nodes.NodePlan → ℕ → Bool
+is_host plans number = option_map_or is_host_plan (slice_get plans number) false
