@@ -4,7 +4,8 @@ use Rattle.std.proofs.Math.Nat.{mul-mod_left}
 use Rattle.std.proofs.lemmas.Bool.{and_parts, leb-true}
 use Rattle.tva_base.specs.declared.addresses.Address.{Address}
 use Rattle.tva_base.specs.Decimal.{is_decimal, number_in, decimal_of, has_leading_zero, plain_decimal_of}
-use Rattle.tva_base.specs.Addresses.{◌>>=◌, parted, address_of, kept, prefix_of}
+use Rattle.tva_base.specs.Addresses.{parted, address_of, kept, prefix_of}
+use Rattle.tva_base.specs.Options.{◌>>=◌}
 use Rattle.tva_base.specs.Plan.{IsPrefix}
 
 within_at : (b : Bool) (n max : ℕ) → (b ≡ true → n ≤ max) → IfSome (cond b (Some n) None) (λ k. k ≤ max)
