@@ -1,3 +1,6 @@
 mod Standing
 mod Making
 mod Hearing
+pub mod Calls
+pub mod Played
+pub mod Lengths

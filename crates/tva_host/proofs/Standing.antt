@@ -1,10 +1,9 @@
 -- The history after one more deed, contact or packet.
-use Rattle.std.proofs.Common.{◌≡◌, ℕ, ◌+◌, ◌%◌, ◌^◌, ◌<◌, min, Bool, true, false, cond, List, [], ◌∷◌, ◌++◌, Option, Some, None, Result, Ok, Err, OnOk, OnErr, IfOk, append-nil, ap, sym, subst, ◌∙◌, arith}
+use Rattle.std.proofs.Common.{◌≡◌, ℕ, ◌+◌, ◌%◌, ◌^◌, ◌<◌, ◌≤◌, min, Bool, true, false, cond, List, [], ◌∷◌, ◌++◌, Option, Some, None, Result, Ok, Err, OnOk, OnErr, IfOk, append-nil, ap, sym, subst, ◌∙◌, arith}
 use Rattle.std.specs.Option.{IfSome}
 use Rattle.std.proofs.Math.Nat.{mod-add-mod}
 use Rattle.tva_base.specs.declared.addresses.Address.{Address}
 use Rattle.tva_base.specs.declared.packet.Rights.{Rights}
-use Rattle.tva_base.specs.declared.plan.HostPlan.{HostPlan}
 use Rattle.tva_base.specs.declared.plan.PolicyPlan.{PolicyPlan}
 use Rattle.tva_base.specs.Plan.{IsHostPlan, AreRights}
 use Rattle.tva_policy.specs.Grants.{Deed, Sent, decision, is_granted}
@@ -14,15 +13,17 @@ use Rattle.tva_sender.specs.Contacts.{Contact, Prepared, Taken}
 use Rattle.tva_sender.specs.Shapes.{length_of}
 use Rattle.tva_sender.specs.Showable.{IsShowableContact, AreShowable}
 use Rattle.tva_sender.specs.Book as sender
-use Rattle.tva_host.specs.History.{History, beginning, with_deed, with_packet, with_prepared, HostData, host_data, StandsFor, HasHistory}
+use Rattle.tva_host.specs.History.{History, beginning, with_deed, with_packet, with_prepared}
+use Rattle.tva_host.specs.Stands.{HostData, host_data, Keeps}
+use Rattle.tva_host.specs.Sound.{HasHistory}
 
 -- one more contact that a shim could carry
-pub carried-push : (h : List (Address × Contact)) (a : Address) (c : Contact) → AreShowable h → IsShowableContact c → AreShowable (h ++ (a, c) ∷ [])
-carried-push [] a c k x = (x, tt)
-carried-push (d ∷ ds) a c k x = (k.0, carried-push ds a c k.1 x)
+pub showable-push : (h : List (Address × Contact)) (a : Address) (c : Contact) → AreShowable h → IsShowableContact c → AreShowable (h ++ (a, c) ∷ [])
+showable-push [] a c k x = (x, tt)
+showable-push (d ∷ ds) a c k x = (k.0, showable-push ds a c k.1 x)
 
-pub has-beginning : (node : ℕ) (plan : HostPlan) (v : HostData) → IsHostPlan plan → StandsFor node plan v beginning → HasHistory v
-has-beginning node plan v valid stands = record { node = node; plan = plan; history = beginning; valid = valid; stands = stands; carried = tt }
+pub has-beginning : (v : HostData) → IsHostPlan v.plan → Keeps v beginning → v.sender.last ≤ v.last → HasHistory v
+has-beginning v valid keeps past = record { history = beginning; valid = valid; keeps = keeps; showable = tt; past = past }
 
 pub first-nonce : (n : ℕ) → n < 2 ^ 48 → n ≡ (n + 0) % 2 ^ 48
 first-nonce n small = omega (arith, small)
@@ -33,124 +34,144 @@ next-nonce n p = let e : n + p + 1 ≡ n + (p + 1) = omega arith in mod-add-mod 
 one_more : (made : ℕ) → min (min (made + 1) 18446744073709551615 + 1) 18446744073709551615 ≡ min (made + 1 + 1) 18446744073709551615
 one_more made = grind arith
 
-pub stands-packet : (node : ℕ) (plan : HostPlan) (v : HostData) (h : History) → StandsFor node plan v h → StandsFor node plan (host_data v.node v.address (min (v.next + 1) 18446744073709551615) v.offered v.policy v.sender) (with_packet h)
-stands-packet node plan v h s = record {
-  node = s.node;
-  address = s.address;
-  next = ap (λ n. min (n + 1) 18446744073709551615) s.next ∙ one_more h.made;
-  offered = s.offered;
-  margin = s.margin;
-  retry = s.retry;
-  policy = s.policy;
-  sender = s.sender;
+-- the host with another next ordinal, nonce that is offered next, last time, policy or sender
+abbrev pub numbered : ℕ → HostData → HostData
+numbered next v = host_data v.node v.plan next v.offered v.last v.policy v.sender
+
+abbrev pub timed : ℕ → HostData → HostData
+timed last v = host_data v.node v.plan v.next v.offered last v.policy v.sender
+
+abbrev pub noted : policy.Notes → HostData → HostData
+noted notes v = host_data v.node v.plan v.next v.offered v.last notes v.sender
+
+abbrev pub booked : ℕ → sender.Book → HostData → HostData
+booked offered book v = host_data v.node v.plan v.next offered v.last v.policy book
+
+pub keeps-timed : (v : HostData) (last : ℕ) (h : History) → Keeps v h → Keeps (timed last v) h
+keeps-timed v last h k = record {
+  next = k.next;
+  offered = k.offered;
+  margin = k.margin;
+  retry = k.retry;
+  policy = k.policy;
+  sender = k.sender;
 }
 
-pub has-packet : (v : HostData) → HasHistory v → HasHistory (host_data v.node v.address (min (v.next + 1) 18446744073709551615) v.offered v.policy v.sender)
+pub has-timed : (v : HostData) (last : ℕ) → HasHistory v → v.last ≤ last → HasHistory (timed last v)
+has-timed v last has later = record {
+  history = has.history;
+  valid = has.valid;
+  keeps = keeps-timed v last has.history has.keeps;
+  showable = has.showable;
+  past = omega (arith, has.past, later);
+}
+
+pub keeps-packet : (v : HostData) (h : History) → Keeps v h → Keeps (numbered (min (v.next + 1) 18446744073709551615) v) (with_packet h)
+keeps-packet v h k = record {
+  next = ap (λ n. min (n + 1) 18446744073709551615) k.next ∙ one_more h.made;
+  offered = k.offered;
+  margin = k.margin;
+  retry = k.retry;
+  policy = k.policy;
+  sender = k.sender;
+}
+
+pub has-packet : (v : HostData) → HasHistory v → HasHistory (numbered (min (v.next + 1) 18446744073709551615) v)
 has-packet v has = record {
-  node = has.node;
-  plan = has.plan;
   history = with_packet has.history;
   valid = has.valid;
-  stands = stands-packet has.node has.plan v has.history has.stands;
-  carried = has.carried;
+  keeps = keeps-packet v has.history has.keeps;
+  showable = has.showable;
+  past = has.past;
 }
 
-pub stands-deed : (node : ℕ) (plan : HostPlan) (v : HostData) (notes : policy.Notes) (deed : Deed) (h : History) → StandsFor node plan v h
-    → policy.StandsFor plan.policy notes (h.deeds ++ deed ∷ []) → StandsFor node plan (host_data v.node v.address v.next v.offered notes v.sender) (with_deed deed h)
-stands-deed node plan v notes deed h s more = record {
-  node = s.node;
-  address = s.address;
-  next = s.next;
-  offered = s.offered;
-  margin = s.margin;
-  retry = s.retry;
+pub keeps-deed : (v : HostData) (notes : policy.Notes) (deed : Deed) (h : History) → Keeps v h
+    → policy.StandsFor v.plan.policy notes (h.deeds ++ deed ∷ []) → Keeps (noted notes v) (with_deed deed h)
+keeps-deed v notes deed h k more = record {
+  next = k.next;
+  offered = k.offered;
+  margin = k.margin;
+  retry = k.retry;
   policy = more;
-  sender = s.sender;
+  sender = k.sender;
 }
 
 pub has-deed : (v : HostData) (notes : policy.Notes) (deed : Deed) → HasHistory v
     → ((plan : PolicyPlan) (d : List Deed) → policy.StandsFor plan v.policy d → policy.StandsFor plan notes (d ++ deed ∷ []))
-    → HasHistory (host_data v.node v.address v.next v.offered notes v.sender)
+    → HasHistory (noted notes v)
 has-deed v notes deed has more = record {
-  node = has.node;
-  plan = has.plan;
   history = with_deed deed has.history;
   valid = has.valid;
-  stands = stands-deed has.node has.plan v notes deed has.history has.stands (more has.plan.policy has.history.deeds has.stands.policy);
-  carried = has.carried;
+  keeps = keeps-deed v notes deed has.history has.keeps (more v.plan.policy has.history.deeds has.keeps.policy);
+  showable = has.showable;
+  past = has.past;
 }
 
 -- a send row is noted, or refused
 pub has-sent : {A E : Type 0} (v : HostData) (notes : policy.Notes) (dst : Address) (r : Result A E) → HasHistory v
     → ((plan : PolicyPlan) (d : List Deed) → policy.StandsFor plan v.policy d → OnOk r (policy.StandsFor plan notes (d ++ Sent dst ∷ [])))
-    → OnErr r (notes ≡ v.policy) → HasHistory (host_data v.node v.address v.next v.offered notes v.sender)
+    → OnErr r (notes ≡ v.policy) → HasHistory (noted notes v)
 has-sent v notes dst (Ok x) has more same = has-deed v notes (Sent dst) has more
-has-sent v notes dst (Err e) has more same = subst (λ (n : policy.Notes). HasHistory (host_data v.node v.address v.next v.offered n v.sender)) (sym same) has
+has-sent v notes dst (Err e) has more same = subst (λ (n : policy.Notes). HasHistory (noted n v)) (sym same) has
 
-pub stands-sent : {A E : Type 0} (node : ℕ) (plan : HostPlan) (v : HostData) (notes : policy.Notes) (dst : Address) (h : History) (r : Result A E) → StandsFor node plan v h
+pub keeps-sent : {A E : Type 0} (v : HostData) (notes : policy.Notes) (dst : Address) (h : History) (r : Result A E) → Keeps v h
     → ((plan : PolicyPlan) (d : List Deed) → policy.StandsFor plan v.policy d → OnOk r (policy.StandsFor plan notes (d ++ Sent dst ∷ [])))
-    → IfOk r (λ done. StandsFor node plan (host_data v.node v.address v.next v.offered notes v.sender) (with_deed (Sent dst) h))
-stands-sent node plan v notes dst h (Ok x) s more = stands-deed node plan v notes (Sent dst) h s (more plan.policy h.deeds s.policy)
-stands-sent node plan v notes dst h (Err e) s more = tt
+    → IfOk r (λ done. Keeps (noted notes v) (with_deed (Sent dst) h))
+keeps-sent v notes dst h (Ok x) k more = keeps-deed v notes (Sent dst) h k (more v.plan.policy h.deeds k.policy)
+keeps-sent v notes dst h (Err e) k more = tt
 
 pub rights-fit : (plan : PolicyPlan) (d : List Deed) (src : Address) (tags : List ℕ) (rights : Option Rights) → AreRights plan.rights → rights ≡ decision plan d src tags → IfSome rights AreRights
 rights-fit plan d src tags rights fits e =
     subst (λ (o : Option Rights). IfSome o AreRights) (sym e) (elim (is_granted plan d src tags) as (λ b. IfSome (cond b (Some plan.rights) None) AreRights) [ true ↦ fits | false ↦ tt ])
 
 -- the sender was told of one more contact
-pub stands-book : (node : ℕ) (plan : HostPlan) (v : HostData) (book : sender.Book) (h : History) (contacts : List (Address × Contact)) → StandsFor node plan v h
+pub keeps-book : (v : HostData) (book : sender.Book) (h : History) (contacts : List (Address × Contact)) → Keeps v h
     → sender.StandsFor book contacts → book.margin ≡ v.sender.margin → book.retry ≡ v.sender.retry
-    → StandsFor node plan (host_data v.node v.address v.next v.offered v.policy book) (record h { contacts = contacts })
-stands-book node plan v book h contacts s more margin retry = record {
-  node = s.node;
-  address = s.address;
-  next = s.next;
-  offered = s.offered;
-  margin = margin ∙ s.margin;
-  retry = retry ∙ s.retry;
-  policy = s.policy;
+    → Keeps (booked v.offered book v) (record h { contacts = contacts })
+keeps-book v book h contacts k more margin retry = record {
+  next = k.next;
+  offered = k.offered;
+  margin = margin ∙ k.margin;
+  retry = retry ∙ k.retry;
+  policy = k.policy;
   sender = more;
 }
 
-pub stands-prepared : (node : ℕ) (plan : HostPlan) (v : HostData) (book : sender.Book) (h : History) (now : ℕ) (dst : Address) (shape : Shape) (body : ℕ) → StandsFor node plan v h
+pub keeps-prepared : (v : HostData) (book : sender.Book) (h : History) (now : ℕ) (dst : Address) (shape : Shape) (body : ℕ) → Keeps v h
     → sender.StandsFor book (h.contacts ++ (dst, Prepared now shape (length_of shape body)) ∷ []) → book.margin ≡ v.sender.margin → book.retry ≡ v.sender.retry
-    → StandsFor node plan (host_data v.node v.address v.next ((v.offered + 1) % 2 ^ 48) v.policy book) (with_prepared now dst shape body h)
-stands-prepared node plan v book h now dst shape body s more margin retry = record {
-  node = s.node;
-  address = s.address;
-  next = s.next;
-  offered = ap (λ n. (n + 1) % 2 ^ 48) s.offered ∙ next-nonce plan.nonce h.prepared;
-  margin = margin ∙ s.margin;
-  retry = retry ∙ s.retry;
-  policy = s.policy;
+    → Keeps (booked ((v.offered + 1) % 2 ^ 48) book v) (with_prepared now dst shape body h)
+keeps-prepared v book h now dst shape body k more margin retry = record {
+  next = k.next;
+  offered = ap (λ n. (n + 1) % 2 ^ 48) k.offered ∙ next-nonce v.plan.nonce h.prepared;
+  margin = margin ∙ k.margin;
+  retry = retry ∙ k.retry;
+  policy = k.policy;
   sender = more;
 }
 
 pub has-prepared : (v : HostData) (book : sender.Book) (now : ℕ) (dst : Address) (shape : Shape) (body : ℕ) → (has : HasHistory v)
     → sender.StandsFor book (has.history.contacts ++ (dst, Prepared now shape (length_of shape body)) ∷ []) → IsShowableContact (Prepared now shape (length_of shape body))
-    → book.margin ≡ v.sender.margin → book.retry ≡ v.sender.retry
-    → HasHistory (host_data v.node v.address v.next ((v.offered + 1) % 2 ^ 48) v.policy book)
-has-prepared v book now dst shape body has more fits margin retry = record {
-  node = has.node;
-  plan = has.plan;
+    → book.margin ≡ v.sender.margin → book.retry ≡ v.sender.retry → book.last ≤ v.last
+    → HasHistory (booked ((v.offered + 1) % 2 ^ 48) book v)
+has-prepared v book now dst shape body has more fits margin retry past = record {
   history = with_prepared now dst shape body has.history;
   valid = has.valid;
-  stands = stands-prepared has.node has.plan v book has.history now dst shape body has.stands more margin retry;
-  carried = carried-push has.history.contacts dst (Prepared now shape (length_of shape body)) has.carried fits;
+  keeps = keeps-prepared v book has.history now dst shape body has.keeps more margin retry;
+  showable = showable-push has.history.contacts dst (Prepared now shape (length_of shape body)) has.showable fits;
+  past = past;
 }
 
-pub carried-granted : (h : List (Address × Contact)) (src : Address) (rights : Rights) (caps : List ℕ) (is_taken : Bool) → AreShowable h → AreRights rights → AreShowable (h ++ cond is_taken ((src, Taken rights caps) ∷ []) [])
-carried-granted h src rights caps true k fits = carried-push h src (Taken rights caps) k fits
-carried-granted h src rights caps false k fits = subst (λ (cs : List (Address × Contact)). AreShowable cs) (sym (append-nil h)) k
+pub showable-granted : (h : List (Address × Contact)) (src : Address) (rights : Rights) (caps : List ℕ) (is_taken : Bool) → AreShowable h → AreRights rights → AreShowable (h ++ cond is_taken ((src, Taken rights caps) ∷ []) [])
+showable-granted h src rights caps true k fits = showable-push h src (Taken rights caps) k fits
+showable-granted h src rights caps false k fits = subst (λ (cs : List (Address × Contact)). AreShowable cs) (sym (append-nil h)) k
 
 pub has-book : (v : HostData) (book : sender.Book) (more : List (Address × Contact)) → (has : HasHistory v)
     → sender.StandsFor book (has.history.contacts ++ more) → AreShowable (has.history.contacts ++ more) → book.margin ≡ v.sender.margin → book.retry ≡ v.sender.retry
-    → HasHistory (host_data v.node v.address v.next v.offered v.policy book)
-has-book v book more has stands carried margin retry = record {
-  node = has.node;
-  plan = has.plan;
+    → book.last ≡ v.sender.last → HasHistory (booked v.offered book v)
+has-book v book more has stands showable margin retry last = record {
   history = record has.history { contacts = has.history.contacts ++ more };
   valid = has.valid;
-  stands = stands-book has.node has.plan v book has.history (has.history.contacts ++ more) has.stands stands margin retry;
-  carried = carried;
+  keeps = keeps-book v book has.history (has.history.contacts ++ more) has.keeps stands margin retry;
+  showable = showable;
+  past = omega (arith, has.past, last);
 }

@@ -1,4 +1,7 @@
 pub mod History
 pub mod Sending
 pub mod Receiving
-pub mod Asked
+pub mod Calls
+pub mod Stands
+pub mod Sound
+pub mod Claims

@@ -1,5 +1,6 @@
 -- What a host makes of the packets that it receives.
-use Rattle.std.specs.Prelude.{ℕ, ◌==◌, Bool, true, false, ◌&&◌, if◌then◌else◌, List, [], ◌∷◌, ◌++◌, length, map, is_some, Option, Some, None}
+use Rattle.std.specs.Prelude.{ℕ, ◌==◌, Bool, true, false, ◌&&◌, if◌then◌else◌, List, [], ◌∷◌, ◌++◌, length, map}
+use Rattle.std.specs.Prelude.{is_some, Option, Some, None}
 use Rattle.tva_base.specs.declared.addresses.Address.{Address}
 use Rattle.tva_base.specs.declared.packet.Rights.{Rights}
 use Rattle.tva_base.specs.declared.plan.HostPlan.{HostPlan}
@@ -45,7 +46,8 @@ became_of contacts src (backs.Grant rights caps) = taken_or_ignored (awaits (of_
 abbrev pub met_by : List (Address × Contact) → Address → ReturnInfo → List (Address × Contact)
 met_by contacts src backs.Nothing = []
 met_by contacts src backs.Notice = (src, Notice) ∷ []
-met_by contacts src (backs.Grant rights caps) = if awaits (of_peer src contacts) then (src, Taken rights caps) ∷ [] else []
+met_by contacts src (backs.Grant rights caps) =
+    if awaits (of_peer src contacts) then (src, Taken rights caps) ∷ [] else []
 
 abbrev pub after_back : Address → ReturnInfo → History → History
 after_back src back h = record h { contacts = h.contacts ++ met_by h.contacts src back }
@@ -62,23 +64,25 @@ what_of carried.Nothing = what.Legacy
 what_of (carried.Shim shim) = if shim.demoted then what.Demoted else what_kind shim.kind
 what_of (carried.Malformed size) = what.Legacy
 
--- what a packet asks a grant with: the tags that are judged, and the pre-capabilities
-pub record Asking : Type 0 where
+-- a packet's claim on a grant: the tags that are judged, and the pre-capabilities
+pub record ClaimData : Type 0 where
   pub tags : List ℕ
   pub precaps : List ℕ
 
--- a request asks with its nonzero tags, and a renewal that passed all its routers with none
-abbrev pub asking_kind : Kind → Option Asking
-asking_kind (kinds.Request entries) = Some (record { tags = nonzero_tags entries; precaps = map (λ e. e.precap) entries })
-asking_kind (kinds.List shown) = None
-asking_kind (kinds.Nonce nonce) = None
-asking_kind (kinds.Renewal shown) = if shown.pointer == length shown.caps then Some (record { tags = []; precaps = shown.caps }) else None
+-- a request claims one with its nonzero tags, and a renewal that passed all its routers with none
+abbrev pub claim_of : Kind → Option ClaimData
+claim_of (kinds.Request entries) =
+    Some (record { tags = nonzero_tags entries; precaps = map (λ e. e.precap) entries })
+claim_of (kinds.List shown) = None
+claim_of (kinds.Nonce nonce) = None
+claim_of (kinds.Renewal shown) =
+    if shown.pointer == length shown.caps then Some (record { tags = []; precaps = shown.caps }) else None
 
--- a marked packet doesn't ask
-abbrev pub asking_in : Carried → Option Asking
-asking_in carried.Nothing = None
-asking_in (carried.Shim shim) = if shim.demoted then None else asking_kind shim.kind
-asking_in (carried.Malformed size) = None
+-- a marked packet claims nothing
+abbrev pub claim_in : Carried → Option ClaimData
+claim_in carried.Nothing = None
+claim_in (carried.Shim shim) = if shim.demoted then None else claim_of shim.kind
+claim_in (carried.Malformed size) = None
 
 -- the kind shows what was granted
 abbrev pub shows_grant : Kind → Bool
@@ -95,7 +99,8 @@ is_nothing (backs.Grant rights caps) = false
 -- a marked packet that shows a grant is answered with a notice, where it has no return info
 abbrev pub notice_for : Carried → Option ReturnInfo
 notice_for carried.Nothing = None
-notice_for (carried.Shim shim) = if shim.demoted && shows_grant shim.kind && is_nothing shim.back then Some backs.Notice else None
+notice_for (carried.Shim shim) =
+    if shim.demoted && shows_grant shim.kind && is_nothing shim.back then Some backs.Notice else None
 notice_for (carried.Malformed size) = None
 
 -- a grant has the capability of each pre-capability
@@ -103,24 +108,25 @@ abbrev pub granted : Option Rights → List ℕ → Option ReturnInfo
 granted None precaps = None
 granted (Some rights) precaps = Some (backs.Grant rights (map (λ p. capability_of p rights) precaps))
 
--- third, what the host answers: to what asks, by its policy
-abbrev pub answer_to : HostPlan → List Deed → Address → Carried → Option Asking → Option ReturnInfo
+-- third, what the host answers: to a claim, by its policy
+abbrev pub answer_to : HostPlan → List Deed → Address → Carried → Option ClaimData → Option ReturnInfo
 answer_to plan deeds src carries None = notice_for carries
-answer_to plan deeds src carries (Some ask) = granted (decision plan.policy deeds src ask.tags) ask.precaps
+answer_to plan deeds src carries (Some claim) = granted (decision plan.policy deeds src claim.tags) claim.precaps
 
-abbrev pub decided_on : HostPlan → List Deed → Address → Option Asking → List Deed
+abbrev pub decided_on : HostPlan → List Deed → Address → Option ClaimData → List Deed
 decided_on plan deeds src None = []
-decided_on plan deeds src (Some ask) = Decided src (is_some (decision plan.policy deeds src ask.tags)) ∷ []
+decided_on plan deeds src (Some claim) = Decided src (is_some (decision plan.policy deeds src claim.tags)) ∷ []
 
 abbrev pub after_answer : HostPlan → Address → Carried → History → History
-after_answer plan src carries h = record h { deeds = h.deeds ++ decided_on plan h.deeds src (asking_in carries) }
+after_answer plan src carries h = record h { deeds = h.deeds ++ decided_on plan h.deeds src (claim_in carries) }
 
 -- fourth, the reply that brings the answer to the source. It has no payload, and its body is the
 -- bytes of its return info
 abbrev pub reply_of : ℕ → HostPlan → History → ℕ → Address → Option ReturnInfo → Option Made
 reply_of node plan h now src None = None
 reply_of node plan h now src (Some back) =
-    Some (next_made node plan h src 0 (carried.Shim (shim_of (next_shape plan h now src (return_size back)) back)) (next_shape plan h now src (return_size back)))
+    Some (next_made node plan h src 0 (carried.Shim (shim_of (next_shape plan h now src (return_size back)) back))
+    (next_shape plan h now src (return_size back)))
 
 abbrev pub after_reply : HostPlan → ℕ → Address → Option ReturnInfo → History → History
 after_reply plan now src None h = h
@@ -139,15 +145,18 @@ abbrev pub received : ℕ → HostPlan → History → ℕ → Address → Carri
 received node plan h now src carries = record {
   what = what_of carries;
   back = became_of h.contacts src (back_in carries);
-  reply = reply_of node plan (before_reply plan src carries h) now src (answer_to plan h.deeds src carries (asking_in carries));
+  reply = reply_of node plan (before_reply plan src carries h) now src
+      (answer_to plan h.deeds src carries (claim_in carries));
 }
 
 -- the receipt of a packet, over what the host did and met
 unfoldable pub receipt_of : ℕ → HostPlan → History → ℕ → PacketData → Receipt
-receipt_of node plan h now p = if p.flow.dst.0 == plan.address.0 then received node plan h now p.flow.src p.carried else stray
+receipt_of node plan h now p =
+    if p.flow.dst.0 == plan.address.0 then received node plan h now p.flow.src p.carried else stray
 
 unfoldable pub after_receipt : HostPlan → History → ℕ → PacketData → History
 after_receipt plan h now p =
     if p.flow.dst.0 == plan.address.0
-    then after_reply plan now p.flow.src (answer_to plan h.deeds p.flow.src p.carried (asking_in p.carried)) (before_reply plan p.flow.src p.carried h)
+    then after_reply plan now p.flow.src (answer_to plan h.deeds p.flow.src p.carried (claim_in p.carried))
+    (before_reply plan p.flow.src p.carried h)
     else h

@@ -3,6 +3,7 @@ use Rattle.std.specs.Prelude.{ℕ, Bool, true, false, if◌then◌else◌, []}
 use Rattle.tva_base.specs.declared.addresses.Address.{Address}
 use Rattle.tva_base.specs.declared.packet.Flow.{Flow}
 use Rattle.tva_base.specs.declared.plan.HostPlan.{HostPlan}
+use Rattle.tva_base.specs.Ordinals.{ordinal_behind}
 use Rattle.tva_base.specs.declared.event.ShapeKind.{ShapeKind}
 use Rattle.tva_base.specs.declared.event.ShapeKind.TheVariants as kind_shown
 use Rattle.tva_shim.specs.declared.kinds.Shown.{Shown}
@@ -19,14 +20,9 @@ use Rattle.tva_sender.specs.declared.shape.Held.{Held}
 use Rattle.tva_sender.specs.declared.shape.Shape.{Shape}
 use Rattle.tva_sender.specs.declared.shape.Shape.TheVariants as shapes
 use Rattle.tva_sender.specs.Shapes.{shape_of}
-use Rattle.tva_sender.specs.Showable as sent
 use Rattle.tva_sender.specs.Book.{of_peer}
 use Rattle.tva_host.specs.declared.made.Made.{Made}
-use Rattle.tva_host.specs.History.{History, ordinal_behind, with_deed, with_packet, with_prepared, offered}
-
--- a shim can carry what the shape shows
-abbrev pub IsShowable : Shape → Type 0
-IsShowable shape = sent.IsShowable shape
+use Rattle.tva_host.specs.History.{History, with_deed, with_packet, with_prepared, offered}
 
 -- what is told of a shape
 abbrev pub kind_shown_of : Shape → ShapeKind
@@ -75,7 +71,8 @@ next_packet node h flow payload carries = record {
 
 -- the shape of the next packet for a peer, with a body of so many bytes
 abbrev pub next_shape : HostPlan → History → ℕ → Address → ℕ → Shape
-next_shape plan h now dst body = shape_of plan.margin plan.retry (of_peer dst h.contacts) now body (offered plan h)
+next_shape plan h now dst body =
+    shape_of plan.margin plan.retry (of_peer dst h.contacts) now body (offered plan h)
 
 -- the next packet of the host for a peer, in that shape
 abbrev pub next_made : ℕ → HostPlan → History → Address → ℕ → Carried → Shape → Made
@@ -91,7 +88,8 @@ with_made plan now dst body h = with_packet (with_prepared now dst (next_shape p
 -- the packet that a send row gives, over what the host did and met
 unfoldable pub intended : ℕ → HostPlan → History → ℕ → Address → ℕ → Made
 intended node plan h now dst payload =
-    next_made node plan h dst payload (carried_by (next_shape plan h now dst payload)) (next_shape plan h now dst payload)
+    next_made node plan h dst payload (carried_by (next_shape plan h now dst payload))
+    (next_shape plan h now dst payload)
 
 -- a send row is noted for the policy, and its packet is prepared and made
 unfoldable pub after_intending : HostPlan → History → ℕ → Address → ℕ → History

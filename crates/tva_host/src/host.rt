@@ -1,20 +1,22 @@
 // A host.
-ghost use Rattle.std.specs.Prelude.{◌≡◌, ◌≤◌, ◌+◌, min, ◌==◌, ℕ, IfOk, IfSome, OnErr};
-ghost use Rattle.tva_base.specs.declared.plan.HostPlan.{HostPlan};
+ghost use Rattle.std.specs.Prelude.{◌≡◌, ◌≤◌, ◌+◌, min, ◌==◌, ℕ, List, [], ◌∷◌, ◌++◌, IfOk, IfSome, OnErr};
 ghost use Rattle.tva_base.specs.Plan.{IsHostPlan};
 ghost use Rattle.tva_shim.specs.Shims.{IsReturn};
 ghost use Rattle.tva_shim.specs.Packets.{IsCarried};
 ghost use Rattle.tva_policy.specs.Grants.{Sent};
-ghost use Rattle.tva_host.specs.History.{History, beginning, with_deed, with_packet, with_prepared, StandsFor, with_room};
-ghost use Rattle.tva_host.specs.Sending.{IsShowable, next_packet, next_shape, intended, after_intending};
-ghost use Rattle.tva_host.specs.Receiving.{back_in, taken_or_ignored, became_of, after_back, asking_in, answer_to, after_answer, reply_of, after_reply, receipt_of, after_receipt};
+ghost use Rattle.tva_sender.specs.Showable.{IsShowable};
+ghost use Rattle.tva_host.specs.History.{History, with_deed, with_packet, with_prepared};
+ghost use Rattle.tva_host.specs.Sending.{next_packet, next_shape, intended};
+ghost use Rattle.tva_host.specs.Receiving.{back_in, taken_or_ignored, became_of, after_back, claim_in, answer_to, after_answer, reply_of, after_reply, receipt_of};
+ghost use Rattle.tva_host.specs.Calls.{Call, Intended, Injected, Received, history_of};
+ghost use Rattle.tva_host.specs.Stands.{Keeps, StandsFor, with_room, at_time};
 
 use crate::made::{Made, Receipt};
 use crate::packets::{carried_by, kind_shown_of, shim_of};
-use crate::received::{asking_in, granted, notice_for, return_size, stray, what_of};
+use crate::received::{claim_in, granted, notice_for, return_size, stray, what_of};
 use std::alloc::{AllocError, Global};
 use std::marker::Model;
-use tva_base::{Address, BackKind, Flow, HostPlan, PacketId, Time};
+use tva_base::{Address, BackKind, Flow, HostPlan, Listed, Name, PacketId, PolicyPlan, Time};
 use tva_policy::Policy;
 use tva_sender::{Sender, Shape};
 use tva_shim::{Carried, Packet, ReturnInfo};
@@ -25,41 +27,46 @@ mod tests;
 /// How many nonces there are: they have 48 bits.
 const NONCES: u64 = 1 << 48;
 
-/// What a host keeps: its node's number and address, the ordinal of its next packet, the nonce that
-/// it offers next, its policy, and its sender. Contracts speak of all that it did and met, for which
+/// What a host keeps: its node's number and its plan, the ordinal of its next packet, the nonce that it
+/// offers next, its last time, its policy, and its sender. Contracts speak of all calls on it, for which
 /// these stand.
 #[derive(Drop)]
 pub struct Host {
     node: u16,
-    address: Address,
+    plan: HostPlan,
     next: u64,
     offered: u64,
+    last: Time,
     policy: Policy,
     sender: Sender,
 }
 
 impl Model for Host {
-    ghost use Rattle.tva_host.specs.History.{HostData, host_data, HasHistory};
+    ghost use Rattle.tva_host.specs.Stands.{HostData, host_data};
+    ghost use Rattle.tva_host.specs.Sound.{HasHistory};
 
     ghost Value = { HostData };
 
-    ghost view = { λ h. host_data h.node h.address h.next h.offered h.policy h.sender };
+    ghost view = { λ h. host_data h.node h.plan h.next h.offered h.last.0 h.policy h.sender };
 
-    ghost invariant = { λ h. HasHistory (host_data h.node h.address h.next h.offered h.policy h.sender) };
+    ghost invariant = { λ h. HasHistory (host_data h.node h.plan h.next h.offered h.last.0 h.policy h.sender) };
 }
 
 impl Host {
-    /// The host of that node by its plan, which did nothing yet. The error is want of memory.
+    /// The host of that node by its plan, without calls. The error is want of memory.
     pub fn build(alloc: Global, node: u16, plan: &HostPlan) -> Result<Host, AllocError>
         requires { IsHostPlan plan.now }
-        ensures stands { IfOk result (λ host. StandsFor node plan.now host beginning) }
-        ensures last { IfOk result (λ host. host.sender.last ≡ 0) }
+        ensures node { IfOk result (λ host. host.node ≡ node) }
+        ensures plan { IfOk result (λ host. host.plan ≡ plan.now) }
+        ensures last { IfOk result (λ host. host.last ≡ 0) }
+        ensures stands { IfOk result (λ host. StandsFor host []) }
     {
         Ok(Host {
             node,
-            address: plan.address,
+            plan: copied(alloc, plan)?,
             next: 1,
             offered: plan.nonce,
+            last: Time(0),
             policy: Policy::build(alloc, &plan.policy)?,
             sender: Sender::build(alloc, plan.margin, plan.retry),
         })
@@ -70,18 +77,13 @@ impl Host {
     pub fn inject(&mut self, flow: Flow, payload: u16, carried: Carried) -> Packet
         requires payload { payload ≤ 1600 }
         requires carried { IsCarried carried }
-        ensures packet { (node : ℕ) (plan : HostPlan) (h : History) → StandsFor node plan self.old h
-            → result ≡ next_packet node h flow payload carried }
-        ensures stands { (node : ℕ) (plan : HostPlan) (h : History) → StandsFor node plan self.old h
-            → StandsFor node plan self.new (with_packet h) }
+        ensures packet { (calls : List Call) → StandsFor self.old calls
+            → result ≡ next_packet self.old.node (history_of self.old.plan calls) flow payload carried }
+        ensures stands { (calls : List Call) → StandsFor self.old calls
+            → StandsFor self.new (calls ++ Injected flow payload carried ∷ []) }
         ensures after { self.new ≡ record self.old { next = min (self.old.next + 1) 18446744073709551615 } }
     {
-        let id = PacketId {
-            node: self.node,
-            ordinal: self.next,
-        };
-        self.next = self.next.saturating_add(1);
-        Packet::new(id, flow, 0, payload, carried)
+        self.number(flow, payload, carried)
     }
 
     /// The packet of a send row to a destination, with that payload in bytes, and its shape. The
@@ -94,22 +96,23 @@ impl Host {
         dst: Address,
         payload: u16,
     ) -> Result<Made, AllocError>
-        requires time { self.old.sender.last ≤ now.0 }
+        requires time { self.old.last ≤ now.0 }
         requires payload { payload ≤ 1600 }
-        ensures made { (node : ℕ) (plan : HostPlan) (h : History) → StandsFor node plan self.old h
-            → IfOk result (λ made. made ≡ intended node plan h now.0 dst payload) }
-        ensures stands { (node : ℕ) (plan : HostPlan) (h : History) → StandsFor node plan self.old h
-            → IfOk result (λ made. StandsFor node plan self.new (after_intending plan h now.0 dst payload)) }
-        ensures last { IfOk result (λ made. self.new.sender.last ≡ now.0) }
-        ensures refused { OnErr result ((node : ℕ) (plan : HostPlan) (h : History) → StandsFor node plan self.old h
-            → StandsFor node plan self.new h) }
-        ensures err { OnErr result (self.new ≡ with_room self.new.sender self.old) }
+        ensures made { (calls : List Call) → StandsFor self.old calls
+            → IfOk result (λ made. made ≡ intended self.old.node self.old.plan (history_of self.old.plan calls) now.0 dst payload) }
+        ensures stands { (calls : List Call) → StandsFor self.old calls
+            → IfOk result (λ made. StandsFor self.new (calls ++ Intended now.0 dst payload ∷ [])) }
+        ensures same { (self.new.node ≡ self.old.node) × (self.new.plan ≡ self.old.plan) }
+        ensures last { self.new.last ≡ now.0 }
+        ensures refused { OnErr result ((calls : List Call) → StandsFor self.old calls → StandsFor self.new calls) }
+        ensures err { OnErr result (self.new ≡ with_room self.new.sender (at_time now.0 self.old)) }
     {
+        self.last = now;
         self.note(alloc, dst)?;
         let shape = self.prepare(now, dst, u32::from(payload));
         let kind = kind_shown_of(&shape);
         let flow = self.flow_to(dst);
-        let packet = self.inject(flow, payload, carried_by(shape));
+        let packet = self.number(flow, payload, carried_by(shape));
         Ok(Made {
             packet,
             shape: kind,
@@ -127,16 +130,17 @@ impl Host {
         now: Time,
         packet: Packet,
     ) -> Result<Receipt, AllocError>
-        requires time { self.old.sender.last ≤ now.0 }
-        ensures receipt { (node : ℕ) (plan : HostPlan) (h : History) → StandsFor node plan self.old h
-            → IfOk result (λ receipt. receipt ≡ receipt_of node plan h now.0 packet) }
-        ensures stands { (node : ℕ) (plan : HostPlan) (h : History) → StandsFor node plan self.old h
-            → IfOk result (λ receipt. StandsFor node plan self.new (after_receipt plan h now.0 packet)) }
-        ensures last { self.new.sender.last ≤ now.0 }
-        ensures refused { OnErr result ((node : ℕ) (plan : HostPlan) (h : History) → StandsFor node plan self.old h
-            → StandsFor node plan self.new h) }
-        ensures err { OnErr result (self.new ≡ with_room self.new.sender self.old) }
+        requires time { self.old.last ≤ now.0 }
+        ensures receipt { (calls : List Call) → StandsFor self.old calls
+            → IfOk result (λ receipt. receipt ≡ receipt_of self.old.node self.old.plan (history_of self.old.plan calls) now.0 packet) }
+        ensures stands { (calls : List Call) → StandsFor self.old calls
+            → IfOk result (λ receipt. StandsFor self.new (calls ++ Received now.0 packet ∷ [])) }
+        ensures same { (self.new.node ≡ self.old.node) × (self.new.plan ≡ self.old.plan) }
+        ensures last { self.new.last ≡ now.0 }
+        ensures refused { OnErr result ((calls : List Call) → StandsFor self.old calls → StandsFor self.new calls) }
+        ensures err { OnErr result (self.new ≡ with_room self.new.sender (at_time now.0 self.old)) }
     {
+        self.last = now;
         if !self.is_for(packet.flow.dst) {
             return Ok(stray());
         }
@@ -152,14 +156,30 @@ impl Host {
         })
     }
 
+    // The next packet of the host.
+    fn number(&mut self, flow: Flow, payload: u16, carried: Carried) -> Packet
+        requires payload { payload ≤ 1600 }
+        requires carried { IsCarried carried }
+        ensures packet { (h : History) → Keeps self.old h
+            → result ≡ next_packet self.old.node h flow payload carried }
+        ensures keeps { (h : History) → Keeps self.old h → Keeps self.new (with_packet h) }
+        ensures rest { self.new ≡ record self.old { next = min (self.old.next + 1) 18446744073709551615 } }
+    {
+        let id = PacketId {
+            node: self.node,
+            ordinal: self.next,
+        };
+        self.next = self.next.saturating_add(1);
+        Packet::new(id, flow, 0, payload, carried)
+    }
+
     // Notes a send row, when there is room for its peer.
     fn note(&mut self, alloc: Global, dst: Address) -> Result<(), AllocError>
-        ensures stands { (node : ℕ) (plan : HostPlan) (h : History) → StandsFor node plan self.old h
-            → IfOk result (λ done. StandsFor node plan self.new (with_deed (Sent dst) h)) }
+        ensures keeps { (h : History) → Keeps self.old h
+            → IfOk result (λ done. Keeps self.new (with_deed (Sent dst) h)) }
         ensures room { IfOk result (λ done. 1 ≤ self.new.sender.spare) }
-        ensures same { (self.new.next ≡ self.old.next) × (self.new.sender.last ≡ self.old.sender.last) }
-        ensures refused { OnErr result ((node : ℕ) (plan : HostPlan) (h : History) → StandsFor node plan self.old h
-            → StandsFor node plan self.new h) }
+        ensures rest { self.new ≡ record (with_room self.new.sender self.old) { policy = self.new.policy } }
+        ensures refused { OnErr result ((h : History) → Keeps self.old h → Keeps self.new h) }
         ensures err { OnErr result (self.new ≡ with_room self.new.sender self.old) }
     {
         self.make_room()?;
@@ -168,8 +188,7 @@ impl Host {
 
     // Makes room for a peer that isn't known yet.
     fn make_room(&mut self) -> Result<(), AllocError>
-        ensures stands { (node : ℕ) (plan : HostPlan) (h : History) → StandsFor node plan self.old h
-            → StandsFor node plan self.new h }
+        ensures keeps { (h : History) → Keeps self.old h → Keeps self.new h }
         ensures room { IfOk result (λ done. 1 ≤ self.new.sender.spare) }
         ensures rest { self.new ≡ with_room self.new.sender self.old }
     {
@@ -177,69 +196,64 @@ impl Host {
     }
 
     fn is_for(&self, dst: Address) -> bool
-        ensures { result ≡ (dst.0 == self.now.address.0) }
+        ensures { result ≡ (dst.0 == self.now.plan.address.0) }
     {
-        dst == self.address
+        dst == self.plan.address
     }
 
     fn flow_to(&self, dst: Address) -> Flow
-        ensures { result ≡ record { src = self.now.address; dst = dst } }
+        ensures { result ≡ record { src = self.now.plan.address; dst = dst } }
     {
         Flow {
-            src: self.address,
+            src: self.plan.address,
             dst,
         }
     }
 
-    // Prepares a packet for a peer with a body of so many bytes.
+    // Prepares a packet for a peer with a body of so many bytes, at the last time.
     fn prepare(&mut self, now: Time, dst: Address, body: u32) -> Shape
-        requires time { self.old.sender.last ≤ now.0 }
+        requires time { self.old.last ≡ now.0 }
         requires room { 1 ≤ self.old.sender.spare }
         requires body { body ≤ 1800 }
-        ensures shape { (node : ℕ) (plan : HostPlan) (h : History) → StandsFor node plan self.old h
-            → result ≡ next_shape plan h now.0 dst body }
-        ensures stands { (node : ℕ) (plan : HostPlan) (h : History) → StandsFor node plan self.old h
-            → StandsFor node plan self.new (with_prepared now.0 dst result body h) }
+        ensures shape { (h : History) → Keeps self.old h → result ≡ next_shape self.old.plan h now.0 dst body }
+        ensures keeps { (h : History) → Keeps self.old h → Keeps self.new (with_prepared now.0 dst result body h) }
         ensures showable { IsShowable result }
-        ensures same { self.new.next ≡ self.old.next }
-        ensures last { self.new.sender.last ≡ now.0 }
+        ensures rest { self.new ≡ record self.old { offered = self.new.offered; sender = self.new.sender } }
     {
         let offered = self.offered;
         self.offered = (offered + 1) % NONCES;
         self.sender.prepare(now, dst, body, offered)
     }
 
-    // What the host answers to what a packet carries. The policy decides where it asks.
+    // What the host answers to what a packet carries. The policy decides on a claim.
     fn answer(
         &mut self,
         alloc: Global,
         src: Address,
         carried: &Carried,
     ) -> Result<Option<ReturnInfo>, AllocError>
-        ensures answer { (node : ℕ) (plan : HostPlan) (h : History) → StandsFor node plan self.old h
-            → IfOk result (λ answer. answer ≡ answer_to plan h.deeds src carried.now (asking_in carried.now)) }
-        ensures stands { (node : ℕ) (plan : HostPlan) (h : History) → StandsFor node plan self.old h
-            → IfOk result (λ answer. StandsFor node plan self.new (after_answer plan src carried.now h)) }
+        ensures answer { (h : History) → Keeps self.old h
+            → IfOk result (λ answer. answer ≡ answer_to self.old.plan h.deeds src carried.now (claim_in carried.now)) }
+        ensures keeps { (h : History) → Keeps self.old h
+            → IfOk result (λ answer. Keeps self.new (after_answer self.old.plan src carried.now h)) }
         ensures fits { IfOk result (λ answer. IfSome answer IsReturn) }
         ensures rest { self.new ≡ record self.old { policy = self.new.policy } }
         ensures err { OnErr result (self.new ≡ self.old) }
     {
-        let Some(ask) = asking_in(carried) else {
+        let Some(claim) = claim_in(carried) else {
             return Ok(notice_for(carried));
         };
-        let rights = self.policy.decide(alloc, src, ask.tags.as_slice())?;
-        Ok(granted(rights, &ask.precaps))
+        let rights = self.policy.decide(alloc, src, claim.tags.as_slice())?;
+        Ok(granted(rights, &claim.precaps))
     }
 
     // Takes the return info of what a packet carries.
     fn take_back(&mut self, src: Address, carried: &Carried) -> BackKind
-        ensures became { (node : ℕ) (plan : HostPlan) (h : History) → StandsFor node plan self.old h
+        ensures became { (h : History) → Keeps self.old h
             → result ≡ became_of h.contacts src (back_in carried.now) }
-        ensures stands { (node : ℕ) (plan : HostPlan) (h : History) → StandsFor node plan self.old h
-            → StandsFor node plan self.new (after_back src (back_in carried.now) h) }
-        ensures same { self.new.next ≡ self.old.next }
+        ensures keeps { (h : History) → Keeps self.old h → Keeps self.new (after_back src (back_in carried.now) h) }
+        ensures rest { self.new ≡ record self.old { sender = self.new.sender } }
         ensures room { self.new.sender.spare ≡ self.old.sender.spare }
-        ensures last { self.new.sender.last ≡ self.old.sender.last }
     {
         match carried {
             Carried::Nothing | Carried::Malformed(_) => BackKind::Nothing,
@@ -250,13 +264,10 @@ impl Host {
     // Hands return info of a source to the sender.
     fn hear(&mut self, src: Address, back: &ReturnInfo) -> BackKind
         requires { IsReturn back.now }
-        ensures became { (node : ℕ) (plan : HostPlan) (h : History) → StandsFor node plan self.old h
-            → result ≡ became_of h.contacts src back.now }
-        ensures stands { (node : ℕ) (plan : HostPlan) (h : History) → StandsFor node plan self.old h
-            → StandsFor node plan self.new (after_back src back.now h) }
-        ensures same { self.new.next ≡ self.old.next }
+        ensures became { (h : History) → Keeps self.old h → result ≡ became_of h.contacts src back.now }
+        ensures keeps { (h : History) → Keeps self.old h → Keeps self.new (after_back src back.now h) }
+        ensures rest { self.new ≡ record self.old { sender = self.new.sender } }
         ensures room { self.new.sender.spare ≡ self.old.sender.spare }
-        ensures last { self.new.sender.last ≡ self.old.sender.last }
     {
         match back {
             ReturnInfo::Nothing => BackKind::Nothing,
@@ -271,27 +282,48 @@ impl Host {
         }
     }
 
-    // The reply that brings an answer to the source.
+    // The reply that brings an answer to the source, at the last time.
     fn reply(&mut self, now: Time, src: Address, answer: Option<ReturnInfo>) -> Option<Made>
-        requires time { self.old.sender.last ≤ now.0 }
+        requires time { self.old.last ≡ now.0 }
         requires room { 1 ≤ self.old.sender.spare }
         requires fits { IfSome answer IsReturn }
-        ensures reply { (node : ℕ) (plan : HostPlan) (h : History) → StandsFor node plan self.old h
-            → result ≡ reply_of node plan h now.0 src answer }
-        ensures stands { (node : ℕ) (plan : HostPlan) (h : History) → StandsFor node plan self.old h
-            → StandsFor node plan self.new (after_reply plan now.0 src answer h) }
-        ensures last { self.new.sender.last ≤ now.0 }
+        ensures reply { (h : History) → Keeps self.old h
+            → result ≡ reply_of self.old.node self.old.plan h now.0 src answer }
+        ensures keeps { (h : History) → Keeps self.old h
+            → Keeps self.new (after_reply self.old.plan now.0 src answer h) }
+        ensures rest { (self.new.node ≡ self.old.node) × (self.new.plan ≡ self.old.plan) × (self.new.last ≡ self.old.last) }
     {
         let back = answer?;
         let shape = self.prepare(now, src, return_size(&back));
         let kind = kind_shown_of(&shape);
         let flow = self.flow_to(src);
-        let packet = self.inject(flow, 0, Carried::Shim(shim_of(shape, back)));
+        let packet = self.number(flow, 0, Carried::Shim(shim_of(shape, back)));
         Some(Made {
             packet,
             shape: kind,
         })
     }
+}
+
+// The same plan once more.
+fn copied(alloc: Global, plan: &HostPlan) -> Result<HostPlan, AllocError>
+    ensures { IfOk result (λ copy. copy ≡ plan.now) }
+{
+    Ok(HostPlan {
+        name: Name::new(plan.name.as_str()),
+        address: plan.address,
+        nonce: plan.nonce,
+        margin: plan.margin,
+        retry: plan.retry,
+        policy: PolicyPlan {
+            kind: plan.policy.kind,
+            rights: plan.policy.rights,
+            grants: plan.policy.grants,
+            deny: Listed::new(plan.policy.deny.as_slice().to_vec(alloc)?),
+            deny_tags: Listed::new(plan.policy.deny_tags.as_slice().to_vec(alloc)?),
+        },
+        uplink: plan.uplink,
+    })
 }
 
 fn taken_or_ignored(is_taken: bool) -> BackKind

@@ -7,9 +7,11 @@
 #[cfg(test)]
 mod cases;
 mod host;
+mod laws;
 mod made;
 mod packets;
 mod received;
 
 pub use host::Host;
+pub use laws::{lengths_are_counted, peers_are_played};
 pub use made::{Made, Receipt};

@@ -2,8 +2,8 @@
 ghost use Rattle.std.specs.Prelude.{◌≡◌};
 ghost use Rattle.tva_shim.specs.Shims.{IsKind, IsShown, IsReturn};
 ghost use Rattle.tva_shim.specs.Packets.{IsCarried};
-ghost use Rattle.tva_sender.specs.Showable.{IsShowableHeld};
-ghost use Rattle.tva_host.specs.Sending.{IsShowable, kind_shown_of, is_legacy, shown_of, kind_of, shim_of, carried_by};
+ghost use Rattle.tva_sender.specs.Showable.{IsShowable, IsShowableHeld};
+ghost use Rattle.tva_host.specs.Sending.{kind_shown_of, is_legacy, shown_of, kind_of, shim_of, carried_by};
 
 use tva_base::ShapeKind;
 use tva_sender::{Held, Shape};

@@ -1,4 +1,4 @@
-// What a received packet is, what it asks with, and what is answered.
+// What a received packet is, what it claims, and what is answered.
 ghost use Rattle.std.specs.Prelude.{◌≡◌, ◌<◌, ◌≤◌, ◌+◌, ◌∷◌, [], ◌++◌, ◌==◌, length, map, filter, nat_lt, if◌then◌else◌, IfSome};
 ghost use Rattle.arrayvec.specs.ArrayVec.{array_vec_len};
 ghost use Rattle.tva_base.specs.Plan.{AreRights};
@@ -6,8 +6,8 @@ ghost use Rattle.tva_shim.specs.Shims.{IsReturn};
 ghost use Rattle.tva_shim.specs.Changes.{nonzero_tags};
 ghost use Rattle.tva_shim.specs.Layout.{return_size};
 ghost use Rattle.tva_caps.specs.Formula.{capability_of};
-ghost use Rattle.tva_host.specs.Receiving.{what_kind, what_of, asking_kind, asking_in, shows_grant, is_nothing, notice_for, granted, stray};
-ghost use Rattle.tva_host.specs.Asked.{ask_view};
+ghost use Rattle.tva_host.specs.Receiving.{what_kind, what_of, claim_of, claim_in, shows_grant, is_nothing, notice_for, granted, stray};
+ghost use Rattle.tva_host.specs.Claims.{claim_view};
 
 use crate::made::Receipt;
 use arrayvec::ArrayVec;
@@ -15,10 +15,10 @@ use tva_base::{BackKind, Caps, Rights, WhatKind};
 use tva_caps::capability;
 use tva_shim::{Carried, Entries, Kind, ReturnInfo, Shown};
 
-/// What a packet asks a grant with: the tags that are judged, and the pre-capabilities of the
-/// routers that it passed.
+/// A packet's claim on a grant: the tags that are judged, and the pre-capabilities of the routers
+/// that it passed.
 #[derive(Debug, Drop)]
-pub struct Ask {
+pub struct Claim {
     pub tags: ArrayVec<u16, 16>,
     pub precaps: Caps,
 }
@@ -59,9 +59,9 @@ fn what_kind(kind: &Kind) -> WhatKind
     }
 }
 
-/// What a packet asks with, if it asks. A marked one doesn't.
-pub fn asking_in(carried: &Carried) -> Option<Ask>
-    ensures { ask_view result ≡ asking_in carried.now }
+/// The claim of a packet on a grant, if it has one. A marked one hasn't.
+pub fn claim_in(carried: &Carried) -> Option<Claim>
+    ensures { claim_view result ≡ claim_in carried.now }
 {
     match carried {
         Carried::Nothing | Carried::Malformed(_) => None,
@@ -69,32 +69,32 @@ pub fn asking_in(carried: &Carried) -> Option<Ask>
             if shim.demoted {
                 return None;
             }
-            asking_kind(&shim.kind)
+            claim_of(&shim.kind)
         }
     }
 }
 
-fn asking_kind(kind: &Kind) -> Option<Ask>
-    ensures { ask_view result ≡ asking_kind kind.now }
+fn claim_of(kind: &Kind) -> Option<Claim>
+    ensures { claim_view result ≡ claim_of kind.now }
 {
     match kind {
-        Kind::Request(entries) => Some(Ask {
+        Kind::Request(entries) => Some(Claim {
             tags: nonzero_tags(entries),
             precaps: precaps_of(entries),
         }),
         Kind::List(_) | Kind::Nonce(_) => None,
-        Kind::Renewal(shown) => asking_renewal(shown),
+        Kind::Renewal(shown) => claim_of_renewal(shown),
     }
 }
 
-// A renewal asks that passed all its routers.
-fn asking_renewal(shown: &Shown) -> Option<Ask>
-    ensures { ask_view result ≡ asking_kind (Kind.Renewal shown.now) }
+// A renewal claims a grant that passed all its routers.
+fn claim_of_renewal(shown: &Shown) -> Option<Claim>
+    ensures { claim_view result ≡ claim_of (Kind.Renewal shown.now) }
 {
     if usize::from(shown.pointer) != shown.caps.as_slice().len() {
         return None;
     }
-    Some(Ask {
+    Some(Claim {
         tags: ArrayVec::new(),
         precaps: shown.caps.copied(),
     })
@@ -130,7 +130,7 @@ fn precaps_of(entries: &Entries) -> Caps
     precaps
 }
 
-/// The answer to a packet that doesn't ask: a notice for a marked one that shows a grant and has no
+/// The answer to a packet without a claim: a notice for a marked one that shows a grant and has no
 /// return info.
 pub fn notice_for(carried: &Carried) -> Option<ReturnInfo>
     ensures answer { result ≡ notice_for carried.now }

@@ -36,7 +36,7 @@ abbrev pub same_rules : (v w : Book) → w.margin ≡ v.margin → w.retry ≡ v
 same_rules v w margin retry last = record { margin = margin; retry = retry; last = last }
 
 -- a fact on each peer's contacts, after one more contact with one peer
-each-more : (P : List Contact → Type 0) (h : List (Address × Contact)) (a : Address) (c : Contact) → ((b : Address) → P (of_peer b h)) → P (of_peer a h ++ c ∷ [])
+pub each-more : (P : List Contact → Type 0) (h : List (Address × Contact)) (a : Address) (c : Contact) → ((b : Address) → P (of_peer b h)) → P (of_peer a h ++ c ∷ [])
     → (b : Address) → P (of_peer b (h ++ (a, c) ∷ []))
 each-more P h a c each more b = rw (of_peer-push b h (a, c)) (⊎_elim
     (λ (e : b.0 ≡ a.0). let here : eqb a.0 a.0 ≡ true = eq-eqb a.0 a.0 refl in

@@ -190,7 +190,10 @@ fn made_words(
 ) -> Result<String, Fail> {
     let packet = &made.packet;
     assert_eq!(rt; (packet.hops, packet.id.node), (0, host.node));
-    assert_eq!(rt; (packet.flow.src, packet.flow.dst), (host.address, dst));
+    assert_eq!(rt;
+        (packet.flow.src, packet.flow.dst),
+        (host.plan.address, dst)
+    );
     let ordinal = packet.id.ordinal;
     let bytes = length(packet);
     let shape = shape_word(made.shape);
@@ -206,8 +209,8 @@ fn send(
     now: u64,
     call: &str,
 ) -> Result<String, Fail>
-    requires { host.old.sender.last ≤ now }
-    ensures { IfOk result (λ told. host.new.sender.last ≤ now) }
+    requires { host.old.last ≤ now }
+    ensures { IfOk result (λ told. host.new.last ≤ now) }
 {
     let mut words = call.split(' ').skip(2);
     let dst = address_of(rt, words.next());
@@ -220,7 +223,7 @@ fn send(
 
 /// The packet of a row that injects it, in words.
 fn inject(rt: &impl Abort, alloc: Global, host: &mut Host, call: &str) -> Result<String, Fail>
-    ensures { IfOk result (λ told. host.new.sender.last ≡ host.old.sender.last) }
+    ensures { IfOk result (λ told. host.new.last ≡ host.old.last) }
 {
     let (flow, payload, carried) = parts_of(rt, alloc, call, 1)?;
     assert!(rt; host.next <= 1 << 63);
@@ -241,8 +244,8 @@ fn receive(
     now: u64,
     call: &str,
 ) -> Result<String, Fail>
-    requires { host.old.sender.last ≤ now }
-    ensures { IfOk result (λ told. host.new.sender.last ≤ now) }
+    requires { host.old.last ≤ now }
+    ensures { IfOk result (λ told. host.new.last ≤ now) }
 {
     let (flow, payload, carried) = parts_of(rt, alloc, call, 2)?;
     let id = PacketId {
@@ -269,8 +272,8 @@ fn answer(
     last: &mut u64,
     call: &str,
 ) -> Result<String, Fail>
-    requires { host.old.sender.last ≤ last.old }
-    ensures { IfOk result (λ told. host.new.sender.last ≤ last.new) }
+    requires { host.old.last ≤ last.old }
+    ensures { IfOk result (λ told. host.new.last ≤ last.new) }
 {
     if call.starts_with("inject") {
         return inject(rt, alloc, host, call);

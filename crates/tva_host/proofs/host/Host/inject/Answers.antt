@@ -1,5 +1,14 @@
-use Rattle.tva_host.proofs.Standing.{has-packet}
+use Rattle.std.proofs.Common.{◌≤◌, ap, sym, subst}
+use Rattle.tva_host.specs.Calls.{Injected, history_of, last_time}
+use Rattle.tva_host.specs.Stands.{HostData}
+use Rattle.tva_host.proofs.Calls.{stands-push}
 use Rattle.tva_host.proofs.host.Host.inject.Goals as goal
 
-pub invariant_of-self : goal.invariant_of-self
-invariant_of-self c = rw c.saturating_add-self-inside.ensures (has-packet _ c.self.invariant)
+pub returns-clause-packet : goal.returns-clause-packet
+returns-clause-packet c calls s = c.number.ensures.packet (history_of c.args.self.now.plan calls) s.keeps
+
+pub returns-clause-stands : goal.returns-clause-stands
+returns-clause-stands c calls s =
+    let same = c.number.ensures.rest in
+    stands-push c.args.self.now c.number.new.self calls (Injected c.args.flow c.args.payload c.args.carried) s (ap (λ (v : HostData). v.plan) same) tt
+    (subst (λ (v : HostData). last_time 0 calls ≤ v.last) (sym same) s.past) (c.number.ensures.keeps (history_of c.args.self.now.plan calls) s.keeps)

@@ -1,23 +1,46 @@
+use Rattle.std.proofs.Common.{◌≡◌, ap, sym, subst, ◌∙◌, arith}
 use Rattle.tva_policy.specs.Grants.{Sent}
 use Rattle.tva_host.specs.History.{with_deed, with_prepared}
-use Rattle.tva_host.proofs.Making.{made-next, made-intended, stands-intended}
+use Rattle.tva_host.specs.Calls.{Intended, history_of}
+use Rattle.tva_host.specs.Stands.{HostData, host_data, Keeps}
+use Rattle.tva_host.proofs.Standing.{keeps-timed}
+use Rattle.tva_host.proofs.Making.{made-next, made-intended, keeps-intended}
+use Rattle.tva_host.proofs.Calls.{stands-push}
 use Rattle.tva_host.proofs.host.Host.intend.Goals as goal
 
 pub returns-clause-made : goal.returns-clause-made
-returns-clause-made c node plan h s =
-    let noted = c.in_ok-note.ensures.stands node plan h s in
-    let prepared = c.prepare-shape.ensures.stands node plan (with_deed (Sent c.args.dst) h) noted in
-    made-intended node plan h c.args.now.0 c.args.dst c.args.payload c.from.result c.prepare-shape.result c.carried_by.result _ c.from.ensures
-    (c.prepare-shape.ensures.shape node plan (with_deed (Sent c.args.dst) h) noted) c.carried_by.ensures.carried
-    (made-next node plan h c.args.dst c.args.payload c.prepare-shape.result _ c.flow_to-flow.result c.carried_by.result c.inject-packet.result c.kind_shown_of-kind.result
-    prepared.address c.flow_to-flow.ensures
-    (c.inject-packet.ensures.packet node plan (with_prepared c.args.now.0 c.args.dst c.prepare-shape.result c.from.result (with_deed (Sent c.args.dst) h)) prepared)
+returns-clause-made c calls s =
+    let inside = c.self.inside in
+    let v : HostData = host_data inside.node inside.plan inside.next inside.offered inside.last.0 inside.policy inside.sender in
+    let told = c.args.self.now in
+    let h = history_of told.plan calls in
+    let start = keeps-timed v c.args.now.0 h (subst (λ (w : HostData). Keeps w h) (sym c.self.view_is) s.keeps) in
+    let noted = c.in_ok-note.ensures.keeps h start in
+    let prepared = c.prepare-shape.ensures.keeps (with_deed (Sent c.args.dst) h) noted in
+    let plan : c.note.new.self.plan ≡ told.plan = ap (λ (w : HostData). w.plan) c.in_ok-note.ensures.rest ∙ ap (λ (w : HostData). w.plan) c.self.view_is in
+    let node : c.note.new.self.node ≡ told.node = ap (λ (w : HostData). w.node) c.in_ok-note.ensures.rest ∙ ap (λ (w : HostData). w.node) c.self.view_is in
+    made-intended told.node told.plan c.note.new.self.plan h c.args.now.0 c.args.dst c.args.payload c.from.result c.prepare-shape.result c.carried_by.result _
+    plan c.from.ensures (c.prepare-shape.ensures.shape (with_deed (Sent c.args.dst) h) noted) c.carried_by.ensures.carried
+    (made-next told.node told.plan h c.args.dst c.args.payload c.prepare-shape.result c.prepare-shape.new.self.node c.prepare-shape.new.self.plan c.flow_to-flow.result c.carried_by.result c.number-packet.result c.kind_shown_of-kind.result
+    (ap (λ (w : HostData). w.node) c.prepare-shape.ensures.rest ∙ node) (ap (λ (w : HostData). w.plan) c.prepare-shape.ensures.rest ∙ plan) c.flow_to-flow.ensures
+    (c.number-packet.ensures.packet (with_prepared c.args.now.0 c.args.dst c.prepare-shape.result c.from.result (with_deed (Sent c.args.dst) h)) prepared)
     c.kind_shown_of-kind.ensures)
 
 pub returns-clause-stands : goal.returns-clause-stands
-returns-clause-stands c node plan h s =
-    let noted = c.in_ok-note.ensures.stands node plan h s in
-    let prepared = c.prepare-shape.ensures.stands node plan (with_deed (Sent c.args.dst) h) noted in
-    stands-intended node plan c.inject-packet.new.self h c.args.now.0 c.args.dst c.args.payload c.from.result c.prepare-shape.result c.from.ensures
-    (c.prepare-shape.ensures.shape node plan (with_deed (Sent c.args.dst) h) noted)
-    (c.inject-packet.ensures.stands node plan (with_prepared c.args.now.0 c.args.dst c.prepare-shape.result c.from.result (with_deed (Sent c.args.dst) h)) prepared)
+returns-clause-stands c calls s =
+    let inside = c.self.inside in
+    let v : HostData = host_data inside.node inside.plan inside.next inside.offered inside.last.0 inside.policy inside.sender in
+    let told = c.args.self.now in
+    let done = c.number-packet.new.self in
+    let h = history_of told.plan calls in
+    let start = keeps-timed v c.args.now.0 h (subst (λ (w : HostData). Keeps w h) (sym c.self.view_is) s.keeps) in
+    let noted = c.in_ok-note.ensures.keeps h start in
+    let prepared = c.prepare-shape.ensures.keeps (with_deed (Sent c.args.dst) h) noted in
+    let plan : c.note.new.self.plan ≡ told.plan = ap (λ (w : HostData). w.plan) c.in_ok-note.ensures.rest ∙ ap (λ (w : HostData). w.plan) c.self.view_is in
+    let last : done.last ≡ c.args.now.0 = ap (λ (w : HostData). w.last) c.number-packet.ensures.rest ∙ ap (λ (w : HostData). w.last) c.prepare-shape.ensures.rest ∙ ap (λ (w : HostData). w.last) c.in_ok-note.ensures.rest in
+    stands-push told done calls (Intended c.args.now.0 c.args.dst c.args.payload) s
+    (ap (λ (w : HostData). w.plan) c.number-packet.ensures.rest ∙ ap (λ (w : HostData). w.plan) c.prepare-shape.ensures.rest ∙ plan)
+    (omega (arith, s.past, c.requires.time), tt) (omega (arith, last))
+    (keeps-intended told.plan c.note.new.self.plan done h c.args.now.0 c.args.dst c.args.payload c.from.result c.prepare-shape.result plan c.from.ensures
+    (c.prepare-shape.ensures.shape (with_deed (Sent c.args.dst) h) noted)
+    (c.number-packet.ensures.keeps (with_prepared c.args.now.0 c.args.dst c.prepare-shape.result c.from.result (with_deed (Sent c.args.dst) h)) prepared))

@@ -1,50 +1,92 @@
-use Rattle.std.proofs.Common.{◌≡◌, subst, ◌∙◌, true, false}
+use Rattle.std.proofs.Common.{◌≡◌, eqb, ap, sym, subst, ◌∙◌, true, false, Option, arith}
+use Rattle.std.proofs.Math.Nat.{le_refl}
+use Rattle.tva_base.specs.declared.plan.HostPlan.{HostPlan}
+use Rattle.tva_shim.specs.declared.kinds.ReturnInfo.{ReturnInfo}
 use Rattle.tva_shim.specs.Packets.{PacketData}
 use Rattle.tva_host.specs.declared.made.Receipt.{Receipt}
-use Rattle.tva_host.specs.History.{StandsFor}
-use Rattle.tva_host.specs.Receiving.{after_answer, after_reply, before_reply, receipt_of, after_receipt}
-use Rattle.tva_host.proofs.Hearing.{receipt-stray, stands-stray, receipt-here, stands-here, receipt-received, by-plan}
+use Rattle.tva_host.specs.Receiving.{claim_in, answer_to, after_answer, reply_of, after_reply, before_reply, receipt_of, after_receipt}
+use Rattle.tva_host.specs.Calls.{Received, history_of}
+use Rattle.tva_host.specs.Stands.{HostData, host_data, Keeps}
+use Rattle.tva_host.proofs.Standing.{timed, keeps-timed}
+use Rattle.tva_host.proofs.Hearing.{receipt-stray, keeps-stray, receipt-here, keeps-here, receipt-received}
+use Rattle.tva_host.proofs.Calls.{stands-push}
 use Rattle.tva_host.proofs.host.Host.receive.Goals as goal
 
 pub returns-then-not-is_for-clause-receipt : goal.returns-then-not-is_for-clause-receipt
-returns-then-not-is_for-clause-receipt c node plan h s =
+returns-then-not-is_for-clause-receipt c calls s =
+    let told = c.args.self.now in
+    let h = history_of told.plan calls in
     let packet : PacketData = record { id = c.packet.inside.id; flow = c.packet.inside.flow; hops = c.packet.inside.hops; payload = c.packet.inside.payload; carried = c.packet.inside.carried } in
-    subst (λ (z : PacketData). c.stray.result ≡ receipt_of node plan h c.args.now.0 z) c.packet.view_is
-    (c.stray.ensures ∙ receipt-stray node plan h c.args.now.0 packet (by-plan packet.flow.dst _ plan.address false s.address c.if-not-is_for.ensures))
+    let apart : eqb packet.flow.dst.0 told.plan.address.0 ≡ false = sym (c.if-not-is_for.ensures ∙ ap (λ (w : HostData). eqb packet.flow.dst.0 w.plan.address.0) c.self.view_is) in
+    subst (λ (z : PacketData). c.stray.result ≡ receipt_of told.node told.plan h c.args.now.0 z) c.packet.view_is
+    (c.stray.ensures ∙ receipt-stray told.node told.plan h c.args.now.0 packet apart)
 
 pub returns-then-not-is_for-clause-stands : goal.returns-then-not-is_for-clause-stands
-returns-then-not-is_for-clause-stands c node plan h s =
+returns-then-not-is_for-clause-stands c calls s =
+    let inside = c.self.inside in
+    let v : HostData = host_data inside.node inside.plan inside.next inside.offered inside.last.0 inside.policy inside.sender in
+    let told = c.args.self.now in
+    let h = history_of told.plan calls in
     let packet : PacketData = record { id = c.packet.inside.id; flow = c.packet.inside.flow; hops = c.packet.inside.hops; payload = c.packet.inside.payload; carried = c.packet.inside.carried } in
-    subst (λ (z : PacketData). StandsFor node plan c.args.self.now (after_receipt plan h c.args.now.0 z)) c.packet.view_is
-    (stands-stray node plan _ h c.args.now.0 packet (by-plan packet.flow.dst _ plan.address false s.address c.if-not-is_for.ensures) s)
+    let apart : eqb packet.flow.dst.0 told.plan.address.0 ≡ false = sym (c.if-not-is_for.ensures ∙ ap (λ (w : HostData). eqb packet.flow.dst.0 w.plan.address.0) c.self.view_is) in
+    let start = keeps-timed v c.args.now.0 h (subst (λ (w : HostData). Keeps w h) (sym c.self.view_is) s.keeps) in
+    stands-push told (timed c.args.now.0 v) calls (Received c.args.now.0 c.args.packet) s (ap (λ (w : HostData). w.plan) c.self.view_is)
+    (omega (arith, s.past, c.requires.time), tt) (le_refl c.args.now.0)
+    (subst (λ (z : PacketData). Keeps (timed c.args.now.0 v) (after_receipt told.plan h c.args.now.0 z)) c.packet.view_is
+    (keeps-stray told.plan (timed c.args.now.0 v) h c.args.now.0 packet apart start))
 
 pub returns-clause-receipt : goal.returns-clause-receipt
-returns-clause-receipt c node plan h s =
+returns-clause-receipt c calls s =
+    let inside = c.self.inside in
+    let v : HostData = host_data inside.node inside.plan inside.next inside.offered inside.last.0 inside.policy inside.sender in
+    let told = c.args.self.now in
+    let h = history_of told.plan calls in
     let src = c.packet.inside.flow.src in
     let carries = c.packet.inside.carried in
     let packet : PacketData = record { id = c.packet.inside.id; flow = c.packet.inside.flow; hops = c.packet.inside.hops; payload = c.packet.inside.payload; carried = carries } in
-    let roomy = c.in_ok-make_room.ensures.stands node plan h s in
-    let decided = c.in_ok-answer.ensures.stands node plan h roomy in
-    let heard = c.take_back-back.ensures.stands node plan (after_answer plan src carries h) decided in
+    let here : eqb packet.flow.dst.0 told.plan.address.0 ≡ true = sym (c.if-not-is_for.ensures ∙ ap (λ (w : HostData). eqb packet.flow.dst.0 w.plan.address.0) c.self.view_is) in
+    let start = keeps-timed v c.args.now.0 h (subst (λ (w : HostData). Keeps w h) (sym c.self.view_is) s.keeps) in
+    let roomy = c.in_ok-make_room.ensures.keeps h start in
+    let plan : c.make_room.new.self.plan ≡ told.plan = ap (λ (w : HostData). w.plan) c.in_ok-make_room.ensures.rest ∙ ap (λ (w : HostData). w.plan) c.self.view_is in
+    let node : c.make_room.new.self.node ≡ told.node = ap (λ (w : HostData). w.node) c.in_ok-make_room.ensures.rest ∙ ap (λ (w : HostData). w.node) c.self.view_is in
+    let heard_plan : c.take_back-back.new.self.plan ≡ told.plan = ap (λ (w : HostData). w.plan) c.take_back-back.ensures.rest ∙ ap (λ (w : HostData). w.plan) c.in_ok-answer.ensures.rest ∙ plan in
+    let heard_node : c.take_back-back.new.self.node ≡ told.node = ap (λ (w : HostData). w.node) c.take_back-back.ensures.rest ∙ ap (λ (w : HostData). w.node) c.in_ok-answer.ensures.rest ∙ node in
+    let decided = subst (λ (q : HostPlan). Keeps c.answer.new.self (after_answer q src carries h)) plan (c.in_ok-answer.ensures.keeps h roomy) in
+    let heard = c.take_back-back.ensures.keeps (after_answer told.plan src carries h) decided in
+    let replied = c.reply-reply.ensures.reply (before_reply told.plan src carries h) heard in
     let receipt : Receipt = record { what = c.what_of.result; back = c.take_back-back.result; reply = c.reply-reply.result } in
-    subst (λ (z : PacketData). receipt ≡ receipt_of node plan h c.args.now.0 z) c.packet.view_is
-    (receipt-received node plan h c.args.now.0 src carries c.what_of.result c.take_back-back.result c.in_ok-answer.answer c.reply-reply.result
+    subst (λ (z : PacketData). receipt ≡ receipt_of told.node told.plan h c.args.now.0 z) c.packet.view_is
+    (receipt-received told.node told.plan h c.args.now.0 src carries c.what_of.result c.take_back-back.result c.in_ok-answer.answer c.reply-reply.result
     c.what_of.ensures
-    (c.take_back-back.ensures.became node plan (after_answer plan src carries h) decided)
-    (c.in_ok-answer.ensures.answer node plan h roomy)
-    (c.reply-reply.ensures.reply node plan (before_reply plan src carries h) heard)
-    ∙ receipt-here node plan h c.args.now.0 packet (by-plan packet.flow.dst _ plan.address true s.address c.if-not-is_for.ensures))
+    (c.take_back-back.ensures.became (after_answer told.plan src carries h) decided)
+    (c.in_ok-answer.ensures.answer h roomy ∙ ap (λ (q : HostPlan). answer_to q h.deeds src carries (claim_in carries)) plan)
+    (replied ∙ ap (λ n. reply_of n c.take_back-back.new.self.plan (before_reply told.plan src carries h) c.args.now.0 src c.in_ok-answer.answer) heard_node
+    ∙ ap (λ (q : HostPlan). reply_of told.node q (before_reply told.plan src carries h) c.args.now.0 src c.in_ok-answer.answer) heard_plan)
+    ∙ receipt-here told.node told.plan h c.args.now.0 packet here)
 
 pub returns-clause-stands : goal.returns-clause-stands
-returns-clause-stands c node plan h s =
+returns-clause-stands c calls s =
+    let inside = c.self.inside in
+    let v : HostData = host_data inside.node inside.plan inside.next inside.offered inside.last.0 inside.policy inside.sender in
+    let told = c.args.self.now in
+    let done = c.reply-reply.new.self in
+    let h = history_of told.plan calls in
     let src = c.packet.inside.flow.src in
     let carries = c.packet.inside.carried in
     let packet : PacketData = record { id = c.packet.inside.id; flow = c.packet.inside.flow; hops = c.packet.inside.hops; payload = c.packet.inside.payload; carried = carries } in
-    let roomy = c.in_ok-make_room.ensures.stands node plan h s in
-    let decided = c.in_ok-answer.ensures.stands node plan h roomy in
-    let heard = c.take_back-back.ensures.stands node plan (after_answer plan src carries h) decided in
-    let answers = c.in_ok-answer.ensures.answer node plan h roomy in
-    subst (λ (z : PacketData). StandsFor node plan c.reply-reply.new.self (after_receipt plan h c.args.now.0 z)) c.packet.view_is
-    (stands-here node plan _ h c.args.now.0 packet (by-plan packet.flow.dst _ plan.address true s.address c.if-not-is_for.ensures)
-    (subst (λ a. StandsFor node plan c.reply-reply.new.self (after_reply plan c.args.now.0 src a (before_reply plan src carries h))) answers
-    (c.reply-reply.ensures.stands node plan (before_reply plan src carries h) heard)))
+    let here : eqb packet.flow.dst.0 told.plan.address.0 ≡ true = sym (c.if-not-is_for.ensures ∙ ap (λ (w : HostData). eqb packet.flow.dst.0 w.plan.address.0) c.self.view_is) in
+    let start = keeps-timed v c.args.now.0 h (subst (λ (w : HostData). Keeps w h) (sym c.self.view_is) s.keeps) in
+    let roomy = c.in_ok-make_room.ensures.keeps h start in
+    let plan : c.make_room.new.self.plan ≡ told.plan = ap (λ (w : HostData). w.plan) c.in_ok-make_room.ensures.rest ∙ ap (λ (w : HostData). w.plan) c.self.view_is in
+    let heard_plan : c.take_back-back.new.self.plan ≡ told.plan = ap (λ (w : HostData). w.plan) c.take_back-back.ensures.rest ∙ ap (λ (w : HostData). w.plan) c.in_ok-answer.ensures.rest ∙ plan in
+    let decided = subst (λ (q : HostPlan). Keeps c.answer.new.self (after_answer q src carries h)) plan (c.in_ok-answer.ensures.keeps h roomy) in
+    let heard = c.take_back-back.ensures.keeps (after_answer told.plan src carries h) decided in
+    let answers = c.in_ok-answer.ensures.answer h roomy ∙ ap (λ (q : HostPlan). answer_to q h.deeds src carries (claim_in carries)) plan in
+    let replied = subst (λ (q : HostPlan). Keeps done (after_reply q c.args.now.0 src c.in_ok-answer.answer (before_reply told.plan src carries h))) heard_plan
+    (c.reply-reply.ensures.keeps (before_reply told.plan src carries h) heard) in
+    let last : done.last ≡ c.args.now.0 = c.reply-reply.ensures.rest.2 ∙ ap (λ (w : HostData). w.last) c.take_back-back.ensures.rest ∙ ap (λ (w : HostData). w.last) c.in_ok-answer.ensures.rest ∙ ap (λ (w : HostData). w.last) c.in_ok-make_room.ensures.rest in
+    stands-push told done calls (Received c.args.now.0 c.args.packet) s (c.reply-reply.ensures.rest.1 ∙ heard_plan)
+    (omega (arith, s.past, c.requires.time), tt) (omega (arith, last))
+    (subst (λ (z : PacketData). Keeps done (after_receipt told.plan h c.args.now.0 z)) c.packet.view_is
+    (keeps-here told.plan done h c.args.now.0 packet here
+    (subst (λ (a : Option ReturnInfo). Keeps done (after_reply told.plan c.args.now.0 src a (before_reply told.plan src carries h))) answers replied)))

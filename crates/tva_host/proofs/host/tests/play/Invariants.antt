@@ -6,5 +6,5 @@ abbrev pub invariant-loop-line : goal.invariant-loop-line
 invariant-loop-line g l = record {
   can_next : (goal.iterator-loop-line g).can_next l.line-iterator;
   is_finite : (goal.iterator-loop-line g).is_finite l.line-iterator;
-  last : l.host.sender.last ≤ l.last;
+  last : l.host.last ≤ l.last;
 }

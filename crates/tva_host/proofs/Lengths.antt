@@ -1,0 +1,37 @@
+-- The length of a packet in a shape is the one that its sender counts.
+use Rattle.std.proofs.Common.{◌≡◌, ℕ, ◌+◌, false, length, refl, ap, ◌∙◌, arith}
+use Rattle.tva_base.specs.declared.addresses.Address.{Address}
+use Rattle.tva_base.specs.declared.plan.HostPlan.{HostPlan}
+use Rattle.tva_shim.specs.declared.kinds.ReturnInfo.{ReturnInfo}
+use Rattle.tva_shim.specs.declared.kinds.ReturnInfo.TheVariants as backs
+use Rattle.tva_shim.specs.declared.packets.Carried.{Carried}
+use Rattle.tva_shim.specs.declared.packets.Carried.TheVariants as carried
+use Rattle.tva_shim.specs.Layout.{layout, return_size}
+use Rattle.tva_shim.specs.Packets.{PacketData, packet_length, carried_bytes}
+use Rattle.tva_shim.proofs.Sizes.{length-layout}
+use Rattle.tva_sender.specs.declared.shape.Shape.{Shape}
+use Rattle.tva_sender.specs.declared.shape.Shape.TheVariants as shapes
+use Rattle.tva_sender.specs.Shapes.{length_of}
+use Rattle.tva_host.specs.History.{History}
+use Rattle.tva_host.specs.Sending.{is_legacy, shim_of, carried_by, next_shape, intended}
+
+shim-length : (shape : Shape) (back : ReturnInfo) (payload : ℕ) → is_legacy shape ≡ false
+    → 20 + length (layout (shim_of shape back)) + payload ≡ length_of shape (payload + return_size back)
+shim-length shapes.Request back payload counted = omega (arith, length-layout (shim_of shapes.Request back))
+shim-length (shapes.List held) back payload counted = omega (arith, length-layout (shim_of (shapes.List held) back))
+shim-length (shapes.NonceOnly nonce) back payload counted = omega (arith, length-layout (shim_of (shapes.NonceOnly nonce) back))
+shim-length (shapes.Renewal held) back payload counted = omega (arith, length-layout (shim_of (shapes.Renewal held) back))
+shim-length shapes.Legacy back payload counted = cc
+
+pub made-length : (shape : Shape) (back : ReturnInfo) (p : PacketData) → is_legacy shape ≡ false → p.carried ≡ carried.Shim (shim_of shape back)
+    → packet_length p ≡ length_of shape (p.payload + return_size back)
+made-length shape back p counted carries = ap (λ (c : Carried). 20 + carried_bytes c + p.payload) carries ∙ shim-length shape back p.payload counted
+
+pub intended-length : (node : ℕ) (plan : HostPlan) (h : History) (now : ℕ) (dst : Address) (payload : ℕ) → is_legacy (next_shape plan h now dst payload) ≡ false
+    → packet_length (intended node plan h now dst payload).packet ≡ length_of (next_shape plan h now dst payload) payload
+unfolding intended
+intended-length node plan h now dst payload counted =
+    let shape = next_shape plan h now dst payload in
+    let carries : carried_by shape ≡ carried.Shim (shim_of shape backs.Nothing) = rw counted refl in
+    let size : payload + return_size backs.Nothing ≡ payload = omega arith in
+    made-length shape backs.Nothing (intended node plan h now dst payload).packet counted carries ∙ ap (length_of shape) size

@@ -1,0 +1,88 @@
+-- Each peer's contacts in a host's history are such as a sender can have.
+use Rattle.std.proofs.Common.{◌≡◌, ℕ, ◌≤◌, Bool, true, false, cond, eqb, List, [], ◌∷◌, ◌++◌, Option, Some, None, refl, arith, append-nil}
+use Rattle.std.proofs.lemmas.List.Elements.{All-nil}
+use Rattle.tva_base.specs.declared.addresses.Address.{Address}
+use Rattle.tva_base.specs.declared.packet.Rights.{Rights}
+use Rattle.tva_base.specs.declared.plan.HostPlan.{HostPlan}
+use Rattle.tva_shim.specs.declared.kinds.ReturnInfo.{ReturnInfo}
+use Rattle.tva_shim.specs.declared.kinds.ReturnInfo.TheVariants as backs
+use Rattle.tva_shim.specs.Layout.{return_size}
+use Rattle.tva_shim.specs.Packets.{PacketData}
+use Rattle.tva_policy.specs.Grants.{Sent}
+use Rattle.tva_sender.specs.Contacts.{Contact, Prepared, Taken, Notice, awaits}
+use Rattle.tva_sender.specs.Shapes.{length_of}
+use Rattle.tva_sender.specs.Played.{IsUpTo, NoneLater, IsNext, IsPlayed}
+use Rattle.tva_sender.specs.Book.{of_peer}
+use Rattle.tva_sender.proofs.Playing.{none-later, none-push, next-push, next-prepared}
+use Rattle.tva_sender.proofs.Standing.{each-more}
+use Rattle.tva_host.specs.History.{History, beginning, with_deed, offered}
+use Rattle.tva_host.specs.Sending.{next_shape, with_made, after_intending}
+use Rattle.tva_host.specs.Receiving.{back_in, met_by, claim_in, answer_to, after_reply, before_reply, after_receipt}
+use Rattle.tva_host.specs.Calls.{Call, Intended, Injected, Received, after_call, history_from, history_of, last_time, NeverFall}
+
+-- each peer's contacts are played, and none is later than that
+pub record ArePlayed (plan : HostPlan) (time : ℕ) (contacts : List (Address × Contact)) : Type 0 where
+  pub played : (a : Address) → IsPlayed plan.margin plan.retry (of_peer a contacts)
+  pub times : (a : Address) → NoneLater time (of_peer a contacts)
+
+later : (plan : HostPlan) (time now : ℕ) (contacts : List (Address × Contact)) → time ≤ now → ArePlayed plan time contacts → ArePlayed plan now contacts
+later plan time now contacts l k = record { played = k.played; times = λ a. none-later time now (of_peer a contacts) l (k.times a) }
+
+-- one more contact
+more : (plan : HostPlan) (time : ℕ) (contacts : List (Address × Contact)) (a : Address) (c : Contact) → ArePlayed plan time contacts
+    → IsNext plan.margin plan.retry (of_peer a contacts) c → IsUpTo time c → ArePlayed plan time (contacts ++ (a, c) ∷ [])
+more plan time contacts a c k next up_to = record {
+  played = each-more (IsPlayed plan.margin plan.retry) contacts a c k.played (next-push plan.margin plan.retry [] (of_peer a contacts) c (k.played a) next);
+  times = each-more (NoneLater time) contacts a c k.times (none-push time (of_peer a contacts) c (k.times a) up_to);
+}
+
+-- a packet was prepared and made
+made : (plan : HostPlan) (h : History) (now : ℕ) (dst : Address) (body : ℕ) → ArePlayed plan now h.contacts → ArePlayed plan now (with_made plan now dst body h).contacts
+made plan h now dst body k =
+    let shape = next_shape plan h now dst body in
+    let same : now ≤ now = omega arith in
+    more plan now h.contacts dst (Prepared now shape (length_of shape body)) k
+    (next-prepared plan.margin plan.retry now (of_peer dst h.contacts) now body (offered plan h) shape same (k.times dst) refl) same
+
+-- return info was taken or ignored
+taken : (plan : HostPlan) (time : ℕ) (contacts : List (Address × Contact)) (src : Address) (rights : Rights) (caps : List ℕ) (opens : Bool) → awaits (of_peer src contacts) ≡ opens
+    → ArePlayed plan time contacts → ArePlayed plan time (contacts ++ cond opens ((src, Taken rights caps) ∷ []) [])
+taken plan time contacts src rights caps true is k = more plan time contacts src (Taken rights caps) k is tt
+taken plan time contacts src rights caps false is k = rw (append-nil contacts) k
+
+met : (plan : HostPlan) (time : ℕ) (contacts : List (Address × Contact)) (src : Address) (back : ReturnInfo) → ArePlayed plan time contacts
+    → ArePlayed plan time (contacts ++ met_by contacts src back)
+met plan time contacts src backs.Nothing k = rw (append-nil contacts) k
+met plan time contacts src backs.Notice k = more plan time contacts src Notice k tt tt
+met plan time contacts src (backs.Grant rights caps) k = taken plan time contacts src rights caps (awaits (of_peer src contacts)) refl k
+
+replied : (plan : HostPlan) (h : History) (now : ℕ) (src : Address) (answer : Option ReturnInfo) → ArePlayed plan now h.contacts → ArePlayed plan now (after_reply plan now src answer h).contacts
+replied plan h now src None k = k
+replied plan h now src (Some back) k = made plan h now src (return_size back) k
+
+intending : (plan : HostPlan) (h : History) (now : ℕ) (dst : Address) (payload : ℕ) → ArePlayed plan now h.contacts → ArePlayed plan now (after_intending plan h now dst payload).contacts
+unfolding after_intending
+intending plan h now dst payload k = made plan (with_deed (Sent dst) h) now dst payload k
+
+receiving : (plan : HostPlan) (h : History) (now : ℕ) (p : PacketData) → ArePlayed plan now h.contacts → ArePlayed plan now (after_receipt plan h now p).contacts
+unfolding after_receipt
+receiving plan h now p k =
+    let before = before_reply plan p.flow.src p.carried h in
+    let heard : ArePlayed plan now before.contacts = met plan now h.contacts p.flow.src (back_in p.carried) k in
+    let answer = answer_to plan h.deeds p.flow.src p.carried (claim_in p.carried) in
+    elim (eqb p.flow.dst.0 plan.address.0) as (λ b. ArePlayed plan now (cond b (after_reply plan now p.flow.src answer before) h).contacts)
+    [ true ↦ replied plan before now p.flow.src answer heard | false ↦ k ]
+
+pub played-from : (plan : HostPlan) (from : ℕ) (h : History) (cs : List Call) → NeverFall from cs → ArePlayed plan from h.contacts → ArePlayed plan (last_time from cs) (history_from plan h cs).contacts
+played-from plan from h [] order k = k
+played-from plan from h (Intended now dst payload ∷ cs) order k =
+    played-from plan now (after_call plan h (Intended now dst payload)) cs order.1 (intending plan h now dst payload (later plan from now h.contacts order.0 k))
+played-from plan from h (Injected flow payload carries ∷ cs) order k = played-from plan from (after_call plan h (Injected flow payload carries)) cs order k
+played-from plan from h (Received now p ∷ cs) order k =
+    played-from plan now (after_call plan h (Received now p)) cs order.1 (receiving plan h now p (later plan from now h.contacts order.0 k))
+
+none : (plan : HostPlan) → ArePlayed plan 0 []
+none plan = record { played = λ a. tt; times = λ a. All-nil (IsUpTo 0) }
+
+pub played : (plan : HostPlan) (cs : List Call) → NeverFall 0 cs → ArePlayed plan (last_time 0 cs) (history_of plan cs).contacts
+played plan cs order = played-from plan 0 beginning cs order (none plan)

@@ -1,0 +1,39 @@
+// What holds of every history of a host.
+ghost use Rattle.std.specs.Prelude.{◌≡◌, ℕ, ◌+◌, false, List, IfSome, Some};
+ghost use Rattle.tva_base.specs.declared.addresses.Address.{Address};
+ghost use Rattle.tva_base.specs.declared.plan.HostPlan.{HostPlan};
+ghost use Rattle.tva_shim.specs.declared.kinds.ReturnInfo.{ReturnInfo};
+ghost use Rattle.tva_shim.specs.declared.packets.Carried.TheVariants as carried;
+ghost use Rattle.tva_shim.specs.Layout.{return_size};
+ghost use Rattle.tva_shim.specs.Packets.{PacketData, packet_length};
+ghost use Rattle.tva_sender.specs.declared.shape.Shape.{Shape};
+ghost use Rattle.tva_sender.specs.Shapes.{length_of};
+ghost use Rattle.tva_sender.specs.Played.{IsPlayed, NoneLater};
+ghost use Rattle.tva_sender.specs.Book.{of_peer};
+ghost use Rattle.tva_host.specs.History.{History};
+ghost use Rattle.tva_host.specs.Sending.{is_legacy, shim_of, next_shape, intended};
+ghost use Rattle.tva_host.specs.Receiving.{reply_of};
+ghost use Rattle.tva_host.specs.Calls.{Call, history_of, last_time, NeverFall};
+
+/// What a host's calls make with each of its peers is what a sender can have with it, and no packet is
+/// prepared later than the last call, whatever is called at times that never fall.
+pub fn peers_are_played()
+    ensures played { (plan : HostPlan) (calls : List Call) (a : Address) → NeverFall 0 calls
+        → IsPlayed plan.margin plan.retry (of_peer a (history_of plan calls).contacts) }
+    ensures times { (plan : HostPlan) (calls : List Call) (a : Address) → NeverFall 0 calls
+        → NoneLater (last_time 0 calls) (of_peer a (history_of plan calls).contacts) }
+{}
+
+/// A packet in a shape has the length that a sender counts for it, with its payload and its return info
+/// as the body, in bytes. A sender counts no legacy packet.
+pub fn lengths_are_counted()
+    ensures shape { (shape : Shape) (back : ReturnInfo) (p : PacketData) → is_legacy shape ≡ false
+        → p.carried ≡ carried.Shim (shim_of shape back) → packet_length p ≡ length_of shape (p.payload + return_size back) }
+    ensures intended { (node : ℕ) (plan : HostPlan) (h : History) (now : ℕ) (dst : Address) (payload : ℕ)
+        → is_legacy (next_shape plan h now dst payload) ≡ false
+        → packet_length (intended node plan h now dst payload).packet ≡ length_of (next_shape plan h now dst payload) payload }
+    ensures reply { (node : ℕ) (plan : HostPlan) (h : History) (now : ℕ) (src : Address) (back : ReturnInfo)
+        → is_legacy (next_shape plan h now src (return_size back)) ≡ false
+        → IfSome (reply_of node plan h now src (Some back))
+        (λ made. packet_length made.packet ≡ length_of (next_shape plan h now src (return_size back)) (return_size back)) }
+{}
