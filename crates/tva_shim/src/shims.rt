@@ -1,6 +1,7 @@
 // Shims.
 ghost use Rattle.std.specs.Prelude.{◌≡◌, if◌then◌else◌, nat_lt, ◌≤◌, ◌↔◌, length, IsErr, OnOk, OnErr};
-ghost use Rattle.tva_shim.specs.Shims.{IsKind, IsReturn, entries_of};
+ghost use Rattle.tva_shim.specs.Packets.{HasFew};
+ghost use Rattle.tva_shim.specs.Shims.{IsKind, IsReturn, entries_of, caps_of, granted_caps};
 ghost use Rattle.tva_shim.specs.Layout.{layout, shim_size, kind_size, return_size};
 ghost use Rattle.tva_shim.specs.Changes.{IsRequest, PointsAtOne, last_tag, with_entry, with_next_pointer, with_fresh, with_mark};
 
@@ -137,6 +138,7 @@ pub(crate) fn shim_bytes_of(shim: &Shim) -> u32
     ensures layout { result ≡ length (layout shim.now) }
     ensures counted { result ≡ shim_size shim.now }
     ensures short { result ≤ 295 }
+    ensures few { HasFew shim.now }
 {
     kind_bytes_of(&shim.kind) + return_bytes_of(&shim.back)
 }
@@ -144,6 +146,8 @@ pub(crate) fn shim_bytes_of(shim: &Shim) -> u32
 fn kind_bytes_of(kind: &Kind) -> u32
     ensures counted { result ≡ kind_size kind.now }
     ensures short { result ≤ 163 }
+    ensures entries { length (entries_of kind.now) ≤ 16 }
+    ensures caps { length (caps_of kind.now) ≤ 16 }
 {
     match kind {
         Kind::Request(entries) => 3 + 10 * entries.as_slice().len() as u32,
@@ -155,6 +159,7 @@ fn kind_bytes_of(kind: &Kind) -> u32
 fn return_bytes_of(back: &ReturnInfo) -> u32
     ensures counted { result ≡ return_size back.now }
     ensures short { result ≤ 132 }
+    ensures caps { length (granted_caps back.now) ≤ 16 }
 {
     match back {
         ReturnInfo::Nothing => 0,
