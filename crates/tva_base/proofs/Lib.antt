@@ -1,3 +1,4 @@
 pub mod Digits
+pub mod Dotted
 pub mod Lives
 pub mod Prefixes

@@ -1,7 +1,8 @@
 -- The texts of addresses and prefixes.
-use Rattle.std.specs.Prelude.{ℕ, ◌+◌, ◌-◌, ◌*◌, ◌/◌, ◌^◌, ◌==◌, Bool, List, take, drop, position, Some}
+use Rattle.std.specs.Prelude.{◌≡◌, ◌≤◌, ℕ, ◌+◌, ◌-◌, ◌*◌, ◌/◌, ◌^◌, ◌==◌, Bool, List, ◌∷◌, ◌++◌, take, drop, position, Some}
 use Rattle.std.specs.declared.option.Option.{Option}
 use Rattle.std.specs.Option.{option_map}
+use Rattle.std.specs.Fmt.{decimal}
 use Rattle.tva_base.specs.declared.addresses.Address.{Address}
 use Rattle.tva_base.specs.declared.addresses.Prefix.{Prefix}
 use Rattle.tva_base.specs.Decimal.{plain_decimal_of}
@@ -30,6 +31,24 @@ address_of text = do
   c ← octet_of third.0
   d ← octet_of third.1
   Some (address_from a b c d)
+
+-- two texts with a dot between
+abbrev pub joined : List ℕ → List ℕ → List ℕ
+joined before after = before ++ 46 ∷ after
+
+-- the text of four numbers: their decimal digits, joined by dots
+abbrev pub dotted : ℕ → ℕ → ℕ → ℕ → List ℕ
+dotted a b c d = joined (decimal a) (joined (decimal b) (joined (decimal c) (decimal d)))
+
+-- the text is that of four numbers from 0 to 255, and the address is theirs
+pub record Writes (text : List ℕ) (address : Address) : Type 0 where
+  pub a : ℕ
+  pub b : ℕ
+  pub c : ℕ
+  pub d : ℕ
+  pub octets : (a ≤ 255) × (b ≤ 255) × (c ≤ 255) × (d ≤ 255)
+  pub spelt : text ≡ dotted a b c d
+  pub number : address ≡ address_from a b c d
 
 -- an address whose bits past the length are zero
 abbrev pub kept : Address → ℕ → Address

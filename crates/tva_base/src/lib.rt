@@ -24,7 +24,7 @@ pub use listed::{Caps, Listed};
 pub use numbers::decimal;
 pub use packet::{Cause, Class, DropCause, Fate, Flow, Grant, Outcome, PacketId, Rights, Time};
 pub use plan::{HostPlan, LinkPlan, PolicyKind, PolicyPlan, Route, RouterPlan};
-pub use readers::{address, prefix};
+pub use readers::{address, addresses_are_four_numbers, prefix};
 pub use texts::{Key, Line, Name};
 
 #[cfg(test)]

@@ -1,5 +1,5 @@
 // Lists that contracts see as lists.
-ghost use Rattle.std.specs.Prelude.{◌≡◌, ◌<◌, ◌≤◌, [], ◌∷◌, ◌++◌, length};
+ghost use Rattle.std.specs.Prelude.{◌≡◌, ◌<◌, ◌≤◌, ◌^◌, [], ◌∷◌, ◌++◌, length, All};
 
 use arrayvec::ArrayVec;
 use std::marker::Model;
@@ -54,13 +54,13 @@ impl<T> Listed<T> {
 pub struct Caps(ArrayVec<u64, 16>);
 
 impl Model for Caps {
-    ghost use Rattle.std.specs.Prelude.{List, ℕ, ◌≤◌, length};
+    ghost use Rattle.std.specs.Prelude.{List, ℕ, ◌≤◌, ◌<◌, ◌^◌, length, All};
 
     ghost Value = { List ℕ };
 
     ghost view = { λ caps. caps.0.items };
 
-    ghost invariant = { λ caps. length caps.0.items ≤ 16 };
+    ghost invariant = { λ caps. (length caps.0.items ≤ 16) × All (λ cap. cap < 2 ^ 64) caps.0.items };
 }
 
 impl Caps {
@@ -81,6 +81,7 @@ impl Caps {
     pub fn as_slice(&self) -> &[u64]
         ensures items { result.now ≡ self.now }
         ensures few { length self.now ≤ 16 }
+        ensures bits { All (λ cap. cap < 2 ^ 64) self.now }
     {
         self.0.as_slice()
     }

@@ -1,8 +1,9 @@
 // The texts of addresses and prefixes.
-ghost use Rattle.std.specs.Prelude.{◌≡◌, ◌≤◌, ◌<◌, ◌==◌, IfSome, position, length};
+ghost use Rattle.std.specs.Prelude.{◌≡◌, ◌≤◌, ◌<◌, ◌==◌, ℕ, List, Some, IfSome, position, length};
 ghost use Rattle.std.specs.Option.{option_map};
+ghost use Rattle.tva_base.specs.declared.addresses.Address.{Address};
 ghost use Rattle.tva_base.specs.Plan.{IsPrefix};
-ghost use Rattle.tva_base.specs.Addresses.{parted, octet_of, address_of, prefix_of};
+ghost use Rattle.tva_base.specs.Addresses.{parted, octet_of, address_of, prefix_of, Writes};
 
 use crate::addresses::{Address, Prefix, cut};
 use crate::numbers::plain_decimal;
@@ -22,6 +23,13 @@ pub fn address(text: &[u8]) -> Option<Address>
     let d = octet(fourth)?;
     Some(Address(((a * 256 + b) * 256 + c) * 256 + d))
 }
+
+/// A text gives an address exactly where it is four numbers from 0 to 255 in decimal digits, joined by
+/// dots, and the address is theirs, with the first number in its highest byte.
+pub fn addresses_are_four_numbers()
+    ensures given { (text : List ℕ) (x : Address) → address_of text ≡ Some x → Writes text x }
+    ensures taken { (text : List ℕ) (x : Address) → Writes text x → address_of text ≡ Some x }
+{}
 
 /// The prefix of a text. `None` exactly where it isn't an address, a slash and a number from 0 to
 /// 32 without leading zeros. Bits past the length are taken as zero.

@@ -2,5 +2,6 @@ pub mod Widths
 pub mod Shims
 pub mod Layout
 pub mod Packets
-pub mod Parts
 pub mod Changes
+pub mod Shows
+pub mod Parts

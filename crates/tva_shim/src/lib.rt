@@ -7,25 +7,20 @@ mod decoding;
 mod encoding;
 mod entries;
 mod kinds;
+mod limits;
 mod numbers;
 mod packets;
 mod shims;
+mod shows;
 
 pub use decoding::decode;
 pub use encoding::encode;
 pub use entries::{Entries, Entry, PathFull};
 pub use kinds::{Kind, ReturnInfo, Shown};
+pub use limits::{HOPS_MAX, MALFORMED_MAX, PAYLOAD_MAX, limits_hold, packets_are_short};
 pub use packets::{Carried, Packet, class_of, length};
 pub use shims::Shim;
-
-/// The greatest length of a payload, in bytes.
-pub const PAYLOAD_MAX: u16 = 1600;
-
-/// The greatest length of a malformed shim, in bytes.
-pub const MALFORMED_MAX: u16 = 400;
-
-/// The number of routers that a packet passes at most.
-pub const HOPS_MAX: u8 = 32;
+pub use shows::{queue_key, return_shown};
 
 #[cfg(test)]
 mod tests;

@@ -1,6 +1,6 @@
 // Packets, their lengths and their classes.
 ghost use Rattle.std.specs.Prelude.{◌≡◌, ◌≤◌, ◌+◌};
-ghost use Rattle.tva_shim.specs.Packets.{IsCarried, class_by_shim, packet_length, carried_bytes, carried_size};
+ghost use Rattle.tva_shim.specs.Packets.{IsCarried, CarriesFew, IsSizedPacket, class_by_shim, packet_length, carried_bytes, carried_size};
 
 use crate::kinds::Kind;
 use crate::shims::{Shim, shim_bytes_of};
@@ -86,6 +86,7 @@ pub fn length(packet: &Packet) -> u32
     ensures layout { result ≡ packet_length packet.now }
     ensures counted { result ≡ 20 + carried_size packet.now.carried + packet.now.payload }
     ensures short { result ≤ 2048 }
+    ensures sized { IsSizedPacket packet.now }
 {
     20 + carried_bytes_of(&packet.carried) + u32::from(packet.payload)
 }
@@ -95,6 +96,7 @@ fn carried_bytes_of(carried: &Carried) -> u32
     ensures layout { result ≡ carried_bytes carried.now }
     ensures counted { result ≡ carried_size carried.now }
     ensures short { IsCarried carried.now → result ≤ 400 }
+    ensures few { CarriesFew carried.now }
 {
     match carried {
         Carried::Nothing => 0,

@@ -1,6 +1,8 @@
 // Shims.
 ghost use Rattle.std.specs.Prelude.{◌≡◌, if◌then◌else◌, nat_lt, ◌≤◌, ◌↔◌, length, IsErr, OnOk, OnErr};
-ghost use Rattle.tva_shim.specs.Shims.{IsKind, IsReturn, entries_of};
+ghost use Rattle.tva_shim.specs.Widths.{AreEntries, AreCaps};
+ghost use Rattle.tva_shim.specs.Packets.{HasFew};
+ghost use Rattle.tva_shim.specs.Shims.{IsShim, IsKind, IsReturn, entries_of, caps_of, granted_caps};
 ghost use Rattle.tva_shim.specs.Layout.{layout, shim_size, kind_size, return_size};
 ghost use Rattle.tva_shim.specs.Changes.{IsRequest, PointsAtOne, last_tag, with_entry, with_next_pointer, with_fresh, with_mark};
 
@@ -34,8 +36,12 @@ impl Shim {
     pub fn new(demoted: bool, protocol: u8, kind: Kind, back: ReturnInfo) -> Shim
         requires kind { IsKind kind }
         requires back { IsReturn back }
-        ensures { result ≡ record { demoted = demoted; protocol = protocol; kind = kind; back = back } }
+        ensures parts { result ≡ record { demoted = demoted; protocol = protocol; kind = kind; back = back } }
+        ensures widths { IsShim result }
     {
+        // what a kind and return info hold is within its widths, by their own types
+        prove!(kind_bytes_of(&kind) <= 163);
+        prove!(return_bytes_of(&back) <= 132);
         Shim {
             demoted,
             protocol,
@@ -137,6 +143,7 @@ pub(crate) fn shim_bytes_of(shim: &Shim) -> u32
     ensures layout { result ≡ length (layout shim.now) }
     ensures counted { result ≡ shim_size shim.now }
     ensures short { result ≤ 295 }
+    ensures few { HasFew shim.now }
 {
     kind_bytes_of(&shim.kind) + return_bytes_of(&shim.back)
 }
@@ -144,6 +151,8 @@ pub(crate) fn shim_bytes_of(shim: &Shim) -> u32
 fn kind_bytes_of(kind: &Kind) -> u32
     ensures counted { result ≡ kind_size kind.now }
     ensures short { result ≤ 163 }
+    ensures entries { AreEntries (entries_of kind.now) }
+    ensures caps { AreCaps (caps_of kind.now) }
 {
     match kind {
         Kind::Request(entries) => 3 + 10 * entries.as_slice().len() as u32,
@@ -155,6 +164,7 @@ fn kind_bytes_of(kind: &Kind) -> u32
 fn return_bytes_of(back: &ReturnInfo) -> u32
     ensures counted { result ≡ return_size back.now }
     ensures short { result ≤ 132 }
+    ensures caps { AreCaps (granted_caps back.now) }
 {
     match back {
         ReturnInfo::Nothing => 0,

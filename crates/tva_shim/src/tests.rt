@@ -1,6 +1,6 @@
 use crate::{
     Carried, Entries, Entry, Kind, Packet, PathFull, ReturnInfo, Shim, Shown, class_of, decode,
-    encode, length,
+    encode, length, queue_key, return_shown,
 };
 use arrayvec::ArrayVec;
 use std::alloc::{AllocError, Global};
@@ -211,6 +211,52 @@ fn routers_change_a_renewal(rt: HostRuntime) {
     shim.demote();
     let marked = Packet::new(ID, FLOW, 0, 0, Carried::Shim(shim));
     assert_eq!(rt; class_of(&marked), Class::Legacy);
+}
+
+/// Of a shim, the class, the key by which it is queued, and whether return info is there.
+const SHOWN: [(&str, Class, u32, bool); 10] = [
+    ("100600", Class::Request, 0, true),
+    ("100601000105aabbccddeeff00", Class::Request, 1, true),
+    (
+        "100602000105aabbccddeeff0000000600000000000001",
+        Class::Request,
+        1,
+        true,
+    ),
+    ("180601000105aabbccddeeff00", Class::Legacy, 0, true),
+    (
+        "110600000000000a0100080a0500112233445566",
+        Class::Regular,
+        0x0a00_0101,
+        true,
+    ),
+    ("1206ffffffffffff", Class::Regular, 0x0a00_0101, true),
+    ("1a06000000000000", Class::Legacy, 0, true),
+    ("160600000000000101", Class::Regular, 0x0a00_0101, false),
+    (
+        "130600000000000b0201080a05001122334455660600112233445566",
+        Class::Regular,
+        0x0a00_0101,
+        true,
+    ),
+    ("14060001", Class::Request, 0, false),
+];
+
+#[test]
+fn packets_show_their_key(rt: HostRuntime) -> Result<(), Fail> {
+    for (text, class, key, bare) in SHOWN {
+        let bytes = hex::decode(rt.alloc(), text).ok().ok_or(text)?;
+        let shim = decode(&bytes).ok_or(text)?;
+        let packet = Packet::new(ID, FLOW, 0, 0, Carried::Shim(shim));
+        assert_eq!(rt; class_of(&packet), class, "at {text}");
+        assert_eq!(rt; queue_key(class, &packet), key, "at {text}");
+        let nothing = matches!(return_shown(&packet.carried), Some(ReturnInfo::Nothing));
+        assert_eq!(rt; nothing, bare, "at {text}");
+    }
+    let legacy = Packet::new(ID, FLOW, 0, 0, Carried::Nothing);
+    assert_eq!(rt; queue_key(Class::Legacy, &legacy), 0);
+    assert!(rt; return_shown(&legacy.carried).is_none());
+    Ok(())
 }
 
 fn crosses<T: Send + Sync>() {}

@@ -1,0 +1,44 @@
+-- What a packet shows to the nodes that it passes.
+use Rattle.std.specs.Prelude.{ℕ, List, []}
+use Rattle.tva_base.specs.declared.packet.Class.{Class}
+use Rattle.tva_base.specs.declared.packet.Class.TheVariants as classes
+use Rattle.tva_shim.specs.declared.entries.Entry.{Entry}
+use Rattle.tva_shim.specs.declared.kinds.Kind.{Kind}
+use Rattle.tva_shim.specs.declared.kinds.Kind.TheVariants as kinds
+use Rattle.tva_shim.specs.declared.kinds.ReturnInfo.{ReturnInfo}
+use Rattle.tva_shim.specs.declared.kinds.ReturnInfo.TheVariants as backs
+use Rattle.tva_shim.specs.declared.packets.Carried.{Carried}
+use Rattle.tva_shim.specs.declared.packets.Carried.TheVariants as carried
+use Rattle.tva_shim.specs.Shims.{entries_of}
+use Rattle.tva_shim.specs.Changes.{last_tag}
+use Rattle.tva_shim.specs.Packets.{PacketData}
+
+-- the entries of a request that a packet carries
+abbrev pub entries_in : Carried → List Entry
+entries_in carried.Nothing = []
+entries_in (carried.Shim shim) = entries_of shim.kind
+entries_in (carried.Malformed bytes) = []
+
+-- the key under which a packet of a class is queued; a legacy packet needs none
+abbrev pub key_of : Class → PacketData → ℕ
+key_of classes.Request p = last_tag (entries_in p.carried)
+key_of classes.Regular p = p.flow.dst.0
+key_of classes.Legacy p = 0
+
+abbrev pub kind_nonce : Kind → ℕ
+kind_nonce (kinds.Request entries) = 0
+kind_nonce (kinds.List shown) = shown.nonce
+kind_nonce (kinds.Nonce nonce) = nonce
+kind_nonce (kinds.Renewal shown) = shown.nonce
+
+-- the nonce that a packet shows, if any
+abbrev pub nonce_in : Carried → ℕ
+nonce_in carried.Nothing = 0
+nonce_in (carried.Shim shim) = kind_nonce shim.kind
+nonce_in (carried.Malformed bytes) = 0
+
+-- the return info that a packet shows
+abbrev pub back_in : Carried → ReturnInfo
+back_in carried.Nothing = backs.Nothing
+back_in (carried.Shim shim) = shim.back
+back_in (carried.Malformed bytes) = backs.Nothing
