@@ -1,6 +1,6 @@
+pub mod Bytes
 pub mod Digits
 pub mod ItemLists
 pub mod Joins
-pub mod Numbered
 pub mod Reading
 pub mod RecordsLeft

@@ -1,5 +1,5 @@
 -- How far a trace is read.
-use Rattle.std.proofs.Common.{◌≡◌, ◌∙◌, sym, ap, refl, ℕ, ◌+◌, ◌<◌, ◌≤◌, ◌==◌, List, [], ◌∷◌, ◌++◌, append_assoc, Option, Some, None, Result, Ok, Err, cond, Bool, true, false, Bor, inl, inr, arith}
+use Rattle.std.proofs.Common.{◌≡◌, ◌∙◌, sym, ap, refl, ℕ, ◌+◌, ◌<◌, ◌≤◌, ◌==◌, List, [], ◌∷◌, ◌++◌, ◌-◌, length, length-append, append_assoc, Option, Some, None, Result, Ok, Err, cond, Bool, true, false, Bor, inl, inr, arith}
 use Rattle.std.proofs.lemmas.Bool.Decides.{eqb_tells}
 use Rattle.std.specs.List.{AllZip}
 use Rattle.std.proofs.lemmas.Bool.{eqb-true}
@@ -7,7 +7,10 @@ use Rattle.std.proofs.lemmas.List.{append-nil}
 use Rattle.std.proofs.Common.{eq-eqb}
 use Rattle.csv.proofs.ReadFacts.{rows-end}
 use Rattle.csv.specs.declared.parser.State.TheVariants as st
-use Rattle.csv.specs.Reading.{ReadRecord, Ready, default_config, source_of, strip_bom}
+use Rattle.csv.specs.Reading.{ExplainsRead, ReadRecord, Ready, default_config, source_of, strip_bom}
+use Rattle.csv.specs.declared.error.ErrorKind.{ErrorKind}
+use Rattle.csv.specs.declared.error.ErrorKind.TheVariants as why
+use Rattle.tva_trace.specs.Shortage.{IsShortage}
 use Rattle.csv.specs.declared.reader.Reader.{Reader}
 use Rattle.csv.specs.declared.reader.Trim.TheVariants as trim
 use Rattle.tva_config.specs.declared.config.Config.{Config}
@@ -18,10 +21,9 @@ use Rattle.tva_trace.specs.declared.rows.TraceRule.TheVariants as rule
 use Rattle.tva_trace.specs.declared.rows.TraceFault.{TraceFault}
 use Rattle.tva_trace.specs.declared.said.SaidRow.{SaidRow}
 use Rattle.tva_trace.specs.Rows.{Judged, behind, fault_at, is_header, row_of, rows_from, rows_of, rows_under, said_by, some_row, then_rows}
-use Rattle.tva_trace.specs.Meaning.{AreRows, CarriedBy, IsPut, Means, MeansWhat}
+use Rattle.tva_trace.specs.Meaning.{AreRows, CarriedBy, IsMeant, IsPut, Means, MeansWhat}
 use Rattle.std.proofs.Common.{IfSome, subst}
 use Rattle.std.specs.Prelude.{All}
-use Rattle.tva_shim.specs.Packets.{IsCarried}
 use Rattle.tva_shim.specs.declared.packets.Carried.{Carried}
 use Rattle.tva_shim.specs.declared.packets.Carried.TheVariants as carried
 use Rattle.tva_trace.specs.declared.rows.RowWhat.{RowWhat}
@@ -29,8 +31,8 @@ use Rattle.tva_trace.specs.declared.said.SaidShim.{SaidShim}
 use Rattle.tva_trace.specs.declared.said.SaidShim.TheVariants.{Bytes, Built}
 use Rattle.tva_trace.specs.declared.said.SaidWhat.{SaidWhat}
 use Rattle.tva_trace.specs.declared.said.SaidWhat.TheVariants as say
-use Rattle.tva_trace.specs.Names.{is_host}
-use Rattle.tva_trace.specs.Valid.{AreTraceRows, IsRow, IsRowWhat, IsSaid, IsSaidShim, IsSaidWhat, NeverFall}
+use Rattle.tva_config.specs.Names.{is_host}
+use Rattle.tva_trace.specs.Valid.{AreTraceRows, IsWithinWidths, IsRow, IsRowWhat, IsSaid, IsSaidShim, IsSaidWhat, NeverFall}
 use Rattle.tva_trace.proofs.RecordsLeft.{left_of, left-none, left-read}
 
 -- what records say of which the first has that number
@@ -52,8 +54,11 @@ pub record IsReadTo (config : Config) (text : List ℕ) (reader : Reader (Bor (L
   pub source : source_of (λ s. Some s.now) reader ≡ Some unread
   pub said : List SaidRow
   pub means : AllZip Means said rows
+  pub only : (other : List Row) → AllZip Means said other → other ≡ rows
   pub rest : rows_of config text ≡ behind said (rows_left (number == 1) config number last (left_of default_config reader.state unread))
   pub counted : (1 ≤ number) × (number ≤ 1000002)
+  pub few : length rows ≤ number - 2
+  pub flexible : reader.flexible ≡ true
   pub from_zero : number ≡ 1 → last ≡ 0
   pub each : All (IsRow config) rows
   pub order : NeverFall 0 rows
@@ -128,9 +133,32 @@ Source = Reader (Bor (List ℕ))
 abbrev told : Bor (List ℕ) → Option (List ℕ)
 told s = Some s.now
 
+-- nothing that is said is met by no row
+none_meant : (other : List Row) → AllZip Means [] other → other ≡ []
+none_meant [] h = refl
+none_meant (row ∷ rows) h = absurd h
+
+-- rows of one more that is said are those of the others, and one more
+split : (said : List SaidRow) (s : SaidRow) (other : List Row) → AllZip Means (said ++ s ∷ []) other
+    → (front : List Row) × (row : Row) × (other ≡ front ++ row ∷ []) × AllZip Means said front × Means s row
+split [] s [] h = absurd h
+split [] s (o ∷ []) h = ([], o, refl, tt, h.0)
+split [] s (o ∷ p ∷ ps) h = absurd h.1
+split (x ∷ xs) s [] h = absurd h
+split (x ∷ xs) s (o ∷ os) h = let r = split xs s os h.1 in (o ∷ r.0, r.1, ap (λ l. o ∷ l) r.2, (h.0, r.3), r.4)
+
+both_same : (front rows : List Row) (last row : Row) → front ≡ rows → last ≡ row → front ++ last ∷ [] ≡ rows ++ row ∷ []
+both_same front rows last row e f = cc
+
+only-push : (said : List SaidRow) (rows : List Row) (s : SaidRow) (row : Row) → ((other : List Row) → AllZip Means said other → other ≡ rows)
+    → ((other : Row) → Means s other → other ≡ row) → (other : List Row) → AllZip Means (said ++ s ∷ []) other → other ≡ rows ++ row ∷ []
+only-push said rows s row only one other h =
+    let r = split said s other h in
+    r.2 ∙ both_same r.0 rows r.1 row (only r.0 r.3) (one r.1 r.4)
+
 -- nothing was read
-pub read-start : (config : Config) (text : List ℕ) (reader : Source) (turns : ℕ) → reader.trim ≡ trim.None → Ready reader → 0 < turns → reader.config ≡ default_config → source_of told reader ≡ Some (strip_bom text) → reader.state ≡ st.StartRecord → IsReadTo config text reader turns 1 0 []
-read-start config text reader turns t r l c s st = record {
+pub read-start : (config : Config) (text : List ℕ) (reader : Source) (turns : ℕ) → reader.trim ≡ trim.None → Ready reader → 0 < turns → reader.config ≡ default_config → source_of told reader ≡ Some (strip_bom text) → reader.state ≡ st.StartRecord → reader.flexible ≡ true → IsReadTo config text reader turns 1 0 []
+read-start config text reader turns t r l c s st flexible = record {
   untrimmed = t;
   is_ready = r;
   goes_on = l;
@@ -139,8 +167,11 @@ read-start config text reader turns t r l c s st = record {
   source = s;
   said = [];
   means = tt;
+  only = none_meant;
   rest = rw st (sym (behind-none (rows_of config text)));
   counted = (omega arith, omega arith);
+  few = omega arith;
+  flexible = flexible;
   from_zero = λ _. refl;
   each = λ k d below. absurd (omega (arith, below));
   order = tt;
@@ -161,8 +192,8 @@ read-fault config text a b turns number last rows fields broken d r e =
     m.2 ∙ ap (behind d.said) (fault_by (number == 1) config number last fields (left_of default_config b.state m.0) broken (eqb-true number 1) e)
 
 -- the header
-pub read-header : (config : Config) (text : List ℕ) (a b : Source) (turns next number last : ℕ) (rows : List Row) (fields : List (List ℕ)) → IsReadTo config text a turns number last rows → ReadRecord told a b true fields → Ready b → 0 < next → number ≤ 1000001 → said_by (number == 1) config number last fields ≡ Ok None → IsReadTo config text b next (number + 1) last rows
-read-header config text a b turns next number last rows fields d r ready goes few e =
+pub read-header : (config : Config) (text : List ℕ) (a b : Source) (turns next number last : ℕ) (rows : List Row) (fields : List (List ℕ)) → IsReadTo config text a turns number last rows → ReadRecord told a b true fields → Ready b → 0 < next → number ≤ 1000001 → said_by (number == 1) config number last fields ≡ Ok None → b.flexible ≡ a.flexible → IsReadTo config text b next (number + 1) last rows
+read-header config text a b turns next number last rows fields d r ready goes few e same =
     let m = rest-read config text a b turns number last rows fields d r in
     let records = left_of default_config b.state m.0 in
     record {
@@ -174,9 +205,12 @@ read-header config text a b turns next number last rows fields d r ready goes fe
       source = m.1;
       said = d.said;
       means = d.means;
+      only = d.only;
       rest = m.2 ∙ ap (behind d.said) (header_by (number == 1) config number last fields records (λ one. (eqb-true number 1 one, d.from_zero (eqb-true number 1 one))) e
           ∙ sym (ap (λ first. rows_left first config (number + 1) last records) (not_first number d.counted.0)));
       counted = (omega arith, omega arith);
+      few = omega (arith, d.few);
+      flexible = same ∙ d.flexible;
       from_zero = λ one. absurd (omega (arith, d.counted.0));
       each = d.each;
       order = d.order;
@@ -193,11 +227,11 @@ ends_at-push last [] row = refl
 ends_at-push last (r ∷ rs) row = ends_at-push r.time.0 rs row
 
 -- what is said within the limits is a row within them
-carried-fits : (shim : SaidShim) (c : Carried) → IsSaidShim shim → CarriedBy shim c → IsCarried c
+carried-fits : (shim : SaidShim) (c : Carried) → IsSaidShim shim → CarriedBy shim c → IsWithinWidths c
 carried-fits (Bytes bytes) carried.Nothing h m = tt
-carried-fits (Bytes bytes) (carried.Shim shim) h m = tt
+carried-fits (Bytes bytes) (carried.Shim shim) h m = m.0
 carried-fits (Bytes bytes) (carried.Malformed count) h m = omega (arith, m.2)
-carried-fits (Built shim) c h m = let P : Carried → Type 0 = λ x. IsCarried x in subst P (sym m) tt
+carried-fits (Built shim) c h m = let P : Carried → Type 0 = λ x. IsWithinWidths x in subst P (sym m) h
 
 what-fits : (b : Bool) (said : SaidWhat) (w : RowWhat) → IsSaidWhat b said → MeansWhat said w → IsRowWhat b w
 what-fits b (say.Send dst payload) w h m = let P : RowWhat → Type 0 = λ x. IsRowWhat b x in subst P (sym m) h
@@ -210,9 +244,21 @@ row-fits config last said row h m = record {
   what = rw (m.1) (what-fits (is_host config.nodes said.node) said.what row.what h.what m.2);
 }
 
+-- a record that says a row isn't the first
+not_the_first : (first : Bool) (config : Config) (number last : ℕ) (fields : List (List ℕ)) (said : SaidRow) → said_by first config number last fields ≡ Ok (Some said) → first ≡ false
+not_the_first true config number last fields said e = absurd (row_first (is_header fields) said e)
+not_the_first false config number last fields said e = refl
+
+behind_header : (config : Config) (number last : ℕ) (fields : List (List ℕ)) (said : SaidRow) → 1 ≤ number → said_by (number == 1) config number last fields ≡ Ok (Some said) → 2 ≤ number
+behind_header config number last fields said some e =
+    let other : (number == 1) ≡ false = not_the_first (number == 1) config number last fields said e in
+    elim (eqb_tells number 1) [ inl t ↦ absurd (cc (t.0, other)) | inr f ↦ omega (arith, f.1) ]
+
 -- a row
-pub read-row : (config : Config) (text : List ℕ) (a b : Source) (turns next number last : ℕ) (rows : List Row) (fields : List (List ℕ)) (said : SaidRow) (row : Row) → IsReadTo config text a turns number last rows → ReadRecord told a b true fields → Ready b → 0 < next → number ≤ 1000001 → said_by (number == 1) config number last fields ≡ Ok (Some said) → IsSaid config last said → Means said row → IsReadTo config text b next (number + 1) said.time.0 (rows ++ row ∷ [])
-read-row config text a b turns next number last rows fields said row d r ready goes few e valid means =
+pub read-row : (config : Config) (text : List ℕ) (a b : Source) (turns next number last : ℕ) (rows : List Row) (fields : List (List ℕ)) (said : SaidRow) (row : Row) → IsReadTo config text a turns number last rows → ReadRecord told a b true fields → Ready b → 0 < next → number ≤ 1000001 → said_by (number == 1) config number last fields ≡ Ok (Some said) → IsSaid config last said → IsMeant said row → b.flexible ≡ a.flexible → IsReadTo config text b next (number + 1) said.time.0 (rows ++ row ∷ [])
+read-row config text a b turns next number last rows fields said row d r ready goes few e valid meant same =
+    let means = meant.means in
+    let later : 2 ≤ number = behind_header config number last fields said d.counted.0 e in
     let m = rest-read config text a b turns number last rows fields d r in
     let records = left_of default_config b.state m.0 in
     record {
@@ -224,15 +270,21 @@ read-row config text a b turns next number last rows fields said row d r ready g
       source = m.1;
       said = d.said ++ said ∷ [];
       means = AllZip-push d.said rows said row d.means means;
+      only = only-push d.said rows said row d.only meant.only;
       rest = m.2 ∙ ap (behind d.said) (row_by (number == 1) config number last fields records said e
           ∙ sym (ap (λ first. behind (said ∷ []) (rows_left first config (number + 1) said.time.0 records)) (not_first number d.counted.0)))
           ∙ behind-behind d.said (said ∷ []) (rows_left (number + 1 == 1) config (number + 1) said.time.0 records);
       counted = (omega arith, omega arith);
+      few = rw (length-append rows (row ∷ [])) (omega (arith, d.few, later));
+      flexible = same ∙ d.flexible;
       from_zero = λ one. absurd (omega (arith, d.counted.0));
       each = All-push (IsRow config) rows row d.each (row-fits config last said row valid means);
       order = NeverFall-push 0 rows row d.order (rw (d.ends, means.0) valid.later);
       ends = ends_at-push 0 rows row ∙ ap (λ t. t.0) means.0;
     }
+
+one_said : (a b : List SaidRow) → ◌≡◌ {A = Result (List SaidRow) TraceFault} (Ok a) (Ok b) → a ≡ b
+one_said a b e = cc
 
 -- no record is left
 rest-none : (config : Config) (text : List ℕ) (a b : Source) (turns number last : ℕ) (rows : List Row) (d : IsReadTo config text a turns number last rows) → ReadRecord told a b false [] → rows_of config text ≡ behind d.said (rows_left (number == 1) config number last [])
@@ -261,12 +313,28 @@ read-whole config text a b turns number last rows d r more =
     (d.said, rest-none config text a b turns number last rows d r ∙ all_rows (number == 1) config number last d.said (not_one number more), d.means)
 
 -- what a record says is put behind the rows
-pub read-on : (said : Option SaidRow) (config : Config) (text : List ℕ) (a b : Source) (turns next number last time : ℕ) (rows new : List Row) (fields : List (List ℕ)) → IsReadTo config text a turns number last rows → ReadRecord told a b true fields → Ready b → 0 < next → number ≤ 1000001 → said_by (number == 1) config number last fields ≡ Ok said → IfSome said (IsSaid config last) → IsPut rows new last time said → IsReadTo config text b next (number + 1) time new
-read-on None config text a b turns next number last time rows new fields d r ready goes few e valid put =
-    rw (put.0, put.1) (read-header config text a b turns next number last rows fields d r ready goes few e)
-read-on (Some said) config text a b turns next number last time rows new fields d r ready goes few e valid put =
-    rw (put.2, put.3) (read-row config text a b turns next number last rows fields said put.0 d r ready goes few e valid put.1)
+pub read-on : (said : Option SaidRow) (config : Config) (text : List ℕ) (a b : Source) (turns next number last time : ℕ) (rows new : List Row) (fields : List (List ℕ)) → IsReadTo config text a turns number last rows → ReadRecord told a b true fields → Ready b → 0 < next → number ≤ 1000001 → said_by (number == 1) config number last fields ≡ Ok said → IfSome said (IsSaid config last) → IsPut rows new last time said → b.flexible ≡ a.flexible → IsReadTo config text b next (number + 1) time new
+read-on None config text a b turns next number last time rows new fields d r ready goes few e valid put same =
+    rw (put.0, put.1) (read-header config text a b turns next number last rows fields d r ready goes few e same)
+read-on (Some said) config text a b turns next number last time rows new fields d r ready goes few e valid put same =
+    rw (put.2, put.3) (read-row config text a b turns next number last rows fields said put.0 d r ready goes few e valid put.1 same)
 
 -- the rows that were read are within the limits
 pub read-valid : (config : Config) (text : List ℕ) (a : Source) (turns number last : ℕ) (rows : List Row) → IsReadTo config text a turns number last rows → AreTraceRows config rows
-read-valid config text a turns number last rows d = record { each = d.each; order = d.order }
+read-valid config text a turns number last rows d = record { few = omega (arith, d.few, d.counted.1); each = d.each; order = d.order }
+
+-- no other rows are the text's
+pub read-only : (config : Config) (text : List ℕ) (a b : Source) (turns number last : ℕ) (rows : List Row) → IsReadTo config text a turns number last rows → ReadRecord told a b false [] → (number ≡ 1 → ⊥) → (other : List Row) → AreRows config text other → other ≡ rows
+read-only config text a b turns number last rows d r more other are =
+    let told : rows_of config text ≡ Ok d.said = rest-none config text a b turns number last rows d r ∙ all_rows (number == 1) config number last d.said (not_one number more) in
+    let same : are.0 ≡ d.said = one_said are.0 d.said (sym are.1 ∙ told) in
+    d.only other (subst (λ (said : List SaidRow). AllZip Means said other) same are.2)
+
+-- an error of a reader that takes any number of fields is want of memory, or of the bytes below it
+pub read-short : (config : Config) (text : List ℕ) (a b : Source) (turns number last : ℕ) (rows : List Row) (why : ErrorKind) → IsReadTo config text a turns number last rows → ExplainsRead told a b false why → IsShortage why
+read-short config text a b turns number last rows (why.Io e) d x = tt
+read-short config text a b turns number last rows why.OutOfMemory d x = tt
+read-short config text a b turns number last rows (why.UnequalLengths pos expected len) d x = let flexible = d.flexible in let not = x.0 in absurd (cc)
+read-short config text a b turns number last rows (why.Utf8 pos err) d x = let of_text = x.0 in absurd (cc)
+read-short config text a b turns number last rows (why.Serialize what) d x = absurd x
+read-short config text a b turns number last rows (why.Deserialize pos err) d x = absurd x

@@ -8,7 +8,8 @@ use Rattle.hex.specs.declared.error.FromHexError.{FromHexError}
 use Rattle.tva_base.specs.declared.packet.Flow.{Flow}
 use Rattle.tva_base.specs.declared.packet.Rights.{Rights}
 use Rattle.tva_base.specs.Decimal.{decimal_of}
-use Rattle.tva_base.specs.Addresses.{◌>>=◌, parted}
+use Rattle.tva_base.specs.Addresses.{parted}
+use Rattle.tva_base.specs.Options.{◌>>=◌}
 use Rattle.tva_shim.specs.declared.kinds.Shown.{Shown}
 use Rattle.tva_shim.specs.declared.kinds.Kind.{Kind}
 use Rattle.tva_shim.specs.declared.kinds.Kind.TheVariants as shims
@@ -108,6 +109,9 @@ plain_shim k = record { demoted = false; protocol = 6; kind = k; back = backs.No
 unfoldable pub shim_of : List NodePlan → kinds.RowKind → Flow → List ℕ → Option said.SaidShim
 shim_of plans kind.Send flow text = None
 shim_of plans kind.Raw flow text = option_map Bytes (raw_of text)
-shim_of plans kind.List flow text = option_map (λ shown. Built (plain_shim (shims.List shown))) (shown_of plans flow text)
-shim_of plans kind.Renew flow text = option_map (λ shown. Built (plain_shim (shims.Renewal shown))) (shown_of plans flow text)
-shim_of plans kind.Nonce flow text = option_map (λ nonce. Built (plain_shim (shims.Nonce nonce))) (hex_number_of 6 text)
+shim_of plans kind.List flow text =
+    option_map (λ shown. Built (plain_shim (shims.List shown))) (shown_of plans flow text)
+shim_of plans kind.Renew flow text =
+    option_map (λ shown. Built (plain_shim (shims.Renewal shown))) (shown_of plans flow text)
+shim_of plans kind.Nonce flow text =
+    option_map (λ nonce. Built (plain_shim (shims.Nonce nonce))) (hex_number_of 6 text)

@@ -2,8 +2,8 @@ pub mod Items
 pub mod Lines
 pub mod Meaning
 pub mod Names
-pub mod Numbers
 pub mod Rows
 pub mod ShimText
 pub mod Valid
 pub mod Words
+pub mod Shortage

@@ -12,12 +12,12 @@ use Rattle.tva_base.specs.declared.event.Happened.TheVariants.{Arrived, Sent, Re
 use Rattle.tva_base.specs.declared.event.ReplyLine.{ReplyLine}
 use Rattle.tva_base.specs.declared.event.Totals.{Totals}
 use Rattle.tva_config.specs.declared.config.Config.{Config}
-use Rattle.tva_trace.specs.Names.{name_of_plan}
+use Rattle.tva_config.specs.Names.{name_at}
 use Rattle.tva_trace.specs.Words.{class_word, cause_word, drop_word, shape_word, what_word, back_word}
 
 -- the name of the node with that number
 abbrev pub name_of : Config → ℕ → List ℕ
-name_of config number = option_map_or name_of_plan (slice_get config.nodes number) []
+name_of config number = option_map_or name_at (slice_get config.nodes number) []
 
 -- the name of the node before a link, and of the node behind it
 abbrev pub name_before : Config → ℕ → List ℕ
@@ -46,14 +46,22 @@ cause_or_dash (Some why) = cause_word why
 -- a reply is one word, whose parts are joined by `/`
 abbrev pub reply_word : Config → Option ReplyLine → List ℕ
 reply_word config None = codes "-"
-reply_word config (Some r) = join_with_byte 47 (id_word config r.id ∷ decimal r.length ∷ shape_word r.shape ∷ back_word r.back ∷ outcome_word config r.outcome ∷ [])
+reply_word config (Some r) =
+    join_with_byte 47
+    (id_word config r.id ∷ decimal r.length ∷ shape_word r.shape ∷ back_word r.back ∷ outcome_word config r.outcome ∷ [])
 
 -- the words of what happened
 abbrev pub happened_words : Config → happened.Happened → List (List ℕ)
-happened_words config (Arrived id bytes from fate) = codes "in" ∷ id_word config id ∷ decimal bytes ∷ from_word config from ∷ class_word fate.class ∷ cause_or_dash fate.cause ∷ outcome_word config fate.outcome ∷ []
-happened_words config (Sent id bytes shape outcome) = codes "send" ∷ id_word config id ∷ decimal bytes ∷ shape_word shape ∷ outcome_word config outcome ∷ []
-happened_words config (Received id bytes from payload what back reply) = codes "recv" ∷ id_word config id ∷ decimal bytes ∷ name_before config from ∷ what_word what ∷ back_word back ∷ reply_word config reply ∷ []
-happened_words config (Started id bytes link class end) = codes "start" ∷ id_word config id ∷ decimal bytes ∷ name_behind config link ∷ class_word class ∷ decimal end.0 ∷ []
+happened_words config (Arrived id bytes from fate) =
+    codes "in" ∷ id_word config id ∷ decimal bytes ∷ from_word config from
+    ∷ class_word fate.class ∷ cause_or_dash fate.cause ∷ outcome_word config fate.outcome ∷ []
+happened_words config (Sent id bytes shape outcome) =
+    codes "send" ∷ id_word config id ∷ decimal bytes ∷ shape_word shape ∷ outcome_word config outcome ∷ []
+happened_words config (Received id bytes from payload what back reply) =
+    codes "recv" ∷ id_word config id ∷ decimal bytes ∷ name_before config from
+    ∷ what_word what ∷ back_word back ∷ reply_word config reply ∷ []
+happened_words config (Started id bytes link class end) =
+    codes "start" ∷ id_word config id ∷ decimal bytes ∷ name_behind config link ∷ class_word class ∷ decimal end.0 ∷ []
 
 -- words, joined by blanks, and a line feed
 abbrev pub line_of_words : List (List ℕ) → List ℕ
@@ -61,11 +69,17 @@ line_of_words words = join_with_byte 32 words ++ codes "\n"
 
 -- the line of an event
 abbrev pub line_of : Config → Event → List ℕ
-line_of config event = line_of_words (decimal event.time.0 ∷ name_of config event.node ∷ happened_words config event.happened)
+line_of config event =
+    line_of_words (decimal event.time.0 ∷ name_of config event.node ∷ happened_words config event.happened)
 
 -- the last line of a report
 abbrev pub summary_of : Totals → List ℕ
-summary_of t = line_of_words (codes "total" ∷ (codes "events=" ++ decimal t.events) ∷ (codes "routed=" ++ decimal t.routed) ∷ (codes "authorised=" ++ decimal t.authorised) ∷ (codes "demoted=" ++ decimal t.demoted) ∷ (codes "dropped=" ++ decimal t.dropped) ∷ (codes "started=" ++ decimal t.started) ∷ (codes "received=" ++ decimal t.received) ∷ (codes "bytes=" ++ decimal t.bytes) ∷ [])
+summary_of t =
+    line_of_words
+    (codes "total" ∷ (codes "events=" ++ decimal t.events) ∷ (codes "routed=" ++ decimal t.routed)
+    ∷ (codes "authorised=" ++ decimal t.authorised) ∷ (codes "demoted=" ++ decimal t.demoted)
+    ∷ (codes "dropped=" ++ decimal t.dropped) ∷ (codes "started=" ++ decimal t.started)
+    ∷ (codes "received=" ++ decimal t.received) ∷ (codes "bytes=" ++ decimal t.bytes) ∷ [])
 
 -- which nodes and links a configuration has
 abbrev pub HasNode : Config → ℕ → Type 0
@@ -91,9 +105,11 @@ HasReply config None = Unit {0}
 HasReply config (Some r) = HasNode config r.id.node × HasOutcome config r.outcome
 
 abbrev pub HasHappened : Config → happened.Happened → Type 0
-HasHappened config (Arrived id bytes from fate) = HasNode config id.node × HasSource config from × HasOutcome config fate.outcome
+HasHappened config (Arrived id bytes from fate) =
+    HasNode config id.node × HasSource config from × HasOutcome config fate.outcome
 HasHappened config (Sent id bytes shape outcome) = HasNode config id.node × HasOutcome config outcome
-HasHappened config (Received id bytes from payload what back reply) = HasNode config id.node × HasLink config from × HasReply config reply
+HasHappened config (Received id bytes from payload what back reply) =
+    HasNode config id.node × HasLink config from × HasReply config reply
 HasHappened config (Started id bytes link class end) = HasNode config id.node × HasLink config link
 
 -- the nodes and links that an event names are the configuration's

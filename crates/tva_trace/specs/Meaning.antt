@@ -23,10 +23,11 @@ use Rattle.tva_trace.specs.Rows.{rows_of}
 abbrev pub HaveNoShim : List ℕ → Type 0
 HaveNoShim bytes = (s : ShimData) → IsShim s → layout s ≢ bytes
 
--- what bytes carry: no bytes nothing, the layout of a shim that shim, all others so many bytes that are none
+-- what bytes carry: no bytes nothing, the layout of a shim that shim, all others so many bytes that are
+-- none
 abbrev pub CarriedByBytes : List ℕ → carries.Carried → Type 0
 CarriedByBytes bytes carried.Nothing = bytes ≡ []
-CarriedByBytes bytes (carried.Shim shim) = layout shim ≡ bytes
+CarriedByBytes bytes (carried.Shim shim) = IsShim shim × (layout shim ≡ bytes)
 CarriedByBytes bytes (carried.Malformed count) = (bytes ≢ []) × HaveNoShim bytes × (count ≡ length bytes)
 
 abbrev pub CarriedBy : says.SaidShim → carries.Carried → Type 0
@@ -35,16 +36,23 @@ CarriedBy (Built shim) c = c ≡ carried.Shim shim
 
 abbrev pub MeansWhat : saids.SaidWhat → whats.RowWhat → Type 0
 MeansWhat (say.Send dst payload) w = w ≡ what.Send dst payload
-MeansWhat (say.Inject flow payload shim) w = (c : carries.Carried) × CarriedBy shim c × (w ≡ what.Inject flow payload c)
+MeansWhat (say.Inject flow payload shim) w =
+    (c : carries.Carried) × CarriedBy shim c × (w ≡ what.Inject flow payload c)
 
 -- a row is what was said
 abbrev pub Means : SaidRow → Row → Type 0
 Means said row = (row.time ≡ said.time) × (row.node ≡ said.node) × MeansWhat said.what row.what
 
+-- the row is what was said, and no other row is
+pub record IsMeant (said : SaidRow) (row : Row) : Type 0 where
+  pub means : Means said row
+  pub only : (other : Row) → Means said other → other ≡ row
+
 -- the row that is said is put behind others, and its time is the last; where none is said nothing changes
 abbrev pub IsPut : List Row → List Row → ℕ → ℕ → Option SaidRow → Type 0
 IsPut old new last time None = (new ≡ old) × (time ≡ last)
-IsPut old new last time (Some said) = (row : Row) × Means said row × (new ≡ old ++ row ∷ []) × (time ≡ said.time.0)
+IsPut old new last time (Some said) =
+    (row : Row) × IsMeant said row × (new ≡ old ++ row ∷ []) × (time ≡ said.time.0)
 
 -- the rows of a text
 abbrev pub AreRows : Config → List ℕ → List Row → Type 0

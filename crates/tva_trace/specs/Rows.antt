@@ -18,7 +18,7 @@ use Rattle.tva_trace.specs.declared.rows.TraceFault.{TraceFault}
 use Rattle.tva_trace.specs.declared.said.SaidWhat as said
 use Rattle.tva_trace.specs.declared.said.SaidWhat.TheVariants as say
 use Rattle.tva_trace.specs.declared.said.SaidRow.{SaidRow}
-use Rattle.tva_trace.specs.Names.{is_host, node_named}
+use Rattle.tva_config.specs.Names.{is_host, node_named}
 use Rattle.tva_trace.specs.Items.{shim_of}
 
 -- a value, or the rule that is broken
@@ -117,21 +117,23 @@ behind rows (Ok more) = Ok (rows ++ more)
 behind rows (Err fault) = Err fault
 
 -- a row and those behind it, or the rule that it breaks
-abbrev pub then_rows : ℕ → Judged SaidRow → (ℕ → Result (List SaidRow) TraceFault) → Result (List SaidRow) TraceFault
+abbrev pub then_rows : ℕ → Judged SaidRow → (ℕ → Result (List SaidRow) TraceFault)
+    → Result (List SaidRow) TraceFault
 then_rows number (Err broken) more = Err (fault_at number broken)
 then_rows number (Ok row) more = behind (row ∷ []) (more row.time.0)
 
 -- the rows of records of which the first has that number, behind a row of that time
 unfoldable pub rows_from : Config → ℕ → ℕ → List (List (List ℕ)) → Result (List SaidRow) TraceFault
 rows_from config number last [] = Ok []
-rows_from config number last (fields ∷ records) = then_rows number (row_of config number last fields) (λ time. rows_from config (number + 1) time records)
+rows_from config number last (fields ∷ records) =
+    then_rows number (row_of config number last fields) (λ time. rows_from config (number + 1) time records)
 
 -- the first record names the fields
 abbrev pub is_header : List (List ℕ) → Bool
 is_header fields =
     (length fields == 7) && bytes_eq (field fields 0) (codes "time") && bytes_eq (field fields 1) (codes "node")
-    && bytes_eq (field fields 2) (codes "kind") && bytes_eq (field fields 3) (codes "src") && bytes_eq (field fields 4) (codes "dst")
-    && bytes_eq (field fields 5) (codes "payload") && bytes_eq (field fields 6) (codes "shim")
+    && bytes_eq (field fields 2) (codes "kind") && bytes_eq (field fields 3) (codes "src")
+    && bytes_eq (field fields 4) (codes "dst") && bytes_eq (field fields 5) (codes "payload") && bytes_eq (field fields 6) (codes "shim")
 
 -- what a record says: nothing where it is the first
 abbrev pub header_of : List (List ℕ) → Judged (Option SaidRow)
@@ -142,11 +144,13 @@ some_row (Ok row) = Ok (Some row)
 some_row (Err broken) = Err broken
 
 abbrev pub said_by : Bool → Config → ℕ → ℕ → List (List ℕ) → Judged (Option SaidRow)
-said_by first config number last fields = if first then header_of fields else some_row (row_of config number last fields)
+said_by first config number last fields =
+    if first then header_of fields else some_row (row_of config number last fields)
 
 unfoldable pub rows_under : Config → List (List (List ℕ)) → Result (List SaidRow) TraceFault
 rows_under config [] = Err (fault_at 1 rule.Header)
-rows_under config (fields ∷ records) = if is_header fields then rows_from config 2 0 records else Err (fault_at 1 rule.Header)
+rows_under config (fields ∷ records) =
+    if is_header fields then rows_from config 2 0 records else Err (fault_at 1 rule.Header)
 
 -- the records that `csv` gives for a text, without a byte order mark
 abbrev pub records_in : List ℕ → List (List (List ℕ))

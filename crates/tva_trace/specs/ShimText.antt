@@ -39,7 +39,8 @@ abbrev pub nonce_word : ℕ → List ℕ
 nonce_word nonce = codes "nonce=" ++ digits_of 6 nonce
 
 abbrev pub shown_words : Shown → List (List ℕ)
-shown_words s = nonce_word s.nonce ∷ (codes "pointer=" ++ decimal s.pointer) ∷ rights_words s.rights ++ (caps_word s.caps ∷ [])
+shown_words s =
+    nonce_word s.nonce ∷ (codes "pointer=" ++ decimal s.pointer) ∷ rights_words s.rights ++ (caps_word s.caps ∷ [])
 
 abbrev pub kind_name : Kind → List ℕ
 kind_name (kinds.Request entries) = codes "request"

@@ -1,6 +1,8 @@
 -- What every row keeps that was read under a configuration.
 use Rattle.std.specs.Prelude.{◌≡◌, ◌≤◌, ◌<◌, ℕ, Bool, true, List, [], ◌∷◌, length, All}
-use Rattle.tva_shim.specs.Packets.{IsCarried}
+use Rattle.tva_shim.specs.Shims.{IsShim}
+use Rattle.tva_shim.specs.declared.packets.Carried.{Carried}
+use Rattle.tva_shim.specs.declared.packets.Carried.TheVariants as carried
 use Rattle.tva_config.specs.declared.config.Config.{Config}
 use Rattle.tva_trace.specs.declared.rows.Row.{Row}
 use Rattle.tva_trace.specs.declared.rows.RowWhat as whats
@@ -12,12 +14,18 @@ use Rattle.tva_trace.specs.declared.said.SaidShim.TheVariants.{Bytes, Built}
 use Rattle.tva_trace.specs.declared.said.SaidWhat as saids
 use Rattle.tva_trace.specs.declared.said.SaidWhat.TheVariants as say
 use Rattle.tva_trace.specs.declared.said.SaidRow.{SaidRow}
-use Rattle.tva_trace.specs.Names.{is_host}
+use Rattle.tva_config.specs.Names.{is_host}
+
+-- a shim has its widths, and a malformed one at most 400 bytes
+abbrev pub IsWithinWidths : Carried → Type 0
+IsWithinWidths carried.Nothing = Unit {0}
+IsWithinWidths (carried.Shim shim) = IsShim shim
+IsWithinWidths (carried.Malformed bytes) = bytes ≤ 400
 
 -- what may stand at a node, which is a host or not
 abbrev pub IsRowWhat : Bool → whats.RowWhat → Type 0
 IsRowWhat at_host (what.Send dst payload) = (at_host ≡ true) × (payload ≤ 1600)
-IsRowWhat at_host (what.Inject flow payload carried) = (payload ≤ 1600) × IsCarried carried
+IsRowWhat at_host (what.Inject flow payload carries) = (payload ≤ 1600) × IsWithinWidths carries
 
 -- a row of a node, up to the horizon
 pub record IsRow (config : Config) (row : Row) : Type 0 where
@@ -32,13 +40,14 @@ NeverFall last (row ∷ rows) = (last ≤ row.time.0) × NeverFall row.time.0 ro
 
 -- rows that a network can be given
 pub record AreTraceRows (config : Config) (rows : List Row) : Type 0 where
+  pub few : length rows ≤ 1000000
   pub each : All (IsRow config) rows
   pub order : NeverFall 0 rows
 
 -- the same of what is said, before the bytes of a raw shim are taken for what they are
 abbrev pub IsSaidShim : says.SaidShim → Type 0
 IsSaidShim (Bytes bytes) = length bytes ≤ 400
-IsSaidShim (Built shim) = Unit {0}
+IsSaidShim (Built shim) = IsShim shim
 
 abbrev pub IsAllowed : Bool → kinds.RowKind → Type 0
 IsAllowed at_host kind.Send = at_host ≡ true

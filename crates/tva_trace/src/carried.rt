@@ -1,8 +1,10 @@
 // What the shim of a row carries.
 ghost use Rattle.std.specs.Prelude.{◌≡◌, IfNone, IfSome};
+ghost use Rattle.tva_shim.specs.declared.packets.Carried.{Carried};
 ghost use Rattle.tva_shim.specs.Layout.{layout};
 ghost use Rattle.tva_shim.specs.Shims.{IsShim, ShimData};
-ghost use Rattle.tva_trace.specs.Meaning.{CarriedBy, CarriedByBytes, Means, MeansWhat};
+ghost use Rattle.tva_trace.specs.declared.rows.RowWhat.{RowWhat};
+ghost use Rattle.tva_trace.specs.Meaning.{CarriedBy, CarriedByBytes, IsMeant, Means, MeansWhat};
 
 use crate::rows::{Row, RowWhat};
 use crate::said::{RawBytes, SaidRow, SaidShim, SaidWhat};
@@ -10,7 +12,7 @@ use tva_shim::{Carried, decode};
 
 /// The row that is meant.
 pub fn row_from(said: SaidRow) -> Row
-    ensures { Means said result }
+    ensures { IsMeant said result }
 {
     let SaidRow { time, node, what } = said;
     Row {
@@ -21,7 +23,8 @@ pub fn row_from(said: SaidRow) -> Row
 }
 
 fn what_from(said: SaidWhat) -> RowWhat
-    ensures { MeansWhat said result }
+    ensures means { MeansWhat said result }
+    ensures only { (other : RowWhat) → MeansWhat said other → other ≡ result }
 {
     match said {
         SaidWhat::Send { dst, payload } => RowWhat::Send { dst, payload },
@@ -38,7 +41,8 @@ fn what_from(said: SaidWhat) -> RowWhat
 }
 
 fn carried_from(shim: SaidShim) -> Carried
-    ensures { CarriedBy shim result }
+    ensures carried { CarriedBy shim result }
+    ensures only { (other : Carried) → CarriedBy shim other → other ≡ result }
 {
     match shim {
         SaidShim::Built(shim) => Carried::Shim(shim),
@@ -49,7 +53,8 @@ fn carried_from(shim: SaidShim) -> Carried
 /// What bytes carry: no bytes nothing, the layout of a shim that shim, and all others so many bytes
 /// that are none.
 fn carried_by_bytes(bytes: &RawBytes) -> Carried
-    ensures { CarriedByBytes bytes.now result }
+    ensures carried { CarriedByBytes bytes.now result }
+    ensures only { (other : Carried) → CarriedByBytes bytes.now other → other ≡ result }
 {
     let bytes = bytes.as_slice();
     if bytes.is_empty() {

@@ -7,7 +7,7 @@ ghost use Rattle.tva_base.specs.Plan.{AreRights};
 ghost use Rattle.tva_shim.specs.Shims.{IsShown, IsKind};
 ghost use Rattle.tva_trace.specs.declared.said.SaidShim.TheVariants as says;
 ghost use Rattle.tva_trace.specs.Items.{caps_of, hex_number_of, item_of, minted_of, plain_shim, raw_of, rights_of, shim_of, shown_of};
-ghost use Rattle.tva_trace.specs.Numbers.{Numbers};
+ghost use Rattle.tva_config.specs.Numbers.{Numbers};
 ghost use Rattle.tva_trace.specs.Valid.{IsSaidShim};
 
 use crate::names::master_named;
@@ -219,7 +219,8 @@ pub fn shim_of(
 /// A shim with protocol 6, no mark and no return info.
 fn plain_shim(kind: Kind) -> SaidShim
     requires { IsKind kind }
-    ensures { result ≡ says.Built (plain_shim kind) }
+    ensures shim { result ≡ says.Built (plain_shim kind) }
+    ensures valid { IsSaidShim result }
 {
     SaidShim::Built(Shim::new(false, 6, kind, ReturnInfo::Nothing))
 }

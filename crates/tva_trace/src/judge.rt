@@ -1,20 +1,19 @@
 // What a record says, or the first rule that it breaks.
 ghost use Rattle.std.specs.Prelude.{◌≡◌, ◌<◌, ◌≤◌, Bool, true, IfOk, IfSome, OnOk, length};
 ghost use Rattle.csv.specs.Records.{fields_of};
-ghost use Rattle.tva_trace.specs.Numbers.{Numbers};
+ghost use Rattle.tva_config.specs.Numbers.{Numbers};
 ghost use Rattle.tva_trace.specs.Rows.{hold, injection_of, kind_at, row_of, sending_of, what_of};
-ghost use Rattle.tva_trace.specs.Names.{is_host};
+ghost use Rattle.tva_config.specs.Names.{is_host};
 ghost use Rattle.tva_trace.specs.Valid.{IsAllowed, IsSaid, IsSaidWhat};
 
 use crate::fields::{allowed, field, is_empty, kind_of};
 use crate::items::shim_of;
-use crate::names::{is_host, number_of};
 use crate::rows::{RowKind, TraceRule};
 use crate::said::{SaidRow, SaidWhat};
 use csv::ByteRecord;
 use std::collections::HashMap;
 use tva_base::{Flow, Time, address, decimal};
-use tva_config::{Config, NodePlan};
+use tva_config::{Config, NodePlan, is_host, number_of};
 
 /// A rule that a test meets.
 fn hold(rule: TraceRule, test: bool) -> Result<(), TraceRule>

@@ -1,21 +1,23 @@
 // Reads a trace.
-ghost use Rattle.std.specs.Prelude.{◌≡◌, ◌≤◌, ◌==◌, IfOk, IfSome, OnOk, length};
+ghost use Rattle.std.specs.Prelude.{◌≡◌, ◌≤◌, ◌==◌, List, IfOk, IfSome, OnOk, length};
 ghost use Rattle.csv.specs.Records.{fields_of};
-ghost use Rattle.tva_trace.specs.Meaning.{Answers, IsPut};
-ghost use Rattle.tva_trace.specs.Numbers.{Numbers};
+ghost use Rattle.tva_trace.specs.declared.rows.Row.{Row};
+ghost use Rattle.tva_trace.specs.declared.rows.TraceError.TheVariants as error;
+ghost use Rattle.tva_trace.specs.Meaning.{Answers, AreRows, IsPut};
+ghost use Rattle.tva_config.specs.Numbers.{Numbers};
 ghost use Rattle.tva_trace.specs.Rows.{said_by};
+ghost use Rattle.tva_trace.specs.Shortage.{IsShortage};
 ghost use Rattle.tva_trace.specs.Valid.{AreTraceRows, IsSaid};
 
 use crate::carried::row_from;
 use crate::fields::is_header;
 use crate::judge::row_of;
-use crate::names::node_numbers;
 use crate::rows::{Row, TraceError, TraceFault, TraceRule};
 use crate::said::SaidRow;
-use csv::{ByteRecord, ReaderBuilder};
+use csv::{ByteRecord, ErrorKind, ReaderBuilder};
 use std::alloc::{AllocError, Global};
 use std::collections::HashMap;
-use tva_config::Config;
+use tva_config::{Config, node_numbers};
 
 /// The rows of a trace, or the first record that breaks a rule with the first rule that it breaks.
 /// The configuration has at most 65,536 nodes, as each that was read has. Rows stand in the order
@@ -24,6 +26,7 @@ use tva_config::Config;
 pub fn read_trace(alloc: Global, text: &[u8], config: &Config) -> Result<Vec<Row>, TraceError>
     requires { length config.now.nodes ≤ 65536 }
     ensures answer { Answers config.now text.now result }
+    ensures only { IfOk result (λ rows. (other : List Row) → AreRows config.now text.now other → other ≡ rows.items) }
     ensures valid { IfOk result (λ rows. AreTraceRows config.now rows.items) }
 {
     match node_numbers(alloc, config.nodes.as_slice()) {
@@ -41,6 +44,7 @@ fn read_rows(
 ) -> Result<Vec<Row>, TraceError>
     requires { Numbers config.now.nodes numbers.now }
     ensures answer { Answers config.now text.now result }
+    ensures only { IfOk result (λ rows. (other : List Row) → AreRows config.now text.now other → other ≡ rows.items) }
     ensures valid { IfOk result (λ rows. AreTraceRows config.now rows.items) }
 {
     let mut rows = Vec::new(alloc);
@@ -51,8 +55,9 @@ fn read_rows(
         .flexible(true)
         .from_reader(alloc, text);
     for record in reader.into_byte_records() {
-        let Ok(record) = record else {
-            return Err(TraceError::OutOfMemory);
+        let record = match record {
+            Ok(record) => record,
+            Err(error) => return Err(shortage(error.kind())),
         };
         let said = match said_by(config, numbers, number, last, &record) {
             Ok(said) => said,
@@ -71,6 +76,17 @@ fn read_rows(
         }));
     }
     Ok(rows)
+}
+
+/// A reader of bytes in memory that takes any number of fields lacks nothing but memory.
+fn shortage(kind: &ErrorKind) -> TraceError
+    requires { IsShortage kind.now }
+    ensures { result ≡ error.OutOfMemory }
+{
+    match kind {
+        ErrorKind::OutOfMemory | ErrorKind::Io(_) => TraceError::OutOfMemory,
+        _ => unreachable!(),
+    }
 }
 
 /// Puts a row last, if there is one, and answers the last row's time.
