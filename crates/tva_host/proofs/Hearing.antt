@@ -15,7 +15,8 @@ use Rattle.tva_host.specs.declared.made.Made.{Made}
 use Rattle.tva_host.specs.declared.made.Receipt.{Receipt}
 use Rattle.tva_host.specs.History.{History}
 use Rattle.tva_host.specs.Stands.{HostData, Keeps}
-use Rattle.tva_host.specs.Receiving.{ClaimData, back_in, became_of, what_of, reply_of, claim_in, decided_on, answer_to, after_answer, after_reply, before_reply, stray, received, receipt_of, after_receipt}
+use Rattle.tva_shim.specs.Shows.{back_in}
+use Rattle.tva_host.specs.Receiving.{ClaimData, became_of, what_of, reply_of, claim_in, decided_on, answer_to, after_answer, after_reply, before_reply, stray, received, receipt_of, after_receipt}
 use Rattle.tva_host.proofs.Standing.{noted, keeps-deed}
 
 -- the policy decided on a claim

@@ -17,7 +17,8 @@ use Rattle.tva_sender.proofs.Playing.{none-later, none-push, next-push, next-pre
 use Rattle.tva_sender.proofs.Standing.{each-more}
 use Rattle.tva_host.specs.History.{History, beginning, with_deed, offered}
 use Rattle.tva_host.specs.Sending.{next_shape, with_made, after_intending}
-use Rattle.tva_host.specs.Receiving.{back_in, met_by, claim_in, answer_to, after_reply, before_reply, after_receipt}
+use Rattle.tva_shim.specs.Shows.{back_in}
+use Rattle.tva_host.specs.Receiving.{met_by, claim_in, answer_to, after_reply, before_reply, after_receipt}
 use Rattle.tva_host.specs.Calls.{Call, Intended, Injected, Received, after_call, history_from, history_of, last_time, NeverFall}
 
 -- each peer's contacts are played, and none is later than that

@@ -12,6 +12,7 @@ use Rattle.tva_shim.specs.declared.kinds.Kind.{Kind}
 use Rattle.tva_shim.specs.declared.kinds.Kind.TheVariants as kinds
 use Rattle.tva_shim.specs.declared.kinds.ReturnInfo.{ReturnInfo}
 use Rattle.tva_shim.specs.declared.kinds.ReturnInfo.TheVariants as backs
+use Rattle.tva_shim.specs.Shows.{back_in}
 use Rattle.tva_shim.specs.declared.packets.Carried.{Carried}
 use Rattle.tva_shim.specs.declared.packets.Carried.TheVariants as carried
 use Rattle.tva_shim.specs.Changes.{nonzero_tags}
@@ -25,12 +26,6 @@ use Rattle.tva_host.specs.declared.made.Made.{Made}
 use Rattle.tva_host.specs.declared.made.Receipt.{Receipt}
 use Rattle.tva_host.specs.History.{History}
 use Rattle.tva_host.specs.Sending.{shim_of, next_shape, next_made, with_made}
-
--- the return info of a packet
-abbrev pub back_in : Carried → ReturnInfo
-back_in carried.Nothing = backs.Nothing
-back_in (carried.Shim shim) = shim.back
-back_in (carried.Malformed size) = backs.Nothing
 
 abbrev pub taken_or_ignored : Bool → BackKind
 taken_or_ignored is_taken = if is_taken then became.Grant else became.Ignored

@@ -3,11 +3,12 @@ ghost use Rattle.std.specs.Prelude.{◌≡◌, ◌≤◌, ◌+◌, min, ◌==◌
 ghost use Rattle.tva_base.specs.Plan.{IsHostPlan};
 ghost use Rattle.tva_shim.specs.Shims.{IsReturn};
 ghost use Rattle.tva_shim.specs.Packets.{IsCarried};
+ghost use Rattle.tva_shim.specs.Shows.{back_in};
 ghost use Rattle.tva_policy.specs.Grants.{Sent};
 ghost use Rattle.tva_sender.specs.Showable.{IsShowable};
 ghost use Rattle.tva_host.specs.History.{History, with_deed, with_packet, with_prepared};
 ghost use Rattle.tva_host.specs.Sending.{next_packet, next_shape, intended};
-ghost use Rattle.tva_host.specs.Receiving.{back_in, taken_or_ignored, became_of, after_back, claim_in, answer_to, after_answer, reply_of, after_reply, receipt_of};
+ghost use Rattle.tva_host.specs.Receiving.{taken_or_ignored, became_of, after_back, claim_in, answer_to, after_answer, reply_of, after_reply, receipt_of};
 ghost use Rattle.tva_host.specs.Calls.{Call, Intended, Injected, Received, history_of};
 ghost use Rattle.tva_host.specs.Stands.{Keeps, StandsFor, with_room, at_time};
 
