@@ -4,6 +4,7 @@
 //! start faster than the link's share for them and a burst allow; and that no start is missed.
 #![tactic(auto)]
 
+mod bounds;
 #[cfg(test)]
 mod cases;
 mod credits;
@@ -14,6 +15,7 @@ mod legacy;
 mod parts;
 mod port;
 
+pub use bounds::{regulars_start_in_time, requests_start_in_time};
 pub use decision::Decision;
 pub use laws::{
     links_rest, logs_have_places, queues_keep_limits, requests_keep_their_rate, starts_rise,
