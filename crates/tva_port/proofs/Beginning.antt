@@ -24,7 +24,7 @@ use Rattle.tva_port.proofs.Idling.{within}
 use Rattle.tva_port.proofs.Tracking.{IsQueueing, limits_of, fair_now, queues-step, Tracks}
 use Rattle.tva_port.proofs.Going.{Finds}
 
-goes_rest : (l : LinkLimits) (past log rest : List Entry) → GoesOn l past (log ++ rest) → GoesOn l (past ++ log) rest
+pub goes_rest : (l : LinkLimits) (past log rest : List Entry) → GoesOn l past (log ++ rest) → GoesOn l (past ++ log) rest
 goes_rest l past [] rest g = subst (λ z. GoesOn l z rest) (sym (append-nil past)) g
 goes_rest l past (e ∷ es) rest g = subst (λ z. GoesOn l z rest) (append_assoc past (e ∷ []) es) (goes_rest l (past ++ e ∷ []) es rest g.1)
 

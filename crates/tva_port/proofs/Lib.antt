@@ -13,3 +13,5 @@ pub mod Going
 pub mod Beginning
 pub mod RequestBound
 pub mod RegularBound
+pub mod Evenly
+pub mod Served

@@ -19,7 +19,7 @@ use Rattle.tva_port.specs.Log.{Entry, Queued, Started, entry_time, NoneLater, cu
 use Rattle.tva_port.specs.Waiting.{waiting_after}
 use Rattle.tva_port.specs.Decide.{RestsAt, MissesNone}
 use Rattle.tva_port.specs.Legal.{Follows, GoesOn, IsStarted, IsLegal}
-use Rattle.tva_port.specs.Bounds.{waiting_under, regular_bound, StartsBy}
+use Rattle.tva_port.specs.Bounds.{waiting_under, bytes_under, regular_bound, AreRegularsServed, StartsBy}
 use Rattle.tva_port.proofs.Debts.{AreBy, debt-later, debt-push}
 use Rattle.tva_port.proofs.Logs.{cut-all, legal-front, legal-here, later-push, later-weaker, later-front, starts_by, starts-push, starts-same, free-queued, free-started, goes_on-push}
 use Rattle.tva_port.proofs.Legality.{started_is, debt_capped}
@@ -235,8 +235,8 @@ module _ (l : LinkLimits) (key : ℕ) (p : PacketData) (begin most : ℕ) (a : A
 
 -- a regular packet that is queued starts within its bound, where no start was missed up to then
 pub regular_bounded : (l : LinkLimits) (before after : List Entry) (t key : ℕ) (p : PacketData) (until : ℕ) → AreLinkLimits l → IsLegal l (before ++ Queued t Regular key p ∷ after) → MissesNone l until (before ++ Queued t Regular key p ∷ after)
-    → t + regular_bound l (bytes_in packet_length (waiting_under l Regular key (before ++ Queued t Regular key p ∷ []))) < until
-    → StartsBy l Regular key p (before ++ Queued t Regular key p ∷ []) after (t + regular_bound l (bytes_in packet_length (waiting_under l Regular key (before ++ Queued t Regular key p ∷ []))))
+    → t + regular_bound l (bytes_under l Regular key (before ++ Queued t Regular key p ∷ [])) < until
+    → StartsBy l Regular key p (before ++ Queued t Regular key p ∷ []) after (t + regular_bound l (bytes_under l Regular key (before ++ Queued t Regular key p ∷ [])))
 regular_bounded l before after t key p until a g m k =
     let e = Queued t Regular key p in
     let log : List Entry = before ++ e ∷ [] in
@@ -265,3 +265,8 @@ regular_bounded l before after t key p until a g m k =
     starts_by_found l Regular before after t key p (t + regular_bound l bytes) (under_queued l Regular before t key p tt a b f)
     (serve l key p begin (most_until l.regular bytes) a bytes t (t + regular_bound l bytes) until refl (omega (arith, near)) refl (before ++ e ∷ after) m k after log (waiting_under l Regular key before) 0 0 t begin
     (sym (append_assoc before (e ∷ []) after)) (legal_rest l before e after g) (omega arith) w)
+
+pub regulars_served : (l : LinkLimits) (log : List Entry) (now until : ℕ) → AreLinkLimits l → IsLegal l log → MissesNone l until log → now < until → AreRegularsServed l now log
+regulars_served l log now until a g m k = λ before later time key bound packet same e h.
+    subst (λ z. StartsBy l Regular key packet (before ++ Queued time Regular key packet ∷ []) later z) (sym e)
+    (regular_bounded l before later time key packet until a (subst (λ z. IsLegal l z) same g) (subst (λ z. MissesNone l until z) same m) (omega (arith, e, h)))

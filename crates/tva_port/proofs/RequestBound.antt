@@ -18,7 +18,7 @@ use Rattle.tva_port.specs.Log.{Entry, Queued, Started, entry_time, NoneLater, cu
 use Rattle.tva_port.specs.Waiting.{waiting_after}
 use Rattle.tva_port.specs.Decide.{covered, credit_after, RestsAt, MissesNone}
 use Rattle.tva_port.specs.Legal.{Follows, GoesOn, IsStarted, IsLegal}
-use Rattle.tva_port.specs.Bounds.{waiting_under, request_bound, StartsBy}
+use Rattle.tva_port.specs.Bounds.{waiting_under, bytes_under, request_bound, AreRequestsServed, StartsBy}
 use Rattle.tva_port.proofs.Debts.{AreBy, debt-later, debt-push}
 use Rattle.tva_port.proofs.Logs.{cut-all, legal-front, legal-here, later-push, later-weaker, later-front, starts_by, starts-push, starts-same, free-queued, free-started, goes_on-push}
 use Rattle.tva_port.proofs.Deciding.{lacking, covered_pays}
@@ -273,8 +273,8 @@ module _ (l : LinkLimits) (key : ℕ) (p : PacketData) (begin most : ℕ) (a : A
 
 -- a request that is queued starts within its bound, where no start was missed up to then
 pub request_bounded : (l : LinkLimits) (before after : List Entry) (t key : ℕ) (p : PacketData) (until : ℕ) → AreLinkLimits l → IsLegal l (before ++ Queued t Request key p ∷ after) → MissesNone l until (before ++ Queued t Request key p ∷ after)
-    → t + request_bound l (bytes_in packet_length (waiting_under l Request key (before ++ Queued t Request key p ∷ []))) < until
-    → StartsBy l Request key p (before ++ Queued t Request key p ∷ []) after (t + request_bound l (bytes_in packet_length (waiting_under l Request key (before ++ Queued t Request key p ∷ []))))
+    → t + request_bound l (bytes_under l Request key (before ++ Queued t Request key p ∷ [])) < until
+    → StartsBy l Request key p (before ++ Queued t Request key p ∷ []) after (t + request_bound l (bytes_under l Request key (before ++ Queued t Request key p ∷ [])))
 request_bounded l before after t key p until a g m k =
     let e = Queued t Request key p in
     let log : List Entry = before ++ e ∷ [] in
@@ -306,3 +306,8 @@ request_bounded l before after t key p until a g m k =
     starts_by_found l Request before after t key p (t + request_bound l (bytes_in packet_length (waiting_under l Request key log))) (under_queued l Request before t key p tt a b f)
     (serve l key p begin most a (t + request_bound l (bytes_in packet_length (waiting_under l Request key log))) until (omega (arith, near, twice, size, sum)) (before ++ e ∷ after) m k after log (waiting_under l Request key before) 0 t begin
     (sym (append_assoc before (e ∷ []) after)) (legal_rest l before e after g) (omega arith) w)
+
+pub requests_served : (l : LinkLimits) (log : List Entry) (now until : ℕ) → AreLinkLimits l → IsLegal l log → MissesNone l until log → now < until → AreRequestsServed l now log
+requests_served l log now until a g m k = λ before later time key bound packet same e h.
+    subst (λ z. StartsBy l Request key packet (before ++ Queued time Request key packet ∷ []) later z) (sym e)
+    (request_bounded l before later time key packet until a (subst (λ z. IsLegal l z) same g) (subst (λ z. MissesNone l until z) same m) (omega (arith, e, h)))

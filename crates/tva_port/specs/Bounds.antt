@@ -5,7 +5,7 @@ use Rattle.tva_base.specs.declared.limits.LinkLimits.{LinkLimits}
 use Rattle.tva_base.specs.declared.packet.Class.{Class}
 use Rattle.tva_base.specs.declared.packet.Class.TheVariants.{Request, Regular, Legacy}
 use Rattle.tva_shim.specs.Packets.{PacketData, packet_length}
-use Rattle.tva_drr.specs.Queues.{Queue, has_key, items_of}
+use Rattle.tva_drr.specs.Queues.{Queue, has_key, items_of, bytes_in}
 use Rattle.tva_drr.specs.Service.{is_front, most_until}
 use Rattle.tva_port.specs.Requests.{cost}
 use Rattle.tva_port.specs.Log.{Entry, Queued, Started}
@@ -50,6 +50,24 @@ request_bound l bytes = cost l (most_until l.request bytes + 2 * l.request.max)
 -- burst of requests, at the rate that requests leave, of `share` parts all but one
 abbrev pub regular_bound : LinkLimits → ℕ → ℕ
 regular_bound l bytes = div_ceil (cost l (most_until l.regular bytes + l.regular.max + l.burst)) (l.share - 1)
+
+-- the bytes that wait under a key of a class after these entries
+abbrev pub bytes_under : LinkLimits → Class → ℕ → List Entry → ℕ
+bytes_under l class key log = bytes_in packet_length (waiting_under l class key log)
+
+-- each request of a log whose bound is over by that time has started within it
+abbrev pub AreRequestsServed : LinkLimits → ℕ → List Entry → Type 0
+AreRequestsServed l now log =
+    (before later : List Entry) (time key bound : ℕ) (packet : PacketData) → log ≡ before ++ Queued time Request key packet ∷ later
+    → bound ≡ time + request_bound l (bytes_under l Request key (before ++ Queued time Request key packet ∷ []))
+    → bound ≤ now → StartsBy l Request key packet (before ++ Queued time Request key packet ∷ []) later bound
+
+-- and each regular packet
+abbrev pub AreRegularsServed : LinkLimits → ℕ → List Entry → Type 0
+AreRegularsServed l now log =
+    (before later : List Entry) (time key bound : ℕ) (packet : PacketData) → log ≡ before ++ Queued time Regular key packet ∷ later
+    → bound ≡ time + regular_bound l (bytes_under l Regular key (before ++ Queued time Regular key packet ∷ []))
+    → bound ≤ now → StartsBy l Regular key packet (before ++ Queued time Regular key packet ∷ []) later bound
 
 abbrev pub started_bytes : Entry → ℕ
 started_bytes (Queued time c k packet) = 0

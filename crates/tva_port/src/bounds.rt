@@ -1,37 +1,34 @@
 // How soon a packet that is queued starts, and how evenly queues are served, whatever others send.
-ghost use Rattle.std.specs.Prelude.{◌≡◌, ◌≢◌, ℕ, ◌+◌, ◌*◌, ◌<◌, List, [], ◌∷◌, ◌++◌};
+ghost use Rattle.std.specs.Prelude.{◌≢◌, ℕ, ◌+◌, ◌*◌, ◌<◌, List, ◌++◌};
 ghost use Rattle.tva_base.specs.declared.limits.LinkLimits.{LinkLimits};
 ghost use Rattle.tva_base.specs.declared.packet.Class.TheVariants.{Request, Regular};
 ghost use Rattle.tva_base.specs.Plan.{AreLinkLimits};
-ghost use Rattle.tva_drr.specs.Queues.{bytes_in};
-ghost use Rattle.tva_shim.specs.Packets.{PacketData, packet_length};
-ghost use Rattle.tva_port.specs.Log.{Entry, Queued};
+ghost use Rattle.tva_port.specs.Log.{Entry};
 ghost use Rattle.tva_port.specs.Decide.{MissesNone};
 ghost use Rattle.tva_port.specs.Legal.{IsLegal};
-ghost use Rattle.tva_port.specs.Bounds.{waiting_under, request_bound, regular_bound, StartsBy};
+ghost use Rattle.tva_port.specs.Bounds.{AreRequestsServed, AreRegularsServed, bytes_started, AlwaysWaits};
 
-/// Whatever else comes, a request that is queued on a link where no start is missed starts within the
-/// bound, in nanoseconds, for the bytes that wait under its key up to it and with it.
-pub fn requests_start_in_time()
-    ensures bound { (l : LinkLimits) (before later : List Entry) (time key until bytes : ℕ) (packet : PacketData)
-        → AreLinkLimits l → IsLegal l (before ++ Queued time Request key packet ∷ later)
-        → MissesNone l until (before ++ Queued time Request key packet ∷ later)
-        → bytes ≡ bytes_in packet_length
-        (waiting_under l Request key (before ++ Queued time Request key packet ∷ []))
-        → time + request_bound l bytes < until
-        → StartsBy l Request key packet (before ++ Queued time Request key packet ∷ []) later
-        (time + request_bound l bytes) }
+/// Whatever else comes, on a link where no start was missed up to a time, in nanoseconds, each packet
+/// whose bound is over by then has started within it: the bound of a request and of a regular packet for
+/// the bytes that waited under its key up to it and with it, when it was queued.
+pub fn packets_start_in_time()
+    ensures requests { (l : LinkLimits) (log : List Entry) (now until : ℕ) → AreLinkLimits l → IsLegal l log
+        → MissesNone l until log → now < until → AreRequestsServed l now log }
+    ensures regulars { (l : LinkLimits) (log : List Entry) (now until : ℕ) → AreLinkLimits l → IsLegal l log
+        → MissesNone l until log → now < until → AreRegularsServed l now log }
 {}
 
-/// Whatever else comes, a regular packet that is queued on a link where no start is missed starts within
-/// the bound, in nanoseconds, for the bytes that wait under its key up to it and with it.
-pub fn regulars_start_in_time()
-    ensures bound { (l : LinkLimits) (before later : List Entry) (time key until bytes : ℕ) (packet : PacketData)
-        → AreLinkLimits l → IsLegal l (before ++ Queued time Regular key packet ∷ later)
-        → MissesNone l until (before ++ Queued time Regular key packet ∷ later)
-        → bytes ≡ bytes_in packet_length
-        (waiting_under l Regular key (before ++ Queued time Regular key packet ∷ []))
-        → time + regular_bound l bytes < until
-        → StartsBy l Regular key packet (before ++ Queued time Regular key packet ∷ []) later
-        (time + regular_bound l bytes) }
+/// Between two places of a link's log, two keys of a class under which something waits all along start
+/// about as many bytes as each other: one less than a quantum and two greatest packets more.
+pub fn keys_are_served_alike()
+    ensures requests { (l : LinkLimits) (before between : List Entry) (a b : ℕ) → AreLinkLimits l
+        → IsLegal l (before ++ between) → a ≢ b → AlwaysWaits l Request a before between
+        → AlwaysWaits l Request b before between
+        → bytes_started l Request a before between
+        < bytes_started l Request b before between + (l.request.quantum + 2 * l.request.max) }
+    ensures regulars { (l : LinkLimits) (before between : List Entry) (a b : ℕ) → AreLinkLimits l
+        → IsLegal l (before ++ between) → a ≢ b → AlwaysWaits l Regular a before between
+        → AlwaysWaits l Regular b before between
+        → bytes_started l Regular a before between
+        < bytes_started l Regular b before between + (l.regular.quantum + 2 * l.regular.max) }
 {}
