@@ -16,7 +16,9 @@ mod legacy;
 mod parts;
 mod port;
 
-pub use bounds::{keys_are_served_alike, packets_start_in_time};
+pub use bounds::{
+    keys_are_served_alike, longest_regular_wait, longest_request_wait, packets_start_in_time,
+};
 pub use decision::Decision;
 pub use laws::{
     links_rest, logs_have_places, queues_keep_limits, requests_keep_their_rate, starts_rise,
