@@ -2,9 +2,12 @@
 ghost use Rattle.std.specs.Prelude.{◌≤◌, ◌^◌};
 
 use super::*;
-use std::alloc::{AllocError, Global};
+use std::alloc::{AllocError, Allocator, Global};
+use std::cell::Cell;
 use std::fmt::Display;
-use std::io::ErrorKind;
+use std::fs::{Metadata, OpenFile, OpenOptions};
+use std::io::{Empty, ErrorKind, Read, Seek, SeekFrom, Write};
+use std::rt::Files;
 use std::test::Fail;
 use std::{fs, io};
 
@@ -143,6 +146,186 @@ fn standard_output_takes_bytes_or_fails(rt: HostRuntime) {
         assert_eq!(rt; write_all(&mut sink, b"one"), want);
         assert_eq!(rt; write_all(&mut sink, b""), Sent::All);
     }
+}
+
+// An output that takes two bytes at a write, and at which a signal breaks off each other write. It
+// counts its writes and the bytes that it took.
+#[derive(Drop)]
+struct Signalled {
+    writes: Cell<usize>,
+    taken: Cell<usize>,
+}
+
+impl Print for Signalled {
+    fn print<D: Display + Drop>(&self, _value: D) -> io::Result<()> {
+        Ok(())
+    }
+
+    fn println<D: Display + Drop>(&self, _value: D) -> io::Result<()> {
+        Ok(())
+    }
+
+    fn write_all(&self, _bytes: &[u8]) -> io::Result<()> {
+        Ok(())
+    }
+
+    fn write_some(&self, bytes: &[u8]) -> io::Result<usize> {
+        self.writes.set(self.writes.get().wrapping_add(1));
+        if self.writes.get() % 2 == 1 {
+            return Err(io::Error::from(ErrorKind::Interrupted));
+        }
+        let count = bytes.len().min(2);
+        self.taken.set(self.taken.get().wrapping_add(count));
+        Ok(count)
+    }
+}
+
+#[test]
+fn a_write_that_a_signal_breaks_off_is_made_again(rt: HostRuntime) {
+    let output = Signalled {
+        writes: Cell::new(0),
+        taken: Cell::new(0),
+    };
+    let mut sink = StdSink::new(&output);
+    assert_eq!(rt; sink.write(b"one"), Wrote::Count(2));
+    assert_eq!(rt; write_all(&mut sink, b"two"), Sent::All);
+    assert_eq!(rt; output.taken.get(), 5);
+    assert_eq!(rt; output.writes.get(), 6);
+}
+
+// A file of so many bytes, which gives three at a read, and at which a signal breaks off each other
+// read; where `fails` stands, that is what its last read answers.
+#[derive(Drop)]
+struct Halting {
+    left: usize,
+    broken: bool,
+    fails: Option<ErrorKind>,
+}
+
+impl Read for Halting {
+    fn read(&mut self, buf: &mut [u8]) -> io::Result<usize> {
+        self.broken = !self.broken;
+        if self.broken {
+            return Err(io::Error::from(ErrorKind::Interrupted));
+        }
+        let count = self.left.min(3).min(buf.len());
+        if count == 0 {
+            if let Some(kind) = self.fails {
+                return Err(io::Error::from(kind));
+            }
+        }
+        buf[..count].fill(b'a');
+        self.left -= count;
+        Ok(count)
+    }
+}
+
+impl Write for Halting {
+    fn write(&mut self, _buf: &[u8]) -> io::Result<usize> {
+        Err(io::Error::from(ErrorKind::Unsupported))
+    }
+
+    fn flush(&mut self) -> io::Result<()> {
+        Ok(())
+    }
+}
+
+impl Seek for Halting {
+    fn seek(&mut self, _to: SeekFrom) -> io::Result<u64> {
+        Err(io::Error::from(ErrorKind::Unsupported))
+    }
+}
+
+impl OpenFile for Halting {
+    fn metadata(&self) -> io::Result<Metadata> {
+        Err(io::Error::from(ErrorKind::Unsupported))
+    }
+
+    fn set_len(&self, _size: u64) -> io::Result<()> {
+        Err(io::Error::from(ErrorKind::Unsupported))
+    }
+
+    fn sync_all(&self) -> io::Result<()> {
+        Ok(())
+    }
+
+    fn sync_data(&self) -> io::Result<()> {
+        Ok(())
+    }
+}
+
+// Files that are all of that size, and whose last read fails so.
+#[derive(Drop)]
+struct HaltingFiles(usize, Option<ErrorKind>);
+
+impl Files for HaltingFiles {
+    type File = Halting;
+
+    type Dir = Empty;
+
+    fn open_file(&self, _how: &OpenOptions, _path: &str) -> io::Result<Halting> {
+        Ok(Halting {
+            left: self.0,
+            broken: false,
+            fails: self.1,
+        })
+    }
+
+    fn open_dir(&self, _path: &str) -> io::Result<Empty> {
+        Err(io::Error::from(ErrorKind::Unsupported))
+    }
+
+    fn metadata(&self, _path: &str) -> io::Result<Metadata> {
+        Err(io::Error::from(ErrorKind::Unsupported))
+    }
+
+    fn symlink_metadata(&self, _path: &str) -> io::Result<Metadata> {
+        Err(io::Error::from(ErrorKind::Unsupported))
+    }
+
+    fn copy(&self, _from: &str, _to: &str) -> io::Result<u64> {
+        Err(io::Error::from(ErrorKind::Unsupported))
+    }
+
+    fn rename(&self, _from: &str, _to: &str) -> io::Result<()> {
+        Err(io::Error::from(ErrorKind::Unsupported))
+    }
+
+    fn remove_file(&self, _path: &str) -> io::Result<()> {
+        Err(io::Error::from(ErrorKind::Unsupported))
+    }
+
+    fn create_dir(&self, _path: &str) -> io::Result<()> {
+        Err(io::Error::from(ErrorKind::Unsupported))
+    }
+
+    fn remove_dir(&self, _path: &str) -> io::Result<()> {
+        Err(io::Error::from(ErrorKind::Unsupported))
+    }
+
+    fn remove_dir_all<B: Allocator>(&self, _alloc: B, _path: &str) -> io::Result<()> {
+        Err(io::Error::from(ErrorKind::Unsupported))
+    }
+}
+
+// Reads that give part of a file, that a signal breaks off, and that fail in the midst of it.
+#[test]
+fn a_file_is_read_to_its_end(rt: HostRuntime) -> Result<(), Fail> {
+    let loads = [
+        (8, None, 8, "Bytes([97, 97, 97, 97, 97, 97, 97, 97])"),
+        (9, None, 8, "TooLarge(9)"),
+        (0, None, 0, "Bytes([])"),
+        (1, None, 0, "TooLarge(1)"),
+        (6, Some(ErrorKind::BrokenPipe), 8, "Failed"),
+        (6, Some(ErrorKind::OutOfMemory), 8, "OutOfMemory"),
+    ];
+    for (size, fails, max, want) in loads {
+        let files = HaltingFiles(size, fails);
+        let mut shelf = FileShelf::new(&files);
+        let answer = told(&mut shelf, rt.alloc(), "a", max)?;
+        assert_eq!(rt; answer.as_str(), want, "{size} {max}");
+    }
+    Ok(())
 }
 
 #[test]
