@@ -86,6 +86,7 @@ fn files_are_taken_up_to_their_limits(rt: HostRuntime) -> Result<(), Fail> {
 }
 
 // How often the first node, the second and any other were told.
+#[derive(Drop)]
 struct Starts {
     first: AtomicU64,
     second: AtomicU64,

@@ -1,13 +1,12 @@
 // What no clause says: that calls succeed with ample memory, and the files and the output of the system.
 ghost use Rattle.std.specs.Prelude.{◌≤◌, ◌^◌};
 
+use super::file_shelf::{Reading, read_whole};
 use super::*;
-use std::alloc::{AllocError, Allocator, Global};
+use std::alloc::{AllocError, Global};
 use std::cell::Cell;
 use std::fmt::Display;
-use std::fs::{Metadata, OpenFile, OpenOptions};
-use std::io::{Empty, ErrorKind, Read, Seek, SeekFrom, Write};
-use std::rt::Files;
+use std::io::{ErrorKind, Read};
 use std::test::Fail;
 use std::{fs, io};
 
@@ -193,139 +192,63 @@ fn a_write_that_a_signal_breaks_off_is_made_again(rt: HostRuntime) {
     assert_eq!(rt; output.writes.get(), 6);
 }
 
-// A file of so many bytes, which gives three at a read, and at which a signal breaks off each other
-// read; where `fails` stands, that is what its last read answers.
+// A file that gives at most three bytes at a read, and at which a signal breaks off each other read.
+// Behind its last byte it ends, or fails so.
 #[derive(Drop)]
-struct Halting {
-    left: usize,
-    broken: bool,
+struct Halting<'a> {
+    rest: &'a [u8],
+    is_broken: bool,
     fails: Option<ErrorKind>,
 }
 
-impl Read for Halting {
+impl<'a> Read for Halting<'a> {
     fn read(&mut self, buf: &mut [u8]) -> io::Result<usize> {
-        self.broken = !self.broken;
-        if self.broken {
+        self.is_broken = !self.is_broken;
+        if self.is_broken {
             return Err(io::Error::from(ErrorKind::Interrupted));
         }
-        let count = self.left.min(3).min(buf.len());
-        if count == 0 {
-            if let Some(kind) = self.fails {
-                return Err(io::Error::from(kind));
+        match self.fails {
+            Some(kind) if self.rest.is_empty() => Err(io::Error::from(kind)),
+            _ => {
+                let count = self.rest.len().min(3).min(buf.len());
+                buf[..count].copy_from_slice(&self.rest[..count]);
+                self.rest = &self.rest[count..];
+                Ok(count)
             }
         }
-        buf[..count].fill(b'a');
-        self.left -= count;
-        Ok(count)
     }
 }
 
-impl Write for Halting {
-    fn write(&mut self, _buf: &[u8]) -> io::Result<usize> {
-        Err(io::Error::from(ErrorKind::Unsupported))
-    }
-
-    fn flush(&mut self) -> io::Result<()> {
-        Ok(())
-    }
-}
-
-impl Seek for Halting {
-    fn seek(&mut self, _to: SeekFrom) -> io::Result<u64> {
-        Err(io::Error::from(ErrorKind::Unsupported))
+// How reading ended, in a word.
+fn ending(reading: &Reading, whole: &[u8]) -> &'static str {
+    match reading {
+        Reading::Whole(bytes) if bytes.as_slice() == whole => "whole",
+        Reading::Whole(_) => "other bytes",
+        Reading::Longer => "longer",
+        Reading::Failed => "failed",
+        Reading::OutOfMemory => "no memory",
     }
 }
 
-impl OpenFile for Halting {
-    fn metadata(&self) -> io::Result<Metadata> {
-        Err(io::Error::from(ErrorKind::Unsupported))
-    }
-
-    fn set_len(&self, _size: u64) -> io::Result<()> {
-        Err(io::Error::from(ErrorKind::Unsupported))
-    }
-
-    fn sync_all(&self) -> io::Result<()> {
-        Ok(())
-    }
-
-    fn sync_data(&self) -> io::Result<()> {
-        Ok(())
-    }
-}
-
-// Files that are all of that size, and whose last read fails so.
-#[derive(Drop)]
-struct HaltingFiles(usize, Option<ErrorKind>);
-
-impl Files for HaltingFiles {
-    type File = Halting;
-
-    type Dir = Empty;
-
-    fn open_file(&self, _how: &OpenOptions, _path: &str) -> io::Result<Halting> {
-        Ok(Halting {
-            left: self.0,
-            broken: false,
-            fails: self.1,
-        })
-    }
-
-    fn open_dir(&self, _path: &str) -> io::Result<Empty> {
-        Err(io::Error::from(ErrorKind::Unsupported))
-    }
-
-    fn metadata(&self, _path: &str) -> io::Result<Metadata> {
-        Err(io::Error::from(ErrorKind::Unsupported))
-    }
-
-    fn symlink_metadata(&self, _path: &str) -> io::Result<Metadata> {
-        Err(io::Error::from(ErrorKind::Unsupported))
-    }
-
-    fn copy(&self, _from: &str, _to: &str) -> io::Result<u64> {
-        Err(io::Error::from(ErrorKind::Unsupported))
-    }
-
-    fn rename(&self, _from: &str, _to: &str) -> io::Result<()> {
-        Err(io::Error::from(ErrorKind::Unsupported))
-    }
-
-    fn remove_file(&self, _path: &str) -> io::Result<()> {
-        Err(io::Error::from(ErrorKind::Unsupported))
-    }
-
-    fn create_dir(&self, _path: &str) -> io::Result<()> {
-        Err(io::Error::from(ErrorKind::Unsupported))
-    }
-
-    fn remove_dir(&self, _path: &str) -> io::Result<()> {
-        Err(io::Error::from(ErrorKind::Unsupported))
-    }
-
-    fn remove_dir_all<B: Allocator>(&self, _alloc: B, _path: &str) -> io::Result<()> {
-        Err(io::Error::from(ErrorKind::Unsupported))
-    }
-}
-
-// Reads that give part of a file, that a signal breaks off, and that fail in the midst of it.
 #[test]
-fn a_file_is_read_to_its_end(rt: HostRuntime) -> Result<(), Fail> {
-    let loads = [
-        (8, None, 8, "Bytes([97, 97, 97, 97, 97, 97, 97, 97])"),
-        (9, None, 8, "TooLarge(9)"),
-        (0, None, 0, "Bytes([])"),
-        (1, None, 0, "TooLarge(1)"),
-        (6, Some(ErrorKind::BrokenPipe), 8, "Failed"),
-        (6, Some(ErrorKind::OutOfMemory), 8, "OutOfMemory"),
+fn a_file_is_read_to_its_end(rt: HostRuntime) {
+    let readings = [
+        ("eight by", None, 8, "whole"),
+        ("eight by", None, 7, "longer"),
+        ("", None, 0, "whole"),
+        ("a", None, 0, "longer"),
+        ("eight by", Some(ErrorKind::BrokenPipe), 8, "failed"),
+        ("eight by", Some(ErrorKind::OutOfMemory), 8, "no memory"),
     ];
-    for (size, fails, max, want) in loads {
-        let files = HaltingFiles(size, fails);
-        let mut shelf = FileShelf::new(&files);
-        let answer = told(&mut shelf, rt.alloc(), "a", max)?;
-        assert_eq!(rt; answer.as_str(), want, "{size} {max}");
+    for (bytes, fails, max, want) in readings {
+        let mut file = Halting {
+            rest: bytes.as_bytes(),
+            is_broken: false,
+            fails,
+        };
+        let reading = read_whole(rt.alloc(), &mut file, max);
+        assert_eq!(rt; ending(&reading, bytes.as_bytes()), want, "{bytes} {max}");
     }
-    Ok(())
 }
 
 #[test]
