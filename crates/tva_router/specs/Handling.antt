@@ -6,23 +6,17 @@ use Rattle.tva_base.specs.declared.limits.LinkLimits.{LinkLimits}
 use Rattle.tva_base.specs.declared.packet.Grant.{Grant}
 use Rattle.tva_base.specs.declared.packet.Fate.{Fate}
 use Rattle.tva_base.specs.declared.packet.Class.{Class}
-use Rattle.tva_base.specs.declared.packet.Class.TheVariants as class
 use Rattle.tva_base.specs.declared.packet.Outcome.{Outcome}
 use Rattle.tva_base.specs.declared.packet.Outcome.TheVariants as outcome
 use Rattle.tva_base.specs.declared.packet.DropCause.TheVariants as drop
 use Rattle.tva_base.specs.declared.plan.RouterPlan.{RouterPlan}
-use Rattle.tva_shim.specs.declared.entries.Entry as entries
-use Rattle.tva_shim.specs.declared.kinds.Kind.{Kind}
-use Rattle.tva_shim.specs.declared.kinds.Kind.TheVariants as kinds
 use Rattle.tva_shim.specs.declared.packets.Carried.{Carried}
-use Rattle.tva_shim.specs.declared.packets.Carried.TheVariants as carried
-use Rattle.tva_shim.specs.Shims.{entries_of}
-use Rattle.tva_shim.specs.Changes.{last_tag}
 use Rattle.tva_shim.specs.Packets.{PacketData, packet_length, class_by_shim}
+use Rattle.tva_shim.specs.Shows.{key_of, nonce_in}
 use Rattle.tva_flow.specs.Charges.{Charge, charge}
 use Rattle.tva_drr.specs.declared.offered.Offered.{Offered}
 use Rattle.tva_drr.specs.declared.offered.Offered.TheVariants as offers
-use Rattle.tva_port.specs.Log.{Entry}
+use Rattle.tva_port.specs.Log.{Entry, Queued}
 use Rattle.tva_port.specs.Waiting.{waiting_after, queue_answer, queued_by}
 use Rattle.tva_router.specs.declared.judged.Arrival.{Arrival}
 use Rattle.tva_router.specs.declared.judged.Judged.{Judged}
@@ -32,30 +26,6 @@ use Rattle.tva_router.specs.Judging.{judge}
 -- the log of each link's port, by the link's number
 abbrev pub Logs : Type 0
 Logs = ℕ → List Entry
-
--- the entries of a request that a packet carries
-abbrev pub entries_in : Carried → List entries.Entry
-entries_in carried.Nothing = []
-entries_in (carried.Shim shim) = entries_of shim.kind
-entries_in (carried.Malformed bytes) = []
-
--- the key under which a packet of a class is queued; a legacy packet needs none
-abbrev pub key_of : Class → PacketData → ℕ
-key_of class.Request p = last_tag (entries_in p.carried)
-key_of class.Regular p = p.flow.dst.0
-key_of class.Legacy p = 0
-
-abbrev pub kind_nonce : Kind → ℕ
-kind_nonce (kinds.Request entries) = 0
-kind_nonce (kinds.List shown) = shown.nonce
-kind_nonce (kinds.Nonce nonce) = nonce
-kind_nonce (kinds.Renewal shown) = shown.nonce
-
--- the nonce that a packet shows, if any
-abbrev pub nonce_in : Carried → ℕ
-nonce_in carried.Nothing = 0
-nonce_in (carried.Shim shim) = kind_nonce shim.kind
-nonce_in (carried.Malformed bytes) = 0
 
 -- what a packet of so many bytes adds to the charges
 abbrev pub charged_by : Option Grant → ℕ → ℕ → ℕ → List Charge
@@ -94,9 +64,11 @@ queued logs now class p None k = []
 queued logs now class p (Some (link, limits)) k =
     if k == link then queued_by (offered limits (logs link) class p) now class (key_of class p) p else []
 
--- what becomes of an arrival, what it adds to the charges, and to the log of each link
+-- what becomes of an arrival, the packet as it goes on, and what the arrival adds to the charges and to
+-- the log of each link
 pub record Handled : Type 0 where
   pub fate : Fate
+  pub onward : PacketData
   pub charges : List Charge
   pub queued : Logs
 
@@ -104,6 +76,7 @@ pub record Handled : Type 0 where
 abbrev pub stopped : PacketData → Handled
 stopped p = record {
   fate = record { class = class_by_shim p.carried; cause = None; charge = None; outcome = outcome.Dropped drop.HopLimit };
+  onward = p;
   charges = [];
   queued = λ k. [];
 }
@@ -112,13 +85,27 @@ stopped p = record {
 abbrev pub goes_on : PacketData → Carried → PacketData
 goes_on p carries = record p { hops = p.hops + 1; carried = carries }
 
+-- what a packet of a class that ended up there adds to the log of each link
+abbrev pub entered_by : Outcome → ℕ → Class → PacketData → Logs
+entered_by (outcome.Queued link) now class p k = if k == link then Queued now class (key_of class p) p ∷ [] else []
+entered_by (outcome.Dropped cause) now class p k = []
+
+-- the fate of a packet that was judged, by where it ends up
+abbrev pub fate_of : Judged → Outcome → Fate
+fate_of j outcome = record { class = j.class; cause = j.cause; charge = j.charge; outcome = outcome }
+
 -- a packet that was judged
 abbrev pub forwarded : RouterPlan → Logs → ℕ → PacketData → Judged → Handled
 forwarded plan logs now p j = record {
-  fate = record { class = j.class; cause = j.cause; charge = j.charge; outcome = sent logs j.class (goes_on p j.carried) (way_to plan p.flow.dst) };
+  fate = fate_of j (sent logs j.class (goes_on p j.carried) (way_to plan p.flow.dst));
+  onward = goes_on p j.carried;
   charges = charged_by j.charge now (nonce_in p.carried) (packet_length p);
   queued = queued logs now j.class (goes_on p j.carried) (way_to plan p.flow.dst);
 }
+
+-- what a packet with that fate adds to the log of each link, as it goes on
+abbrev pub entered : Fate → ℕ → PacketData → Logs
+entered fate now p k = entered_by fate.outcome now fate.class p k
 
 -- an arrival of the packet, on a link or from the trace
 abbrev pub arrival : ℕ → Option ℕ → PacketData → Arrival

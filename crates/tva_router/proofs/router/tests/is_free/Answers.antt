@@ -1,41 +1,29 @@
-use Rattle.std.proofs.Common.{◌≡◌, ◌≤◌, ℕ, Option, Some, None, subst, arith}
-use Rattle.std.specs.Prelude.{IfSome}
-use Rattle.std.proofs.lemmas.Bool.Decides.{nat_tests}
-use Rattle.tva_port.specs.Stands.{PortData}
-use Rattle.tva_router.specs.Stands.{RouterData, port_of}
-use Rattle.tva_router.proofs.Links.{is_at, at_within}
-use Rattle.tva_router.proofs.Ports.{ports-length, port-at, place-in}
+use Rattle.std.proofs.Common.{◌≡◌, ℕ, Bool, List, [], ◌∷◌, Some, None, eqb, cond, zero, suc, sym, subst}
+use Rattle.std.specs.List.{find}
+use Rattle.tva_base.specs.declared.limits.LinkLimits.{LinkLimits}
+use Rattle.tva_router.specs.Handling.{outgoing_link}
+use Rattle.tva_router.specs.Stands.{RouterData}
+use Rattle.tva_router.proofs.Links.{IsAt, is_at}
+use Rattle.tva_router.proofs.Ports.{place-in}
 use Rattle.tva_router.proofs.router.tests.is_free.Goals as goal
 
-pub index-requires : goal.index-requires
-index-requires c =
-    let place = place-in c.router.inside.plan.outgoing c.as_slice.result.now c.args.link c.place_of.result (Some c.in-Some.place) c.as_slice.ensures c.place_of.ensures.place c.in-Some.is in
-    omega (
-      arith,
-      at_within c.router.inside.plan.outgoing c.in-Some.place c.args.link (is_at c.router.inside.plan.outgoing c.in-Some.place c.args.link place),
-      ports-length c.router.inside.plan.outgoing c.router.inside.last c.router.inside.ports.items c.router.invariant.ports,
-    )
+-- a link with a place is there
+has_link : (os : List (ℕ × LinkLimits)) (i link : ℕ) → IsAt os i link → find (λ o. eqb o.0 link) os ≡ None → ⊥
+has_link [] i link at gone = absurd at
+has_link (o ∷ os) zero link at gone =
+    let here : Some o ≡ None = subst (λ (b : Bool). cond b (Some o) (find (λ z. eqb z.0 link) os) ≡ None) at gone in absurd (cc)
+has_link (o ∷ os) (suc i) link at gone = has_link os i link at.1 (subst (λ (b : Bool). cond b (Some o) (find (λ z. eqb z.0 link) os) ≡ None) at.0 gone)
 
-some_none : (x : Option PortData) (p : PortData) → x ≡ Some p → x ≡ None → ⊥
-some_none x p there none = absurd (cc)
+pub free_at-requires : goal.free_at-requires
+free_at-requires c = record {
+  outgoing = λ gone.
+      let place = place-in c.router.inside.plan.outgoing c.as_slice.result.now c.args.link c.place_of.result (Some c.in-Some.field-0) c.as_slice.ensures c.place_of.ensures.place c.in-Some.is in
+      has_link c.router.inside.plan.outgoing c.in-Some.field-0 c.args.link (is_at c.router.inside.plan.outgoing c.in-Some.field-0 c.args.link place)
+      (subst (λ (z : RouterData). outgoing_link z.plan c.args.link ≡ None) (sym c.router.view_is) gone);
+}
 
 pub returns-in-Some-clause-there : goal.returns-in-Some-clause-there
-returns-in-Some-clause-there c free none =
-    let place = place-in c.router.inside.plan.outgoing c.as_slice.result.now c.args.link c.place_of.result (Some c.in-Some.place) c.as_slice.ensures c.place_of.ensures.place c.in-Some.is in
-    some_none (port_of c.args.router.now c.args.link) c.index.result.now
-    (subst (λ (z : RouterData). port_of z c.args.link ≡ Some c.index.result.now) c.router.view_is
-    (port-at c.router.inside.plan.outgoing c.router.inside.ports.items c.in-Some.place c.args.link c.index.result.now (is_at c.router.inside.plan.outgoing c.in-Some.place c.args.link place)
-    (ports-length c.router.inside.plan.outgoing c.router.inside.last c.router.inside.ports.items c.router.invariant.ports) c.index.ensures)) none
-
-free_port : (x : Option PortData) (p : PortData) (now : ℕ) → x ≡ Some p → p.free_at ≤ now → IfSome x (λ port. port.free_at ≤ now)
-free_port x p now there free = rw there free
-
-pub returns-in-Some-clause-free : goal.returns-in-Some-clause-free
-returns-in-Some-clause-free c free =
-    let place = place-in c.router.inside.plan.outgoing c.as_slice.result.now c.args.link c.place_of.result (Some c.in-Some.place) c.as_slice.ensures c.place_of.ensures.place c.in-Some.is in
-    let early : c.free_at.result.0 ≤ c.args.now = grind (arith, nat_tests, free) in
-    let told : c.free_at.result.0 ≡ c.index.result.now.free_at = c.free_at.ensures.value in
-    free_port (port_of c.args.router.now c.args.link) c.index.result.now c.args.now
-    (subst (λ (z : RouterData). port_of z c.args.link ≡ Some c.index.result.now) c.router.view_is
-    (port-at c.router.inside.plan.outgoing c.router.inside.ports.items c.in-Some.place c.args.link c.index.result.now (is_at c.router.inside.plan.outgoing c.in-Some.place c.args.link place)
-    (ports-length c.router.inside.plan.outgoing c.router.inside.last c.router.inside.ports.items c.router.invariant.ports) c.index.ensures)) (omega (arith, early, told))
+returns-in-Some-clause-there c free gone =
+    let place = place-in c.router.inside.plan.outgoing c.as_slice.result.now c.args.link c.place_of.result (Some c.in-Some.field-0) c.as_slice.ensures c.place_of.ensures.place c.in-Some.is in
+    has_link c.router.inside.plan.outgoing c.in-Some.field-0 c.args.link (is_at c.router.inside.plan.outgoing c.in-Some.field-0 c.args.link place)
+    (subst (λ (z : RouterData). outgoing_link z.plan c.args.link ≡ None) (sym c.router.view_is) gone)
