@@ -12,8 +12,6 @@ mod parts;
 mod read;
 mod rows;
 mod said;
-#[cfg(test)]
-mod tests;
 mod texts;
 mod words;
 
