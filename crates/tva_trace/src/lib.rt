@@ -6,6 +6,7 @@ mod carried;
 mod fields;
 mod items;
 mod judge;
+mod laws;
 mod lines;
 mod names;
 mod parts;
@@ -15,6 +16,7 @@ mod said;
 mod texts;
 mod words;
 
+pub use laws::texts_have_one_meaning;
 pub use lines::{line_text, summary_text};
 pub use read::read_trace;
 pub use rows::{Row, RowWhat, TraceError, TraceFault, TraceRule};
