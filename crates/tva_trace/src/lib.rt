@@ -1,5 +1,6 @@
-//! Traces and the lines of reports. Its contract promises that a trace is read to its rows or to the
-//! first rule that its first bad record breaks, and that a line has the bytes of its event.
+//! Traces and the lines of reports. Its contract promises that a trace is read to its rows, which are
+//! the only ones, or to the first rule that its first bad record breaks, and that a line has the bytes
+//! of its event.
 #![tactic(auto)]
 
 mod carried;

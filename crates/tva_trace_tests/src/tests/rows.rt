@@ -80,10 +80,7 @@ const AT_HOSTS: [(&str, &str); 3] = [
         "1000000000,A,send,,10.0.1.1,1600,",
         "1000000000 1 send 0a000101 1600",
     ),
-    (
-        "0,B,send,,255.255.255.255,0,",
-        "0 2 send ffffffff 0",
-    ),
+    ("0,B,send,,255.255.255.255,0,", "0 2 send ffffffff 0"),
     (
         "5,B,raw,9.9.9.9,10.0.1.1,1,",
         "5 2 09090909>0a000101 1 nothing",
@@ -154,9 +151,9 @@ fn put_shown(
 ) -> Result<(), AllocError> {
     let (nonce, pointer) = (shown.nonce, shown.pointer);
     let (n, t) = (shown.rights.n, shown.rights.t);
-    text.push_str(
-        format!(in alloc; "{word} nonce={nonce} pointer={pointer} n={n} t={t}")?.as_str(),
-    )?;
+    text.push_str(format!(in alloc;
+        "{word} nonce={nonce} pointer={pointer} n={n} t={t}"
+    )?.as_str())?;
     put_caps(alloc, text, shown.caps.as_slice())
 }
 
