@@ -7,7 +7,6 @@ mod notices;
 mod renewals;
 
 use super::walk;
-use crate::{line_text, summary_text};
 use arrayvec::ArrayString;
 use std::process::Abort;
 use std::test::Fail;
@@ -16,6 +15,7 @@ use tva_base::{
     ShapeKind, Time, Totals, WhatKind,
 };
 use tva_config::Config;
+use tva_trace::{line_text, summary_text};
 
 fn id(node: u16, ordinal: u64) -> PacketId {
     PacketId { node, ordinal }

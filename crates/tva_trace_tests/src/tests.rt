@@ -3,16 +3,17 @@ ghost use Rattle.std.specs.Prelude.{◌≤◌, length};
 
 mod lines;
 mod many;
+mod rows;
 mod shims;
 mod traces;
 
-use crate::Row;
 use std::alloc::{AllocError, Global};
 use tva_base::{
     Address, DrrLimits, HostPlan, LinkLimits, LinkPlan, Listed, Name, PolicyKind, PolicyPlan,
     Rights, RouterPlan, Time,
 };
 use tva_config::{Config, NodePlan};
+use tva_trace::Row;
 
 // The router R1, whose master is the bytes 0 to 31.
 fn router(alloc: Global) -> NodePlan {

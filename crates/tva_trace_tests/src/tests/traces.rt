@@ -2,12 +2,11 @@
 ghost use Rattle.std.specs.Prelude.{◌≤◌, length};
 
 use super::{edge, walk};
-use crate::{RowWhat, TraceError, read_trace};
 use std::alloc::{AllocError, Global};
 use std::process::Abort;
 use std::test::Fail;
 use tva_config::Config;
-use tva_shim::{Carried, Kind};
+use tva_trace::{TraceError, read_trace};
 
 pub const HEADER: &str = "time,node,kind,src,dst,payload,shim\n";
 
@@ -401,46 +400,5 @@ fn lengths_of_raw_shims(rt: HostRuntime) -> Result<(), Fail> {
     expect_digits(&rt, alloc, &config, 800, "ok 1")?;
     expect_digits(&rt, alloc, &config, 801, "record 2: shim")?;
     expect_digits(&rt, alloc, &config, 802, "record 2: shim")?;
-    Ok(())
-}
-
-#[test]
-fn items_stand_for_capabilities(rt: HostRuntime) -> Result<(), Fail> {
-    let alloc = rt.alloc();
-    let config = edge(alloc)?;
-    assert!(rt; config.nodes.len() <= 1024);
-    let text = format!(in alloc;
-        "{HEADER}7,R1,list,10.0.0.1,10.0.1.1,472,00000000000a/1/2/1/R1@5;0123456789ABCDEF\n8,R1,raw,10.0.0.1,10.0.1.1,9,10060000\n"
-    )?;
-    let Ok(rows) = read_trace(alloc, text.as_bytes(), &config) else {
-        return Err(Fail::from(AllocError));
-    };
-    assert_eq!(rt; rows.len(), 2);
-    assert_eq!(rt; (rows[0].time.0, rows[0].node), (7, 0));
-    let RowWhat::Inject {
-        payload,
-        carried: Carried::Shim(shim),
-        ..
-    } = &rows[0].what
-    else {
-        return Err(Fail::from("the list is no shim"));
-    };
-    assert_eq!(rt; (*payload, shim.protocol, shim.demoted), (472, 6, false));
-    let Kind::List(shown) = &shim.kind else {
-        return Err(Fail::from("the list is another kind"));
-    };
-    assert_eq!(rt; (shown.nonce, shown.pointer), (10, 1));
-    assert_eq!(rt;
-        shown.caps.as_slice(),
-        [0x05e5a8e67c5a90d3, 0x0123456789abcdef].as_slice()
-    );
-    let malformed = match &rows[1].what {
-        RowWhat::Inject {
-            carried: Carried::Malformed(bytes),
-            ..
-        } => *bytes,
-        _ => 0,
-    };
-    assert_eq!(rt; malformed, 4);
     Ok(())
 }

@@ -1,6 +1,6 @@
 // Shims with their texts.
-use crate::shim_text;
 use std::test::Fail;
+use tva_trace::shim_text;
 
 // The bytes in hexadecimal digits, and the text.
 const SHIMS: [(&str, &str); 50] = [
