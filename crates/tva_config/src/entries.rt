@@ -1,5 +1,5 @@
 // What the entries of the tables are read as, before they are compared with one another.
-use tva_base::{Address, LinkLimits, Name, PolicyPlan, Prefix, Route};
+use tva_base::{Address, LinkLimits, LinkPlan, Name, PolicyPlan, Prefix, Route};
 
 /// A router: its name, master, places of the flow cache, clock offset in nanoseconds, and tag of
 /// packets from the trace.
@@ -55,4 +55,13 @@ pub struct EntryLists {
     pub hosts: Vec<HostEntry>,
     pub links: Vec<LinkEntry>,
     pub routes: Vec<RouteEntry>,
+}
+
+/// What the steps across tables give: the links and the routes in the order of the file, and the
+/// number of each host's link out.
+#[derive(Drop)]
+pub struct JoinedLists {
+    pub links: Vec<LinkPlan>,
+    pub uplinks: Vec<u16>,
+    pub routes: Vec<OwnedRoute>,
 }

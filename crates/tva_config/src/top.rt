@@ -7,8 +7,8 @@ ghost use Rattle.tva_config.specs.Tables.{top_of, counts_of, entries_of};
 ghost use Rattle.tva_config.specs.Views.{seen_top};
 
 use crate::fault::{ConfigError, ConfigFault, ConfigRule, ConfigTable};
-use crate::place::Place;
 use crate::keys;
+use crate::place::Place;
 use crate::tables::Entry;
 use std::alloc::Global;
 use toml::Table;
