@@ -1,0 +1,2 @@
+pub mod Miles
+pub mod Steady

@@ -1,0 +1,53 @@
+-- What a host sends to a peer and takes from it, and what a router on the way makes of it.
+use Rattle.std.specs.Prelude.{ℕ, List, [], ◌∷◌, ◌++◌, Option, Some, None}
+use Rattle.std.specs.Option.{option_or}
+use Rattle.tva_base.specs.declared.packet.Rights.{Rights}
+use Rattle.tva_flow.specs.Charges.{Charge}
+use Rattle.tva_sender.specs.declared.shape.Shape.{Shape}
+use Rattle.tva_sender.specs.Contacts.{Contact, Prepared, Taken, Notice}
+
+-- a packet that was prepared at a time, in a shape and of a length, with its charge at the router, if it
+-- was authorised there; a grant that was taken, with its rights and capabilities and the time at which
+-- the last ask before it came to the router; or a notice
+pub data Mile : Type 0 where
+  Went : ℕ → Shape → ℕ → Option Charge → Mile
+  Got : Rights → List ℕ → ℕ → Mile
+  Told : Mile
+
+-- what the sender sees of it
+abbrev pub contact_of : Mile → Contact
+contact_of (Went sent s bytes paid) = Prepared sent s bytes
+contact_of (Got rights caps came) = Taken rights caps
+contact_of Told = Notice
+
+abbrev pub contacts : List Mile → List Contact
+contacts [] = []
+contacts (m ∷ ms) = contact_of m ∷ contacts ms
+
+-- what the router charges
+abbrev pub paid_in : Mile → List Charge
+paid_in (Went sent s bytes None) = []
+paid_in (Went sent s bytes (Some c)) = c ∷ []
+paid_in (Got rights caps came) = []
+paid_in Told = []
+
+abbrev pub charges_in : List Mile → List Charge
+charges_in [] = []
+charges_in (m ∷ ms) = paid_in m ++ charges_in ms
+
+-- when the ask of the last grant came to the router
+abbrev pub came_in : Mile → Option ℕ
+came_in (Went sent s bytes paid) = None
+came_in (Got rights caps came) = Some came
+came_in Told = None
+
+abbrev pub last_came : List Mile → Option ℕ
+last_came [] = None
+last_came (m ∷ ms) = option_or (last_came ms) (came_in m)
+
+-- the miles since the last grant, of which those are the first
+abbrev pub since_got : List Mile → List Mile → List Mile
+since_got own [] = own
+since_got own (Went sent s bytes paid ∷ ms) = since_got (own ++ Went sent s bytes paid ∷ []) ms
+since_got own (Got rights caps came ∷ ms) = since_got [] ms
+since_got own (Told ∷ ms) = since_got (own ++ Told ∷ []) ms
