@@ -1,6 +1,6 @@
 -- On a steady path the router authorises what shows a grant.
 use Rattle.std.proofs.Common.{◌≡◌, ◌≤◌, ◌<◌, ◌⊎◌, inl, inr, ℕ, ◌+◌, ◌*◌, Bool, true, false, not, ◌&&◌, ◌||◌, cond, ltb, leb, eqb, eq-eqb, List, [], ◌∷◌, ◌++◌, Option, Some, None, refl, ap, sym, subst, ◌∙◌, arith, append_assoc, append-nil}
-use Rattle.std.specs.Prelude.{IsSomeAnd, sum_by}
+use Rattle.std.specs.Prelude.{IsSomeAnd}
 use Rattle.std.specs.List.{AllByRecursion}
 use Rattle.std.specs.Option.{IfSome, unwrap_or}
 use Rattle.std.proofs.lemmas.Bool.Decides.{nat_tests}
@@ -11,21 +11,21 @@ use Rattle.tva_base.specs.declared.packet.Rights.{Rights}
 use Rattle.tva_base.specs.Clock.{router_second}
 use Rattle.tva_flow.specs.declared.verdicts.Verdict.{Verdict}
 use Rattle.tva_flow.specs.declared.verdicts.Verdict.TheVariants.{Authorised, Expired, OverN, UnknownNonce, CacheFull, Superseded}
-use Rattle.tva_flow.specs.Charges.{Charge, same_grant, of_flow, last_or, last_charge, bytes_under, bytes_of, end_of, is_living, lives, restarts, run, run_of, used, holder, living_count}
+use Rattle.tva_flow.specs.Charges.{Charge, same_grant, of_flow, last_or, last_charge, bytes_under, bytes_of, end_of, lives, restarts, run, run_of, used, holder, living_count}
 use Rattle.tva_flow.specs.Verdicts.{supersedes, list_verdict, nonce_rows, nonce_verdict}
 use Rattle.tva_flow.proofs.Same.{same_grant-self, and_false_right}
 use Rattle.tva_sender.specs.declared.shape.Shape.{Shape}
 use Rattle.tva_sender.specs.declared.shape.Shape.TheVariants as shape
-use Rattle.tva_sender.specs.Contacts.{Contact, Prepared, Use, uses, first_nonce, life_of, asked_at, grant_held}
+use Rattle.tva_sender.specs.Contacts.{Contact, Prepared, uses, first_nonce, asked_at, grant_held}
 use Rattle.tva_sender.specs.Shapes.{list_length, nonce_length, length_of, fits, is_alive, nonce_of, held, may_ask}
 use Rattle.tva_sender.specs.Played.{IsNext, AreNext, IsPrepared}
-use Rattle.tva_steady.specs.Miles.{Mile, contacts, charges_in, last_came}
-use Rattle.tva_steady.specs.Steady.{Way, ComesIn, grant_at, AreAuthorised, IsSteady, IsListTaken, IsNonceTaken, IsTaken}
+use Rattle.tva_steady.specs.Miles.{Mile, contacts, charges_in}
+use Rattle.tva_steady.specs.Steady.{Way, grant_at, AreAuthorised, IsSteady, IsListTaken, IsNonceTaken, IsTaken}
 use Rattle.tva_steady.proofs.Shown.{Allows, allows, no-taking}
 use Rattle.tva_steady.proofs.Lists.{each-append, each-weaker, last-of, last-behind, bytes-none, bytes-own, pairs-bytes, pairs-end, end-behind}
 use Rattle.tva_steady.proofs.Seconds.{second-within}
-use Rattle.tva_steady.proofs.Stages.{IsFresh, AreOwn, Holds, Stage}
-use Rattle.tva_steady.proofs.Walk.{valid, time-left, Spends, SpendsList, SpendsNonce, by-list, by-nonce, HasFirst, has-first, last-own, walk}
+use Rattle.tva_steady.proofs.Stages.{AreOwn, Holds, Stage}
+use Rattle.tva_steady.proofs.Walk.{valid, time-left, Spends, SpendsNonce, by-list, by-nonce, has-first, last-own, walk}
 
 -- the bytes that are used are at most those of all charges of the flow
 run-bytes : (g : Grant) (before cs : List Charge) → bytes_of g (run before cs) ≤ bytes_of g cs

@@ -1,5 +1,5 @@
 -- The arithmetic of times and seconds.
-use Rattle.std.proofs.Common.{◌≡◌, ◌≤◌, ◌<◌, ℕ, ◌+◌, ◌-◌, ◌*◌, ◌/◌, arith}
+use Rattle.std.proofs.Common.{◌≤◌, ◌<◌, ℕ, ◌+◌, ◌*◌, arith}
 use Rattle.tva_base.specs.Clock.{router_second}
 
 pub second-mono : (offset a b : ℕ) → a ≤ b → router_second offset a ≤ router_second offset b

@@ -1,37 +1,19 @@
 -- What is known of the miles so far.
-use Rattle.std.proofs.Common.{◌≡◌, ◌≤◌, ◌<◌, ◌⊎◌, inl, inr, ℕ, ◌+◌, ◌*◌, Bool, true, false, not, ◌&&◌, cond, ltb, leb, List, [], ◌∷◌, ◌++◌, Option, Some, None, refl, ap, sym, subst, ◌∙◌, arith, append_assoc, append-nil}
-use Rattle.std.specs.Prelude.{IsSomeAnd, sum_by}
+use Rattle.std.proofs.Common.{◌≡◌, ◌≤◌, ◌<◌, ◌⊎◌, ℕ, ◌+◌, false, List, [], ◌∷◌, ◌++◌, Option, Some, None, refl, ap, sym, subst, ◌∙◌, arith, append_assoc, append-nil}
 use Rattle.std.specs.List.{AllByRecursion}
-use Rattle.std.specs.Option.{option_or, option_map, option_and_then, unwrap_or, IfSome}
-use Rattle.std.proofs.lemmas.Bool.Decides.{nat_tests}
-use Rattle.tva_base.specs.declared.packet.Grant.{Grant}
+use Rattle.std.specs.Option.{option_or, option_map, unwrap_or}
 use Rattle.tva_base.specs.declared.packet.Rights.{Rights}
-use Rattle.tva_base.specs.declared.packet.Time.{Time}
 use Rattle.tva_base.specs.Clock.{router_second}
 use Rattle.tva_base.specs.Plan.{AreRights}
-use Rattle.tva_caps.specs.declared.minters.Checked.{Checked}
-use Rattle.tva_caps.specs.declared.minters.Checked.TheVariants.{Valid}
-use Rattle.tva_caps.specs.Check.{check_of}
-use Rattle.tva_caps.specs.Formula.{precap_of, capability_of}
-use Rattle.tva_caps.proofs.Lasts.{lasts}
-use Rattle.tva_flow.specs.Charges.{Charge, last_or, last_charge}
-use Rattle.tva_sender.specs.declared.shape.Shape.{Shape}
-use Rattle.tva_sender.specs.declared.shape.Shape.TheVariants as shape
-use Rattle.tva_sender.specs.declared.grant.Grant as held_grants
+use Rattle.tva_flow.specs.Charges.{Charge}
 use Rattle.tva_sender.specs.declared.peer.Peer.{Peer}
-use Rattle.tva_sender.specs.Contacts.{Contact, Prepared, Taken, Notice, Ask, is_taking, asks, Taking, taking_in, last_taking, last_ask, time_of, time, notices, Use, uses_in, uses, since_notice, first_nonce, life_of, grant_of, asked_at, grant_held, awaits, is_open, is_answered}
-use Rattle.tva_sender.specs.Shapes.{list_length, nonce_length, length_of, fits, is_alive, nonce_of, held, may_ask, shape_of}
-use Rattle.tva_sender.specs.Steps.{prepared, answered, noticed}
-use Rattle.tva_sender.specs.Played.{IsNext, AreNext, IsPrepared}
+use Rattle.tva_sender.specs.Contacts.{Contact, Taking, taking_in, last_taking, last_ask, time_of, Use, uses_in, uses, first_nonce}
 use Rattle.tva_sender.specs.Book.{Keeps}
-use Rattle.tva_sender.proofs.Pushes.{last_taking-push, taking_more, uses-push, first_nonce-push}
-use Rattle.tva_sender.proofs.Keeping.{keeps_prepared, keeps_answered, keeps_noticed}
-use Rattle.tva_steady.specs.Miles.{Mile, Went, Got, Told, contact_of, contacts, paid_in, charges_in, came_in, last_came, since_got}
-use Rattle.tva_steady.specs.Steady.{Way, ComesIn, grant_at, checked, IsShown, IsPaid, IsMile, AreMiles, IsAuthorisedMile, AreAuthorised}
-use Rattle.tva_steady.proofs.Shown.{Allows, allows, by-taking, no-taking}
-use Rattle.tva_steady.proofs.Lists.{each-append, each-weaker, last-of, last-behind, IsChargeOf, Pairs, pairs-push, life-since, pairs-end}
-use Rattle.tva_steady.proofs.Seconds.{second-mono, second-later, second-within}
-use Rattle.tva_steady.proofs.Pushes.{contacts-push, charges-push, came-got, came-same, since-got, since-went, since-told, authorised-front, authorised-last}
+use Rattle.tva_sender.proofs.Pushes.{last_taking-push, taking_more, uses-push}
+use Rattle.tva_steady.specs.Miles.{Mile, contact_of, contacts, paid_in, charges_in, came_in, last_came, since_got}
+use Rattle.tva_steady.specs.Steady.{Way, ComesIn, grant_at, IsAuthorisedMile, AreAuthorised}
+use Rattle.tva_steady.proofs.Lists.{each-append, each-weaker, IsChargeOf, Pairs, pairs-push}
+use Rattle.tva_steady.proofs.Pushes.{contacts-push, charges-push, came-same, authorised-front, authorised-last}
 
 -- no grant was taken so far, so no packet showed one
 pub record IsFresh (ms : List Mile) : Type 0 where

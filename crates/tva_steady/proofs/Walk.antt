@@ -1,5 +1,5 @@
 -- From mile to mile.
-use Rattle.std.proofs.Common.{◌≡◌, ◌≤◌, ◌<◌, ◌⊎◌, inl, inr, ℕ, ◌+◌, ◌-◌, ◌*◌, ◌^◌, Bool, true, false, not, ◌&&◌, cond, ltb, leb, List, [], ◌∷◌, ◌++◌, Option, Some, None, refl, ap, sym, subst, ◌∙◌, arith, append_assoc, append-nil}
+use Rattle.std.proofs.Common.{◌≡◌, ◌≤◌, ◌<◌, inl, inr, ℕ, ◌+◌, ◌-◌, ◌*◌, Bool, true, false, not, ◌&&◌, cond, ltb, leb, List, [], ◌∷◌, ◌++◌, Option, Some, None, refl, ap, sym, subst, ◌∙◌, arith, append_assoc, append-nil}
 use Rattle.std.specs.Prelude.{IsSomeAnd, sum_by}
 use Rattle.std.specs.List.{AllByRecursion}
 use Rattle.std.specs.Option.{option_or, option_map, unwrap_or, IfSome}
@@ -9,7 +9,6 @@ use Rattle.tva_base.specs.declared.packet.Rights.{Rights}
 use Rattle.tva_base.specs.declared.packet.Time.{Time}
 use Rattle.tva_base.specs.Clock.{router_second}
 use Rattle.tva_base.specs.Plan.{AreRights}
-use Rattle.tva_caps.specs.declared.minters.Checked.{Checked}
 use Rattle.tva_caps.specs.declared.minters.Checked.TheVariants.{Valid}
 use Rattle.tva_caps.specs.Check.{check_of}
 use Rattle.tva_caps.specs.Formula.{precap_of, capability_of}
@@ -20,17 +19,17 @@ use Rattle.tva_sender.specs.declared.shape.Shape.{Shape}
 use Rattle.tva_sender.specs.declared.shape.Shape.TheVariants as shape
 use Rattle.tva_sender.specs.declared.grant.Grant as holding
 use Rattle.tva_sender.specs.declared.peer.Peer.{Peer}
-use Rattle.tva_sender.specs.Contacts.{Contact, Prepared, Taken, Notice, Ask, asks, Taking, taking_in, last_taking, last_ask, time_of, time, Use, uses_in, uses, since_notice, first_nonce, life_of, grant_of, asked_at, grant_held, awaits, is_open}
+use Rattle.tva_sender.specs.Contacts.{Contact, Prepared, Taken, Ask, asks, Taking, taking_in, last_taking, last_ask, time_of, time, Use, uses, since_notice, first_nonce, life_of, grant_of, asked_at, grant_held, awaits, is_open}
 use Rattle.tva_sender.specs.Shapes.{list_length, nonce_length, length_of, fits, is_alive, nonce_of, held, may_ask}
 use Rattle.tva_sender.specs.Steps.{prepared, answered, noticed}
-use Rattle.tva_sender.specs.Played.{IsNext, AreNext, IsPrepared}
+use Rattle.tva_sender.specs.Played.{IsNext, AreNext}
 use Rattle.tva_sender.specs.Book.{Keeps}
 use Rattle.tva_sender.proofs.Pushes.{last_taking-push}
 use Rattle.tva_sender.proofs.Keeping.{keeps_prepared, keeps_answered, keeps_noticed}
-use Rattle.tva_steady.specs.Miles.{Mile, Went, Got, Told, contact_of, contacts, paid_in, charges_in, came_in, last_came, since_got}
-use Rattle.tva_steady.specs.Steady.{Way, ComesIn, grant_at, checked, IsShown, IsPaid, IsMile, AreMiles, IsAuthorisedMile}
+use Rattle.tva_steady.specs.Miles.{Mile, Went, Got, Told, contact_of, contacts, paid_in, charges_in, last_came}
+use Rattle.tva_steady.specs.Steady.{Way, ComesIn, grant_at, checked, IsMile, AreMiles, IsAuthorisedMile}
 use Rattle.tva_steady.proofs.Shown.{Allows, allows, by-taking, no-taking}
-use Rattle.tva_steady.proofs.Lists.{each-append, each-weaker, last-of, last-behind, IsChargeOf, Pairs, life-since}
+use Rattle.tva_steady.proofs.Lists.{each-weaker, last-of, last-behind, Pairs, life-since}
 use Rattle.tva_steady.proofs.Seconds.{second-mono, second-later, second-within}
 use Rattle.tva_steady.proofs.Pushes.{contacts-push, charges-push, came-got, since-got, since-went, since-told}
 use Rattle.tva_steady.proofs.Stages.{IsFresh, AreOwn, NotAfter, Holds, Stage, none-after, stay, idle, used}

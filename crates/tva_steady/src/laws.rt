@@ -5,7 +5,11 @@ ghost use Rattle.tva_sender.specs.declared.shape.Shape.{Shape};
 ghost use Rattle.tva_steady.specs.Miles.{Mile};
 ghost use Rattle.tva_steady.specs.Steady.{Way, IsSteady, IsTaken};
 
-/// On a steady path each packet that shows a grant is authorised, whatever else the router charges.
+/// On a steady path each packet that shows a grant is authorised by it, whatever else the router charges:
+/// a list and a renewal by the check of their capability and by the grant's verdict, a nonce alone by the
+/// nonce's verdict. Times are in nanoseconds, each by one clock for all; a router's own clock may be ahead.
+/// That senders who keep to their grants are not demoted is what TVA promises; the rules of the sender and
+/// the words of this law are this project's own.
 pub fn honest_senders_are_authorised()
     ensures { (w : Way) (h : List Charge) (miles : List Mile) (sent : ℕ) (s : Shape) (bytes at : ℕ)
         → IsSteady w h miles sent s bytes at → IsTaken w h miles s bytes at }
