@@ -5,3 +5,4 @@ pub mod Pushes
 pub mod Stages
 pub mod Walk
 pub mod Honest
+mod Walked

@@ -1,2 +1,3 @@
 pub mod Miles
 pub mod Steady
+pub mod Walk

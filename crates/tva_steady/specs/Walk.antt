@@ -1,0 +1,45 @@
+-- A worked walk: a request, the grant that answers it, a list and a nonce alone, at one router.
+use Rattle.std.specs.Prelude.{ℕ, List, [], ◌∷◌, Some, None}
+use Rattle.tva_base.specs.declared.packet.Flow.{Flow}
+use Rattle.tva_base.specs.declared.packet.Rights.{Rights}
+use Rattle.tva_flow.specs.Charges.{Charge}
+use Rattle.tva_sender.specs.declared.shape.Shape.TheVariants as shape
+use Rattle.tva_steady.specs.Miles.{Mile, Went, Got}
+use Rattle.tva_steady.specs.Steady.{Way}
+
+-- from 10.0.0.1 to 10.0.1.1
+abbrev pub walk_flow : Flow
+walk_flow = record { src = record { 0 = 167772161 }; dst = record { 0 = 167772417 } }
+
+-- 32 units and 10 seconds
+abbrev pub walk_rights : Rights
+walk_rights = record { n = 32; t = 10 }
+
+-- to a router whose clock isn't ahead
+abbrev pub walk_way : List ℕ → ℕ → Way
+walk_way master slots = record {
+  margin = 1000000;
+  retry = 2000000000;
+  delay = 1000520;
+  flow = walk_flow;
+  master = master;
+  offset = 0;
+  slots = slots;
+}
+
+-- the charge of the list
+abbrev pub walk_charge : Charge
+walk_charge = record {
+  time = 5003420;
+  grant = record { flow = walk_flow; rights = walk_rights; second = 0 };
+  nonce = 2;
+  length = 52;
+}
+
+-- with the one capability that the grant has
+abbrev pub walk_miles : ℕ → List Mile
+walk_miles cap =
+    Went 0 shape.Request 100 None
+    ∷ Got walk_rights (cap ∷ []) 1001000
+    ∷ Went 4002900 (shape.List (record { nonce = 2; rights = walk_rights; caps = cap ∷ [] })) 52 (Some walk_charge)
+    ∷ []
