@@ -1,6 +1,9 @@
 -- What a router stands for after an arrival.
-use Rattle.std.proofs.Common.{◌≡◌, ℕ, ◌<◌, ◌≤◌, Bool, true, false, cond, leb, List, [], ◌++◌, Option, None, refl, sym, ap, ◌∙◌, subst, arith, append-nil}
+use Rattle.std.proofs.Common.{◌≡◌, ℕ, ◌<◌, ◌≤◌, Bool, true, false, cond, leb, List, [], ◌∷◌, ◌++◌, Option, None, refl, sym, ap, ◌∙◌, subst, arith, append-nil}
+use Rattle.std.specs.List.{All}
 use Rattle.std.proofs.lemmas.Bool.Decides.{nat_tests}
+use Rattle.std.proofs.lemmas.List.Elements.{All-nil, All-cons, All-weaker}
+use Rattle.tva_base.specs.declared.limits.LinkLimits.{LinkLimits}
 use Rattle.tva_base.specs.declared.packet.Fate.{Fate}
 use Rattle.tva_base.specs.declared.packet.Outcome.{Outcome}
 use Rattle.tva_base.specs.declared.plan.RouterPlan.{RouterPlan}
@@ -14,17 +17,46 @@ use Rattle.tva_port.specs.Stands as port
 use Rattle.tva_router.specs.declared.guard.Guard.{Guard}
 use Rattle.tva_router.specs.declared.judged.Judged.{Judged}
 use Rattle.tva_router.specs.Judging.{judge}
-use Rattle.tva_router.specs.Handling.{Logs, Handled, arrival, goes_on, handle, stopped, forwarded, sent, queued, way_to, nonce_in, charged_by}
-use Rattle.tva_router.specs.Stands.{RouterData, router_data, StandsFor, StandForLogs, MissNone, ◌with◌}
-use Rattle.tva_router.specs.Steps.{IsSound, Keeps}
+use Rattle.tva_router.specs.Handling.{Logs, Handled, arrival, goes_on, handle, stopped, fate_of, forwarded, sent, queued, way_to, nonce_in, charged_by}
+use Rattle.tva_router.specs.Stands.{RouterData, router_data, IsByPlan, StandsFor, StandForLogs, ◌with◌}
+use Rattle.tva_router.specs.Steps.{ArePorts, IsSound, Keeps}
 use Rattle.tva_router.proofs.Answers.{guard-later}
-use Rattle.tva_router.proofs.Ports.{ports-later, stands-nothing, miss-nothing}
+use Rattle.tva_router.proofs.Ports.{ports-later, stands-nothing}
 
 pub sound-later : (plan : RouterPlan) (last now : ℕ) (g : Guard) (ps : List port.PortData) → last ≤ now → IsSound plan last g ps → IsSound plan now g ps
 sound-later plan last now g ps le s = record {
   valid = s.valid;
   guard = guard-later plan last now g le s.guard;
   ports = ports-later plan.outgoing last now ps le s.ports;
+}
+
+all-early : (os : List (ℕ × LinkLimits)) (last : ℕ) (ps : List port.PortData) → ArePorts os last ps → All (λ (p : port.PortData). p.last ≤ last) ps
+all-early [] last [] a = All-nil (λ (p : port.PortData). p.last ≤ last)
+all-early [] last (p ∷ ps) a = absurd a
+all-early (o ∷ os) last [] a = absurd a
+all-early (o ∷ os) last (p ∷ ps) a = All-cons (λ (q : port.PortData). q.last ≤ last) p ps a.1 (all-early os last ps a.2)
+
+-- a sound router is one of its plan
+pub by-plan : (plan : RouterPlan) (last : ℕ) (g : Guard) (ps : List port.PortData) → IsSound plan last g ps → IsByPlan (router_data plan last g.minter g.cache ps)
+by-plan plan last g ps s = record {
+  valid = s.valid;
+  master = s.guard.master;
+  clock = s.guard.clock;
+  slots = s.guard.slots;
+  offset = s.guard.offset;
+  charged = s.guard.charged;
+  ports = all-early plan.outgoing last ps s.ports;
+}
+
+pub by-plan-later : (plan : RouterPlan) (last now : ℕ) (m : MinterState) (c : flows.Cache) (ps : List port.PortData) → last ≤ now → IsByPlan (router_data plan last m c ps) → IsByPlan (router_data plan now m c ps)
+by-plan-later plan last now m c ps le b = record {
+  valid = b.valid;
+  master = b.master;
+  clock = b.clock;
+  slots = b.slots;
+  offset = b.offset;
+  charged = omega (arith, b.charged, le);
+  ports = All-weaker (λ (p : port.PortData). p.last ≤ last) (λ (p : port.PortData). p.last ≤ now) (λ p k. omega (arith, k, le)) ps b.ports;
 }
 
 pub handle-stopped : (plan : RouterPlan) (h : List Charge) (logs : Logs) (now : ℕ) (from : Option ℕ) (p : PacketData) → 32 ≤ p.hops → handle plan h logs now from p ≡ stopped p
@@ -41,12 +73,13 @@ handle-forwarded plan h logs now from p few =
     rw free refl
 
 -- nothing became of it
-pub stands-stopped : (plan : RouterPlan) (last now : ℕ) (m : MinterState) (c : flows.Cache) (ps : List port.PortData) (h : List Charge) (logs : Logs) (from : Option ℕ) (p : PacketData) → 32 ≤ p.hops
+pub stands-stopped : (plan : RouterPlan) (last now : ℕ) (m : MinterState) (c : flows.Cache) (ps : List port.PortData) (h : List Charge) (logs : Logs) (from : Option ℕ) (p : PacketData) → 32 ≤ p.hops → last ≤ now
     → StandsFor (router_data plan last m c ps) h logs
     → StandsFor (router_data plan now m c ps) (h ++ (handle plan h logs now from p).charges) (logs with (handle plan h logs now from p).queued)
-stands-stopped plan last now m c ps h logs from p many s =
+stands-stopped plan last now m c ps h logs from p many le s =
     subst (λ (z : Handled). StandsFor (router_data plan now m c ps) (h ++ z.charges) (logs with z.queued)) (sym (handle-stopped plan h logs now from p many))
     (record {
+      plan = by-plan-later plan last now m c ps le s.plan;
       charges = subst (λ (z : List Charge). flows.StandsFor c z) (sym (append-nil h)) s.charges;
       timely = subst (λ (z : List Charge). AreTimely plan.clock_offset z) (sym (append-nil h)) s.timely;
       links = stands-nothing plan.outgoing ps logs s.links;
@@ -55,12 +88,9 @@ stands-stopped plan last now m c ps h logs from p many s =
 -- the fate of an arrival that was judged, and whose packet then went there
 pub fate-forwarded : (plan : RouterPlan) (h : List Charge) (logs : Logs) (now : ℕ) (from : Option ℕ) (p : PacketData) (j : Judged) (o : Outcome) → p.hops < 32
     → j ≡ judge plan h (arrival now from p) p.carried → o ≡ sent logs j.class (goes_on p j.carried) (way_to plan p.flow.dst)
-    → record { class = j.class; cause = j.cause; charge = j.charge; outcome = o } ≡ (handle plan h logs now from p).fate
+    → fate_of j o ≡ (handle plan h logs now from p).fate
 fate-forwarded plan h logs now from p j o few judged went =
-    let out : Fate = record { class = j.class; cause = j.cause; charge = j.charge; outcome = sent logs j.class (goes_on p j.carried) (way_to plan p.flow.dst) } in
-    let first : record { class = j.class; cause = j.cause; charge = j.charge; outcome = o } ≡ out =
-    ap (λ (z : Outcome). let r : Fate = record { class = j.class; cause = j.cause; charge = j.charge; outcome = z } in r) went in
-    first
+    ap (fate_of j) went
     ∙ ap (λ (z : Judged). (forwarded plan logs now p z).fate) judged
     ∙ sym (ap (λ (z : Handled). z.fate) (handle-forwarded plan h logs now from p few))
 
@@ -68,11 +98,12 @@ pub stands-forwarded : (plan : RouterPlan) (last now : ℕ) (m n : MinterState) 
     → j ≡ judge plan h (arrival now from p) p.carried → StandsFor (router_data plan last m c ps) h logs
     → Keeps plan (arrival now from p) j.charge (nonce_in p.carried) c d
     → StandForLogs plan.outgoing qs (logs with queued logs now j.class (goes_on p j.carried) (way_to plan p.flow.dst))
+    → IsByPlan (router_data plan now n d qs)
     → StandsFor (router_data plan now n d qs) (h ++ (handle plan h logs now from p).charges) (logs with (handle plan h logs now from p).queued)
-stands-forwarded plan last now m n c d ps qs h logs from p j few judged s keeps links =
+stands-forwarded plan last now m n c d ps qs h logs from p j few judged s keeps links by =
     subst (λ (z : Handled). StandsFor (router_data plan now n d qs) (h ++ z.charges) (logs with z.queued))
     (ap (forwarded plan logs now p) judged ∙ sym (handle-forwarded plan h logs now from p few))
-    (record { charges = keeps.stands h s.charges; timely = keeps.timely h s.charges s.timely; links = links })
+    (record { plan = by; charges = keeps.stands h s.charges; timely = keeps.timely h s.charges s.timely; links = links })
 
 uncharged_if : (b : Bool) (plan : RouterPlan) (logs : Logs) (now : ℕ) (p : PacketData) (j : Judged) → (cond b (stopped p) (forwarded plan logs now p j)).fate.charge ≡ None → (cond b (stopped p) (forwarded plan logs now p j)).charges ≡ []
 uncharged_if true plan logs now p j e = refl
@@ -88,13 +119,3 @@ pub stands-uncharged : (v : RouterData) (plan : RouterPlan) (h : List Charge) (l
 stands-uncharged v plan h logs after now from p fate told s none =
     let empty : (handle plan h logs now from p).charges ≡ [] = uncharged plan h logs now from p (ap (λ (z : Fate). z.charge) (sym told) ∙ none) in
     subst (λ (z : List Charge). StandsFor v z after) (ap (λ (z : List Charge). h ++ z) empty ∙ append-nil h) s
-
--- no start is missed by an arrival
-pub missed-stopped : (plan : RouterPlan) (h : List Charge) (logs : Logs) (now : ℕ) (from : Option ℕ) (p : PacketData) → 32 ≤ p.hops → MissNone plan.outgoing now logs → MissNone plan.outgoing now (logs with (handle plan h logs now from p).queued)
-missed-stopped plan h logs now from p many m =
-    subst (λ (z : Handled). MissNone plan.outgoing now (logs with z.queued)) (sym (handle-stopped plan h logs now from p many)) (miss-nothing plan.outgoing now logs m)
-
-pub missed-forwarded : (plan : RouterPlan) (h : List Charge) (logs : Logs) (now : ℕ) (from : Option ℕ) (p : PacketData) (j : Judged) → p.hops < 32 → j ≡ judge plan h (arrival now from p) p.carried
-    → MissNone plan.outgoing now (logs with queued logs now j.class (goes_on p j.carried) (way_to plan p.flow.dst)) → MissNone plan.outgoing now (logs with (handle plan h logs now from p).queued)
-missed-forwarded plan h logs now from p j few judged m =
-    subst (λ (z : Handled). MissNone plan.outgoing now (logs with z.queued)) (ap (forwarded plan logs now p) judged ∙ sym (handle-forwarded plan h logs now from p few)) m

@@ -3,3 +3,4 @@ pub mod Ports
 pub mod Answers
 pub mod Queueing
 pub mod Handled
+pub mod Known

@@ -7,12 +7,11 @@ use Rattle.std.proofs.lemmas.Bool.Decides.{nat_tests}
 use Rattle.tva_base.specs.Plan.{AreDistinct, links_of}
 use Rattle.tva_base.specs.declared.limits.LinkLimits.{LinkLimits}
 use Rattle.tva_port.specs.Log.{Entry}
-use Rattle.tva_port.specs.Decide.{MissesNone}
 use Rattle.tva_port.specs.Stands.{PortData, StandsFor}
 use Rattle.tva_router.specs.Handling.{Logs}
-use Rattle.tva_router.specs.Stands.{StandForLogs, MissNone, port_in, ◌with◌}
+use Rattle.tva_router.specs.Stands.{StandForLogs, free_in, ◌with◌}
 use Rattle.tva_router.specs.Steps.{ArePorts}
-use Rattle.tva_router.proofs.Links.{IsAt, find_nowhere}
+use Rattle.tva_router.proofs.Links.{IsAt}
 
 -- as many as links
 pub ports-length : (os : List (ℕ × LinkLimits)) (last : ℕ) (ps : List PortData) → ArePorts os last ps → length ps ≡ length os
@@ -48,15 +47,15 @@ pub stands-get : (os : List (ℕ × LinkLimits)) (ps : List PortData) (logs : Lo
 stands-get [] ps logs i link p s at n here = absurd at
 stands-get (o ∷ os) [] logs i link p s at n here = absurd s
 stands-get (o ∷ os) (y ∷ ys) logs zero link p s at n here =
-    subst (λ (z : PortData). StandsFor z (logs link)) (sym here) (subst (λ (k : ℕ). StandsFor y (logs k)) (grind (arith, at)) s.0)
-stands-get (o ∷ os) (y ∷ ys) logs (suc i) link p s at n here = stands-get os ys logs i link p s.1 at.1 (omega (arith, n)) here
+    subst (λ (z : PortData). StandsFor z (logs link)) (sym here) (subst (λ (k : ℕ). StandsFor y (logs k)) (grind (arith, at)) s.1)
+stands-get (o ∷ os) (y ∷ ys) logs (suc i) link p s at n here = stands-get os ys logs i link p s.2 at.1 (omega (arith, n)) here
 
 -- nothing was added
 pub stands-nothing : (os : List (ℕ × LinkLimits)) (ps : List PortData) (logs : Logs) → StandForLogs os ps logs → StandForLogs os ps (logs with λ k. [])
 stands-nothing [] ps logs s = tt
 stands-nothing (o ∷ os) [] logs s = absurd s
 stands-nothing (o ∷ os) (p ∷ ps) logs s =
-    (subst (λ (z : List Entry). StandsFor p z) (sym (append-nil (logs o.0))) s.0, stands-nothing os ps logs s.1)
+    (s.0, subst (λ (z : List Entry). StandsFor p z) (sym (append-nil (logs o.0))) s.1, stands-nothing os ps logs s.2)
 
 -- none of the links is that one
 abbrev pub AreOthers : List (ℕ × LinkLimits) → ℕ → Type 0
@@ -81,87 +80,37 @@ stands-others : (os : List (ℕ × LinkLimits)) (ps : List PortData) (logs : Log
 stands-others [] ps logs link added apart s = tt
 stands-others (o ∷ os) [] logs link added apart s = absurd s
 stands-others (o ∷ os) (p ∷ ps) logs link added apart s =
-    (added_other p logs o.0 link added apart.0 s.0, stands-others os ps logs link added apart.1 s.1)
+    (s.0, added_other p logs o.0 link added apart.0 s.1, stands-others os ps logs link added apart.1 s.2)
 
 added_here : (p : PortData) (logs : Logs) (k link : ℕ) (added : List Entry) → eqb k link ≡ true → StandsFor p (logs link ++ added) → StandsFor p (logs k ++ cond (eqb k link) added [])
 added_here p logs k link added here s = rw here (subst (λ (z : ℕ). StandsFor p (logs z ++ added)) (sym (same_link k link here)) s)
 
 -- one port has more in its log
-pub stands-set : (os : List (ℕ × LinkLimits)) (ps : List PortData) (logs : Logs) (i link : ℕ) (p : PortData) (added : List Entry) → AreDistinct (links_of os) → IsAt os i link
-    → StandForLogs os ps logs → StandsFor p (logs link ++ added)
+pub stands-set : (os : List (ℕ × LinkLimits)) (ps : List PortData) (logs : Logs) (i link : ℕ) (p : PortData) (added : List Entry) (d : ℕ × LinkLimits) → AreDistinct (links_of os) → IsAt os i link
+    → StandForLogs os ps logs → p.limits ≡ (get_or os i d).1 → StandsFor p (logs link ++ added)
     → StandForLogs os (set ps i p) (logs with λ k. cond (eqb k link) added [])
-stands-set [] ps logs i link p added apart at s new = absurd at
-stands-set (o ∷ os) [] logs i link p added apart at s new = absurd s
-stands-set (o ∷ os) (y ∷ ys) logs zero link p added apart at s new = (
+stands-set [] ps logs i link p added d apart at s l new = absurd at
+stands-set (o ∷ os) [] logs i link p added d apart at s l new = absurd s
+stands-set (o ∷ os) (y ∷ ys) logs zero link p added d apart at s l new = (
+  l,
   added_here p logs o.0 link added at new,
-  stands-others os ys logs link added (others os link (subst (λ (z : ℕ). Contains (links_of os) z → ⊥) (same_link o.0 link at) apart.0)) s.1,
+  stands-others os ys logs link added (others os link (subst (λ (z : ℕ). Contains (links_of os) z → ⊥) (same_link o.0 link at) apart.0)) s.2,
 )
-stands-set (o ∷ os) (y ∷ ys) logs (suc i) link p added apart at s new =
-    (added_other y logs o.0 link added at.0 s.0, stands-set os ys logs i link p added apart.1 at.1 s.1 new)
+stands-set (o ∷ os) (y ∷ ys) logs (suc i) link p added d apart at s l new =
+    (s.0, added_other y logs o.0 link added at.0 s.1, stands-set os ys logs i link p added d apart.1 at.1 s.2 l new)
 
--- on no link a start is missed, with nothing added
-pub miss-nothing : (os : List (ℕ × LinkLimits)) (until : ℕ) (logs : Logs) → MissNone os until logs → MissNone os until (logs with λ k. [])
-miss-nothing [] until logs m = tt
-miss-nothing (o ∷ os) until logs m =
-    (subst (λ (z : List Entry). MissesNone o.1 until z) (sym (append-nil (logs o.0))) m.0, miss-nothing os until logs m.1)
+-- a link is free when the port in its place is
+pub free-at : (os : List (ℕ × LinkLimits)) (ps : List PortData) (i link : ℕ) (p : PortData) → IsAt os i link → length ps ≡ length os → p ≡ get_or ps i p → free_in os ps link ≡ p.free_at
+free-at [] ps i link p at n here = absurd at
+free-at (o ∷ os) [] i link p at n here = absurd (omega (arith, n))
+free-at (o ∷ os) (y ∷ ys) zero link p at n here = rw at (ap (λ (z : PortData). z.free_at) (sym here))
+free-at (o ∷ os) (y ∷ ys) (suc i) link p at n here = rw at.0 (free-at os ys i link p at.1 (omega (arith, n)) here)
 
-miss_other : (l : LinkLimits) (until : ℕ) (logs : Logs) (k link : ℕ) (added : List Entry) → eqb k link ≡ false → MissesNone l until (logs k) → MissesNone l until (logs k ++ cond (eqb k link) added [])
-miss_other l until logs k link added other m = rw other (subst (λ (z : List Entry). MissesNone l until z) (sym (append-nil (logs k))) m)
-
-miss_others : (os : List (ℕ × LinkLimits)) (until : ℕ) (logs : Logs) (link : ℕ) (added : List Entry) → AreOthers os link → MissNone os until logs → MissNone os until (logs with λ k. cond (eqb k link) added [])
-miss_others [] until logs link added apart m = tt
-miss_others (o ∷ os) until logs link added apart m = (miss_other o.1 until logs o.0 link added apart.0 m.0, miss_others os until logs link added apart.1 m.1)
-
-miss_here : (l : LinkLimits) (until : ℕ) (logs : Logs) (k link : ℕ) (added : List Entry) → eqb k link ≡ true → MissesNone l until (logs link ++ added) → MissesNone l until (logs k ++ cond (eqb k link) added [])
-miss_here l until logs k link added here m = rw here (subst (λ (z : ℕ). MissesNone l until (logs z ++ added)) (sym (same_link k link here)) m)
-
-pub miss-get : (os : List (ℕ × LinkLimits)) (until : ℕ) (logs : Logs) (i link : ℕ) (d : ℕ × LinkLimits) → IsAt os i link → MissNone os until logs → MissesNone (get_or os i d).1 until (logs link)
-miss-get [] until logs i link d at m = absurd at
-miss-get (o ∷ os) until logs zero link d at m = subst (λ (z : ℕ). MissesNone o.1 until (logs z)) (same_link o.0 link at) m.0
-miss-get (o ∷ os) until logs (suc i) link d at m = miss-get os until logs i link d at.1 m.1
-
--- with more in the log of one
-pub miss-set : (os : List (ℕ × LinkLimits)) (until : ℕ) (logs : Logs) (i link : ℕ) (d : ℕ × LinkLimits) (added : List Entry) → AreDistinct (links_of os) → IsAt os i link → MissNone os until logs
-    → MissesNone (get_or os i d).1 until (logs link ++ added) → MissNone os until (logs with λ k. cond (eqb k link) added [])
-miss-set [] until logs i link d added apart at m new = absurd at
-miss-set (o ∷ os) until logs zero link d added apart at m new = (
-  miss_here o.1 until logs o.0 link added at new,
-  miss_others os until logs link added (others os link (subst (λ (z : ℕ). Contains (links_of os) z → ⊥) (same_link o.0 link at) apart.0)) m.1,
-)
-miss-set (o ∷ os) until logs (suc i) link d added apart at m new =
-    (miss_other o.1 until logs o.0 link added at.0 m.0, miss-set os until logs i link d added apart.1 at.1 m.1 new)
-
--- the port of a link is the one in its place
-pub port-at : (os : List (ℕ × LinkLimits)) (ps : List PortData) (i link : ℕ) (p : PortData) → IsAt os i link → length ps ≡ length os → p ≡ get_or ps i p → port_in os ps link ≡ Some p
-port-at [] ps i link p at n here = absurd at
-port-at (o ∷ os) [] i link p at n here = absurd (omega (arith, n))
-port-at (o ∷ os) (y ∷ ys) zero link p at n here = rw at (ap Some (sym here))
-port-at (o ∷ os) (y ∷ ys) (suc i) link p at n here = rw at.0 (port-at os ys i link p at.1 (omega (arith, n)) here)
-
-pub port-after : (os : List (ℕ × LinkLimits)) (ps : List PortData) (i link : ℕ) (p : PortData) → IsAt os i link → length ps ≡ length os → port_in os (set ps i p) link ≡ Some p
-port-after [] ps i link p at n = absurd at
-port-after (o ∷ os) [] i link p at n = absurd (omega (arith, n))
-port-after (o ∷ os) (y ∷ ys) zero link p at n = rw at refl
-port-after (o ∷ os) (y ∷ ys) (suc i) link p at n = rw at.0 (port-after os ys i link p at.1 (omega (arith, n)))
-
-neither : {X : Type 0} (b : Bool) (x : X) (rest : Option X) → cond b (Some x) rest ≡ None → (b ≡ false) × (rest ≡ None)
-neither true x rest h = absurd (cc)
-neither false x rest h = (refl, h)
-
-found_none : (os : List (ℕ × LinkLimits)) (link : ℕ) → find (λ o. eqb o.0 link) os ≡ None → AreOthers os link
-found_none [] link h = tt
-found_none (o ∷ os) link h =
-    let parts = neither (eqb o.0 link) o (find (λ z. eqb z.0 link) os) h in
-    (parts.0, found_none os link parts.1)
-
-port_none : (os : List (ℕ × LinkLimits)) (ps : List PortData) (link : ℕ) → AreOthers os link → port_in os ps link ≡ None
-port_none [] ps link apart = refl
-port_none (o ∷ os) [] link apart = refl
-port_none (o ∷ os) (p ∷ ps) link apart = rw apart.0 (port_none os ps link apart.1)
-
--- there is none of a link without a place
-pub port-nowhere : (os : List (ℕ × LinkLimits)) (ps : List PortData) (link : ℕ) → position (λ o. eqb o.0 link) os ≡ None → port_in os ps link ≡ None
-port-nowhere os ps link h = port_none os ps link (found_none os link (find_nowhere (λ (o : ℕ × LinkLimits). eqb o.0 link) os h))
+pub free-set : (os : List (ℕ × LinkLimits)) (ps : List PortData) (i link : ℕ) (p : PortData) → IsAt os i link → length ps ≡ length os → free_in os (set ps i p) link ≡ p.free_at
+free-set [] ps i link p at n = absurd at
+free-set (o ∷ os) [] i link p at n = absurd (omega (arith, n))
+free-set (o ∷ os) (y ∷ ys) zero link p at n = rw at refl
+free-set (o ∷ os) (y ∷ ys) (suc i) link p at n = rw at.0 (free-set os ys i link p at.1 (omega (arith, n)))
 
 -- the place of a link, by a call that looked for it
 pub place-in : (os slice : List (ℕ × LinkLimits)) (link : ℕ) (r x : Option ℕ) → slice ≡ os → r ≡ position (λ o. eqb o.0 link) slice → r ≡ x → position (λ o. eqb o.0 link) os ≡ x
@@ -173,15 +122,15 @@ ports-push [] last (y ∷ ys) o p a l k = absurd a
 ports-push (x ∷ xs) last [] o p a l k = absurd a
 ports-push (x ∷ xs) last (y ∷ ys) o p a l k = (a.0, a.1, ports-push xs last ys o p a.2 l k)
 
-stands-push : (os : List (ℕ × LinkLimits)) (last : ℕ) (ps : List PortData) (logs : Logs) (o : ℕ × LinkLimits) (p : PortData) → ArePorts os last ps → StandForLogs os ps logs → StandsFor p (logs o.0) → StandForLogs (os ++ o ∷ []) (ps ++ p ∷ []) logs
-stands-push [] last [] logs o p a s k = (k, tt)
-stands-push [] last (y ∷ ys) logs o p a s k = absurd a
-stands-push (x ∷ xs) last [] logs o p a s k = absurd a
-stands-push (x ∷ xs) last (y ∷ ys) logs o p a s k = (s.0, stands-push xs last ys logs o p a.2 s.1 k)
+stands-push : (os : List (ℕ × LinkLimits)) (last : ℕ) (ps : List PortData) (logs : Logs) (o : ℕ × LinkLimits) (p : PortData) → ArePorts os last ps → StandForLogs os ps logs → p.limits ≡ o.1 → StandsFor p (logs o.0) → StandForLogs (os ++ o ∷ []) (ps ++ p ∷ []) logs
+stands-push [] last [] logs o p a s l k = (l, k, tt)
+stands-push [] last (y ∷ ys) logs o p a s l k = absurd a
+stands-push (x ∷ xs) last [] logs o p a s l k = absurd a
+stands-push (x ∷ xs) last (y ∷ ys) logs o p a s l k = (s.0, s.1, stands-push xs last ys logs o p a.2 s.2 l k)
 
 -- one port more
 pub ports-more : (os : List (ℕ × LinkLimits)) (i : ℕ) (d : ℕ × LinkLimits) (ps : List PortData) (p : PortData) → i < length os → ArePorts (take i os) 0 ps × StandForLogs (take i os) ps (λ link. [])
     → p.limits ≡ (get_or os i d).1 → p.last ≤ 0 → StandsFor p [] → ArePorts (take (i + 1) os) 0 (ps ++ p ∷ []) × StandForLogs (take (i + 1) os) (ps ++ p ∷ []) (λ link. [])
 ports-more os i d ps p within so_far l k s =
     subst (λ (z : List (ℕ × LinkLimits)). ArePorts z 0 (ps ++ p ∷ []) × StandForLogs z (ps ++ p ∷ []) (λ link. [])) (sym (take_more os i d within))
-    (ports-push (take i os) 0 ps (get_or os i d) p so_far.0 l k, stands-push (take i os) 0 ps (λ link. []) (get_or os i d) p so_far.0 so_far.1 s)
+    (ports-push (take i os) 0 ps (get_or os i d) p so_far.0 l k, stands-push (take i os) 0 ps (λ link. []) (get_or os i d) p so_far.0 so_far.1 l s)

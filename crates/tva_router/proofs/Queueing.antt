@@ -7,14 +7,13 @@ use Rattle.tva_base.specs.declared.packet.Class.{Class}
 use Rattle.tva_shim.specs.Packets.{PacketData}
 use Rattle.tva_drr.specs.declared.offered.Offered.{Offered}
 use Rattle.tva_port.specs.Log.{Entry}
-use Rattle.tva_port.specs.Decide.{MissesNone}
 use Rattle.tva_port.specs.Waiting.{waiting_after, queue_answer, queued_by}
 use Rattle.tva_port.specs.Stands.{PortData, StandsFor}
 use Rattle.tva_router.specs.Handling.{Logs, key_of, offered, outcome_of, sent, queued}
-use Rattle.tva_router.specs.Stands.{StandForLogs, MissNone, ◌with◌}
+use Rattle.tva_router.specs.Stands.{StandForLogs, ◌with◌}
 use Rattle.tva_router.specs.Steps.{ArePorts}
 use Rattle.tva_router.proofs.Links.{is_at, at_within, at_link, find_there}
-use Rattle.tva_router.proofs.Ports.{ports-length, port-get, stands-get, stands-set, miss-get, miss-set, same_link}
+use Rattle.tva_router.proofs.Ports.{ports-length, port-get, stands-get, stands-set, same_link}
 
 -- what is found is the link with its limits
 pub found : (os : List (ℕ × LinkLimits)) (i link : ℕ) (d : ℕ × LinkLimits) → position (λ o. eqb o.0 link) os ≡ Some i → find (λ o. eqb o.0 link) os ≡ Some (link, (get_or os i d).1)
@@ -50,26 +49,12 @@ pub stands-queued : (os : List (ℕ × LinkLimits)) (last : ℕ) (ps : List Port
     → AreDistinct (links_of os) → position (λ o. eqb o.0 link) os ≡ Some i → ArePorts os last ps → StandForLogs os ps logs → p ≡ get_or ps i p → key ≡ key_of class packet
     → ((log : List Entry) → StandsFor p log → r ≡ queue_answer p.limits (waiting_after p.limits log) class key packet)
     → ((log : List Entry) → StandsFor p log → StandsFor new (log ++ queued_by r now class key packet))
+    → new.limits ≡ p.limits
     → StandForLogs os (set ps i new) (logs with queued logs now class packet (find (λ o. eqb o.0 link) os))
-stands-queued os last ps logs i link d p new now class key packet r apart h a s here k answer stands =
+stands-queued os last ps logs i link d p new now class key packet r apart h a s here k answer stands l =
     let at = is_at os i link h in
     subst (λ (z : Logs). StandForLogs os (set ps i new) (logs with z))
     (sym (queued-at logs now class key packet link (get_or os i d).1 (find (λ o. eqb o.0 link) os) r (found os i link d h) (answered os last ps logs i link d p class key packet r h a s here k answer) k))
-    (stands-set os ps logs i link new (queued_by r now class key packet) apart at s
+    (stands-set os ps logs i link new (queued_by r now class key packet) d apart at s
+    (l ∙ (port-get os last ps i p d a (at_within os i link at) here).0)
     (stands (logs link) (stands-get os ps logs i link p s at (ports-length os last ps a) here)))
-
--- and no start is missed
-pub missed-queued : (os : List (ℕ × LinkLimits)) (last : ℕ) (ps : List PortData) (logs : Logs) (i link : ℕ) (d : ℕ × LinkLimits) (p : PortData) (now : ℕ) (class : Class) (key : ℕ) (packet : PacketData) (r : Offered PacketData)
-    → AreDistinct (links_of os) → position (λ o. eqb o.0 link) os ≡ Some i → ArePorts os last ps → StandForLogs os ps logs → p ≡ get_or ps i p → key ≡ key_of class packet
-    → ((log : List Entry) → StandsFor p log → r ≡ queue_answer p.limits (waiting_after p.limits log) class key packet)
-    → ((log : List Entry) → StandsFor p log → MissesNone p.limits now log → MissesNone p.limits now (log ++ queued_by r now class key packet))
-    → MissNone os now logs → MissNone os now (logs with queued logs now class packet (find (λ o. eqb o.0 link) os))
-missed-queued os last ps logs i link d p now class key packet r apart h a s here k answer missed m =
-    let at = is_at os i link h in
-    let same : p.limits ≡ (get_or os i d).1 = (port-get os last ps i p d a (at_within os i link at) here).0 in
-    let before : MissesNone p.limits now (logs link) = subst (λ (z : LinkLimits). MissesNone z now (logs link)) (sym same) (miss-get os now logs i link d at m) in
-    subst (λ (z : Logs). MissNone os now (logs with z))
-    (sym (queued-at logs now class key packet link (get_or os i d).1 (find (λ o. eqb o.0 link) os) r (found os i link d h) (answered os last ps logs i link d p class key packet r h a s here k answer) k))
-    (miss-set os now logs i link d (queued_by r now class key packet) apart at m
-    (subst (λ (z : LinkLimits). MissesNone z now (logs link ++ queued_by r now class key packet)) same
-    (missed (logs link) (stands-get os ps logs i link p s at (ports-length os last ps a) here) before)))

@@ -94,9 +94,11 @@ queued logs now class p None k = []
 queued logs now class p (Some (link, limits)) k =
     if k == link then queued_by (offered limits (logs link) class p) now class (key_of class p) p else []
 
--- what becomes of an arrival, what it adds to the charges, and to the log of each link
+-- what becomes of an arrival, the packet as it goes on, and what the arrival adds to the charges and to
+-- the log of each link
 pub record Handled : Type 0 where
   pub fate : Fate
+  pub onward : PacketData
   pub charges : List Charge
   pub queued : Logs
 
@@ -104,6 +106,7 @@ pub record Handled : Type 0 where
 abbrev pub stopped : PacketData → Handled
 stopped p = record {
   fate = record { class = class_by_shim p.carried; cause = None; charge = None; outcome = outcome.Dropped drop.HopLimit };
+  onward = p;
   charges = [];
   queued = λ k. [];
 }
@@ -112,10 +115,15 @@ stopped p = record {
 abbrev pub goes_on : PacketData → Carried → PacketData
 goes_on p carries = record p { hops = p.hops + 1; carried = carries }
 
+-- the fate of a packet that was judged, by where it ends up
+abbrev pub fate_of : Judged → Outcome → Fate
+fate_of j outcome = record { class = j.class; cause = j.cause; charge = j.charge; outcome = outcome }
+
 -- a packet that was judged
 abbrev pub forwarded : RouterPlan → Logs → ℕ → PacketData → Judged → Handled
 forwarded plan logs now p j = record {
-  fate = record { class = j.class; cause = j.cause; charge = j.charge; outcome = sent logs j.class (goes_on p j.carried) (way_to plan p.flow.dst) };
+  fate = fate_of j (sent logs j.class (goes_on p j.carried) (way_to plan p.flow.dst));
+  onward = goes_on p j.carried;
   charges = charged_by j.charge now (nonce_in p.carried) (packet_length p);
   queued = queued logs now j.class (goes_on p j.carried) (way_to plan p.flow.dst);
 }

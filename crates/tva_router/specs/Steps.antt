@@ -1,4 +1,4 @@
--- The parts of a router by its plan, and what they owe. No public clause cites them.
+-- Kit: the parts of a router by its plan, and what they owe.
 use Rattle.std.specs.Prelude.{◌≡◌, ℕ, ◌≤◌, List, [], ◌∷◌, ◌++◌, Option, Some, None, Ok, Err}
 use Rattle.tva_base.specs.Plan.{IsRouterPlan}
 use Rattle.tva_base.specs.declared.limits.LinkLimits.{LinkLimits}

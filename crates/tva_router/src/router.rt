@@ -1,12 +1,15 @@
 // A router.
-ghost use Rattle.std.specs.Prelude.{◌≡◌, ◌≢◌, ◌≤◌, ◌<◌, ℕ, true, List, [], ◌++◌, None, IfOk, IfSome, All};
+ghost use Rattle.std.specs.Prelude.{◌≡◌, ◌≢◌, ◌≤◌, ◌<◌, ◌↔◌, ℕ, ◌+◌, ◌*◌, max, true, false, List, [], ◌++◌, Some, None, IfOk, All};
 ghost use Rattle.tva_base.specs.Plan.{IsRouterPlan, AreLinkLimits};
+ghost use Rattle.tva_shim.specs.Packets.{PacketData, packet_length};
 ghost use Rattle.tva_flow.specs.Charges.{Charge, living_count};
 ghost use Rattle.tva_flow.specs.Budget.{AreTimely, IsWithinBudget};
 ghost use Rattle.tva_port.specs.Log.{free_after};
-ghost use Rattle.tva_port.specs.Decide.{decision, is_start, started_by, MissesNone, NoneDueBefore};
-ghost use Rattle.tva_router.specs.Handling.{Logs, arrival, stopped, handle};
-ghost use Rattle.tva_router.specs.Stands.{StandsFor, StandForLogs, MissNone, port_of, started_on, ◌with◌};
+ghost use Rattle.tva_port.specs.Waiting.{waiting_after, next_request, IsEmpty, IsRequestAlone};
+ghost use Rattle.tva_port.specs.Decide.{decision, is_start, started_by, RestsAt, MissesNone, NoneDueBefore, IsFirstCovered};
+ghost use Rattle.tva_port.specs.declared.decision.Decision.TheVariants.{Start, WaitUntil, Idle};
+ghost use Rattle.tva_router.specs.Handling.{Logs, outgoing_link, arrival, stopped, handle};
+ghost use Rattle.tva_router.specs.Stands.{StandsFor, StandForLogs, free_of, started_on, ◌with◌};
 ghost use Rattle.tva_router.specs.Steps.{ArePorts};
 
 use crate::guard::Guard;
@@ -14,7 +17,7 @@ use crate::judged::{Arrival, Judged};
 use crate::sending::{decide_on, free_on, send};
 use std::alloc::{AllocError, Global};
 use std::marker::Model;
-use tva_base::{DropCause, Fate, LinkLimits, Listed, Name, Outcome, RouterPlan, Time};
+use tva_base::{Class, DropCause, Fate, LinkLimits, Listed, Name, Outcome, RouterPlan, Time};
 use tva_caps::Minter;
 use tva_flow::FlowCache;
 use tva_port::{Decision, Port};
@@ -53,6 +56,9 @@ impl Router {
         ensures plan { IfOk result (λ router. router.plan ≡ plan.now) }
         ensures last { IfOk result (λ router. router.last ≡ 0) }
         ensures stands { IfOk result (λ router. StandsFor router [] (λ link. [])) }
+        // No start is missed on any link, as long as nothing comes.
+        ensures missed { IfOk result (λ router. (link until : ℕ) (limits : LinkLimits)
+            → outgoing_link plan.now link ≡ Some (link, limits) → MissesNone limits until []) }
     {
         Ok(Router {
             plan: copied(alloc, plan)?,
@@ -81,9 +87,11 @@ impl Router {
         // An arrival without a charge leaves the charges as they were.
         ensures uncharged { (h : List Charge) (logs : Logs) → StandsFor self.old h logs → result.charge ≡ None
             → StandsFor self.new h (logs with (handle self.old.plan h logs now.0 from packet).queued) }
-        ensures missed { (h : List Charge) (logs : Logs) → StandsFor self.old h logs
-            → MissNone self.old.plan.outgoing now.0 logs
-            → MissNone self.old.plan.outgoing now.0 (logs with (handle self.old.plan h logs now.0 from packet).queued) }
+        // On no link a start is missed up to now, nor while the link is busy.
+        ensures missed { (h : List Charge) (logs : Logs) (link until : ℕ) (limits : LinkLimits)
+            → StandsFor self.old h logs → outgoing_link self.old.plan link ≡ Some (link, limits)
+            → until ≤ max now.0 (free_after limits (logs link)) → MissesNone limits until (logs link)
+            → MissesNone limits until ((logs with (handle self.old.plan h logs now.0 from packet).queued) link) }
         ensures last { self.new.last ≡ now.0 }
         ensures same { self.new.plan ≡ self.old.plan }
     {
@@ -120,19 +128,50 @@ impl Router {
     pub fn decide(&mut self, now: Time, link: u16) -> Decision
         requires time { self.old.last ≤ now.0 }
         requires horizon { now.0 ≤ 1000000000000000 }
-        requires free { IfSome (port_of self.old link) (λ port. port.free_at ≤ now.0) }
-        requires outgoing { port_of self.old link ≢ None }
-        ensures decision { (h : List Charge) (logs : Logs) → StandsFor self.old h logs
-            → IfSome (port_of self.old link) (λ port. result ≡ decision port.limits (logs link) now.0) }
+        requires outgoing { outgoing_link self.old.plan link ≢ None }
+        requires free { free_of self.old link ≤ now.0 }
+        ensures decision { (h : List Charge) (logs : Logs) (limits : LinkLimits) → StandsFor self.old h logs
+            → outgoing_link self.old.plan link ≡ Some (link, limits)
+            → result ≡ decision limits (logs link) now.0 }
         ensures stands { (h : List Charge) (logs : Logs) → StandsFor self.old h logs
             → StandsFor self.new h (logs with started_on link result now.0) }
-        // No start is missed, as the port promises.
-        ensures missed { (h : List Charge) (logs : Logs) (until : ℕ) → StandsFor self.old h logs
-            → IfSome (port_of self.old link) (λ port. IfSome (port_of self.new link) (λ after.
-            MissesNone port.limits now.0 (logs link) → NoneDueBefore result after.free_at until
-            → MissesNone port.limits until (logs link ++ started_by result now.0))) }
-        ensures busy { is_start result ≡ true
-            → IfSome (port_of self.new link) (λ after. now.0 < after.free_at) }
+        ensures idle { (h : List Charge) (logs : Logs) (limits : LinkLimits) → StandsFor self.old h logs
+            → outgoing_link self.old.plan link ≡ Some (link, limits)
+            → ((result ≡ Idle) ↔ IsEmpty (waiting_after limits (logs link))) }
+        ensures alone { (h : List Charge) (logs : Logs) (limits : LinkLimits) (u : Time)
+            → StandsFor self.old h logs → outgoing_link self.old.plan link ≡ Some (link, limits)
+            → result ≡ WaitUntil u
+            → (packet : PacketData) × IsRequestAlone (waiting_after limits (logs link)) packet }
+        // A wait ends at the first time at which the credit covers the next request.
+        ensures wait { (h : List Charge) (logs : Logs) (limits : LinkLimits) (u : Time) (packet : PacketData)
+            → StandsFor self.old h logs → outgoing_link self.old.plan link ≡ Some (link, limits)
+            → result ≡ WaitUntil u → next_request (waiting_after limits (logs link)) ≡ Some packet
+            → IsFirstCovered limits (logs link) packet now.0 u.0 }
+        ensures later { (h : List Charge) (logs : Logs) (limits : LinkLimits) (u : Time)
+            → StandsFor self.old h logs → outgoing_link self.old.plan link ≡ Some (link, limits)
+            → result ≡ WaitUntil u → now.0 < u.0 }
+        // A link that starts nothing decides the same until the wait is over, or for good.
+        ensures steady { (h : List Charge) (logs : Logs) (limits : LinkLimits) (until time : ℕ)
+            → StandsFor self.old h logs → outgoing_link self.old.plan link ≡ Some (link, limits)
+            → is_start result ≡ false → NoneDueBefore result (free_of self.new link) until
+            → now.0 ≤ time → time < until → decision limits (logs link) time ≡ result }
+        // Until then, until the end of what started, or for good, nothing else starts.
+        ensures rests { (h : List Charge) (logs : Logs) (limits : LinkLimits) (until time : ℕ)
+            → StandsFor self.old h logs → outgoing_link self.old.plan link ≡ Some (link, limits)
+            → NoneDueBefore result (free_of self.new link) until → now.0 ≤ time → time < until
+            → RestsAt limits (logs link ++ started_by result now.0) time }
+        ensures missed { (h : List Charge) (logs : Logs) (limits : LinkLimits) (until : ℕ)
+            → StandsFor self.old h logs → outgoing_link self.old.plan link ≡ Some (link, limits)
+            → MissesNone limits now.0 (logs link) → NoneDueBefore result (free_of self.new link) until
+            → MissesNone limits until (logs link ++ started_by result now.0) }
+        // What starts occupies the link for some time, so that nothing starts twice at one time.
+        ensures busy { is_start result ≡ true → now.0 < free_of self.new link }
+        ensures occupied { (h : List Charge) (logs : Logs) (limits : LinkLimits) (class : Class) (packet : PacketData)
+            → StandsFor self.old h logs → outgoing_link self.old.plan link ≡ Some (link, limits)
+            → result ≡ Start class packet
+            → free_of self.new link ≡ now.0 + packet_length packet * limits.ns_per_byte }
+        // 2,048 bytes take at most 2,048,000,000 ns.
+        ensures soon { free_of self.new link ≤ now.0 + 2048000000 }
         ensures last { self.new.last ≡ now.0 }
         ensures same { self.new.plan ≡ self.old.plan }
     {
@@ -142,10 +181,12 @@ impl Router {
 
     /// When an outgoing link is free, in nanoseconds: the end of its last start, or 0.
     pub fn free_at(&self, link: u16) -> Time
-        requires outgoing { port_of self.now link ≢ None }
-        ensures value { IfSome (port_of self.now link) (λ port. result.0 ≡ port.free_at) }
-        ensures free { (h : List Charge) (logs : Logs) → StandsFor self.now h logs
-            → IfSome (port_of self.now link) (λ port. result.0 ≡ free_after port.limits (logs link)) }
+        requires outgoing { outgoing_link self.now.plan link ≢ None }
+        ensures value { result.0 ≡ free_of self.now link }
+        ensures free { (h : List Charge) (logs : Logs) (limits : LinkLimits) → StandsFor self.now h logs
+            → outgoing_link self.now.plan link ≡ Some (link, limits)
+            → result.0 ≡ free_after limits (logs link) }
+        ensures soon { result.0 ≤ self.now.last + 2048000000 }
     {
         free_on(&self.plan, &self.ports, link)
     }

@@ -1,11 +1,11 @@
 // Where a packet goes that was judged.
-ghost use Rattle.std.specs.Prelude.{◌≡◌, ◌≢◌, ◌≤◌, ◌<◌, ◌==◌, ◌++◌, ℕ, true, length, position, Some, None, IfSome};
+ghost use Rattle.std.specs.Prelude.{◌≡◌, ◌≢◌, ◌≤◌, ◌<◌, ◌==◌, ◌+◌, ℕ, true, length, position, Some, None};
+ghost use Rattle.tva_base.specs.declared.limits.LinkLimits.{LinkLimits};
 ghost use Rattle.tva_base.specs.Plan.{IsRouterPlan};
 ghost use Rattle.tva_shim.specs.Changes.{last_tag};
 ghost use Rattle.tva_router.specs.Handling.{Logs, entries_in, key_of, outcome_of, outgoing_link, sent, queued, way_to};
-ghost use Rattle.tva_port.specs.Log.{free_after};
-ghost use Rattle.tva_port.specs.Decide.{decision, is_start, started_by, MissesNone, NoneDueBefore};
-ghost use Rattle.tva_router.specs.Stands.{StandForLogs, MissNone, port_in, started_on, ◌with◌};
+ghost use Rattle.tva_port.specs.Decide.{decision, is_start};
+ghost use Rattle.tva_router.specs.Stands.{StandForLogs, free_in, started_on, ◌with◌};
 ghost use Rattle.tva_router.specs.Steps.{ArePorts};
 
 use crate::routes::{link_to, place_of};
@@ -31,10 +31,6 @@ pub(crate) fn send(
     ensures stands { (logs : Logs) → StandForLogs plan.now.outgoing ports.old.items logs
         → StandForLogs plan.now.outgoing ports.new.items
         (logs with queued logs now.0 class packet (way_to plan.now packet.flow.dst)) }
-    ensures missed { (logs : Logs) → StandForLogs plan.now.outgoing ports.old.items logs
-        → MissNone plan.now.outgoing now.0 logs
-        → MissNone plan.now.outgoing now.0
-        (logs with queued logs now.0 class packet (way_to plan.now packet.flow.dst)) }
 {
     let Some(link) = link_to(plan.routes.as_slice(), packet.flow.dst) else {
         return Outcome::Dropped(DropCause::NoRoute);
@@ -50,21 +46,15 @@ pub(crate) fn decide_on(plan: &RouterPlan, ports: &mut Vec<Port>, now: Time, lin
     requires plan { IsRouterPlan plan.now }
     requires ports { ArePorts plan.now.outgoing now.0 ports.old.items }
     requires horizon { now.0 ≤ 1000000000000000 }
-    requires outgoing { port_in plan.now.outgoing ports.old.items link ≢ None }
-    requires free { IfSome (port_in plan.now.outgoing ports.old.items link) (λ port. port.free_at ≤ now.0) }
+    requires outgoing { outgoing_link plan.now link ≢ None }
+    requires free { free_in plan.now.outgoing ports.old.items link ≤ now.0 }
     ensures ports { ArePorts plan.now.outgoing now.0 ports.new.items }
-    ensures decision { (logs : Logs) → StandForLogs plan.now.outgoing ports.old.items logs
-        → IfSome (port_in plan.now.outgoing ports.old.items link)
-        (λ port. result ≡ decision port.limits (logs link) now.0) }
+    ensures decision { (logs : Logs) (limits : LinkLimits) → StandForLogs plan.now.outgoing ports.old.items logs
+        → outgoing_link plan.now link ≡ Some (link, limits) → result ≡ decision limits (logs link) now.0 }
     ensures stands { (logs : Logs) → StandForLogs plan.now.outgoing ports.old.items logs
         → StandForLogs plan.now.outgoing ports.new.items (logs with started_on link result now.0) }
-    ensures missed { (logs : Logs) (until : ℕ) → StandForLogs plan.now.outgoing ports.old.items logs
-        → IfSome (port_in plan.now.outgoing ports.old.items link) (λ port.
-        IfSome (port_in plan.now.outgoing ports.new.items link) (λ after.
-        MissesNone port.limits now.0 (logs link) → NoneDueBefore result after.free_at until
-        → MissesNone port.limits until (logs link ++ started_by result now.0))) }
-    ensures busy { is_start result ≡ true
-        → IfSome (port_in plan.now.outgoing ports.new.items link) (λ after. now.0 < after.free_at) }
+    ensures busy { is_start result ≡ true → now.0 < free_in plan.now.outgoing ports.new.items link }
+    ensures soon { free_in plan.now.outgoing ports.new.items link ≤ now.0 + 2048000000 }
 {
     match place_of(plan.outgoing.as_slice(), link) {
         Some(place) => ports[place].decide(now),
@@ -75,11 +65,9 @@ pub(crate) fn decide_on(plan: &RouterPlan, ports: &mut Vec<Port>, now: Time, lin
 /// When the outgoing link is free.
 pub(crate) fn free_on(plan: &RouterPlan, ports: &Vec<Port>, link: u16) -> Time
     requires ports { (last : ℕ) × ArePorts plan.now.outgoing last ports.now.items }
-    requires outgoing { port_in plan.now.outgoing ports.now.items link ≢ None }
-    ensures value { IfSome (port_in plan.now.outgoing ports.now.items link) (λ port. result.0 ≡ port.free_at) }
-    ensures free { (logs : Logs) → StandForLogs plan.now.outgoing ports.now.items logs
-        → IfSome (port_in plan.now.outgoing ports.now.items link)
-        (λ port. result.0 ≡ free_after port.limits (logs link)) }
+    requires outgoing { outgoing_link plan.now link ≢ None }
+    ensures value { result.0 ≡ free_in plan.now.outgoing ports.now.items link }
+    ensures soon { (last : ℕ) → ArePorts plan.now.outgoing last ports.now.items → result.0 ≤ last + 2048000000 }
 {
     match place_of(plan.outgoing.as_slice(), link) {
         Some(place) => ports[place].free_at(),
@@ -107,10 +95,6 @@ fn queue_at(
         → result ≡ sent logs class packet (outgoing_link plan.now link) }
     ensures stands { (logs : Logs) → StandForLogs plan.now.outgoing ports.old.items logs
         → StandForLogs plan.now.outgoing ports.new.items
-        (logs with queued logs now.0 class packet (outgoing_link plan.now link)) }
-    ensures missed { (logs : Logs) → StandForLogs plan.now.outgoing ports.old.items logs
-        → MissNone plan.now.outgoing now.0 logs
-        → MissNone plan.now.outgoing now.0
         (logs with queued logs now.0 class packet (outgoing_link plan.now link)) }
 {
     let key = key_of(class, &packet);

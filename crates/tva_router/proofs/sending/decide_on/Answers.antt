@@ -1,9 +1,9 @@
-use Rattle.std.proofs.Common.{◌≡◌, ◌≤◌, Option, Some, None, sym, ◌∙◌, subst, arith}
-use Rattle.std.specs.Prelude.{IfSome}
-use Rattle.tva_port.specs.Stands.{PortData}
+use Rattle.std.proofs.Common.{◌≡◌, ℕ, ◌≤◌, Option, Some, None, eqb, sym, ap, ◌∙◌, subst, arith}
+use Rattle.tva_base.specs.declared.limits.LinkLimits.{LinkLimits}
 use Rattle.tva_port.specs.Decide.{decision, started_by}
-use Rattle.tva_router.proofs.Links.{is_at, at_within}
-use Rattle.tva_router.proofs.Ports.{ports-length, port-get, ports-set, port-at, port-after, port-nowhere, place-in, stands-get, stands-set}
+use Rattle.tva_router.proofs.Links.{is_at, at_within, find_nowhere}
+use Rattle.tva_router.proofs.Ports.{ports-length, port-get, ports-set, free-at, free-set, place-in, stands-get, stands-set}
+use Rattle.tva_router.proofs.Queueing.{found}
 use Rattle.tva_router.proofs.sending.decide_on.Goals as goal
 
 pub index_mut-requires : goal.index_mut-requires
@@ -26,14 +26,14 @@ pub decide-requires-clause-free : goal.decide-requires-clause-free
 decide-requires-clause-free c =
     let place = place-in c.args.plan.now.outgoing c.as_slice.result.now c.args.link c.place_of.result (Some c.in-Some.place) c.as_slice.ensures c.place_of.ensures.place c.in-Some.is in
     let at = is_at c.args.plan.now.outgoing c.in-Some.place c.args.link place in
-    subst (λ (z : Option PortData). IfSome z (λ port. port.free_at ≤ c.args.now.0))
-    (port-at c.args.plan.now.outgoing c.args.ports.now.items c.in-Some.place c.args.link c.index_mut.result.now at
+    subst (λ (n : ℕ). n ≤ c.args.now.0)
+    (free-at c.args.plan.now.outgoing c.args.ports.now.items c.in-Some.place c.args.link c.index_mut.result.now at
     (ports-length c.args.plan.now.outgoing c.args.now.0 c.args.ports.now.items c.requires.ports) c.index_mut.ensures.value)
     c.requires.free
 
 pub unreachable-requires : goal.unreachable-requires
 unreachable-requires c =
-    c.requires.outgoing (port-nowhere c.args.plan.now.outgoing c.args.ports.now.items c.args.link
+    c.requires.outgoing (find_nowhere (λ (o : ℕ × LinkLimits). eqb o.0 c.args.link) c.args.plan.now.outgoing
     (place-in c.args.plan.now.outgoing c.as_slice.result.now c.args.link c.place_of.result None c.as_slice.ensures c.place_of.ensures.place c.in-None.is))
 
 pub returns-clause-ports : goal.returns-clause-ports
@@ -45,13 +45,18 @@ returns-clause-ports c =
     ports-set c.args.plan.now.outgoing c.args.now.0 c.args.ports.now.items c.in-Some.place c.decide.new.self (c.args.link, c.index_mut.result.now.limits)
     c.requires.ports within (c.decide.ensures.same ∙ got.0) (omega (arith, c.decide.ensures.last))
 
+same_limits : (link : ℕ) (a b : LinkLimits) (o : Option (ℕ × LinkLimits)) → o ≡ Some (link, a) → o ≡ Some (link, b) → a ≡ b
+same_limits link a b o e f = let pair : (link, a) ≡ (link, b) = cc in ap (λ (z : ℕ × LinkLimits). z.1) pair
+
 pub returns-clause-decision : goal.returns-clause-decision
-returns-clause-decision c logs s =
+returns-clause-decision c logs limits s f =
     let place = place-in c.args.plan.now.outgoing c.as_slice.result.now c.args.link c.place_of.result (Some c.in-Some.place) c.as_slice.ensures c.place_of.ensures.place c.in-Some.is in
     let at = is_at c.args.plan.now.outgoing c.in-Some.place c.args.link place in
     let many = ports-length c.args.plan.now.outgoing c.args.now.0 c.args.ports.now.items c.requires.ports in
-    subst (λ (z : Option PortData). IfSome z (λ port. c.decide.result ≡ decision port.limits (logs c.args.link) c.args.now.0))
-    (sym (port-at c.args.plan.now.outgoing c.args.ports.now.items c.in-Some.place c.args.link c.index_mut.result.now at many c.index_mut.ensures.value))
+    let there = found c.args.plan.now.outgoing c.in-Some.place c.args.link (c.args.link, c.index_mut.result.now.limits) place in
+    let got = port-get c.args.plan.now.outgoing c.args.now.0 c.args.ports.now.items c.in-Some.place c.index_mut.result.now (c.args.link, c.index_mut.result.now.limits)
+    c.requires.ports (at_within c.args.plan.now.outgoing c.in-Some.place c.args.link at) c.index_mut.ensures.value in
+    subst (λ (l : LinkLimits). c.decide.result ≡ decision l (logs c.args.link) c.args.now.0) (got.0 ∙ same_limits c.args.link _ limits _ there f)
     (c.decide.ensures.decision (logs c.args.link) (stands-get c.args.plan.now.outgoing c.args.ports.now.items logs c.in-Some.place c.args.link c.index_mut.result.now s at many c.index_mut.ensures.value))
 
 pub returns-clause-stands : goal.returns-clause-stands
@@ -59,21 +64,22 @@ returns-clause-stands c logs s =
     let place = place-in c.args.plan.now.outgoing c.as_slice.result.now c.args.link c.place_of.result (Some c.in-Some.place) c.as_slice.ensures c.place_of.ensures.place c.in-Some.is in
     let at = is_at c.args.plan.now.outgoing c.in-Some.place c.args.link place in
     let many = ports-length c.args.plan.now.outgoing c.args.now.0 c.args.ports.now.items c.requires.ports in
-    stands-set c.args.plan.now.outgoing c.args.ports.now.items logs c.in-Some.place c.args.link c.decide.new.self (started_by c.decide.result c.args.now.0) c.requires.plan.outgoing at s
+    let got = port-get c.args.plan.now.outgoing c.args.now.0 c.args.ports.now.items c.in-Some.place c.index_mut.result.now (c.args.link, c.index_mut.result.now.limits)
+    c.requires.ports (at_within c.args.plan.now.outgoing c.in-Some.place c.args.link at) c.index_mut.ensures.value in
+    stands-set c.args.plan.now.outgoing c.args.ports.now.items logs c.in-Some.place c.args.link c.decide.new.self (started_by c.decide.result c.args.now.0) (c.args.link, c.index_mut.result.now.limits) c.requires.plan.outgoing at s
+    (c.decide.ensures.same ∙ got.0)
     (c.decide.ensures.stands (logs c.args.link) (stands-get c.args.plan.now.outgoing c.args.ports.now.items logs c.in-Some.place c.args.link c.index_mut.result.now s at many c.index_mut.ensures.value))
-
-pub returns-clause-missed : goal.returns-clause-missed
-returns-clause-missed c logs until s =
-    let place = place-in c.args.plan.now.outgoing c.as_slice.result.now c.args.link c.place_of.result (Some c.in-Some.place) c.as_slice.ensures c.place_of.ensures.place c.in-Some.is in
-    let at = is_at c.args.plan.now.outgoing c.in-Some.place c.args.link place in
-    let many = ports-length c.args.plan.now.outgoing c.args.now.0 c.args.ports.now.items c.requires.ports in
-    rw (port-at c.args.plan.now.outgoing c.args.ports.now.items c.in-Some.place c.args.link c.index_mut.result.now at many c.index_mut.ensures.value)
-    (rw (port-after c.args.plan.now.outgoing c.args.ports.now.items c.in-Some.place c.args.link c.decide.new.self at many)
-    (λ m due. c.decide.ensures.missed (logs c.args.link) until (stands-get c.args.plan.now.outgoing c.args.ports.now.items logs c.in-Some.place c.args.link c.index_mut.result.now s at many c.index_mut.ensures.value) m due))
 
 pub returns-clause-busy : goal.returns-clause-busy
 returns-clause-busy c starts =
     let place = place-in c.args.plan.now.outgoing c.as_slice.result.now c.args.link c.place_of.result (Some c.in-Some.place) c.as_slice.ensures c.place_of.ensures.place c.in-Some.is in
     let at = is_at c.args.plan.now.outgoing c.in-Some.place c.args.link place in
     let many = ports-length c.args.plan.now.outgoing c.args.now.0 c.args.ports.now.items c.requires.ports in
-    rw (port-after c.args.plan.now.outgoing c.args.ports.now.items c.in-Some.place c.args.link c.decide.new.self at many) (c.decide.ensures.busy starts)
+    rw (free-set c.args.plan.now.outgoing c.args.ports.now.items c.in-Some.place c.args.link c.decide.new.self at many) (c.decide.ensures.busy starts)
+
+pub returns-clause-soon : goal.returns-clause-soon
+returns-clause-soon c =
+    let place = place-in c.args.plan.now.outgoing c.as_slice.result.now c.args.link c.place_of.result (Some c.in-Some.place) c.as_slice.ensures c.place_of.ensures.place c.in-Some.is in
+    let at = is_at c.args.plan.now.outgoing c.in-Some.place c.args.link place in
+    let many = ports-length c.args.plan.now.outgoing c.args.now.0 c.args.ports.now.items c.requires.ports in
+    rw (free-set c.args.plan.now.outgoing c.args.ports.now.items c.in-Some.place c.args.link c.decide.new.self at many) c.decide.ensures.soon

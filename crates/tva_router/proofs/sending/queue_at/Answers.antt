@@ -1,6 +1,6 @@
 use Rattle.std.proofs.Common.{◌∙◌, arith}
 use Rattle.tva_router.proofs.Ports.{ports-length, port-get, ports-set}
-use Rattle.tva_router.proofs.Queueing.{found, answered, sent-at, stands-queued, missed-queued}
+use Rattle.tva_router.proofs.Queueing.{found, answered, sent-at, stands-queued}
 use Rattle.tva_router.proofs.sending.queue_at.Goals as goal
 
 pub index_mut-requires : goal.index_mut-requires
@@ -29,9 +29,4 @@ returns-clause-outcome c logs s =
 pub returns-clause-stands : goal.returns-clause-stands
 returns-clause-stands c logs s =
     stands-queued c.args.plan.now.outgoing c.args.now.0 c.args.ports.now.items logs c.args.place c.args.link (c.args.link, c.index_mut.result.now.limits) c.index_mut.result.now c.queue.new.self c.args.now.0 c.args.class c.key_of-key.result c.args.packet c.queue.result
-    c.requires.plan.outgoing c.requires.place c.requires.ports s c.index_mut.ensures.value c.key_of-key.ensures c.queue.ensures.answer c.queue.ensures.stands
-
-pub returns-clause-missed : goal.returns-clause-missed
-returns-clause-missed c logs s m =
-    missed-queued c.args.plan.now.outgoing c.args.now.0 c.args.ports.now.items logs c.args.place c.args.link (c.args.link, c.index_mut.result.now.limits) c.index_mut.result.now c.args.now.0 c.args.class c.key_of-key.result c.args.packet c.queue.result
-    c.requires.plan.outgoing c.requires.place c.requires.ports s c.index_mut.ensures.value c.key_of-key.ensures c.queue.ensures.answer c.queue.ensures.missed m
+    c.requires.plan.outgoing c.requires.place c.requires.ports s c.index_mut.ensures.value c.key_of-key.ensures c.queue.ensures.answer c.queue.ensures.stands c.queue.ensures.same.0

@@ -6,9 +6,9 @@ use Rattle.tva_base.specs.declared.plan.RouterPlan.{RouterPlan}
 use Rattle.tva_shim.specs.Packets.{PacketData}
 use Rattle.tva_router.specs.Routes.{link_to}
 use Rattle.tva_router.specs.Handling.{sent, queued, way_to, link_or_none}
-use Rattle.tva_router.specs.Stands.{StandForLogs, MissNone, ◌with◌}
+use Rattle.tva_router.specs.Stands.{StandForLogs, ◌with◌}
 use Rattle.tva_router.proofs.Links.{find_nowhere}
-use Rattle.tva_router.proofs.Ports.{stands-nothing, miss-nothing}
+use Rattle.tva_router.proofs.Ports.{stands-nothing}
 use Rattle.tva_router.proofs.sending.send.Goals as goal
 
 -- without a place of the link there is no way
@@ -33,10 +33,3 @@ returns-in-None-clause-stands c logs s =
     (sym (way-none c.args.plan.now c.as_slice.result.now c.as_slice-2.result.now _ c.args.packet c.in-Some.link c.as_slice.ensures c.as_slice-2.ensures c.packet.view_is
     (sym c.link_to.ensures ∙ c.in-Some.is) (sym c.place_of.ensures.place ∙ c.in-None.is)))
     (stands-nothing c.args.plan.now.outgoing c.args.ports.now.items logs s)
-
-pub returns-in-None-clause-missed : goal.returns-in-None-clause-missed
-returns-in-None-clause-missed c logs s m =
-    subst (λ (z : Option (ℕ × LinkLimits)). MissNone c.args.plan.now.outgoing c.args.now.0 (logs with queued logs c.args.now.0 c.args.class c.args.packet z))
-    (sym (way-none c.args.plan.now c.as_slice.result.now c.as_slice-2.result.now _ c.args.packet c.in-Some.link c.as_slice.ensures c.as_slice-2.ensures c.packet.view_is
-    (sym c.link_to.ensures ∙ c.in-Some.is) (sym c.place_of.ensures.place ∙ c.in-None.is)))
-    (miss-nothing c.args.plan.now.outgoing c.args.now.0 logs m)

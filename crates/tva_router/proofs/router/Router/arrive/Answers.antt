@@ -4,10 +4,11 @@ use Rattle.tva_shim.specs.Packets.{PacketData}
 use Rattle.tva_router.specs.declared.judged.Arrival.{Arrival}
 use Rattle.tva_router.specs.Judging.{judge}
 use Rattle.tva_router.specs.Handling.{Handled, arrival, goes_on, handle, sent, queued, way_to, nonce_in}
-use Rattle.tva_router.specs.Stands.{RouterData, router_data, StandsFor, StandForLogs, MissNone, ◌with◌}
-use Rattle.tva_router.specs.Steps.{Keeps}
+use Rattle.tva_router.specs.Stands.{RouterData, router_data, IsByPlan, StandsFor, StandForLogs, ◌with◌}
+use Rattle.tva_router.specs.Steps.{IsGuard, Keeps}
 use Rattle.tva_router.proofs.Ports.{ports-later}
-use Rattle.tva_router.proofs.Handled.{sound-later, handle-stopped, stands-stopped, fate-forwarded, stands-forwarded, stands-uncharged, missed-stopped, missed-forwarded}
+use Rattle.tva_router.proofs.Handled.{sound-later, handle-stopped, stands-stopped, fate-forwarded, stands-forwarded, stands-uncharged, by-plan}
+use Rattle.tva_router.proofs.Known.{known, missed_handled}
 use Rattle.tva_router.proofs.router.Router.arrive.Goals as goal
 
 pub invariant_of-self : goal.invariant_of-self
@@ -27,7 +28,7 @@ returns-then-packet-ge32-clause-stands c h logs s =
     subst (λ (z : RouterData). StandsFor (router_data c.self.inside.plan c.args.now.0 c.self.inside.guard.minter c.self.inside.guard.cache c.self.inside.ports.items)
     (h ++ (handle z.plan h logs c.args.now.0 c.args.from c.args.packet).charges) (logs with (handle z.plan h logs c.args.now.0 c.args.from c.args.packet).queued)) c.self.view_is
     (stands-stopped c.self.inside.plan c.self.inside.last c.args.now.0 c.self.inside.guard.minter c.self.inside.guard.cache c.self.inside.ports.items h logs c.args.from c.args.packet
-    (subst (λ (z : PacketData). 32 ≤ z.hops) c.packet.view_is many) (subst (λ (z : RouterData). StandsFor z h logs) (sym c.self.view_is) s))
+    (subst (λ (z : PacketData). 32 ≤ z.hops) c.packet.view_is many) (subst (λ (z : RouterData). z.last ≤ c.args.now.0) (sym c.self.view_is) c.requires.time) (subst (λ (z : RouterData). StandsFor z h logs) (sym c.self.view_is) s))
 
 pub send-outcome-requires-clause-ports : goal.send-outcome-requires-clause-ports
 send-outcome-requires-clause-ports c =
@@ -68,13 +69,19 @@ returns-clause-stands c h logs s =
     let links : StandForLogs plan.outgoing c.send-outcome.new.ports.items (logs with queued logs c.args.now.0 c.judge-class.result.class (goes_on packet c.judge-class.result.carried) (way_to plan packet.flow.dst)) =
     subst (λ (z : PacketData). StandForLogs plan.outgoing c.send-outcome.new.ports.items (logs with queued logs c.args.now.0 c.judge-class.result.class z (way_to plan z.flow.dst))) c.new-packet.ensures
     (c.send-outcome.ensures.stands logs stood.links) in
+    let by : IsByPlan (router_data plan c.args.now.0 c.judge-class.new.self.minter c.judge-class.new.self.cache c.send-outcome.new.ports.items) =
+    by-plan plan c.args.now.0 c.judge-class.new.self c.send-outcome.new.ports.items (record {
+      valid = c.self.invariant.valid;
+      guard = subst (λ (z : Arrival). IsGuard plan z.time.0 c.judge-class.new.self) came c.judge-class.ensures.guard;
+      ports = c.send-outcome.ensures.ports;
+    }) in
     let few : packet.hops < 32 = omega (arith, c.if-packet-ge32.false) in
     subst (λ (z : RouterData). StandsFor (router_data plan c.args.now.0 c.judge-class.new.self.minter c.judge-class.new.self.cache c.send-outcome.new.ports.items)
     (h ++ (handle z.plan h logs c.args.now.0 c.args.from c.args.packet).charges) (logs with (handle z.plan h logs c.args.now.0 c.args.from c.args.packet).queued)) c.self.view_is
     (subst (λ (z : PacketData). StandsFor (router_data plan c.args.now.0 c.judge-class.new.self.minter c.judge-class.new.self.cache c.send-outcome.new.ports.items)
     (h ++ (handle plan h logs c.args.now.0 c.args.from z).charges) (logs with (handle plan h logs c.args.now.0 c.args.from z).queued)) c.packet.view_is
     (stands-forwarded plan c.self.inside.last c.args.now.0 c.self.inside.guard.minter c.judge-class.new.self.minter c.self.inside.guard.cache c.judge-class.new.self.cache c.self.inside.ports.items c.send-outcome.new.ports.items
-    h logs c.args.from packet c.judge-class.result few judged stood keeps links))
+    h logs c.args.from packet c.judge-class.result few judged stood keeps links by))
 
 pub returns-then-packet-ge32-clause-uncharged : goal.returns-then-packet-ge32-clause-uncharged
 returns-then-packet-ge32-clause-uncharged c h logs s none =
@@ -82,9 +89,8 @@ returns-then-packet-ge32-clause-uncharged c h logs s none =
     (returns-then-packet-ge32-clause-fate c h logs s) (returns-then-packet-ge32-clause-stands c h logs s) none
 
 pub returns-then-packet-ge32-clause-missed : goal.returns-then-packet-ge32-clause-missed
-returns-then-packet-ge32-clause-missed c h logs s m =
-    let many : 32 ≤ c.packet.inside.hops = omega (arith, c.if-packet-ge32.true) in
-    missed-stopped c.args.self.now.plan h logs c.args.now.0 c.args.from c.args.packet (subst (λ (z : PacketData). 32 ≤ z.hops) c.packet.view_is many) m
+returns-then-packet-ge32-clause-missed c h logs link until limits s f i m =
+    missed_handled c.args.self.now.plan h logs c.args.now.0 c.args.from c.args.packet link until limits (known c.args.self.now h logs link limits c.args.now.0 s f c.requires.time).later i m
 
 pub returns-clause-uncharged : goal.returns-clause-uncharged
 returns-clause-uncharged c h logs s none =
@@ -92,19 +98,5 @@ returns-clause-uncharged c h logs s none =
     (returns-clause-fate c h logs s) (returns-clause-stands c h logs s) none
 
 pub returns-clause-missed : goal.returns-clause-missed
-returns-clause-missed c h logs s m =
-    let plan = c.self.inside.plan in
-    let packet : PacketData = record { id = c.packet.inside.id; flow = c.packet.inside.flow; hops = c.packet.inside.hops; payload = c.packet.inside.payload; carried = c.packet.inside.carried } in
-    let stood : StandsFor (router_data plan c.self.inside.last c.self.inside.guard.minter c.self.inside.guard.cache c.self.inside.ports.items) h logs =
-    subst (λ (z : RouterData). StandsFor z h logs) (sym c.self.view_is) s in
-    let came : c.arrival_of-arrival.result ≡ arrival c.args.now.0 c.args.from packet =
-    c.arrival_of-arrival.ensures.value ∙ ap (arrival c.args.now.0 c.args.from) (sym c.packet.view_is) in
-    let judged : c.judge-class.result ≡ judge plan h (arrival c.args.now.0 c.args.from packet) packet.carried =
-    c.judge-class.ensures.answer h stood.charges ∙ ap (λ (z : Arrival). judge plan h z packet.carried) came in
-    let few : packet.hops < 32 = omega (arith, c.if-packet-ge32.false) in
-    let before : MissNone plan.outgoing c.args.now.0 logs = subst (λ (z : RouterData). MissNone z.plan.outgoing c.args.now.0 logs) (sym c.self.view_is) m in
-    subst (λ (z : RouterData). MissNone z.plan.outgoing c.args.now.0 (logs with (handle z.plan h logs c.args.now.0 c.args.from c.args.packet).queued)) c.self.view_is
-    (subst (λ (z : PacketData). MissNone plan.outgoing c.args.now.0 (logs with (handle plan h logs c.args.now.0 c.args.from z).queued)) c.packet.view_is
-    (missed-forwarded plan h logs c.args.now.0 c.args.from packet c.judge-class.result few judged
-    (subst (λ (z : PacketData). MissNone plan.outgoing c.args.now.0 (logs with queued logs c.args.now.0 c.judge-class.result.class z (way_to plan z.flow.dst))) c.new-packet.ensures
-    (c.send-outcome.ensures.missed logs stood.links before))))
+returns-clause-missed c h logs link until limits s f i m =
+    missed_handled c.args.self.now.plan h logs c.args.now.0 c.args.from c.args.packet link until limits (known c.args.self.now h logs link limits c.args.now.0 s f c.requires.time).later i m
