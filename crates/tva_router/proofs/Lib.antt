@@ -4,3 +4,5 @@ pub mod Answers
 pub mod Queueing
 pub mod Handled
 pub mod Known
+pub mod Ways
+pub mod Fates

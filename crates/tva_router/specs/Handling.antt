@@ -22,7 +22,7 @@ use Rattle.tva_shim.specs.Packets.{PacketData, packet_length, class_by_shim}
 use Rattle.tva_flow.specs.Charges.{Charge, charge}
 use Rattle.tva_drr.specs.declared.offered.Offered.{Offered}
 use Rattle.tva_drr.specs.declared.offered.Offered.TheVariants as offers
-use Rattle.tva_port.specs.Log.{Entry}
+use Rattle.tva_port.specs.Log.{Entry, Queued}
 use Rattle.tva_port.specs.Waiting.{waiting_after, queue_answer, queued_by}
 use Rattle.tva_router.specs.declared.judged.Arrival.{Arrival}
 use Rattle.tva_router.specs.declared.judged.Judged.{Judged}
@@ -115,6 +115,11 @@ stopped p = record {
 abbrev pub goes_on : PacketData → Carried → PacketData
 goes_on p carries = record p { hops = p.hops + 1; carried = carries }
 
+-- what a packet of a class that ended up there adds to the log of each link
+abbrev pub entered_by : Outcome → ℕ → Class → PacketData → Logs
+entered_by (outcome.Queued link) now class p k = if k == link then Queued now class (key_of class p) p ∷ [] else []
+entered_by (outcome.Dropped cause) now class p k = []
+
 -- the fate of a packet that was judged, by where it ends up
 abbrev pub fate_of : Judged → Outcome → Fate
 fate_of j outcome = record { class = j.class; cause = j.cause; charge = j.charge; outcome = outcome }
@@ -127,6 +132,10 @@ forwarded plan logs now p j = record {
   charges = charged_by j.charge now (nonce_in p.carried) (packet_length p);
   queued = queued logs now j.class (goes_on p j.carried) (way_to plan p.flow.dst);
 }
+
+-- what a packet with that fate adds to the log of each link, as it goes on
+abbrev pub entered : Fate → ℕ → PacketData → Logs
+entered fate now p k = entered_by fate.outcome now fate.class p k
 
 -- an arrival of the packet, on a link or from the trace
 abbrev pub arrival : ℕ → Option ℕ → PacketData → Arrival

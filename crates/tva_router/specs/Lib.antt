@@ -1,5 +1,6 @@
 pub mod Routes
 pub mod Judging
 pub mod Handling
+pub mod Marks
 pub mod Stands
 pub mod Steps

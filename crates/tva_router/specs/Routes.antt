@@ -1,5 +1,5 @@
 -- Which link leads to a destination.
-use Rattle.std.specs.Prelude.{ℕ, ◌==◌, ◌&&◌, max, Bool, List, map, filter, Option}
+use Rattle.std.specs.Prelude.{◌≡◌, ◌≤◌, ℕ, ◌==◌, ◌&&◌, max, Bool, true, List, map, filter, Option, All, Contains}
 use Rattle.std.specs.Option.{option_map}
 use Rattle.std.specs.List.{fold, find}
 use Rattle.tva_base.specs.declared.addresses.Address.{Address}
@@ -22,3 +22,9 @@ leads bits dst route = holds route.prefix dst && (route.prefix.bits == bits)
 -- the link of the longest prefix that the destination begins with
 unfoldable pub link_to : List Route → Address → Option ℕ
 link_to routes dst = option_map (λ route. route.link) (find (leads (longest routes dst) dst) routes)
+
+-- the route is one of these, the destination begins with its prefix, and with no longer one of theirs
+pub record IsWay (routes : List Route) (dst : Address) (route : Route) : Type 0 where
+  pub there : Contains routes route
+  pub begins : holds route.prefix dst ≡ true
+  pub greatest : All (λ r. holds r.prefix dst ≡ true → r.prefix.bits ≤ route.prefix.bits) routes

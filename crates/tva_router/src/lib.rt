@@ -7,9 +7,14 @@
 mod cases;
 mod guard;
 mod judged;
+mod laws;
 mod router;
 mod routes;
 mod sending;
 
 pub use judged::{Arrival, Judged};
+pub use laws::{
+    charges_keep_slots, fates_tell_entries, links_keep_limits, marks_have_causes,
+    verdicts_need_no_logs, ways_lead,
+};
 pub use router::Router;

@@ -1,7 +1,8 @@
-ghost use Rattle.std.specs.Prelude.{◌≡◌, ◌≢◌, ◌≤◌, None, IfOk, IfSome, IsTrue};
+ghost use Rattle.std.specs.Prelude.{◌≡◌, ◌≢◌, ◌≤◌, None, IfOk, IsTrue};
 ghost use Rattle.tva_shim.specs.Packets.{IsCarried};
 ghost use Rattle.tva_base.specs.Plan.{IsRouterPlan, AreClassLimits, AreLinkLimits};
-ghost use Rattle.tva_router.specs.Stands.{port_of};
+ghost use Rattle.tva_router.specs.Handling.{outgoing_link};
+ghost use Rattle.tva_router.specs.Stands.{free_of};
 
 use super::*;
 use crate::cases::CASES;
@@ -247,11 +248,11 @@ fn arrive(
 
 /// Whether the link is there, and free at that time.
 fn is_free(router: &Router, link: u16, now: u64) -> bool
-    ensures there { IsTrue result → port_of router.now link ≢ None }
-    ensures free { IsTrue result → IfSome (port_of router.now link) (λ port. port.free_at ≤ now) }
+    ensures there { IsTrue result → outgoing_link router.now.plan link ≢ None }
+    ensures free { IsTrue result → free_of router.now link ≤ now }
 {
     match place_of(router.plan.outgoing.as_slice(), link) {
-        Some(place) => router.ports[place].free_at().0 <= now,
+        Some(_) => router.free_at(link).0 <= now,
         None => false,
     }
 }
