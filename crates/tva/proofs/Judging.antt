@@ -11,6 +11,7 @@ use Rattle.tva_config.specs.declared.config.Config.{Config}
 use Rattle.tva_config.specs.declared.config.NodePlan as nodes
 use Rattle.tva_config.specs.declared.config.NodePlan.TheVariants.{Router, Host}
 use Rattle.tva_trace.specs.declared.rows.Row.{Row}
+use Rattle.tva_base.specs.Options.{◌>>=◌}
 use Rattle.tva_base.specs.declared.event.Event.{Event}
 use Rattle.tva.specs.declared.judge.Judge.{Judge}
 use Rattle.tva.specs.declared.showing.Showing.{Showing}
@@ -19,12 +20,15 @@ use Rattle.tva_caps.specs.declared.minters.Checked.TheVariants.{Valid, Expired, 
 use Rattle.tva_config.specs.Counts.{has_host_or_link, has_some}
 use Rattle.tva_config.specs.Names.{is_host_plan}
 use Rattle.tva_config.specs.Valid.{IsConfig}
-use Rattle.tva_trace.specs.Valid.{AreTraceRows, IsRowWhat, NeverFall}
+use Rattle.tva_trace.specs.Valid.{AreTraceRows, IsRowWhat, IsWithinWidths, NeverFall}
 use Rattle.tva_trace.specs.Lines.{HasEvent, HasOutcome}
+use Rattle.tva_shim.specs.declared.packets.Carried.{Carried}
+use Rattle.tva_shim.specs.declared.packets.Carried.TheVariants.{Nothing, Shim, Malformed}
+use Rattle.tva_shim.specs.Packets.{IsCarried}
 use Rattle.tva_caps.specs.Minting.{MayCall}
 use Rattle.tva_trace.specs.declared.rows.RowWhat as whats
 use Rattle.tva_trace.specs.declared.rows.RowWhat.TheVariants.{Send, Inject}
-use Rattle.tva.specs.Arrivals.{IsWithin, are_judged, arrival, checked_by, fate_of, arrivals_from, arrivals_of, event_of, if_router, is_router, rows_at, showing_of, ◌>>=◌}
+use Rattle.tva.specs.Arrivals.{IsWithin, are_judged, arrival, checked_by, fate_of, arrivals_from, arrivals_of, event_of, if_router, is_router, rows_at, showing_of}
 use Rattle.tva.specs.Judges.{masters_of, offsets_of, new_judge, judge_after, times_of, IsJudge, AreJudges}
 
 -- where there is no host, each node is a router
@@ -103,9 +107,15 @@ rise_behind last (row ∷ rows) order (suc i) (suc j) upto below = rise_behind r
 times_rise : (rows : List Row) → NeverFall 0 rows → Rises (times_of rows)
 times_rise rows order i j upto below = rise_behind 0 rows order i j upto (rw (length-map rows (λ (r : Row). r.time.0)) at below)
 
+-- what has its widths is of a packet within the sizes of a network
+carried_within : (carries : Carried) → IsWithinWidths carries → IsCarried carries
+carried_within Nothing is = tt
+carried_within (Shim shim) is = tt
+carried_within (Malformed bytes) is = is
+
 within_of_row : (at_host : Bool) (w : whats.RowWhat) → IsRowWhat at_host w → IsWithin w
 within_of_row at_host (Send dst payload) is = is.1
-within_of_row at_host (Inject flow payload carries) is = is
+within_of_row at_host (Inject flow payload carries) is = (is.0, carried_within carries is.1)
 
 -- a row of a trace is within the sizes of a network
 pub row_within : (config : Config) (rows : List Row) (done : ℕ) (row : Row) → AreTraceRows config rows → done < length rows → row ≡ get_or rows done row → IsWithin row.what

@@ -5,7 +5,8 @@ use Rattle.std.specs.Io.KnownBytes.{append_known}
 use Rattle.tva.specs.Expected.{Expected, lacks, exceeds, misconfigured, mistraced, IsText, Ends}
 use Rattle.tva.specs.Parts.{IsCut}
 use Rattle.tva.specs.declared.status.Status as status
-use Rattle.tva.specs.declared.status.Status.TheVariants.{Done, Usage, ReadFault, WriteFault, TooLarge, BadConfig, BadTrace, EventLimit, OutOfMemory, Unsupported}
+use Rattle.tva.specs.declared.status.Status.TheVariants.{Done, Usage, ReadFault, WriteFault, TooLarge}
+use Rattle.tva.specs.declared.status.Status.TheVariants.{BadConfig, BadTrace, EventLimit, OutOfMemory, Unsupported}
 
 -- the whole of a text that is to be written is written
 abbrev pub WroteAll : Option (List ℕ) → Option (List ℕ) → Expected → Type 0

@@ -1,9 +1,11 @@
 -- What becomes of the packets of a trace at routers without links. So far a router judges lists of one
 -- capability; it keeps no charges.
-use Rattle.std.specs.Prelude.{◌≤◌, ℕ, ◌+◌, ◌==◌, Bool, true, false, List, [], ◌∷◌, ◌++◌, count_by, slice_get, is_some, if◌then◌else◌, Option, Some, None}
+use Rattle.std.specs.Prelude.{◌≤◌, ℕ, ◌+◌, ◌==◌, Bool, true, false, List, [], ◌∷◌, ◌++◌, count_by, slice_get}
+use Rattle.std.specs.Prelude.{is_some, if◌then◌else◌, Option, Some, None}
 use Rattle.std.specs.Option.{option_map}
 use Rattle.std.specs.List.{list_all, cons_option}
 use Rattle.tva_base.specs.Clock.{router_second}
+use Rattle.tva_base.specs.Options.{◌>>=◌}
 use Rattle.tva_base.specs.declared.packet.Flow.{Flow}
 use Rattle.tva_base.specs.declared.packet.Fate.{Fate}
 use Rattle.tva_base.specs.declared.packet.Class.TheVariants as class
@@ -31,11 +33,6 @@ use Rattle.tva.specs.declared.showing.Showing.{Showing}
 use Rattle.tva_trace.specs.declared.rows.RowWhat as whats
 use Rattle.tva_trace.specs.declared.rows.RowWhat.TheVariants.{Send, Inject}
 
-infixl 10 ◌>>=◌
-abbrev pub ◌>>=◌ : {A B : Type 0} → Option A → (A → Option B) → Option B
-None >>= f = None
-(Some x) >>= f = f x
-
 -- a node that is a router
 abbrev pub is_router : nodes.NodePlan → Bool
 is_router (Router plan) = true
@@ -52,7 +49,8 @@ cap_at_pointer shown = if shown.pointer == 0 then only_cap shown.caps else None
 
 abbrev pub showing_in_kind : Flow → kinds.Kind → Option Showing
 showing_in_kind flow (kind.Request entries) = None
-showing_in_kind flow (kind.List shown) = option_map (λ cap. record { flow = flow; rights = shown.rights; cap = cap }) (cap_at_pointer shown)
+showing_in_kind flow (kind.List shown) =
+    option_map (λ cap. record { flow = flow; rights = shown.rights; cap = cap }) (cap_at_pointer shown)
 showing_in_kind flow (kind.Nonce nonce) = None
 showing_in_kind flow (kind.Renewal shown) = None
 
@@ -84,9 +82,12 @@ are_judged rows = list_all (λ row. is_some (showing_of row.what)) rows
 
 -- the fate by the check of the capability: nothing has a route
 abbrev pub fate_of : checks.Checked → Fate
-fate_of (Valid grant) = record { class = class.Regular; cause = None; charge = Some grant; outcome = outcome.Dropped drop.NoRoute }
-fate_of Expired = record { class = class.Legacy; cause = Some cause.Expired; charge = None; outcome = outcome.Dropped drop.NoRoute }
-fate_of BadHash = record { class = class.Legacy; cause = Some cause.BadHash; charge = None; outcome = outcome.Dropped drop.NoRoute }
+fate_of (Valid grant) =
+    record { class = class.Regular; cause = None; charge = Some grant; outcome = outcome.Dropped drop.NoRoute }
+fate_of Expired =
+    record { class = class.Legacy; cause = Some cause.Expired; charge = None; outcome = outcome.Dropped drop.NoRoute }
+fate_of BadHash =
+    record { class = class.Legacy; cause = Some cause.BadHash; charge = None; outcome = outcome.Dropped drop.NoRoute }
 
 -- the answer of a router with that master and clock to what a packet shows
 abbrev pub checked_by : List ℕ → ℕ → ℕ → Showing → checks.Checked
@@ -97,7 +98,9 @@ abbrev pub arrival : List ℕ → ℕ → ℕ → Row → Showing → Event
 arrival master offset earlier row s = record {
   time = row.time;
   node = row.node;
-  happened = Arrived (record { node = row.node; ordinal = earlier + 1 }) (bytes_in row.what) None (fate_of (checked_by master offset row.time.0 s));
+  happened =
+      Arrived (record { node = row.node; ordinal = earlier + 1 }) (bytes_in row.what) None
+      (fate_of (checked_by master offset row.time.0 s));
 }
 
 abbrev pub if_router : nodes.NodePlan → Option RouterPlan
@@ -124,7 +127,8 @@ event_of config earlier row = do
 -- the events of the rows, in the order of the trace
 abbrev pub arrivals_from : Config → List Row → List Row → List Event
 arrivals_from config earlier [] = []
-arrivals_from config earlier (row ∷ rows) = cons_option (event_of config earlier row) (arrivals_from config (earlier ++ row ∷ []) rows)
+arrivals_from config earlier (row ∷ rows) =
+    cons_option (event_of config earlier row) (arrivals_from config (earlier ++ row ∷ []) rows)
 
 unfoldable pub arrivals_of : Config → List Row → List Event
 arrivals_of config rows = arrivals_from config [] rows

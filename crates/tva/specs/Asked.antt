@@ -1,4 +1,4 @@
--- A command of the program as the command that it is.
+-- Kit: a command of the code as the command that it is, for the contracts of the functions that take one.
 use Rattle.tva.specs.declared.command.Command as parsed
 use Rattle.tva.specs.declared.command.Command.TheVariants.{Replay, Check, Shim, Gen}
 use Rattle.tva.specs.Command.{Command, replay, check, shim, gen}

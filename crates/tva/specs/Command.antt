@@ -1,5 +1,6 @@
 -- What words ask for.
-use Rattle.std.specs.Prelude.{ℕ, List, [], ◌∷◌, map, length, nat_le, String, string_bytes, codes, if◌then◌else◌, None, Some}
+use Rattle.std.specs.Prelude.{ℕ, List, [], ◌∷◌, map, length, nat_le, String, string_bytes, codes}
+use Rattle.std.specs.Prelude.{if◌then◌else◌, None, Some}
 use Rattle.std.specs.declared.option.Option.{Option}
 use Rattle.std.specs.declared.alloc.Global.{Global}
 use Rattle.std.specs.Option.{option_map}
@@ -7,6 +8,7 @@ use Rattle.std.specs.Result.{result_ok}
 use Rattle.std.specs.Str.{bytes_eq}
 use Rattle.hex.specs.Hex.{decode_of}
 use Rattle.tva_base.specs.Decimal.{decimal_of}
+use Rattle.tva_base.specs.Options.{◌>>=◌}
 
 -- a command, with the names of its files, the bytes of its shim, or a seed and a count of rows
 pub data Command : Type 0 where
@@ -22,11 +24,6 @@ texts words = map string_bytes words
 -- the bytes that a word of at most 800 hexadecimal digits writes, two digits each
 unfoldable pub bytes_of_hex : List ℕ → Option (List ℕ)
 bytes_of_hex word = if nat_le (length word) 800 then result_ok (decode_of word) else None
-
-infixl 10 ◌>>=◌
-abbrev pub ◌>>=◌ : {A B : Type 0} → Option A → (A → Option B) → Option B
-None >>= f = None
-(Some x) >>= f = f x
 
 -- the command that generates a trace: a seed of 64 bits, and at most 500,000 rows
 abbrev pub gen_of : List ℕ → List ℕ → List ℕ → Option Command

@@ -1,5 +1,6 @@
 -- What a command comes to, where the shelf tells what it holds.
-use Rattle.std.specs.Prelude.{◌≡◌, ◌≤◌, ℕ, ◌+◌, true, List, ◌++◌, length, nat_lt, not, if◌then◌else◌, Result, Ok, Err, None, Some, codes}
+use Rattle.std.specs.Prelude.{◌≡◌, ◌≤◌, ℕ, ◌+◌, true, List, ◌++◌, length, nat_lt, not, if◌then◌else◌}
+use Rattle.std.specs.Prelude.{Result, Ok, Err, None, Some, codes}
 use Rattle.std.specs.declared.option.Option.{Option}
 use Rattle.std.specs.Option.{option_map}
 use Rattle.tva_outside.specs.Held.{Held, bytes_at}
@@ -19,8 +20,8 @@ use Rattle.tva.specs.Check.{check_line}
 use Rattle.tva.specs.Command.{Command, replay, check, shim, gen}
 use Rattle.tva.specs.Report.{IsReport}
 use Rattle.tva.specs.declared.status.Status as status
-use Rattle.tva.specs.declared.status.Status.TheVariants.{Done, ReadFault, TooLarge, BadConfig, BadTrace, EventLimit, Unsupported}
-use Rattle.tva.specs.declared.TheConstants.{CONFIG_MAX, TRACE_MAX}
+use Rattle.tva.specs.declared.status.Status.TheVariants.{Done, ReadFault, TooLarge, BadConfig, BadTrace}
+use Rattle.tva.specs.declared.status.Status.TheVariants.{EventLimit, Unsupported}
 
 -- a text to write, the text of a shim's bytes, the report of a trace under a plan, or a refusal: nothing
 -- is held under a name, a file passes its limit (with one more than that), a fault of the configuration
@@ -57,25 +58,26 @@ within_limit max (Some bytes) = if nat_lt max (length bytes) then Err (exceeds (
 abbrev pub file_at : ℕ → List ℕ → Held → Found (List ℕ)
 file_at max name files = within_limit max (bytes_at files name)
 
--- the plan of a configuration, and the plan that is held under a name
+-- the plan of a configuration, and the plan that is held under a name, in at most 1 MiB
 abbrev pub plan_or_fault : Result Config ConfigFault → Found Config
 plan_or_fault (Ok plan) = Ok plan
 plan_or_fault (Err fault) = Err (misconfigured fault)
 
 abbrev pub plan_at : List ℕ → Held → Found Config
-plan_at name files = file_at CONFIG_MAX name files >>= λ bytes. plan_or_fault (read_of bytes)
+plan_at name files = file_at 1048576 name files >>= λ bytes. plan_or_fault (read_of bytes)
 
--- a trace that has rows under a plan, and such a trace that is held under a name
+-- a trace that has rows under a plan, and such a trace that is held under a name, in at most 64 MiB
 abbrev pub trace_or_fault : List ℕ → Result (List SaidRow) TraceFault → Found (List ℕ)
 trace_or_fault text (Ok said) = Ok text
 trace_or_fault text (Err fault) = Err (mistraced fault)
 
 abbrev pub trace_at : Config → List ℕ → Held → Found (List ℕ)
-trace_at plan name files = file_at TRACE_MAX name files >>= λ text. trace_or_fault text (rows_of plan text)
+trace_at plan name files = file_at 67108864 name files >>= λ text. trace_or_fault text (rows_of plan text)
 
 -- what comes of a plan, and of the trace behind it
 abbrev pub of_plan : List ℕ → Held → Config → Expected
-of_plan trace files plan = if has_host_or_link plan then refuses else followed (trace_at plan trace files) (replays plan)
+of_plan trace files plan =
+    if has_host_or_link plan then refuses else followed (trace_at plan trace files) (replays plan)
 
 -- what comes of a command that reads files, file by file: each is judged before the next one is loaded
 abbrev pub of_replay : List ℕ → List ℕ → Held → Expected
@@ -103,7 +105,8 @@ pub record AreFew (plan : Config) (rows : List Row) : Type 0 where
 abbrev pub IsText : Expected → List ℕ → Type 0
 IsText (writes whole) text = text ≡ whole
 IsText (shows bytes) text = (line : List ℕ) × IsTextOf bytes line × (text ≡ line ++ codes "\n")
-IsText (replays plan trace) text = (rows : List Row) × AreRows plan trace rows × AreFew plan rows × IsReport plan rows text
+IsText (replays plan trace) text =
+    (rows : List Row) × AreRows plan trace rows × AreFew plan rows × IsReport plan rows text
 IsText lacks text = ⊥
 IsText (exceeds k) text = ⊥
 IsText (misconfigured fault) text = ⊥

@@ -1,4 +1,4 @@
--- What routers keep between arrivals.
+-- Kit: what routers keep between arrivals, for the contracts of the functions that work rows.
 use Rattle.std.specs.Prelude.{◌≡◌, ◌≤◌, ◌<◌, ℕ, ◌+◌, List, [], map, length, take, slice_index, slice_index_or}
 use Rattle.tva_config.specs.declared.config.NodePlan as nodes
 use Rattle.tva_config.specs.declared.config.NodePlan.TheVariants.{Router, Host}
@@ -23,7 +23,8 @@ offsets_of plans = map offset_of plans
 
 -- a router before its first arrival
 abbrev pub new_judge : nodes.NodePlan → Judge
-new_judge plan = record { minter = record { master = master_of plan; clock_offset = offset_of plan; last = 0 }; arrived = 0 }
+new_judge plan =
+    record { minter = record { master = master_of plan; clock_offset = offset_of plan; last = 0 }; arrived = 0 }
 
 -- a router after an arrival at that time
 abbrev pub judge_after : Judge → ℕ → Judge
@@ -42,4 +43,5 @@ pub record IsJudge (plans : List nodes.NodePlan) (node : ℕ) (rows : List Row) 
 -- what each router keeps where so many rows are worked
 pub record AreJudges (plans : List nodes.NodePlan) (rows : List Row) (done : ℕ) (judges : List Judge) : Type 0 where
   pub count : length judges ≡ length plans
-  pub each : (node : ℕ) (judge : Judge) → node < length plans → judge ≡ slice_index_or judges node judge → IsJudge plans node rows done judge
+  pub each : (node : ℕ) (judge : Judge) →
+      node < length plans → judge ≡ slice_index_or judges node judge → IsJudge plans node rows done judge

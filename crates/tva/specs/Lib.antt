@@ -1,12 +1,12 @@
 pub mod Answer
 pub mod Arrivals
-pub mod Asked
 pub mod Check
 pub mod Command
 pub mod Expected
-pub mod Judges
 pub mod Order
 pub mod Parts
 pub mod Report
 pub mod Status
 pub mod Wanted
+pub mod Asked
+pub mod Judges

@@ -8,7 +8,8 @@ use Rattle.tva_trace.specs.declared.rows.Row.{Row}
 use Rattle.tva_trace.specs.Meaning.{AreRows}
 use Rattle.tva.specs.Expected.{Found, lacks, exceeds, misconfigured, mistraced}
 use Rattle.tva.specs.declared.status.Status as status
-use Rattle.tva.specs.declared.status.Status.TheVariants.{Done, ReadFault, WriteFault, TooLarge, BadConfig, BadTrace, OutOfMemory}
+use Rattle.tva.specs.declared.status.Status.TheVariants.{Done, ReadFault, WriteFault, TooLarge}
+use Rattle.tva.specs.declared.status.Status.TheVariants.{BadConfig, BadTrace, OutOfMemory}
 
 -- that is what is found, where it is told what is held
 abbrev pub IsFound : {A : Type 0} → Option Held → (Held → Found A) → A → Type 0

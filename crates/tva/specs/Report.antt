@@ -1,5 +1,6 @@
 -- The text of a report.
-use Rattle.std.specs.Prelude.{◌≡◌, ℕ, Bool, true, false, List, ◌++◌, length, count_by, sum_by, is_some, Option, Some, None}
+use Rattle.std.specs.Prelude.{◌≡◌, ℕ, Bool, true, false, List, ◌++◌, length, count_by, sum_by, is_some}
+use Rattle.std.specs.Prelude.{Option, Some, None}
 use Rattle.std.specs.List.{flat_map}
 use Rattle.tva_base.specs.declared.packet.Cause as causes
 use Rattle.tva_base.specs.declared.packet.Cause.TheVariants as cause

@@ -5,7 +5,8 @@ use Rattle.tva_config.specs.declared.fault.ConfigFault.{ConfigFault}
 use Rattle.tva_config.specs.Words.{rule_word, table_word}
 use Rattle.tva_trace.specs.Words as trace
 use Rattle.tva.specs.declared.status.Status as status
-use Rattle.tva.specs.declared.status.Status.TheVariants.{Done, Usage, ReadFault, WriteFault, TooLarge, BadConfig, BadTrace, EventLimit, OutOfMemory, Unsupported}
+use Rattle.tva.specs.declared.status.Status.TheVariants.{Done, Usage, ReadFault, WriteFault, TooLarge}
+use Rattle.tva.specs.declared.status.Status.TheVariants.{BadConfig, BadTrace, EventLimit, OutOfMemory, Unsupported}
 
 abbrev pub number_of : status.Status → ℕ
 number_of Done = 0
@@ -30,7 +31,8 @@ text_of_status ReadFault = codes "read fault"
 text_of_status WriteFault = codes "write fault"
 text_of_status (TooLarge k) = codes "too large: " ++ decimal k
 text_of_status (BadConfig fault) = codes "bad config: " ++ config_fault_words fault
-text_of_status (BadTrace fault) = codes "bad trace: record " ++ decimal fault.row ++ codes ": " ++ trace.rule_word fault.rule
+text_of_status (BadTrace fault) =
+    codes "bad trace: record " ++ decimal fault.row ++ codes ": " ++ trace.rule_word fault.rule
 text_of_status (EventLimit m) = codes "more than " ++ decimal m ++ codes " events"
 text_of_status OutOfMemory = codes "out of memory"
 text_of_status Unsupported = codes "unsupported input"

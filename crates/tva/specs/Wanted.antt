@@ -5,7 +5,8 @@ use Rattle.tva_outside.specs.Held.{Held}
 use Rattle.tva.specs.Command.{command_of}
 use Rattle.tva_trace.specs.declared.rows.Row.{Row}
 use Rattle.tva_trace.specs.Meaning.{AreRows}
-use Rattle.tva.specs.Expected.{Expected, writes, shows, replays, lacks, exceeds, misconfigured, mistraced, refuses, told, Ends, status_of_rows}
+use Rattle.tva.specs.Expected.{Expected, writes, shows, replays, lacks, exceeds, misconfigured, mistraced, refuses}
+use Rattle.tva.specs.Expected.{told, Ends, status_of_rows}
 use Rattle.tva.specs.declared.status.Status as status
 use Rattle.tva.specs.declared.status.Status.TheVariants.{Done, WriteFault, OutOfMemory}
 
@@ -29,7 +30,8 @@ abbrev pub SettlesRefusal : status.Status → Expected → Type 0
 SettlesRefusal s (writes text) = Unit {0}
 SettlesRefusal s (shows bytes) = Unit {0}
 SettlesRefusal s (replays plan trace) =
-    ((rows : List Row) × AreRows plan trace rows × (IsRefusal (status_of_rows plan rows) → s ≡ status_of_rows plan rows)) ⊎ (s ≡ OutOfMemory)
+    ((rows : List Row) × AreRows plan trace rows ×
+    (IsRefusal (status_of_rows plan rows) → s ≡ status_of_rows plan rows)) ⊎ (s ≡ OutOfMemory)
 SettlesRefusal s lacks = Settles s lacks
 SettlesRefusal s (exceeds k) = Settles s (exceeds k)
 SettlesRefusal s (misconfigured fault) = Settles s (misconfigured fault)

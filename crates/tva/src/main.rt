@@ -26,11 +26,11 @@ use std::{env, io};
 use top::run;
 use tva_outside::{FileShelf, OpenGate, StdSink};
 
-/// The most bytes of a configuration.
-const CONFIG_MAX: u64 = 1 << 20;
+/// The most bytes of a configuration, 1 MiB.
+const CONFIG_MAX: u64 = 1_048_576;
 
-/// The most bytes of a trace.
-const TRACE_MAX: u64 = 1 << 26;
+/// The most bytes of a trace, 64 MiB.
+const TRACE_MAX: u64 = 67_108_864;
 
 // The words after the program's name.
 fn words(rt: &(impl std::rt::Env + AllocGlobal)) -> io::Result<Vec<String>> {

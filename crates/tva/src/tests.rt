@@ -2,8 +2,9 @@
 use crate::status::{Status, status_text};
 use crate::top::run;
 use arrayvec::ArrayString;
+use std::sync::atomic::{AtomicU64, Ordering};
 use std::test::Fail;
-use tva_outside::{MemoryShelf, MemorySink, OpenGate, Shelf};
+use tva_outside::{Gate, MemoryShelf, MemorySink, OpenGate, Shelf};
 
 mod texts;
 
@@ -51,6 +52,81 @@ fn commands_end_as_they_are_to(rt: HostRuntime) -> Result<(), Fail> {
         assert_eq!(rt; status.number(), number, "{line}");
         assert_eq!(rt; text.as_bytes(), said.as_bytes(), "{line}");
         assert_eq!(rt; out.bytes(), written.as_bytes(), "{line}");
+    }
+    Ok(())
+}
+
+// A file of just its limit is read, a configuration without keys and a trace without records; one of
+// a byte more isn't.
+#[test]
+fn files_are_taken_up_to_their_limits(rt: HostRuntime) -> Result<(), Fail> {
+    let loads = [
+        (
+            "check lines",
+            1_048_576,
+            "bad config: missing top 0 horizon_ns",
+        ),
+        ("check lines", 1_048_577, "too large: 1048577"),
+        (
+            "replay edge lines",
+            67_108_864,
+            "bad trace: record 1: header",
+        ),
+        ("replay edge lines", 67_108_865, "too large: 67108865"),
+    ];
+    for (line, size, said) in loads {
+        let mut shelf = shelf(&rt)?;
+        shelf.put("lines", vec![in rt.alloc(); b'\n'; size]?.as_slice())?;
+        let mut out = MemorySink::new(rt.alloc(), 4096);
+        let words = words(&rt, line)?;
+        let status = run(&rt, rt.alloc(), &words, &mut shelf, &mut out, &OpenGate);
+        assert_eq!(rt; text_of(&status).as_str(), said, "{line} {size}");
+    }
+    Ok(())
+}
+
+// How often the first node, the second and any other were told.
+#[derive(Drop)]
+struct Starts {
+    first: AtomicU64,
+    second: AtomicU64,
+    others: AtomicU64,
+}
+
+impl Gate for Starts {
+    fn at_start(&self, node: u16) {
+        let count = match node {
+            0 => &self.first,
+            1 => &self.second,
+            _ => &self.others,
+        };
+        count.fetch_add(1, Ordering::SeqCst);
+    }
+}
+
+// Each node is told once where there are events, and no node where there are none to come.
+#[test]
+fn each_node_is_told_to_the_gate(rt: HostRuntime) -> Result<(), Fail> {
+    let replays = [
+        ("replay pair both", 1, 1),
+        ("replay edge trace", 1, 0),
+        ("replay pair header", 0, 0),
+        ("replay two trace", 0, 0),
+        ("replay edge falling", 0, 0),
+        ("check pair", 0, 0),
+    ];
+    for (line, first, second) in replays {
+        let gate = Starts {
+            first: AtomicU64::new(0),
+            second: AtomicU64::new(0),
+            others: AtomicU64::new(0),
+        };
+        let mut out = MemorySink::new(rt.alloc(), 4096);
+        let words = words(&rt, line)?;
+        let _ = run(&rt, rt.alloc(), &words, &mut shelf(&rt)?, &mut out, &gate);
+        assert_eq!(rt; gate.first.load(Ordering::SeqCst), first, "{line}");
+        assert_eq!(rt; gate.second.load(Ordering::SeqCst), second, "{line}");
+        assert_eq!(rt; gate.others.load(Ordering::SeqCst), 0, "{line}");
     }
     Ok(())
 }

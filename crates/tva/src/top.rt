@@ -69,10 +69,12 @@ pub fn run<R: Threads + Sync, S: Shelf, W: Sink, G: Gate>(
     ensures refused { ¬ Rose (S.faults shelf.old) (S.faults shelf.new) →
         IfSome (wanted (S.held shelf.old) (texts words.now)) (SettlesRefusal result) }
 
-    // What stays.
+    // What stays. Usage leaves the shelf and the sink as they were, whatever they are.
     ensures held { S.held shelf.new ≡ S.held shelf.old }
     ensures reads { S.faults shelf.old ≤ S.faults shelf.new }
     ensures writes { W.faults out.old ≤ W.faults out.new }
+    ensures unread { result ≡ Status.Usage → shelf.new ≡ shelf.old }
+    ensures unwritten { result ≡ Status.Usage → out.new ≡ out.old }
 {
     match parse(words) {
         Some(command) => run_command(rt, alloc, &command, shelf, out, gate),

@@ -2,6 +2,7 @@
 ghost use Rattle.std.specs.Prelude.{◌≡◌, ◌≤◌, ◌*◌, ℕ};
 ghost use Rattle.tva_base.specs.Credit.{credit_of};
 
+use crate::constants::{SECOND, UNIT};
 use crate::packet::Rights;
 
 /// The credit of a packet of `length` bytes under its rights, in nanoseconds: the least number
@@ -14,7 +15,7 @@ pub fn credit(length: u32, rights: Rights) -> u64
     ensures enough { length * rights.t * 1000000000 ≤ result * (1024 * rights.n) }
     ensures least { (x : ℕ) → length * rights.t * 1000000000 ≤ x * (1024 * rights.n) → result ≤ x }
 {
-    let bytes_seconds = u64::from(length) * u64::from(rights.t) * 1_000_000_000;
-    let granted = 1024 * u64::from(rights.n);
+    let bytes_seconds = u64::from(length) * u64::from(rights.t) * SECOND;
+    let granted = UNIT * u64::from(rights.n);
     bytes_seconds.div_ceil(granted)
 }

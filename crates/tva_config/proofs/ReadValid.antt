@@ -15,7 +15,7 @@ use Rattle.tva_config.specs.Tables.{Top, top_keys, top_of, counts_of, entry_step
 use Rattle.tva_config.specs.Nodes.{node_names, node_of, names_of, addresses_of, retries_of, slots_of}
 use Rattle.tva_config.specs.Links.{link_between, link_step, links_of, uplink_step, uplinks_of, rings_of}
 use Rattle.tva_config.specs.Routes.{route_step, routes_of}
-use Rattle.tva_config.specs.Read.{config_of, plan_of, members_read, document_of, document_read, read_of}
+use Rattle.tva_config.specs.Read.{config_of, Joined, joined_of, plan_of, members_read, document_of, document_read, read_of}
 use Rattle.tva_config.specs.Valid.{IsRouterEntry, IsHostEntry, IsLinkEntry, IsRouteEntry, IsConfig}
 use Rattle.tva_config.proofs.ConfigValid.{Passed, config_valid}
 use Rattle.tva_config.proofs.EntriesValid.{number_needed, router_valid, host_valid, link_valid, route_valid, entries_valid}
@@ -82,23 +82,24 @@ entries_read t e gave =
     } in
     subst (AreRead t) same valid
 
-plan_valid : (t : Top) (e : Entries) (c : Config) → (t.horizon ≤ 1000000000000000) × (1 ≤ t.max_events) × (t.max_events ≤ 4000000)
+joined_passed : (t : Top) (e : Entries) (j : Joined) → (t.horizon ≤ 1000000000000000) × (1 ≤ t.max_events) × (t.max_events ≤ 4000000)
     → (length t.routers + length t.hosts ≤ 1024) × (length t.links ≤ 4096) × (length t.routes ≤ 65536)
-    → AreRead t e → plan_of t.horizon t.max_events e ≡ Ok c → IsConfig c
-unfolding plan_of names_of addresses_of links_of uplinks_of routes_of
-plan_valid t e c times counts known gave =
+    → AreRead t e → joined_of e ≡ Ok j → Passed t.horizon t.max_events e.routers e.hosts e.links e.routes j.links j.uplinks j.routes
+unfolding joined_of addresses_of links_of uplinks_of routes_of
+joined_passed t e j times counts known gave =
     let rs = e.routers in
     let hs = e.hosts in
-    let (names, k1, g1) = first_gave (names_of rs hs) _ c gave in
-    let (addresses, k2, g2) = first_gave (addresses_of hs) _ c g1 in
-    let (retries, k3, g3) = first_gave (retries_of hs) _ c g2 in
-    let (links, k4, g4) = first_gave (links_of (node_of names) e.links) _ c g3 in
-    let (us, k5, g5) = first_gave (uplinks_of (length rs) links hs) _ c g4 in
-    let (routes, k6, g6) = first_gave (routes_of (length rs) (node_of names) (link_between links) e.routes) _ c g5 in
-    let (a, k7, g7) = first_gave (slots_of rs) _ c g6 in
-    let (b, k8, g8) = first_gave (rings_of links) _ c g7 in
+    let (names, k1, g1) = first_gave (names_of rs hs) _ j gave in
+    let (addresses, k2, g2) = first_gave (addresses_of hs) _ j g1 in
+    let (retries, k3, g3) = first_gave (retries_of hs) _ j g2 in
+    let (links, k4, g4) = first_gave (links_of (node_of names) e.links) _ j g3 in
+    let (us, k5, g5) = first_gave (uplinks_of (length rs) links hs) _ j g4 in
+    let (routes, k6, g6) = first_gave (routes_of (length rs) (node_of names) (link_between links) e.routes) _ j g5 in
+    let (a, k7, g7) = first_gave (slots_of rs) _ j g6 in
+    let (b, k8, g8) = first_gave (rings_of links) _ j g7 in
     let named : names ≡ node_names rs hs = names_are rs hs names k1 in
-    let made : config_of t.horizon t.max_events rs hs links us routes ≡ c = gave_one (config_of t.horizon t.max_events rs hs links us routes) c g8 in
+    let all : Joined = record { links = links; uplinks = us; routes = routes } in
+    let made : all ≡ j = gave_one all j g8 in
     let u_long = in_turn_long (uplink_step (length rs) links) [] hs us k5 in
     let l_long = in_turn_long (link_step (node_of names)) [] e.links links k4 in
     let r_long = in_turn_long (route_step (length rs) (node_of names) (link_between links)) [] e.routes routes k6 in
@@ -125,7 +126,17 @@ plan_valid t e c times counts known gave =
       slots = k7;
       rings = k8;
     } in
-    subst IsConfig made (config_valid t.horizon t.max_events rs hs e.links e.routes links us routes passed)
+    subst (λ (x : Joined). Passed t.horizon t.max_events rs hs e.links e.routes x.links x.uplinks x.routes) made passed
+
+plan_valid : (t : Top) (e : Entries) (c : Config) → (t.horizon ≤ 1000000000000000) × (1 ≤ t.max_events) × (t.max_events ≤ 4000000)
+    → (length t.routers + length t.hosts ≤ 1024) × (length t.links ≤ 4096) × (length t.routes ≤ 65536)
+    → AreRead t e → plan_of t.horizon t.max_events e ≡ Ok c → IsConfig c
+unfolding plan_of
+plan_valid t e c times counts known gave =
+    let (j, joined, last) = first_gave (joined_of e) _ c gave in
+    let plan = config_of t.horizon t.max_events e.routers e.hosts j.links j.uplinks j.routes in
+    subst IsConfig (gave_one plan c last)
+    (config_valid t.horizon t.max_events e.routers e.hosts e.links e.routes j.links j.uplinks j.routes (joined_passed t e j times counts known joined))
 
 members_valid : (ms : Members) (c : Config) → members_read ms ≡ Ok c → IsConfig c
 unfolding members_read

@@ -1,5 +1,6 @@
 -- What links must be to the nodes and to one another.
-use Rattle.std.specs.Prelude.{ℕ, ◌+◌, ◌*◌, ◌==◌, ◌&&◌, Bool, List, [], ◌∷◌, length, nat_lt, sum_by, if◌then◌else◌, Ok, Err, Option, Some, None, codes}
+use Rattle.std.specs.Prelude.{ℕ, ◌+◌, ◌*◌, ◌==◌, ◌&&◌, Bool, List, [], ◌∷◌, length, nat_lt, sum_by}
+use Rattle.std.specs.Prelude.{if◌then◌else◌, Ok, Err, Option, Some, None, codes}
 use Rattle.std.specs.List.{list_any, position_from, cons_option}
 use Rattle.tva_base.specs.declared.plan.LinkPlan.{LinkPlan}
 use Rattle.tva_config.specs.declared.fault.ConfigTable.TheVariants as table
@@ -53,16 +54,22 @@ only (x ∷ []) = Some x
 only (x ∷ y ∷ rest) = None
 
 -- each host has one link out
+abbrev pub uplink_of : ℕ → List LinkPlan → ℕ → Read ℕ
+uplink_of routers links host =
+    found (only (links_from (routers + host) links)) (fault_at (at table.Host host) rule.Uplink (codes "name"))
+
 abbrev pub uplink_step : ℕ → List LinkPlan → List ℕ → HostEntry → Read ℕ
-uplink_step routers links earlier host =
-    found (only (links_from (routers + length earlier) links)) (fault_at (at table.Host (length earlier)) rule.Uplink (codes "name"))
+uplink_step routers links earlier host = uplink_of routers links (length earlier)
 
 unfoldable pub uplinks_of : ℕ → List LinkPlan → List HostEntry → Read (List ℕ)
 uplinks_of routers links hosts = in_turn (uplink_step routers links) [] hosts
 
 -- the places of a link's queues
 abbrev pub places : LinkPlan → ℕ
-places link = link.limits.request.queues * link.limits.request.ring + link.limits.regular.queues * link.limits.regular.ring + link.limits.legacy_ring
+places link =
+    link.limits.request.queues * link.limits.request.ring
+    + link.limits.regular.queues * link.limits.regular.ring
+    + link.limits.legacy_ring
 
 -- all links together have at most 1,000,000 places
 abbrev pub all_places : List LinkPlan → ℕ

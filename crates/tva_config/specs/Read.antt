@@ -71,7 +71,8 @@ host_plan h uplink = record {
 -- the plans of the routers, from that number on
 abbrev pub router_plans : List LinkPlan → List OwnedRoute → ℕ → List RouterEntry → List nodes.NodePlan
 router_plans links routes number [] = []
-router_plans links routes number (r ∷ rs) = node.Router (router_plan links routes number r) ∷ router_plans links routes (number + 1) rs
+router_plans links routes number (r ∷ rs) =
+    node.Router (router_plan links routes number r) ∷ router_plans links routes (number + 1) rs
 
 -- the plans of the hosts, each with its link out
 abbrev pub host_plans : List HostEntry → List ℕ → List nodes.NodePlan
@@ -79,7 +80,8 @@ host_plans [] uplinks = []
 host_plans (h ∷ hs) [] = []
 host_plans (h ∷ hs) (uplink ∷ uplinks) = node.Host (host_plan h uplink) ∷ host_plans hs uplinks
 
-unfoldable pub config_of : ℕ → ℕ → List RouterEntry → List HostEntry → List LinkPlan → List ℕ → List OwnedRoute → Config
+unfoldable pub config_of : ℕ → ℕ → List RouterEntry → List HostEntry
+    → List LinkPlan → List ℕ → List OwnedRoute → Config
 config_of horizon max_events routers hosts links uplinks routes = record {
   horizon = record { 0 = horizon };
   max_events = max_events;
@@ -87,9 +89,15 @@ config_of horizon max_events routers hosts links uplinks routes = record {
   links = links;
 }
 
--- the steps across tables, in their order, and the plan
-unfoldable pub plan_of : ℕ → ℕ → Entries → Read Config
-plan_of horizon max_events e = do
+-- what the steps across tables give
+pub record Joined : Type 0 where
+  pub links : List LinkPlan
+  pub uplinks : List ℕ
+  pub routes : List OwnedRoute
+
+-- the steps across tables, in their order
+unfoldable pub joined_of : Entries → Read Joined
+joined_of e = do
   names ← names_of e.routers e.hosts
   addresses ← addresses_of e.hosts
   retries ← retries_of e.hosts
@@ -98,7 +106,13 @@ plan_of horizon max_events e = do
   routes ← routes_of (length e.routers) (node_of names) (link_between links) e.routes
   few_slots ← slots_of e.routers
   few_places ← rings_of links
-  Ok (config_of horizon max_events e.routers e.hosts links uplinks routes)
+  Ok (record { links = links; uplinks = uplinks; routes = routes })
+
+-- the plan of the entries
+unfoldable pub plan_of : ℕ → ℕ → Entries → Read Config
+plan_of horizon max_events e = do
+  j ← joined_of e
+  Ok (config_of horizon max_events e.routers e.hosts j.links j.uplinks j.routes)
 
 -- the steps of a document, in their order
 unfoldable pub members_read : Members → Read Config

@@ -10,6 +10,8 @@ use Rattle.toml.specs.View.{table_view}
 use Rattle.tva_base.specs.declared.plan.LinkPlan.{LinkPlan}
 use Rattle.tva_config.specs.declared.top.TopTable.{TopTable}
 use Rattle.tva_config.specs.declared.entries.EntryLists.{EntryLists}
+use Rattle.tva_config.specs.declared.entries.JoinedLists.{JoinedLists}
+use Rattle.tva_config.specs.Read.{Joined}
 use Rattle.tva_config.specs.Tables.{Top, Entries}
 use Rattle.tva_config.specs.declared.entries.OwnedRoute.{OwnedRoute}
 use Rattle.tva_config.specs.Nodes.{node_of}
@@ -28,6 +30,9 @@ seen_top t = record {
 
 abbrev pub seen_entries : EntryLists → Entries
 seen_entries e = record { routers = e.routers.items; hosts = e.hosts.items; links = e.links.items; routes = e.routes.items }
+
+abbrev pub seen_joined : JoinedLists → Joined
+seen_joined j = record { links = j.links.items; uplinks = j.uplinks.items; routes = j.routes.items }
 
 -- a map from names to numbers of nodes
 abbrev pub Numbers : Type 0

@@ -1,23 +1,22 @@
-// Values that are arrays, of addresses, of tags or of tables.
+// Values that are arrays, of one kind or of tables.
 ghost use Rattle.std.specs.Prelude.{◌≡◌, IfOk, map, option_map, option_and_then};
 ghost use Rattle.toml.specs.View.{view, array_view, table_view};
-ghost use Rattle.tva_config.specs.Values.{number, address, table_members, items, few, addresses, tags, tables};
+ghost use Rattle.tva_config.specs.Values.{table_members, items, few, few_items, tables};
 
-use crate::values;
+use crate::values::Kind;
 use std::alloc::{AllocError, Global};
 use toml::value::Array;
 use toml::{Table, Value};
-use tva_base::Address;
 
 /// The greatest number of denied addresses, and that of denied tags.
 const FEW: usize = 1024;
 
-/// An array of at most 1,024 addresses.
-pub fn addresses(alloc: Global, value: &Value) -> Result<Option<Vec<Address>>, AllocError>
-    ensures { IfOk result (λ found. option_map (λ v. v.items) found ≡ addresses (view value.now)) }
+/// An array of at most 1,024 values of a kind.
+pub fn few_items<T: Kind>(alloc: Global, value: &Value) -> Result<Option<Vec<T>>, AllocError>
+    ensures { IfOk result (λ found. option_map (λ v. v.items) found ≡ few_items T.kind (view value.now)) }
 {
     match value.as_array() {
-        Some(array) => match each_address(alloc, array) {
+        Some(array) => match each(alloc, array) {
             Ok(found) => Ok(few(found)),
             Err(error) => Err(error),
         },
@@ -25,39 +24,13 @@ pub fn addresses(alloc: Global, value: &Value) -> Result<Option<Vec<Address>>, A
     }
 }
 
-fn each_address(alloc: Global, array: &Array) -> Result<Option<Vec<Address>>, AllocError>
-    ensures { IfOk result (λ found. option_map (λ v. v.items) found ≡ items address (array_view array.now)) }
+fn each<T: Kind>(alloc: Global, array: &Array) -> Result<Option<Vec<T>>, AllocError>
+    ensures { IfOk result (λ found. option_map (λ v. v.items) found ≡ items T.kind (array_view array.now)) }
 {
     let mut found = Vec::new(alloc);
     for value in array {
-        match values::address(value) {
-            Some(address) => found.push(address)?,
-            None => return Ok(None),
-        }
-    }
-    Ok(Some(found))
-}
-
-/// An array of at most 1,024 numbers from 1 to 65,535.
-pub fn tags(alloc: Global, value: &Value) -> Result<Option<Vec<u16>>, AllocError>
-    ensures { IfOk result (λ found. option_map (λ v. v.items) found ≡ tags (view value.now)) }
-{
-    match value.as_array() {
-        Some(array) => match each_tag(alloc, array) {
-            Ok(found) => Ok(few(found)),
-            Err(error) => Err(error),
-        },
-        None => Ok(None),
-    }
-}
-
-fn each_tag(alloc: Global, array: &Array) -> Result<Option<Vec<u16>>, AllocError>
-    ensures { IfOk result (λ found. option_map (λ v. v.items) found ≡ items (number 1 65535) (array_view array.now)) }
-{
-    let mut found = Vec::new(alloc);
-    for value in array {
-        match values::tag(value, 1) {
-            Some(tag) => found.push(tag)?,
+        match T::of(value) {
+            Some(item) => found.push(item)?,
             None => return Ok(None),
         }
     }

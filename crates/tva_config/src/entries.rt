@@ -1,9 +1,9 @@
 // What the entries of the tables are read as, before they are compared with one another.
-use tva_base::{Address, LinkLimits, Name, PolicyPlan, Prefix, Route};
+use tva_base::{Address, LinkLimits, LinkPlan, Name, PolicyPlan, Prefix, Route};
 
 /// A router: its name, master, places of the flow cache, clock offset in nanoseconds, and tag of
 /// packets from the trace.
-#[derive(Debug, Drop)]
+#[derive(Drop)]
 pub struct RouterEntry {
     pub name: Name,
     pub master: [u8; 32],
@@ -13,7 +13,7 @@ pub struct RouterEntry {
 }
 
 /// A host: its name, address, first nonce, margin and retry time in nanoseconds, and policy.
-#[derive(Debug, Drop)]
+#[derive(Drop)]
 pub struct HostEntry {
     pub name: Name,
     pub address: Address,
@@ -24,7 +24,7 @@ pub struct HostEntry {
 }
 
 /// A link: the names of its ends, its delay in nanoseconds, tag and limits.
-#[derive(Debug, Drop)]
+#[derive(Drop)]
 pub struct LinkEntry {
     pub from: Name,
     pub to: Name,
@@ -34,7 +34,7 @@ pub struct LinkEntry {
 }
 
 /// A route: the name of its router, its prefix, and the name of the next node.
-#[derive(Debug, Drop)]
+#[derive(Drop)]
 pub struct RouteEntry {
     pub router: Name,
     pub prefix: Prefix,
@@ -42,17 +42,26 @@ pub struct RouteEntry {
 }
 
 /// A route with the number of its router and that of its link.
-#[derive(Clone, Copy, Debug, PartialEq, Eq)]
+#[derive(Clone, Copy)]
 pub struct OwnedRoute {
     pub router: u16,
     pub route: Route,
 }
 
 /// The entries of all tables, in the order of the file.
-#[derive(Debug, Drop)]
+#[derive(Drop)]
 pub struct EntryLists {
     pub routers: Vec<RouterEntry>,
     pub hosts: Vec<HostEntry>,
     pub links: Vec<LinkEntry>,
     pub routes: Vec<RouteEntry>,
+}
+
+/// What the steps across tables give: the links and the routes in the order of the file, and the
+/// number of each host's link out.
+#[derive(Drop)]
+pub struct JoinedLists {
+    pub links: Vec<LinkPlan>,
+    pub uplinks: Vec<u16>,
+    pub routes: Vec<OwnedRoute>,
 }

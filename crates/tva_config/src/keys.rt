@@ -12,10 +12,11 @@ ghost use Rattle.tva_config.specs.Values as kind;
 
 use crate::fault::{ConfigError, ConfigFault, ConfigRule};
 use crate::place::Place;
+use crate::values::Kind;
 use crate::{arrays, values};
 use std::alloc::Global;
 use toml::{Table, Value};
-use tva_base::{Address, Key, Listed, Name, PolicyKind, Prefix};
+use tva_base::{Key, Listed};
 
 /// A fault at an entry.
 pub fn fault(place: Place, rule: ConfigRule, key: &str) -> ConfigFault
@@ -87,6 +88,52 @@ pub fn value_or_fault<T: Drop>(place: Place, key: &str, found: Option<T>) -> Res
     match found {
         Some(value) => Ok(value),
         None => Err(fault(place, ConfigRule::Value, key)),
+    }
+}
+
+/// A value of a kind, which must be there.
+pub fn required<T: Kind>(place: Place, table: &Table, key: &str) -> Result<T, ConfigFault>
+    requires { length key.now ≤ 24 }
+    ensures { result ≡ required place (table_view table.now) key.now T.kind }
+{
+    match value_at(table, key) {
+        None => Err(missing(place, key)),
+        Some(value) => value_or_fault(place, key, T::of(value)),
+    }
+}
+
+/// A value of a kind, or the default.
+pub fn optional<T: Kind>(
+    place: Place,
+    table: &Table,
+    key: &str,
+    default: T,
+) -> Result<T, ConfigFault>
+    requires { length key.now ≤ 24 }
+    ensures { result ≡ optional place (table_view table.now) key.now T.kind default }
+{
+    match value_at(table, key) {
+        None => Ok(default),
+        Some(value) => value_or_fault(place, key, T::of(value)),
+    }
+}
+
+/// An array of at most 1,024 values of a kind, or none.
+pub fn few_items<T: Kind>(
+    alloc: Global,
+    place: Place,
+    table: &Table,
+    key: &str,
+) -> Result<Listed<T>, ConfigError>
+    requires { length key.now ≤ 24 }
+    ensures { Answers (optional place (table_view table.now) key.now (kind.few_items T.kind) []) result }
+{
+    match value_at(table, key) {
+        None => Ok(Listed::new(Vec::new(alloc))),
+        Some(value) => {
+            let found = value_or_fault(place, key, arrays::few_items(alloc, value)?)?;
+            Ok(Listed::new(found))
+        }
     }
 }
 
@@ -167,7 +214,7 @@ pub fn tag(place: Place, table: &Table, key: &str) -> Result<u16, ConfigFault>
 {
     match value_at(table, key) {
         None => Ok(0),
-        Some(value) => value_or_fault(place, key, values::tag(value, 0)),
+        Some(value) => value_or_fault(place, key, values::tag(value)),
     }
 }
 
@@ -182,28 +229,6 @@ pub fn seconds(place: Place, table: &Table, key: &str) -> Result<u8, ConfigFault
     }
 }
 
-/// A name that must be there.
-pub fn name(place: Place, table: &Table, key: &str) -> Result<Name, ConfigFault>
-    requires { length key.now ≤ 24 }
-    ensures { result ≡ required place (table_view table.now) key.now kind.name }
-{
-    match value_at(table, key) {
-        None => Err(missing(place, key)),
-        Some(value) => value_or_fault(place, key, values::name(value)),
-    }
-}
-
-/// A master that must be there.
-pub fn master(place: Place, table: &Table, key: &str) -> Result<[u8; 32], ConfigFault>
-    requires { length key.now ≤ 24 }
-    ensures { result ≡ required place (table_view table.now) key.now kind.master }
-{
-    match value_at(table, key) {
-        None => Err(missing(place, key)),
-        Some(value) => value_or_fault(place, key, values::master(value)),
-    }
-}
-
 /// A nonce, or the default.
 pub fn nonce_or(place: Place, table: &Table, key: &str, default: u64) -> Result<u64, ConfigFault>
     requires { length key.now ≤ 24 }
@@ -212,82 +237,6 @@ pub fn nonce_or(place: Place, table: &Table, key: &str, default: u64) -> Result<
     match value_at(table, key) {
         None => Ok(default),
         Some(value) => value_or_fault(place, key, values::nonce(value)),
-    }
-}
-
-/// A policy, or the default.
-pub fn policy_or(
-    place: Place,
-    table: &Table,
-    key: &str,
-    default: PolicyKind,
-) -> Result<PolicyKind, ConfigFault>
-    requires { length key.now ≤ 24 }
-    ensures { result ≡ optional place (table_view table.now) key.now kind.policy_kind default }
-{
-    match value_at(table, key) {
-        None => Ok(default),
-        Some(value) => value_or_fault(place, key, values::policy_kind(value)),
-    }
-}
-
-/// An address that must be there.
-pub fn address(place: Place, table: &Table, key: &str) -> Result<Address, ConfigFault>
-    requires { length key.now ≤ 24 }
-    ensures { result ≡ required place (table_view table.now) key.now kind.address }
-{
-    match value_at(table, key) {
-        None => Err(missing(place, key)),
-        Some(value) => value_or_fault(place, key, values::address(value)),
-    }
-}
-
-/// A prefix that must be there.
-pub fn prefix(place: Place, table: &Table, key: &str) -> Result<Prefix, ConfigFault>
-    requires { length key.now ≤ 24 }
-    ensures { result ≡ required place (table_view table.now) key.now kind.prefix }
-{
-    match value_at(table, key) {
-        None => Err(missing(place, key)),
-        Some(value) => value_or_fault(place, key, values::prefix(value)),
-    }
-}
-
-/// An array of at most 1,024 addresses, or none.
-pub fn addresses(
-    alloc: Global,
-    place: Place,
-    table: &Table,
-    key: &str,
-) -> Result<Listed<Address>, ConfigError>
-    requires { length key.now ≤ 24 }
-    ensures { Answers (optional place (table_view table.now) key.now kind.addresses []) result }
-{
-    match value_at(table, key) {
-        None => Ok(Listed::new(Vec::new(alloc))),
-        Some(value) => {
-            let found = value_or_fault(place, key, arrays::addresses(alloc, value)?)?;
-            Ok(Listed::new(found))
-        }
-    }
-}
-
-/// An array of at most 1,024 tags, or none.
-pub fn tags(
-    alloc: Global,
-    place: Place,
-    table: &Table,
-    key: &str,
-) -> Result<Listed<u16>, ConfigError>
-    requires { length key.now ≤ 24 }
-    ensures { Answers (optional place (table_view table.now) key.now kind.tags []) result }
-{
-    match value_at(table, key) {
-        None => Ok(Listed::new(Vec::new(alloc))),
-        Some(value) => {
-            let found = value_or_fault(place, key, arrays::tags(alloc, value)?)?;
-            Ok(Listed::new(found))
-        }
     }
 }
 

@@ -4,7 +4,7 @@ ghost use Rattle.std.specs.List.{list_any};
 ghost use Rattle.std.specs.HashMap.{get_by_text};
 ghost use Rattle.tva_config.specs.Faults.{AnswersBy};
 ghost use Rattle.tva_config.specs.Views.{IsPairs, link_at};
-ghost use Rattle.tva_config.specs.Links.{joins, link_between, link_step, links_of, links_from, only, uplinks_of, places, all_places, rings_of};
+ghost use Rattle.tva_config.specs.Links.{joins, link_between, link_step, links_of, links_from, only, uplink_of, uplinks_of, places, all_places, rings_of};
 
 use crate::entries::{HostEntry, LinkEntry};
 use crate::fault::{ConfigError, ConfigFault, ConfigRule, ConfigTable};
@@ -102,18 +102,27 @@ pub fn uplinks(
 {
     let mut uplinks = Vec::new(alloc);
     for (i, _host) in hosts.iter().enumerate() {
-        match only_link(links, (routers + i) as u16) {
-            Some(link) => uplinks.push(link)?,
-            None => {
-                let place = Place {
-                    table: ConfigTable::Host,
-                    entry: i as u32,
-                };
-                return Err(fault(place, ConfigRule::Uplink, "name").into());
-            }
-        }
+        uplinks.push(uplink(routers, links, i)?)?;
     }
     Ok(uplinks)
+}
+
+// The link out of a host, or its fault.
+fn uplink(routers: usize, links: &[LinkPlan], host: usize) -> Result<u16, ConfigFault>
+    requires nodes { routers + host ≤ 1024 }
+    requires links { length links.now ≤ 4096 }
+    ensures { result ≡ uplink_of routers links.now host }
+{
+    match only_link(links, (routers + host) as u16) {
+        Some(link) => Ok(link),
+        None => {
+            let place = Place {
+                table: ConfigTable::Host,
+                entry: host as u32,
+            };
+            Err(fault(place, ConfigRule::Uplink, "name"))
+        }
+    }
 }
 
 // The number of the link out of a node, where it has exactly one.

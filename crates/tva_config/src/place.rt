@@ -2,7 +2,7 @@
 use crate::fault::ConfigTable;
 
 /// An entry of a table, numbered from 0.
-#[derive(Clone, Copy, Debug, PartialEq, Eq)]
+#[derive(Clone, Copy)]
 pub struct Place {
     pub table: ConfigTable,
     pub entry: u32,

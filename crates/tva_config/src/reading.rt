@@ -7,11 +7,11 @@ ghost use Rattle.tva_config.specs.declared.config.Config.{Config};
 ghost use Rattle.tva_config.specs.Faults.{Answers, AnswersBy, IsOrLacksMemory};
 ghost use Rattle.tva_config.specs.Valid.{IsConfig};
 ghost use Rattle.tva_config.specs.Tables.{all_entries_of};
-ghost use Rattle.tva_config.specs.Views.{seen_top, seen_entries};
-ghost use Rattle.tva_config.specs.Read.{config_of, plan_of, members_read, document_of, read_of};
+ghost use Rattle.tva_config.specs.Views.{seen_top, seen_entries, seen_joined};
+ghost use Rattle.tva_config.specs.Read.{config_of, joined_of, plan_of, members_read, document_of, read_of};
 
 use crate::config::Config;
-use crate::entries::{EntryLists, HostEntry, OwnedRoute, RouterEntry};
+use crate::entries::{EntryLists, HostEntry, JoinedLists, OwnedRoute, RouterEntry};
 use crate::fault::{ConfigError, ConfigRule, ConfigTable};
 use crate::keys::fault;
 use crate::place::Place;
@@ -90,10 +90,10 @@ fn read_entries(alloc: Global, top: &TopTable) -> Result<EntryLists, ConfigError
     ensures links { IfOk result (λ e. length e.links.items ≤ 4096) }
     ensures routes { IfOk result (λ e. length e.routes.items ≤ 65536) }
 {
-    let routers = top::routers(alloc, &top.routers)?;
-    let hosts = top::hosts(alloc, &top.hosts)?;
-    let links = top::links(alloc, &top.links)?;
-    let routes = top::routes(alloc, &top.routes)?;
+    let routers = top::entries(alloc, ConfigTable::Router, &top.routers)?;
+    let hosts = top::entries(alloc, ConfigTable::Host, &top.hosts)?;
+    let links = top::entries(alloc, ConfigTable::Link, &top.links)?;
+    let routes = top::entries(alloc, ConfigTable::Route, &top.routes)?;
     Ok(EntryLists {
         routers,
         hosts,
@@ -115,30 +115,50 @@ fn plan(
     requires routes { length entries.routes.items ≤ 65536 }
     ensures { Answers (plan_of horizon max_events (seen_entries entries)) result }
 {
-    let EntryLists {
-        routers,
-        hosts,
-        links,
-        routes,
-    } = entries;
-    let numbers = nodes::numbers(alloc, &routers, &hosts)?;
-    nodes::addresses(alloc, &hosts)?;
-    nodes::retries(&hosts)?;
-    let links = links::number_links(alloc, &numbers, &links)?;
-    let uplinks = links::uplinks(alloc, routers.len(), &links.plans, &hosts)?;
-    let routes = routes::number_routes(alloc, routers.len(), &numbers, &links.pairs, &routes)?;
-    nodes::slots(&routers)?;
-    links::rings(&links.plans)?;
+    let joined = join(alloc, &entries)?;
     Ok(config(
         alloc,
         horizon,
         max_events,
-        routers,
-        hosts,
-        links.plans,
-        &uplinks,
-        &routes,
+        entries.routers,
+        entries.hosts,
+        joined.links,
+        &joined.uplinks,
+        &joined.routes,
     )?)
+}
+
+// The steps across tables, or the first fault of them.
+#[tactic(auto, unfolding(crate::specs::Read::joined_of))]
+fn join(alloc: Global, entries: &EntryLists) -> Result<JoinedLists, ConfigError>
+    requires nodes { length entries.now.routers.items + length entries.now.hosts.items ≤ 1024 }
+    requires links { length entries.now.links.items ≤ 4096 }
+    requires routes { length entries.now.routes.items ≤ 65536 }
+    ensures answer { AnswersBy seen_joined (joined_of (seen_entries entries.now)) result }
+    ensures links { IfOk result (λ j. length j.links.items ≡ length entries.now.links.items) }
+    ensures uplinks { IfOk result (λ j. length j.uplinks.items ≡ length entries.now.hosts.items) }
+{
+    let routers = &entries.routers;
+    let hosts = &entries.hosts;
+    let numbers = nodes::numbers(alloc, routers, hosts)?;
+    nodes::addresses(alloc, hosts)?;
+    nodes::retries(hosts)?;
+    let links = links::number_links(alloc, &numbers, &entries.links)?;
+    let uplinks = links::uplinks(alloc, routers.len(), &links.plans, hosts)?;
+    let routes = routes::number_routes(
+        alloc,
+        routers.len(),
+        &numbers,
+        &links.pairs,
+        &entries.routes,
+    )?;
+    nodes::slots(routers)?;
+    links::rings(&links.plans)?;
+    Ok(JoinedLists {
+        links: links.plans,
+        uplinks,
+        routes,
+    })
 }
 
 // The configuration of valid entries.

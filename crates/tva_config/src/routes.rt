@@ -2,8 +2,8 @@
 ghost use Rattle.std.specs.Prelude.{◌≡◌, ◌≤◌, ℕ, IfOk, length};
 ghost use Rattle.std.specs.HashMap.{get_by_text};
 ghost use Rattle.tva_config.specs.Faults.{AnswersBy};
-ghost use Rattle.tva_config.specs.Views.{link_at};
-ghost use Rattle.tva_config.specs.Routes.{router_named, link_to, resolved, routes_of};
+ghost use Rattle.tva_config.specs.Views.{link_at, IsSeen};
+ghost use Rattle.tva_config.specs.Routes.{router_named, link_to, resolved, route_step, routes_of};
 
 use crate::entries::{OwnedRoute, RouteEntry};
 use crate::fault::{ConfigError, ConfigFault, ConfigRule, ConfigTable};
@@ -29,19 +29,38 @@ pub fn number_routes(
 {
     let mut routes = Vec::new(alloc);
     let mut seen = HashSet::new(alloc);
-    for (i, entry) in entries.iter().enumerate() {
-        let place = Place {
-            table: ConfigTable::Route,
-            entry: i as u32,
-        };
-        let owned = resolve(place, routers, numbers, pairs, entry)?;
+    for entry in entries {
+        let owned = next(routers, numbers, pairs, &routes, &seen, entry)?;
         let prefix = owned.route.prefix;
-        if !seen.insert((owned.router, prefix.address.0, prefix.bits))? {
-            return Err(fault(place, ConfigRule::Prefix, "prefix").into());
-        }
+        seen.insert((owned.router, prefix.address.0, prefix.bits))?;
         routes.push(owned)?;
     }
     Ok(routes)
+}
+
+// The route of an entry behind earlier ones, or its fault.
+fn next(
+    routers: usize,
+    numbers: &HashMap<String, u16>,
+    pairs: &HashMap<(u16, u16), u16>,
+    earlier: &Vec<OwnedRoute>,
+    seen: &HashSet<(u16, u32, u8)>,
+    entry: &RouteEntry,
+) -> Result<OwnedRoute, ConfigFault>
+    requires few { length earlier.now.items ≤ 65536 }
+    requires seen { IsSeen seen.now earlier.now.items }
+    ensures { result ≡ route_step routers (get_by_text numbers.now) (link_at pairs.now) earlier.now.items entry.now }
+{
+    let place = Place {
+        table: ConfigTable::Route,
+        entry: earlier.len() as u32,
+    };
+    let owned = resolve(place, routers, numbers, pairs, entry)?;
+    let prefix = owned.route.prefix;
+    if seen.contains(&(owned.router, prefix.address.0, prefix.bits)) {
+        return Err(fault(place, ConfigRule::Prefix, "prefix"));
+    }
+    Ok(owned)
 }
 
 // The route with its numbers, or the fault of a name.

@@ -1,7 +1,9 @@
 // The entries of each table, by the keys in their order.
 ghost use Rattle.std.specs.Prelude.{◌≡◌, ◌≤◌, length};
+ghost use Rattle.toml.specs.Data.{Members};
 ghost use Rattle.toml.specs.View.{table_view};
-ghost use Rattle.tva_config.specs.Faults.{Answers};
+ghost use Rattle.tva_config.specs.declared.place.Place.{Place};
+ghost use Rattle.tva_config.specs.Faults.{Answers, Read};
 ghost use Rattle.tva_config.specs.Entries.{router_of, host_of, link_of, row, class_limits, limits_of, route_of};
 
 use crate::entries::{HostEntry, LinkEntry, RouteEntry, RouterEntry};
@@ -11,6 +13,15 @@ use crate::place::Place;
 use std::alloc::Global;
 use toml::Table;
 use tva_base::{DrrLimits, LinkLimits, PolicyKind, PolicyPlan, Rights};
+
+/// What the entries of a table are read as.
+pub trait Entry: Drop {
+    /// What an entry at its place is read as, or its first fault.
+    ghost entry_of: { Place → Members → Read Self };
+
+    fn read(alloc: Global, place: Place, table: &Table) -> Result<Self, ConfigError>
+        ensures { Answers (entry_of place (table_view table.now)) result };
+}
 
 /// The greatest time of an event and the greatest clock offset, in nanoseconds.
 const TIME_MAX: u64 = 1_000_000_000_000_000;
@@ -25,43 +36,47 @@ const RETRY_MAX: u64 = 10_000_000_000_000;
 const BYTES_MAX: u32 = 1 << 30;
 
 /// A router, or its first fault.
-#[tactic(auto, unfolding(crate::specs::Entries::router_of))]
-pub fn router(place: Place, table: &Table) -> Result<RouterEntry, ConfigFault>
-    ensures { result ≡ router_of place (table_view table.now) }
-{
-    keys::only_listed(
-        place,
-        table,
-        &["name", "master", "slots", "clock_offset_ns", "edge_tag"],
-    )?;
-    let name = keys::name(place, table, "name")?;
-    let master = keys::master(place, table, "master")?;
-    let slots = keys::count(place, table, "slots", 0, 1_000_000)?;
-    let clock_offset = keys::number_or(place, table, "clock_offset_ns", 0, TIME_MAX, 0)?;
-    let edge_tag = keys::tag(place, table, "edge_tag")?;
-    Ok(RouterEntry {
-        name,
-        master,
-        slots,
-        clock_offset,
-        edge_tag,
-    })
+impl Entry for RouterEntry {
+    ghost entry_of = { router_of };
+
+    #[tactic(auto, unfolding(crate::specs::Entries::router_of))]
+    fn read(_alloc: Global, place: Place, table: &Table) -> Result<RouterEntry, ConfigError> {
+        keys::only_listed(
+            place,
+            table,
+            &["name", "master", "slots", "clock_offset_ns", "edge_tag"],
+        )?;
+        let name = keys::required(place, table, "name")?;
+        let master = keys::required(place, table, "master")?;
+        let slots = keys::count(place, table, "slots", 0, 1_000_000)?;
+        let clock_offset = keys::number_or(place, table, "clock_offset_ns", 0, TIME_MAX, 0)?;
+        let edge_tag = keys::tag(place, table, "edge_tag")?;
+        Ok(RouterEntry {
+            name,
+            master,
+            slots,
+            clock_offset,
+            edge_tag,
+        })
+    }
 }
 
 /// A route, or its first fault.
-#[tactic(auto, unfolding(crate::specs::Entries::route_of))]
-pub fn route(place: Place, table: &Table) -> Result<RouteEntry, ConfigFault>
-    ensures { result ≡ route_of place (table_view table.now) }
-{
-    keys::only_listed(place, table, &["router", "prefix", "via"])?;
-    let router = keys::name(place, table, "router")?;
-    let prefix = keys::prefix(place, table, "prefix")?;
-    let via = keys::name(place, table, "via")?;
-    Ok(RouteEntry {
-        router,
-        prefix,
-        via,
-    })
+impl Entry for RouteEntry {
+    ghost entry_of = { route_of };
+
+    #[tactic(auto, unfolding(crate::specs::Entries::route_of))]
+    fn read(_alloc: Global, place: Place, table: &Table) -> Result<RouteEntry, ConfigError> {
+        keys::only_listed(place, table, &["router", "prefix", "via"])?;
+        let router = keys::required(place, table, "router")?;
+        let prefix = keys::required(place, table, "prefix")?;
+        let via = keys::required(place, table, "via")?;
+        Ok(RouteEntry {
+            router,
+            prefix,
+            via,
+        })
+    }
 }
 
 const LINK_KEYS: [&str; 18] = [
@@ -86,24 +101,26 @@ const LINK_KEYS: [&str; 18] = [
 ];
 
 /// A link, or its first fault.
-#[tactic(auto, unfolding(crate::specs::Entries::link_of))]
-pub fn link(place: Place, table: &Table) -> Result<LinkEntry, ConfigFault>
-    ensures { result ≡ link_of place (table_view table.now) }
-{
-    keys::only_listed(place, table, &LINK_KEYS)?;
-    let from = keys::name(place, table, "from")?;
-    let to = keys::name(place, table, "to")?;
-    let ns_per_byte = keys::number(place, table, "ns_per_byte", 1, 1_000_000)?;
-    let delay = keys::number(place, table, "delay_ns", 1, 1_000_000_000_000)?;
-    let tag = keys::tag(place, table, "tag")?;
-    let limits = limits(place, ns_per_byte, table)?;
-    Ok(LinkEntry {
-        from,
-        to,
-        delay,
-        tag,
-        limits,
-    })
+impl Entry for LinkEntry {
+    ghost entry_of = { link_of };
+
+    #[tactic(auto, unfolding(crate::specs::Entries::link_of))]
+    fn read(_alloc: Global, place: Place, table: &Table) -> Result<LinkEntry, ConfigError> {
+        keys::only_listed(place, table, &LINK_KEYS)?;
+        let from = keys::required(place, table, "from")?;
+        let to = keys::required(place, table, "to")?;
+        let ns_per_byte = keys::number(place, table, "ns_per_byte", 1, 1_000_000)?;
+        let delay = keys::number(place, table, "delay_ns", 1, 1_000_000_000_000)?;
+        let tag = keys::tag(place, table, "tag")?;
+        let limits = limits(place, ns_per_byte, table)?;
+        Ok(LinkEntry {
+            from,
+            to,
+            delay,
+            tag,
+            limits,
+        })
+    }
 }
 
 /// The limits of a link, or the first fault of the keys behind `tag`.
@@ -209,34 +226,36 @@ const HOST_KEYS: [&str; 11] = [
 ];
 
 /// A host, or its first fault.
-#[tactic(auto, unfolding(crate::specs::Entries::host_of))]
-pub fn host(alloc: Global, place: Place, table: &Table) -> Result<HostEntry, ConfigError>
-    ensures { Answers (host_of place (table_view table.now)) result }
-{
-    keys::only_listed(place, table, &HOST_KEYS)?;
-    let name = keys::name(place, table, "name")?;
-    let address = keys::address(place, table, "address")?;
-    let nonce = keys::nonce_or(place, table, "nonce", 1)?;
-    let margin = keys::number_or(place, table, "margin_ns", 0, MARGIN_MAX, 1_000_000)?;
-    let retry = keys::number_or(place, table, "retry_ns", 0, RETRY_MAX, 2_000_000_000)?;
-    let kind = keys::policy_or(place, table, "policy", PolicyKind::DenyAll)?;
-    let n = keys::count_or(place, table, "n", 0, 1023, 32)?;
-    let t = keys::seconds(place, table, "t")?;
-    let grants = keys::count_or(place, table, "grants", 0, 1_000_000, 1000)?;
-    let deny = keys::addresses(alloc, place, table, "deny")?;
-    let deny_tags = keys::tags(alloc, place, table, "deny_tags")?;
-    Ok(HostEntry {
-        name,
-        address,
-        nonce,
-        margin,
-        retry,
-        policy: PolicyPlan {
-            kind,
-            rights: Rights { n, t },
-            grants,
-            deny,
-            deny_tags,
-        },
-    })
+impl Entry for HostEntry {
+    ghost entry_of = { host_of };
+
+    #[tactic(auto, unfolding(crate::specs::Entries::host_of))]
+    fn read(alloc: Global, place: Place, table: &Table) -> Result<HostEntry, ConfigError> {
+        keys::only_listed(place, table, &HOST_KEYS)?;
+        let name = keys::required(place, table, "name")?;
+        let address = keys::required(place, table, "address")?;
+        let nonce = keys::nonce_or(place, table, "nonce", 1)?;
+        let margin = keys::number_or(place, table, "margin_ns", 0, MARGIN_MAX, 1_000_000)?;
+        let retry = keys::number_or(place, table, "retry_ns", 0, RETRY_MAX, 2_000_000_000)?;
+        let kind = keys::optional(place, table, "policy", PolicyKind::DenyAll)?;
+        let n = keys::count_or(place, table, "n", 0, 1023, 32)?;
+        let t = keys::seconds(place, table, "t")?;
+        let grants = keys::count_or(place, table, "grants", 0, 1_000_000, 1000)?;
+        let deny = keys::few_items(alloc, place, table, "deny")?;
+        let deny_tags = keys::few_items(alloc, place, table, "deny_tags")?;
+        Ok(HostEntry {
+            name,
+            address,
+            nonce,
+            margin,
+            retry,
+            policy: PolicyPlan {
+                kind,
+                rights: Rights { n, t },
+                grants,
+                deny,
+                deny_tags,
+            },
+        })
+    }
 }

@@ -1,17 +1,15 @@
 // The top level of a configuration, and its tables entry by entry.
 ghost use Rattle.std.specs.Prelude.{◌≡◌, ◌≤◌, ◌+◌, IfOk, OnOk, length, map, codes};
 ghost use Rattle.toml.specs.View.{table_view};
-ghost use Rattle.tva_config.specs.declared.fault.ConfigTable.TheVariants as tables;
 ghost use Rattle.tva_config.specs.declared.fault.ConfigRule.TheVariants as rule;
 ghost use Rattle.tva_config.specs.Faults.{AnswersBy, at, fault_at};
-ghost use Rattle.tva_config.specs.Entries.{router_of, host_of, link_of, route_of};
 ghost use Rattle.tva_config.specs.Tables.{top_of, counts_of, entries_of};
 ghost use Rattle.tva_config.specs.Views.{seen_top};
 
-use crate::entries::{HostEntry, LinkEntry, RouteEntry, RouterEntry};
 use crate::fault::{ConfigError, ConfigFault, ConfigRule, ConfigTable};
+use crate::keys;
 use crate::place::Place;
-use crate::{keys, tables};
+use crate::tables::Entry;
 use std::alloc::Global;
 use toml::Table;
 
@@ -92,74 +90,24 @@ fn too_many(table: ConfigTable) -> ConfigFault
     keys::fault(Place { table, entry: 0 }, ConfigRule::Count, "-")
 }
 
-/// The routers, or the first fault in them.
+/// The entries of a table, or the first fault in them.
 #[tactic(auto, unfolding(crate::specs::Tables::entries_of))]
-pub fn routers(alloc: Global, entries: &[&Table]) -> Result<Vec<RouterEntry>, ConfigError>
-    requires { length entries.now ≤ 65536 }
-    ensures answer { AnswersBy (λ v. v.items) (entries_of tables.Router router_of (map (λ t. table_view t.now) entries.now)) result }
-    ensures count { IfOk result (λ v. length v.items ≡ length entries.now) }
+pub fn entries<T: Entry>(
+    alloc: Global,
+    kind: ConfigTable,
+    tables: &[&Table],
+) -> Result<Vec<T>, ConfigError>
+    requires { length tables.now ≤ 65536 }
+    ensures answer { AnswersBy (λ v. v.items) (entries_of kind T.entry_of (map (λ t. table_view t.now) tables.now)) result }
+    ensures count { IfOk result (λ v. length v.items ≡ length tables.now) }
 {
     let mut read = Vec::new(alloc);
-    for (i, table) in entries.iter().enumerate() {
+    for (i, table) in tables.iter().enumerate() {
         let place = Place {
-            table: ConfigTable::Router,
+            table: kind,
             entry: i as u32,
         };
-        read.push(tables::router(place, table)?)?;
-    }
-    Ok(read)
-}
-
-/// The hosts, or the first fault in them.
-#[tactic(auto, unfolding(crate::specs::Tables::entries_of))]
-pub fn hosts(alloc: Global, entries: &[&Table]) -> Result<Vec<HostEntry>, ConfigError>
-    requires { length entries.now ≤ 65536 }
-    ensures answer { AnswersBy (λ v. v.items) (entries_of tables.Host host_of (map (λ t. table_view t.now) entries.now)) result }
-    ensures count { IfOk result (λ v. length v.items ≡ length entries.now) }
-{
-    let mut read = Vec::new(alloc);
-    for (i, table) in entries.iter().enumerate() {
-        let place = Place {
-            table: ConfigTable::Host,
-            entry: i as u32,
-        };
-        read.push(tables::host(alloc, place, table)?)?;
-    }
-    Ok(read)
-}
-
-/// The links, or the first fault in them.
-#[tactic(auto, unfolding(crate::specs::Tables::entries_of))]
-pub fn links(alloc: Global, entries: &[&Table]) -> Result<Vec<LinkEntry>, ConfigError>
-    requires { length entries.now ≤ 65536 }
-    ensures answer { AnswersBy (λ v. v.items) (entries_of tables.Link link_of (map (λ t. table_view t.now) entries.now)) result }
-    ensures count { IfOk result (λ v. length v.items ≡ length entries.now) }
-{
-    let mut read = Vec::new(alloc);
-    for (i, table) in entries.iter().enumerate() {
-        let place = Place {
-            table: ConfigTable::Link,
-            entry: i as u32,
-        };
-        read.push(tables::link(place, table)?)?;
-    }
-    Ok(read)
-}
-
-/// The routes, or the first fault in them.
-#[tactic(auto, unfolding(crate::specs::Tables::entries_of))]
-pub fn routes(alloc: Global, entries: &[&Table]) -> Result<Vec<RouteEntry>, ConfigError>
-    requires { length entries.now ≤ 65536 }
-    ensures answer { AnswersBy (λ v. v.items) (entries_of tables.Route route_of (map (λ t. table_view t.now) entries.now)) result }
-    ensures count { IfOk result (λ v. length v.items ≡ length entries.now) }
-{
-    let mut read = Vec::new(alloc);
-    for (i, table) in entries.iter().enumerate() {
-        let place = Place {
-            table: ConfigTable::Route,
-            entry: i as u32,
-        };
-        read.push(tables::route(place, table)?)?;
+        read.push(T::read(alloc, place, table)?)?;
     }
     Ok(read)
 }

@@ -1,11 +1,22 @@
 // The kinds of values of keys.
 ghost use Rattle.std.specs.Prelude.{◌≡◌, ◌≤◌, IfSome, length};
 ghost use Rattle.std.specs.List.{list_all};
+ghost use Rattle.std.specs.declared.option.Option.{Option};
+ghost use Rattle.toml.specs.Data.{Data};
 ghost use Rattle.toml.specs.View.{view};
 ghost use Rattle.tva_config.specs.Values.{within, number, is_name_byte, name_of, name, address, prefix, hex_bytes_of, master, nonce_of, nonce, number_of_bytes, policy_of, policy_kind};
 
 use toml::Value;
 use tva_base::{Address, Name, PolicyKind, Prefix};
+
+/// What a key's value may be, where its kind has no range.
+pub trait Kind: Drop {
+    /// What a value of the document is read as, or nothing where it isn't of the kind.
+    ghost kind: { Data → Option Self };
+
+    fn of(value: &Value) -> Option<Self>
+        ensures { result ≡ kind (view value.now) };
+}
 
 /// A number from `low` to `high`.
 pub fn number(value: &Value, low: u64, high: u64) -> Option<u64>
@@ -38,13 +49,25 @@ pub fn count(value: &Value, low: u32, high: u32) -> Option<u32>
     }
 }
 
-/// A number from `low` to 65,535.
-pub fn tag(value: &Value, low: u64) -> Option<u16>
-    ensures { result ≡ number low 65535 (view value.now) }
+/// A tag that may be 0.
+pub fn tag(value: &Value) -> Option<u16>
+    ensures { result ≡ number 0 65535 (view value.now) }
 {
-    match number(value, low, 65_535) {
+    match number(value, 0, 65_535) {
         Some(n) => Some(n as u16),
         None => None,
+    }
+}
+
+/// A tag of a trust boundary: a number from 1 to 65,535.
+impl Kind for u16 {
+    ghost kind = { number 1 65535 };
+
+    fn of(value: &Value) -> Option<u16> {
+        match number(value, 1, 65_535) {
+            Some(n) => Some(n as u16),
+            None => None,
+        }
     }
 }
 
@@ -59,12 +82,14 @@ pub fn seconds(value: &Value) -> Option<u8>
 }
 
 /// A name: 1 to 16 ASCII letters, digits, `_` and `-`.
-pub fn name(value: &Value) -> Option<Name>
-    ensures { result ≡ name (view value.now) }
-{
-    match value.as_str() {
-        Some(text) => name_of(text),
-        None => None,
+impl Kind for Name {
+    ghost kind = { name };
+
+    fn of(value: &Value) -> Option<Name> {
+        match value.as_str() {
+            Some(text) => name_of(text),
+            None => None,
+        }
     }
 }
 
@@ -94,12 +119,14 @@ fn is_name_byte(byte: u8) -> bool
 }
 
 /// 64 hexadecimal digits, of either case.
-pub fn master(value: &Value) -> Option<[u8; 32]>
-    ensures { result ≡ master (view value.now) }
-{
-    match value.as_str() {
-        Some(text) => master_of(text),
-        None => None,
+impl Kind for [u8; 32] {
+    ghost kind = { master };
+
+    fn of(value: &Value) -> Option<[u8; 32]> {
+        match value.as_str() {
+            Some(text) => master_of(text),
+            None => None,
+        }
     }
 }
 
@@ -155,12 +182,14 @@ fn number_of_bytes(bytes: &[u8]) -> u64
 }
 
 /// A word of a policy.
-pub fn policy_kind(value: &Value) -> Option<PolicyKind>
-    ensures { result ≡ policy_kind (view value.now) }
-{
-    match value.as_str() {
-        Some(text) => policy_of(text),
-        None => None,
+impl Kind for PolicyKind {
+    ghost kind = { policy_kind };
+
+    fn of(value: &Value) -> Option<PolicyKind> {
+        match value.as_str() {
+            Some(text) => policy_of(text),
+            None => None,
+        }
     }
 }
 
@@ -180,21 +209,25 @@ fn policy_of(text: &str) -> Option<PolicyKind>
 }
 
 /// An address of four numbers.
-pub fn address(value: &Value) -> Option<Address>
-    ensures { result ≡ address (view value.now) }
-{
-    match value.as_str() {
-        Some(text) => tva_base::address(text.as_bytes()),
-        None => None,
+impl Kind for Address {
+    ghost kind = { address };
+
+    fn of(value: &Value) -> Option<Address> {
+        match value.as_str() {
+            Some(text) => tva_base::address(text.as_bytes()),
+            None => None,
+        }
     }
 }
 
 /// A prefix: an address, a slash and a length.
-pub fn prefix(value: &Value) -> Option<Prefix>
-    ensures { result ≡ prefix (view value.now) }
-{
-    match value.as_str() {
-        Some(text) => tva_base::prefix(text.as_bytes()),
-        None => None,
+impl Kind for Prefix {
+    ghost kind = { prefix };
+
+    fn of(value: &Value) -> Option<Prefix> {
+        match value.as_str() {
+            Some(text) => tva_base::prefix(text.as_bytes()),
+            None => None,
+        }
     }
 }

@@ -5,8 +5,8 @@ pub mod Held
 pub mod HeldFiles
 pub mod MemoryShelf
 pub mod MemorySink
-pub mod Reading
 pub mod Shelf
 pub mod ShelfState
 pub mod Sink
 pub mod SinkState
+pub mod Reading

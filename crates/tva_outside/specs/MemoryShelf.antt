@@ -12,10 +12,14 @@ use Rattle.tva_outside.specs.declared.shelf.Loaded.TheVariants.{Bytes, Failed, T
 abbrev pub next_load_fails : ShelfState → Bool
 next_load_fails shelf = is_due shelf.failing (one_more shelf.loads)
 
--- a shelf after its next load: one load more, and one fault more at a load that was to fail; want of memory changes nothing
+-- a shelf after its next load: one load more, and one fault more at a load that was to fail; want of
+-- memory changes nothing
 abbrev pub after_load : ShelfState → Loaded → ShelfState
 after_load shelf (Bytes bytes) = record shelf { loads = one_more shelf.loads }
-after_load shelf Failed = record shelf { loads = one_more shelf.loads; faults = if next_load_fails shelf then one_more shelf.faults else shelf.faults }
+after_load shelf Failed = record shelf {
+  loads = one_more shelf.loads;
+  faults = if next_load_fails shelf then one_more shelf.faults else shelf.faults;
+}
 after_load shelf (TooLarge k) = record shelf { loads = one_more shelf.loads }
 after_load shelf OutOfMemory = shelf
 

@@ -10,7 +10,8 @@ use Rattle.tva_outside.specs.declared.sink.Wrote.TheVariants.{Count, Failed, Out
 abbrev pub next_write_fails : SinkState → Bool
 next_write_fails sink = is_due sink.failing (one_more sink.writes)
 
--- a sink after its next write: one write more, what it took stands last, and one fault more at a failure; want of memory changes nothing
+-- a sink after its next write: one write more, what it took stands last, and one fault more at a failure;
+-- want of memory changes nothing
 abbrev pub after_write : SinkState → List ℕ → Wrote → SinkState
 after_write sink piece (Count n) = record sink { bytes = sink.bytes ++ take n piece; writes = one_more sink.writes }
 after_write sink piece Failed = record sink { writes = one_more sink.writes; faults = one_more sink.faults }

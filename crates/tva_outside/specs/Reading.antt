@@ -1,4 +1,4 @@
--- How reading a file ends.
+-- Kit: how reading a file ends, for the contract of the function that reads one.
 use Rattle.std.specs.Prelude.{ℕ, ◌≤◌, length}
 use Rattle.tva_outside.specs.declared.file_shelf.Reading.{Reading}
 use Rattle.tva_outside.specs.declared.file_shelf.Reading.TheVariants.{Whole, Longer, Failed, OutOfMemory}

@@ -4,7 +4,8 @@ use Rattle.std.specs.Coded.{Coded, code_by, coded×, coded_ℕ, coded_list}
 use Rattle.std.specs.FinMap.{code}
 use Rattle.tva_outside.specs.Held.{Held}
 
--- what is held, the numbers of the loads that are to fail, how many loads there were, those that found no memory aside, and how many of them failed as they were to
+-- what is held, the numbers of the loads that are to fail, how many loads there were, those that found no
+-- memory aside, and how many of them failed as they were to
 pub record ShelfState : Type 0 where
   pub files : Held
   pub failing : List ℕ

@@ -63,7 +63,8 @@ impl<'a, R: Files> Shelf for FileShelf<'a, R> {
 }
 
 // How reading a file ended.
-enum Reading {
+#[derive(Drop)]
+pub(crate) enum Reading {
     Whole(Vec<u8>),
     Longer,
     Failed,
@@ -71,7 +72,7 @@ enum Reading {
 }
 
 // All of the bytes that a reader gives, where they are no more than the limit.
-fn read_whole<F: Read>(alloc: Global, file: &mut F, max: u64) -> Reading
+pub(crate) fn read_whole<F: Read>(alloc: Global, file: &mut F, max: u64) -> Reading
     requires { max ≤ 2 ^ 40 }
     ensures { IsWithin max result }
 {

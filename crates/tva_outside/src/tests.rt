@@ -1,10 +1,12 @@
 // What no clause says: that calls succeed with ample memory, and the files and the output of the system.
 ghost use Rattle.std.specs.Prelude.{◌≤◌, ◌^◌};
 
+use super::file_shelf::{Reading, read_whole};
 use super::*;
 use std::alloc::{AllocError, Global};
+use std::cell::Cell;
 use std::fmt::Display;
-use std::io::ErrorKind;
+use std::io::{ErrorKind, Read};
 use std::test::Fail;
 use std::{fs, io};
 
@@ -142,6 +144,110 @@ fn standard_output_takes_bytes_or_fails(rt: HostRuntime) {
         let mut sink = StdSink::new(&output);
         assert_eq!(rt; write_all(&mut sink, b"one"), want);
         assert_eq!(rt; write_all(&mut sink, b""), Sent::All);
+    }
+}
+
+// An output that takes two bytes at a write, and at which a signal breaks off each other write. It
+// counts its writes and the bytes that it took.
+#[derive(Drop)]
+struct Signalled {
+    writes: Cell<usize>,
+    taken: Cell<usize>,
+}
+
+impl Print for Signalled {
+    fn print<D: Display + Drop>(&self, _value: D) -> io::Result<()> {
+        Ok(())
+    }
+
+    fn println<D: Display + Drop>(&self, _value: D) -> io::Result<()> {
+        Ok(())
+    }
+
+    fn write_all(&self, _bytes: &[u8]) -> io::Result<()> {
+        Ok(())
+    }
+
+    fn write_some(&self, bytes: &[u8]) -> io::Result<usize> {
+        self.writes.set(self.writes.get().wrapping_add(1));
+        if self.writes.get() % 2 == 1 {
+            return Err(io::Error::from(ErrorKind::Interrupted));
+        }
+        let count = bytes.len().min(2);
+        self.taken.set(self.taken.get().wrapping_add(count));
+        Ok(count)
+    }
+}
+
+#[test]
+fn a_write_that_a_signal_breaks_off_is_made_again(rt: HostRuntime) {
+    let output = Signalled {
+        writes: Cell::new(0),
+        taken: Cell::new(0),
+    };
+    let mut sink = StdSink::new(&output);
+    assert_eq!(rt; sink.write(b"one"), Wrote::Count(2));
+    assert_eq!(rt; write_all(&mut sink, b"two"), Sent::All);
+    assert_eq!(rt; output.taken.get(), 5);
+    assert_eq!(rt; output.writes.get(), 6);
+}
+
+// A file that gives at most three bytes at a read, and at which a signal breaks off each other read.
+// Behind its last byte it ends, or fails so.
+#[derive(Drop)]
+struct Halting<'a> {
+    rest: &'a [u8],
+    is_broken: bool,
+    fails: Option<ErrorKind>,
+}
+
+impl<'a> Read for Halting<'a> {
+    fn read(&mut self, buf: &mut [u8]) -> io::Result<usize> {
+        self.is_broken = !self.is_broken;
+        if self.is_broken {
+            return Err(io::Error::from(ErrorKind::Interrupted));
+        }
+        match self.fails {
+            Some(kind) if self.rest.is_empty() => Err(io::Error::from(kind)),
+            _ => {
+                let count = self.rest.len().min(3).min(buf.len());
+                buf[..count].copy_from_slice(&self.rest[..count]);
+                self.rest = &self.rest[count..];
+                Ok(count)
+            }
+        }
+    }
+}
+
+// How reading ended, in a word.
+fn ending(reading: &Reading, whole: &[u8]) -> &'static str {
+    match reading {
+        Reading::Whole(bytes) if bytes.as_slice() == whole => "whole",
+        Reading::Whole(_) => "other bytes",
+        Reading::Longer => "longer",
+        Reading::Failed => "failed",
+        Reading::OutOfMemory => "no memory",
+    }
+}
+
+#[test]
+fn a_file_is_read_to_its_end(rt: HostRuntime) {
+    let readings = [
+        ("eight by", None, 8, "whole"),
+        ("eight by", None, 7, "longer"),
+        ("", None, 0, "whole"),
+        ("a", None, 0, "longer"),
+        ("eight by", Some(ErrorKind::BrokenPipe), 8, "failed"),
+        ("eight by", Some(ErrorKind::OutOfMemory), 8, "no memory"),
+    ];
+    for (bytes, fails, max, want) in readings {
+        let mut file = Halting {
+            rest: bytes.as_bytes(),
+            is_broken: false,
+            fails,
+        };
+        let reading = read_whole(rt.alloc(), &mut file, max);
+        assert_eq!(rt; ending(&reading, bytes.as_bytes()), want, "{bytes} {max}");
     }
 }
 

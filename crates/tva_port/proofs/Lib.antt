@@ -8,3 +8,10 @@ pub mod Standing
 pub mod Resting
 pub mod Idling
 pub mod Steady
+pub mod Tracking
+pub mod Going
+pub mod Beginning
+pub mod RequestBound
+pub mod RegularBound
+pub mod Evenly
+pub mod Served

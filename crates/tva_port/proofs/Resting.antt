@@ -87,12 +87,12 @@ rests l log now free (Start class p) until time g n e i h k = inl (subst (λ z. 
 rests l log now free (WaitUntil u) until time g n e i h k = rests_same l log time (waits_until l log now time u g n e h (omega arith))
 rests l log now free Idle until time g n e i h k = rests_same l log time (stays_idle l log now time e)
 
-cut_away : (log : List Entry) (d : Decision) (until now : ℕ) → until ≤ now → cut until (log ++ started_by d now) ≡ cut until log
+pub cut_away : (log : List Entry) (d : Decision) (until now : ℕ) → until ≤ now → cut until (log ++ started_by d now) ≡ cut until log
 cut_away log (Start class p) until now h = cut-push until log (Started now class p) h
 cut_away log (WaitUntil u) until now h = ap (λ z. cut until z) (append-nil log)
 cut_away log Idle until now h = ap (λ z. cut until z) (append-nil log)
 
-none_later : (log : List Entry) (d : Decision) (now : ℕ) → NoneLater now log → NoneLater now (log ++ started_by d now)
+pub none_later : (log : List Entry) (d : Decision) (now : ℕ) → NoneLater now log → NoneLater now (log ++ started_by d now)
 none_later log (Start class p) now n = later-push now log (Started now class p) n (omega arith)
 none_later log (WaitUntil u) now n = subst (λ z. NoneLater now z) (sym (append-nil log)) n
 none_later log Idle now n = subst (λ z. NoneLater now z) (sym (append-nil log)) n

@@ -5,5 +5,6 @@ pub mod Decide
 pub mod Legal
 pub mod Stands
 pub mod Keeps
+pub mod Bounds
 pub mod Steps
 pub mod Lists

@@ -41,6 +41,31 @@ decide 1180800 -> Start request #9 1000 free_at 1190800
 decide 1190800 -> WaitUntil 1380800
 decide 1380800 -> Start request #10 1000 free_at 1390800
 decide 1390800 -> Idle
+case ten regular packets of one key and one of another
+port ns_per_byte=10 share=20 burst=4096 quantum=2048 request=64/32/65536/1048576 regular=64/32/65536/1048576 legacy=256/262144
+queue 0 regular 1 1000 -> Queued
+queue 0 regular 1 1000 -> Queued
+queue 0 regular 1 1000 -> Queued
+queue 0 regular 1 1000 -> Queued
+queue 0 regular 1 1000 -> Queued
+queue 0 regular 1 1000 -> Queued
+queue 0 regular 1 1000 -> Queued
+queue 0 regular 1 1000 -> Queued
+queue 0 regular 1 1000 -> Queued
+queue 0 regular 1 1000 -> Queued
+queue 0 regular 2 1000 -> Queued
+decide 0 -> Start regular #1 1000 free_at 10000
+decide 10000 -> Start regular #2 1000 free_at 20000
+decide 20000 -> Start regular #11 1000 free_at 30000
+decide 30000 -> Start regular #3 1000 free_at 40000
+decide 40000 -> Start regular #4 1000 free_at 50000
+decide 50000 -> Start regular #5 1000 free_at 60000
+decide 60000 -> Start regular #6 1000 free_at 70000
+decide 70000 -> Start regular #7 1000 free_at 80000
+decide 80000 -> Start regular #8 1000 free_at 90000
+decide 90000 -> Start regular #9 1000 free_at 100000
+decide 100000 -> Start regular #10 1000 free_at 110000
+decide 110000 -> Idle
 case request then regular then legacy
 port ns_per_byte=10 share=20 burst=4096 quantum=2048 request=64/32/65536/1048576 regular=64/32/65536/1048576 legacy=256/262144
 queue 0 request 1 1000 -> Queued

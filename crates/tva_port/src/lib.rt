@@ -1,9 +1,11 @@
 //! A link's port: requests under a rate limit, then regular packets in fair queues, then the rest in
 //! order. Its contract promises that each queueing and each decision is the one that the list of all
 //! packets queued and started so far gives, though the port keeps no such list; that requests never
-//! start faster than the link's share for them and a burst allow; and that no start is missed.
+//! start faster than the link's share for them and a burst allow; that no start is missed; and that,
+//! whatever others send, a queued request or regular packet starts within its bound.
 #![tactic(auto)]
 
+mod bounds;
 #[cfg(test)]
 mod cases;
 mod credits;
@@ -14,6 +16,9 @@ mod legacy;
 mod parts;
 mod port;
 
+pub use bounds::{
+    keys_are_served_alike, longest_regular_wait, longest_request_wait, packets_start_in_time,
+};
 pub use decision::Decision;
 pub use laws::{
     links_rest, logs_have_places, queues_keep_limits, requests_keep_their_rate, starts_rise,

@@ -9,6 +9,7 @@ ghost use Rattle.tva_port.specs.Waiting.{waiting, waiting_after, next_request, q
 ghost use Rattle.tva_port.specs.Decide.{decision, is_start, started_by, RestsAt, MissesNone, NoneDueBefore, IsFirstCovered};
 ghost use Rattle.tva_port.specs.declared.decision.Decision.TheVariants.{Start, WaitUntil, Idle};
 ghost use Rattle.tva_port.specs.Stands.{port_data, StandsFor};
+ghost use Rattle.tva_port.specs.Bounds.{AreRequestsServed, AreRegularsServed};
 ghost use Rattle.tva_port.specs.Keeps.{IsWithinRate, start_times, AreRising, StaysWithinLimits};
 
 use crate::credits::{grow, most_credit, occupy, pay};
@@ -147,6 +148,10 @@ impl Port {
         ensures missed { (log : List Entry) (until : ℕ) → StandsFor self.old log
             → MissesNone self.old.limits now.0 log → NoneDueBefore result self.new.free_at until
             → MissesNone self.old.limits until (log ++ started_by result now.0) }
+        // Whatever others send, each packet whose bound is over by now has started within it.
+        ensures served { (log : List Entry) → StandsFor self.old log → MissesNone self.old.limits now.0 log
+            → AreRequestsServed self.old.limits now.0 (log ++ started_by result now.0)
+            × AreRegularsServed self.old.limits now.0 (log ++ started_by result now.0) }
         // What starts occupies the link for some time, so that nothing starts twice at one time.
         ensures busy { is_start result ≡ true → now.0 < self.new.free_at }
         ensures occupied { (class : Class) (packet : PacketData) → result ≡ Start class packet

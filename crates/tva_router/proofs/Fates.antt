@@ -1,5 +1,5 @@
 -- What every fate tells: the mark, the charge, and what was queued.
-use Rattle.std.proofs.Common.{◌≡◌, ℕ, Bool, true, false, ◌||◌, cond, eqb, leb, List, [], ◌∷◌, length, slice_get, Option, Some, None, Ok, Err, refl, sym, ◌∙◌}
+use Rattle.std.proofs.Common.{◌≡◌, ℕ, Bool, true, false, ◌||◌, cond, eqb, leb, List, [], length, slice_get, Option, Some, None, Ok, Err, refl, sym}
 use Rattle.tva_base.specs.declared.limits.LinkLimits.{LinkLimits}
 use Rattle.tva_base.specs.declared.packet.Rights.{Rights}
 use Rattle.tva_base.specs.declared.packet.Class.{Class}
@@ -29,7 +29,8 @@ use Rattle.tva_port.specs.Waiting.{queued_by}
 use Rattle.tva_router.specs.declared.judged.Arrival.{Arrival}
 use Rattle.tva_router.specs.Judging.{Answer, tag_of, second_of, fresh_for, answer_of, answer_to_checked, answer_to_cap, answer_to_shown, answer_to_nonce, judged, marked, judged_by, judged_request, judged_kind, judged_shim, judge}
 use Rattle.tva_router.specs.declared.judged.Judged.{Judged}
-use Rattle.tva_router.specs.Handling.{Logs, Handled, key_of, offered, outcome_of, sent, queued, entered_by, entered, goes_on, nonce_in, charged_by, arrival, way_to, stopped, forwarded, handle}
+use Rattle.tva_shim.specs.Shows.{key_of, nonce_in}
+use Rattle.tva_router.specs.Handling.{Logs, Handled, offered, outcome_of, sent, queued, entered_by, entered, goes_on, charged_by, arrival, way_to, stopped, forwarded, handle}
 use Rattle.tva_router.specs.Marks.{is_marked, calls_for_mark}
 
 -- ## the mark
@@ -72,7 +73,7 @@ by_request : (plan : RouterPlan) (a : Arrival) (shim : ShimData) → shim.demote
 by_request plan a shim e =
     let entry : entries.Entry = record { tag = tag_of plan a.from; precap = fresh_for plan a } in
     elim (eqb (length (entries_of shim.kind)) 16) as (λ b. is_marked (cond b (marked shim cause.PathFull) (judged class.Request None None (carried.Shim (with_entry entry shim)))).carried
-        ≡ calls_for_mark (cond b (marked shim cause.PathFull) (judged class.Request None None (carried.Shim (with_entry entry shim)))).cause) [
+    ≡ calls_for_mark (cond b (marked shim cause.PathFull) (judged class.Request None None (carried.Shim (with_entry entry shim)))).cause) [
       | true ↦ refl
       | false ↦ e
     ]

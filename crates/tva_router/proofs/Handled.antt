@@ -1,7 +1,6 @@
 -- What a router stands for after an arrival.
-use Rattle.std.proofs.Common.{◌≡◌, ℕ, ◌<◌, ◌≤◌, Bool, true, false, cond, leb, List, [], ◌∷◌, ◌++◌, Option, None, refl, sym, ap, ◌∙◌, subst, arith, append-nil}
+use Rattle.std.proofs.Common.{◌≡◌, ℕ, ◌≤◌, Bool, true, false, cond, leb, List, [], ◌∷◌, ◌++◌, Option, None, refl, sym, ap, ◌∙◌, subst, arith, append-nil}
 use Rattle.std.specs.List.{All}
-use Rattle.std.proofs.lemmas.Bool.Decides.{nat_tests}
 use Rattle.std.proofs.lemmas.List.Elements.{All-nil, All-cons, All-weaker}
 use Rattle.tva_base.specs.declared.limits.LinkLimits.{LinkLimits}
 use Rattle.tva_base.specs.declared.packet.Fate.{Fate}
@@ -17,7 +16,8 @@ use Rattle.tva_port.specs.Stands as port
 use Rattle.tva_router.specs.declared.guard.Guard.{Guard}
 use Rattle.tva_router.specs.declared.judged.Judged.{Judged}
 use Rattle.tva_router.specs.Judging.{judge}
-use Rattle.tva_router.specs.Handling.{Logs, Handled, arrival, goes_on, handle, stopped, fate_of, forwarded, sent, queued, way_to, nonce_in, charged_by}
+use Rattle.tva_shim.specs.Shows.{nonce_in}
+use Rattle.tva_router.specs.Handling.{Logs, Handled, arrival, goes_on, handle, stopped, fate_of, forwarded, sent, queued, way_to, charged_by}
 use Rattle.tva_router.specs.Stands.{RouterData, router_data, IsByPlan, StandsFor, StandForLogs, ◌with◌}
 use Rattle.tva_router.specs.Steps.{ArePorts, IsSound, Keeps}
 use Rattle.tva_router.proofs.Answers.{guard-later}
@@ -59,21 +59,17 @@ by-plan-later plan last now m c ps le b = record {
   ports = All-weaker (λ (p : port.PortData). p.last ≤ last) (λ (p : port.PortData). p.last ≤ now) (λ p k. omega (arith, k, le)) ps b.ports;
 }
 
-pub handle-stopped : (plan : RouterPlan) (h : List Charge) (logs : Logs) (now : ℕ) (from : Option ℕ) (p : PacketData) → 32 ≤ p.hops → handle plan h logs now from p ≡ stopped p
+pub handle-stopped : (plan : RouterPlan) (h : List Charge) (logs : Logs) (now : ℕ) (from : Option ℕ) (p : PacketData) → leb 32 p.hops ≡ true → handle plan h logs now from p ≡ stopped p
 unfolding handle
-handle-stopped plan h logs now from p many =
-    let full : leb 32 p.hops ≡ true = grind (arith, nat_tests, many) in
-    rw full refl
+handle-stopped plan h logs now from p full = rw full refl
 
-pub handle-forwarded : (plan : RouterPlan) (h : List Charge) (logs : Logs) (now : ℕ) (from : Option ℕ) (p : PacketData) → p.hops < 32
+pub handle-forwarded : (plan : RouterPlan) (h : List Charge) (logs : Logs) (now : ℕ) (from : Option ℕ) (p : PacketData) → leb 32 p.hops ≡ false
     → handle plan h logs now from p ≡ forwarded plan logs now p (judge plan h (arrival now from p) p.carried)
 unfolding handle
-handle-forwarded plan h logs now from p few =
-    let free : leb 32 p.hops ≡ false = grind (arith, nat_tests, few) in
-    rw free refl
+handle-forwarded plan h logs now from p free = rw free refl
 
 -- nothing became of it
-pub stands-stopped : (plan : RouterPlan) (last now : ℕ) (m : MinterState) (c : flows.Cache) (ps : List port.PortData) (h : List Charge) (logs : Logs) (from : Option ℕ) (p : PacketData) → 32 ≤ p.hops → last ≤ now
+pub stands-stopped : (plan : RouterPlan) (last now : ℕ) (m : MinterState) (c : flows.Cache) (ps : List port.PortData) (h : List Charge) (logs : Logs) (from : Option ℕ) (p : PacketData) → leb 32 p.hops ≡ true → last ≤ now
     → StandsFor (router_data plan last m c ps) h logs
     → StandsFor (router_data plan now m c ps) (h ++ (handle plan h logs now from p).charges) (logs with (handle plan h logs now from p).queued)
 stands-stopped plan last now m c ps h logs from p many le s =
@@ -86,7 +82,7 @@ stands-stopped plan last now m c ps h logs from p many le s =
     })
 
 -- the fate of an arrival that was judged, and whose packet then went there
-pub fate-forwarded : (plan : RouterPlan) (h : List Charge) (logs : Logs) (now : ℕ) (from : Option ℕ) (p : PacketData) (j : Judged) (o : Outcome) → p.hops < 32
+pub fate-forwarded : (plan : RouterPlan) (h : List Charge) (logs : Logs) (now : ℕ) (from : Option ℕ) (p : PacketData) (j : Judged) (o : Outcome) → leb 32 p.hops ≡ false
     → j ≡ judge plan h (arrival now from p) p.carried → o ≡ sent logs j.class (goes_on p j.carried) (way_to plan p.flow.dst)
     → fate_of j o ≡ (handle plan h logs now from p).fate
 fate-forwarded plan h logs now from p j o few judged went =
@@ -94,7 +90,7 @@ fate-forwarded plan h logs now from p j o few judged went =
     ∙ ap (λ (z : Judged). (forwarded plan logs now p z).fate) judged
     ∙ sym (ap (λ (z : Handled). z.fate) (handle-forwarded plan h logs now from p few))
 
-pub stands-forwarded : (plan : RouterPlan) (last now : ℕ) (m n : MinterState) (c d : flows.Cache) (ps qs : List port.PortData) (h : List Charge) (logs : Logs) (from : Option ℕ) (p : PacketData) (j : Judged) → p.hops < 32
+pub stands-forwarded : (plan : RouterPlan) (last now : ℕ) (m n : MinterState) (c d : flows.Cache) (ps qs : List port.PortData) (h : List Charge) (logs : Logs) (from : Option ℕ) (p : PacketData) (j : Judged) → leb 32 p.hops ≡ false
     → j ≡ judge plan h (arrival now from p) p.carried → StandsFor (router_data plan last m c ps) h logs
     → Keeps plan (arrival now from p) j.charge (nonce_in p.carried) c d
     → StandForLogs plan.outgoing qs (logs with queued logs now j.class (goes_on p j.carried) (way_to plan p.flow.dst))

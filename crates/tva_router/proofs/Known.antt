@@ -19,7 +19,8 @@ use Rattle.tva_port.specs.Stands as port
 use Rattle.tva_port.proofs.Logs.{later-weaker}
 use Rattle.tva_port.proofs.Steady.{misses_offered}
 use Rattle.tva_router.specs.Judging.{judge}
-use Rattle.tva_router.specs.Handling.{Logs, key_of, outgoing_link, offered, queued, goes_on, arrival, way_to, stopped, forwarded, handle}
+use Rattle.tva_shim.specs.Shows.{key_of}
+use Rattle.tva_router.specs.Handling.{Logs, outgoing_link, offered, queued, goes_on, arrival, way_to, stopped, forwarded, handle}
 use Rattle.tva_router.specs.Stands.{RouterData, StandForLogs, StandsFor, free_in, free_of, started_on, ◌with◌}
 
 -- the port of a link: it has the link's limits, and stands for the link's log

@@ -1,7 +1,7 @@
 -- The ports of a router by its outgoing links.
-use Rattle.std.proofs.Common.{◌≡◌, ℕ, ◌<◌, ◌≤◌, Bool, true, false, List, [], ◌∷◌, ◌++◌, ◌+◌, length, take, get_or, set, Option, Some, None, eqb, cond, refl, sym, ap, ◌∙◌, subst, zero, suc, arith, append-nil}
+use Rattle.std.proofs.Common.{◌≡◌, ℕ, ◌<◌, ◌≤◌, true, false, List, [], ◌∷◌, ◌++◌, ◌+◌, length, take, get_or, set, Option, eqb, cond, refl, sym, ap, ◌∙◌, subst, zero, suc, arith, append-nil}
 use Rattle.std.specs.Prelude.{Contains}
-use Rattle.std.specs.List.{find, position}
+use Rattle.std.specs.List.{position}
 use Rattle.std.proofs.lemmas.List.{take_more}
 use Rattle.std.proofs.lemmas.Bool.Decides.{nat_tests}
 use Rattle.tva_base.specs.Plan.{AreDistinct, links_of}

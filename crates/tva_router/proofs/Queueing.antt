@@ -9,7 +9,8 @@ use Rattle.tva_drr.specs.declared.offered.Offered.{Offered}
 use Rattle.tva_port.specs.Log.{Entry}
 use Rattle.tva_port.specs.Waiting.{waiting_after, queue_answer, queued_by}
 use Rattle.tva_port.specs.Stands.{PortData, StandsFor}
-use Rattle.tva_router.specs.Handling.{Logs, key_of, offered, outcome_of, sent, queued}
+use Rattle.tva_shim.specs.Shows.{key_of}
+use Rattle.tva_router.specs.Handling.{Logs, offered, outcome_of, sent, queued}
 use Rattle.tva_router.specs.Stands.{StandForLogs, ◌with◌}
 use Rattle.tva_router.specs.Steps.{ArePorts}
 use Rattle.tva_router.proofs.Links.{is_at, at_within, at_link, find_there}

@@ -6,19 +6,13 @@ use Rattle.tva_base.specs.declared.limits.LinkLimits.{LinkLimits}
 use Rattle.tva_base.specs.declared.packet.Grant.{Grant}
 use Rattle.tva_base.specs.declared.packet.Fate.{Fate}
 use Rattle.tva_base.specs.declared.packet.Class.{Class}
-use Rattle.tva_base.specs.declared.packet.Class.TheVariants as class
 use Rattle.tva_base.specs.declared.packet.Outcome.{Outcome}
 use Rattle.tva_base.specs.declared.packet.Outcome.TheVariants as outcome
 use Rattle.tva_base.specs.declared.packet.DropCause.TheVariants as drop
 use Rattle.tva_base.specs.declared.plan.RouterPlan.{RouterPlan}
-use Rattle.tva_shim.specs.declared.entries.Entry as entries
-use Rattle.tva_shim.specs.declared.kinds.Kind.{Kind}
-use Rattle.tva_shim.specs.declared.kinds.Kind.TheVariants as kinds
 use Rattle.tva_shim.specs.declared.packets.Carried.{Carried}
-use Rattle.tva_shim.specs.declared.packets.Carried.TheVariants as carried
-use Rattle.tva_shim.specs.Shims.{entries_of}
-use Rattle.tva_shim.specs.Changes.{last_tag}
 use Rattle.tva_shim.specs.Packets.{PacketData, packet_length, class_by_shim}
+use Rattle.tva_shim.specs.Shows.{key_of, nonce_in}
 use Rattle.tva_flow.specs.Charges.{Charge, charge}
 use Rattle.tva_drr.specs.declared.offered.Offered.{Offered}
 use Rattle.tva_drr.specs.declared.offered.Offered.TheVariants as offers
@@ -32,30 +26,6 @@ use Rattle.tva_router.specs.Judging.{judge}
 -- the log of each link's port, by the link's number
 abbrev pub Logs : Type 0
 Logs = ℕ → List Entry
-
--- the entries of a request that a packet carries
-abbrev pub entries_in : Carried → List entries.Entry
-entries_in carried.Nothing = []
-entries_in (carried.Shim shim) = entries_of shim.kind
-entries_in (carried.Malformed bytes) = []
-
--- the key under which a packet of a class is queued; a legacy packet needs none
-abbrev pub key_of : Class → PacketData → ℕ
-key_of class.Request p = last_tag (entries_in p.carried)
-key_of class.Regular p = p.flow.dst.0
-key_of class.Legacy p = 0
-
-abbrev pub kind_nonce : Kind → ℕ
-kind_nonce (kinds.Request entries) = 0
-kind_nonce (kinds.List shown) = shown.nonce
-kind_nonce (kinds.Nonce nonce) = nonce
-kind_nonce (kinds.Renewal shown) = shown.nonce
-
--- the nonce that a packet shows, if any
-abbrev pub nonce_in : Carried → ℕ
-nonce_in carried.Nothing = 0
-nonce_in (carried.Shim shim) = kind_nonce shim.kind
-nonce_in (carried.Malformed bytes) = 0
 
 -- what a packet of so many bytes adds to the charges
 abbrev pub charged_by : Option Grant → ℕ → ℕ → ℕ → List Charge

@@ -3,13 +3,8 @@ use Rattle.std.specs.Prelude.{◌≡◌, ◌≤◌, ℕ, ◌==◌, ◌&&◌, max
 use Rattle.std.specs.Option.{option_map}
 use Rattle.std.specs.List.{fold, find}
 use Rattle.tva_base.specs.declared.addresses.Address.{Address}
-use Rattle.tva_base.specs.declared.addresses.Prefix.{Prefix}
 use Rattle.tva_base.specs.declared.plan.Route.{Route}
-use Rattle.tva_base.specs.Addresses.{kept}
-
--- the address begins with the prefix
-abbrev pub holds : Prefix → Address → Bool
-holds prefix address = (kept address prefix.bits).0 == prefix.address.0
+use Rattle.tva_base.specs.Addresses.{holds}
 
 -- the greatest length of the prefixes that the destination begins with
 abbrev pub longest : List Route → Address → ℕ

@@ -8,7 +8,7 @@ ghost use Rattle.tva_caps.specs.Check.{IfValid, IsSecondOf};
 ghost use Rattle.tva_flow.specs.Charges.{Charge};
 ghost use Rattle.tva_flow.specs.Stands.{StandsFor};
 ghost use Rattle.tva_router.specs.Judging.{tag_or_zero, tag_of, second_of, fresh_for, answer_of, answer_to_checked, answer_to_shown, answer_to_nonce, marked, judged, judged_by, judged_request, judged_shim, judge};
-ghost use Rattle.tva_router.specs.Handling.{kind_nonce, nonce_in};
+ghost use Rattle.tva_shim.specs.Shows.{kind_nonce, nonce_in};
 ghost use Rattle.tva_router.specs.Steps.{IsGuard, MayJudge, Keeps, grant_in};
 
 use crate::judged::{Arrival, Judged};

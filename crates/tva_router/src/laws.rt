@@ -1,6 +1,7 @@
 // What holds of every router, and of every arrival, whatever came before.
 ghost use Rattle.std.specs.Prelude.{◌≡◌, ℕ, ◌≤◌, ◌||◌, true, false, List, [], ◌++◌, Option, Some, None, All};
 ghost use Rattle.tva_base.specs.Plan.{IsRouterPlan};
+ghost use Rattle.tva_base.specs.Addresses.{holds};
 ghost use Rattle.tva_base.specs.declared.addresses.Address.{Address};
 ghost use Rattle.tva_base.specs.declared.limits.LinkLimits.{LinkLimits};
 ghost use Rattle.tva_base.specs.declared.plan.Route.{Route};
@@ -13,8 +14,9 @@ ghost use Rattle.tva_port.specs.Log.{Entry, NoneLater};
 ghost use Rattle.tva_port.specs.Waiting.{waiting_after};
 ghost use Rattle.tva_port.specs.Legal.{IsLegal};
 ghost use Rattle.tva_port.specs.Keeps.{IsWithinRate, start_times, AreRising, IsWithinLimits};
-ghost use Rattle.tva_router.specs.Routes.{holds, link_to, IsWay};
-ghost use Rattle.tva_router.specs.Handling.{Logs, nonce_in, charged_by, outgoing_link, entered, handle};
+ghost use Rattle.tva_router.specs.Routes.{link_to, IsWay};
+ghost use Rattle.tva_shim.specs.Shows.{nonce_in};
+ghost use Rattle.tva_router.specs.Handling.{Logs, charged_by, outgoing_link, entered, handle};
 ghost use Rattle.tva_router.specs.Marks.{is_marked, calls_for_mark};
 ghost use Rattle.tva_router.specs.Stands.{RouterData, StandsFor};
 

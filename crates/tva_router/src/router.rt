@@ -1,5 +1,5 @@
 // A router.
-ghost use Rattle.std.specs.Prelude.{◌≡◌, ◌≢◌, ◌≤◌, ◌<◌, ◌↔◌, ℕ, ◌+◌, ◌*◌, max, true, false, List, [], ◌++◌, Some, None, IfOk, All};
+ghost use Rattle.std.specs.Prelude.{◌≡◌, ◌≢◌, ◌≤◌, ◌<◌, ◌↔◌, ℕ, ◌+◌, ◌*◌, max, nat_le, true, false, List, [], ◌++◌, Some, None, IfOk, All};
 ghost use Rattle.tva_base.specs.Plan.{IsRouterPlan, AreLinkLimits};
 ghost use Rattle.tva_shim.specs.Packets.{PacketData, packet_length};
 ghost use Rattle.tva_flow.specs.Charges.{Charge, living_count};
@@ -96,7 +96,7 @@ impl Router {
         ensures same { self.new.plan ≡ self.old.plan }
     {
         self.last = now.0;
-        if packet.hops >= 32 {
+        if at_hop_limit(&packet) {
             return stopped(&packet);
         }
         let arrival = arrival_of(now, from, &packet);
@@ -245,6 +245,13 @@ fn arrival_of(now: Time, from: Option<u16>, packet: &Packet) -> Arrival
         flow: packet.flow,
         bytes: length(packet),
     }
+}
+
+// Whether a packet passed as many routers as it may.
+fn at_hop_limit(packet: &Packet) -> bool
+    ensures { result ≡ nat_le 32 packet.now.hops }
+{
+    packet.hops >= 32
 }
 
 // What becomes of a packet at the hop limit.

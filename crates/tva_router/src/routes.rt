@@ -1,6 +1,7 @@
 // Which link leads to a destination.
-ghost use Rattle.std.specs.Prelude.{◌≡◌, ◌==◌, ◌<◌, ◌≤◌, ◌^◌, ◌-◌, max, if◌then◌else◌, IfSome, position, length};
-ghost use Rattle.tva_router.specs.Routes.{holds, longest, leads, link_to};
+ghost use Rattle.std.specs.Prelude.{◌≡◌, ◌==◌, ◌<◌, max, if◌then◌else◌, IfSome, position, length};
+ghost use Rattle.tva_base.specs.Addresses.{holds};
+ghost use Rattle.tva_router.specs.Routes.{longest, leads, link_to};
 
 use tva_base::{Address, Prefix, Route};
 
@@ -30,7 +31,7 @@ fn longest(routes: &[Route], dst: Address) -> u8
 fn longer(bits: u8, prefix: &Prefix, dst: Address) -> u8
     ensures { result ≡ (if holds prefix.now dst then max bits prefix.now.bits else bits) }
 {
-    if holds(prefix, dst) {
+    if prefix.holds(dst) {
         bits.max(prefix.bits)
     } else {
         bits
@@ -48,23 +49,7 @@ fn place_leading(routes: &[Route], dst: Address, bits: u8) -> Option<usize>
 fn leads(route: &Route, dst: Address, bits: u8) -> bool
     ensures { result ≡ leads bits dst route.now }
 {
-    holds(&route.prefix, dst) && route.prefix.bits == bits
-}
-
-// Whether the address begins with the prefix.
-fn holds(prefix: &Prefix, address: Address) -> bool
-    ensures { result ≡ holds prefix.now address }
-{
-    let size = size_past(prefix.bits);
-    u64::from(address.0) / size * size == u64::from(prefix.address.0)
-}
-
-// How many addresses begin with the same first bits.
-fn size_past(bits: u8) -> u64
-    ensures size { result ≡ 2 ^ (32 - bits) }
-    ensures some { 1 ≤ result }
-{
-    1 << 32u8.saturating_sub(bits)
+    route.prefix.holds(dst) && route.prefix.bits == bits
 }
 
 // The place of a link among links.

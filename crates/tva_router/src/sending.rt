@@ -2,8 +2,7 @@
 ghost use Rattle.std.specs.Prelude.{◌≡◌, ◌≢◌, ◌≤◌, ◌<◌, ◌==◌, ◌+◌, ℕ, true, length, position, Some, None};
 ghost use Rattle.tva_base.specs.declared.limits.LinkLimits.{LinkLimits};
 ghost use Rattle.tva_base.specs.Plan.{IsRouterPlan};
-ghost use Rattle.tva_shim.specs.Changes.{last_tag};
-ghost use Rattle.tva_router.specs.Handling.{Logs, entries_in, key_of, outcome_of, outgoing_link, sent, queued, way_to};
+ghost use Rattle.tva_router.specs.Handling.{Logs, outcome_of, outgoing_link, sent, queued, way_to};
 ghost use Rattle.tva_port.specs.Decide.{decision, is_start};
 ghost use Rattle.tva_router.specs.Stands.{StandForLogs, free_in, started_on, ◌with◌};
 ghost use Rattle.tva_router.specs.Steps.{ArePorts};
@@ -12,7 +11,7 @@ use crate::routes::{link_to, place_of};
 use tva_base::{Class, DropCause, Outcome, RouterPlan, Time};
 use tva_drr::Offered;
 use tva_port::{Decision, Port};
-use tva_shim::{Carried, Kind, Packet};
+use tva_shim::{Packet, queue_key};
 
 /// Queues the packet at the port of the link that leads to its destination.
 pub(crate) fn send(
@@ -97,34 +96,11 @@ fn queue_at(
         → StandForLogs plan.now.outgoing ports.new.items
         (logs with queued logs now.0 class packet (outgoing_link plan.now link)) }
 {
-    let key = key_of(class, &packet);
+    let key = queue_key(class, &packet);
     outcome_of(link, &ports[place].queue(now, class, key, packet))
 }
 
-// The key under which a packet of the class is queued.
-fn key_of(class: Class, packet: &Packet) -> u32
-    ensures { result ≡ key_of class packet.now }
-{
-    match class {
-        Class::Request => u32::from(path_tag(&packet.carried)),
-        Class::Regular => packet.flow.dst.0,
-        Class::Legacy => 0,
-    }
-}
-
-// The last nonzero tag of a request, else 0.
-fn path_tag(carried: &Carried) -> u16
-    ensures { result ≡ last_tag (entries_in carried.now) }
-{
-    match carried {
-        Carried::Shim(shim) => match &shim.kind {
-            Kind::Request(_) => shim.tag_key(),
-            Kind::List(_) | Kind::Nonce(_) | Kind::Renewal(_) => 0,
-        },
-        Carried::Nothing | Carried::Malformed(_) => 0,
-    }
-}
-
+// Where the offer of a packet leaves it.
 fn outcome_of(link: u16, offered: &Offered<Packet>) -> Outcome
     ensures { result ≡ outcome_of link offered.now }
 {

@@ -1,6 +1,7 @@
-pub mod Bytes
 pub mod Digits
 pub mod ItemLists
 pub mod Joins
+pub mod OneList
+pub mod OneShim
 pub mod Reading
 pub mod RecordsLeft

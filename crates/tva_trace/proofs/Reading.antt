@@ -21,7 +21,7 @@ use Rattle.tva_trace.specs.declared.rows.TraceRule.TheVariants as rule
 use Rattle.tva_trace.specs.declared.rows.TraceFault.{TraceFault}
 use Rattle.tva_trace.specs.declared.said.SaidRow.{SaidRow}
 use Rattle.tva_trace.specs.Rows.{Judged, behind, fault_at, is_header, row_of, rows_from, rows_of, rows_under, said_by, some_row, then_rows}
-use Rattle.tva_trace.specs.Meaning.{AreRows, CarriedBy, IsMeant, IsPut, Means, MeansWhat}
+use Rattle.tva_trace.specs.Meaning.{AreRows, CarriedBy, IsPut, Means, MeansWhat}
 use Rattle.std.proofs.Common.{IfSome, subst}
 use Rattle.std.specs.Prelude.{All}
 use Rattle.tva_shim.specs.declared.packets.Carried.{Carried}
@@ -54,7 +54,6 @@ pub record IsReadTo (config : Config) (text : List ℕ) (reader : Reader (Bor (L
   pub source : source_of (λ s. Some s.now) reader ≡ Some unread
   pub said : List SaidRow
   pub means : AllZip Means said rows
-  pub only : (other : List Row) → AllZip Means said other → other ≡ rows
   pub rest : rows_of config text ≡ behind said (rows_left (number == 1) config number last (left_of default_config reader.state unread))
   pub counted : (1 ≤ number) × (number ≤ 1000002)
   pub few : length rows ≤ number - 2
@@ -133,29 +132,6 @@ Source = Reader (Bor (List ℕ))
 abbrev told : Bor (List ℕ) → Option (List ℕ)
 told s = Some s.now
 
--- nothing that is said is met by no row
-none_meant : (other : List Row) → AllZip Means [] other → other ≡ []
-none_meant [] h = refl
-none_meant (row ∷ rows) h = absurd h
-
--- rows of one more that is said are those of the others, and one more
-split : (said : List SaidRow) (s : SaidRow) (other : List Row) → AllZip Means (said ++ s ∷ []) other
-    → (front : List Row) × (row : Row) × (other ≡ front ++ row ∷ []) × AllZip Means said front × Means s row
-split [] s [] h = absurd h
-split [] s (o ∷ []) h = ([], o, refl, tt, h.0)
-split [] s (o ∷ p ∷ ps) h = absurd h.1
-split (x ∷ xs) s [] h = absurd h
-split (x ∷ xs) s (o ∷ os) h = let r = split xs s os h.1 in (o ∷ r.0, r.1, ap (λ l. o ∷ l) r.2, (h.0, r.3), r.4)
-
-both_same : (front rows : List Row) (last row : Row) → front ≡ rows → last ≡ row → front ++ last ∷ [] ≡ rows ++ row ∷ []
-both_same front rows last row e f = cc
-
-only-push : (said : List SaidRow) (rows : List Row) (s : SaidRow) (row : Row) → ((other : List Row) → AllZip Means said other → other ≡ rows)
-    → ((other : Row) → Means s other → other ≡ row) → (other : List Row) → AllZip Means (said ++ s ∷ []) other → other ≡ rows ++ row ∷ []
-only-push said rows s row only one other h =
-    let r = split said s other h in
-    r.2 ∙ both_same r.0 rows r.1 row (only r.0 r.3) (one r.1 r.4)
-
 -- nothing was read
 pub read-start : (config : Config) (text : List ℕ) (reader : Source) (turns : ℕ) → reader.trim ≡ trim.None → Ready reader → 0 < turns → reader.config ≡ default_config → source_of told reader ≡ Some (strip_bom text) → reader.state ≡ st.StartRecord → reader.flexible ≡ true → IsReadTo config text reader turns 1 0 []
 read-start config text reader turns t r l c s st flexible = record {
@@ -167,7 +143,6 @@ read-start config text reader turns t r l c s st flexible = record {
   source = s;
   said = [];
   means = tt;
-  only = none_meant;
   rest = rw st (sym (behind-none (rows_of config text)));
   counted = (omega arith, omega arith);
   few = omega arith;
@@ -205,7 +180,6 @@ read-header config text a b turns next number last rows fields d r ready goes fe
       source = m.1;
       said = d.said;
       means = d.means;
-      only = d.only;
       rest = m.2 ∙ ap (behind d.said) (header_by (number == 1) config number last fields records (λ one. (eqb-true number 1 one, d.from_zero (eqb-true number 1 one))) e
           ∙ sym (ap (λ first. rows_left first config (number + 1) last records) (not_first number d.counted.0)));
       counted = (omega arith, omega arith);
@@ -255,9 +229,8 @@ behind_header config number last fields said some e =
     elim (eqb_tells number 1) [ inl t ↦ absurd (cc (t.0, other)) | inr f ↦ omega (arith, f.1) ]
 
 -- a row
-pub read-row : (config : Config) (text : List ℕ) (a b : Source) (turns next number last : ℕ) (rows : List Row) (fields : List (List ℕ)) (said : SaidRow) (row : Row) → IsReadTo config text a turns number last rows → ReadRecord told a b true fields → Ready b → 0 < next → number ≤ 1000001 → said_by (number == 1) config number last fields ≡ Ok (Some said) → IsSaid config last said → IsMeant said row → b.flexible ≡ a.flexible → IsReadTo config text b next (number + 1) said.time.0 (rows ++ row ∷ [])
-read-row config text a b turns next number last rows fields said row d r ready goes few e valid meant same =
-    let means = meant.means in
+pub read-row : (config : Config) (text : List ℕ) (a b : Source) (turns next number last : ℕ) (rows : List Row) (fields : List (List ℕ)) (said : SaidRow) (row : Row) → IsReadTo config text a turns number last rows → ReadRecord told a b true fields → Ready b → 0 < next → number ≤ 1000001 → said_by (number == 1) config number last fields ≡ Ok (Some said) → IsSaid config last said → Means said row → b.flexible ≡ a.flexible → IsReadTo config text b next (number + 1) said.time.0 (rows ++ row ∷ [])
+read-row config text a b turns next number last rows fields said row d r ready goes few e valid means same =
     let later : 2 ≤ number = behind_header config number last fields said d.counted.0 e in
     let m = rest-read config text a b turns number last rows fields d r in
     let records = left_of default_config b.state m.0 in
@@ -270,7 +243,6 @@ read-row config text a b turns next number last rows fields said row d r ready g
       source = m.1;
       said = d.said ++ said ∷ [];
       means = AllZip-push d.said rows said row d.means means;
-      only = only-push d.said rows said row d.only meant.only;
       rest = m.2 ∙ ap (behind d.said) (row_by (number == 1) config number last fields records said e
           ∙ sym (ap (λ first. behind (said ∷ []) (rows_left first config (number + 1) said.time.0 records)) (not_first number d.counted.0)))
           ∙ behind-behind d.said (said ∷ []) (rows_left (number + 1 == 1) config (number + 1) said.time.0 records);
@@ -282,9 +254,6 @@ read-row config text a b turns next number last rows fields said row d r ready g
       order = NeverFall-push 0 rows row d.order (rw (d.ends, means.0) valid.later);
       ends = ends_at-push 0 rows row ∙ ap (λ t. t.0) means.0;
     }
-
-one_said : (a b : List SaidRow) → ◌≡◌ {A = Result (List SaidRow) TraceFault} (Ok a) (Ok b) → a ≡ b
-one_said a b e = cc
 
 -- no record is left
 rest-none : (config : Config) (text : List ℕ) (a b : Source) (turns number last : ℕ) (rows : List Row) (d : IsReadTo config text a turns number last rows) → ReadRecord told a b false [] → rows_of config text ≡ behind d.said (rows_left (number == 1) config number last [])
@@ -322,13 +291,6 @@ read-on (Some said) config text a b turns next number last time rows new fields 
 -- the rows that were read are within the limits
 pub read-valid : (config : Config) (text : List ℕ) (a : Source) (turns number last : ℕ) (rows : List Row) → IsReadTo config text a turns number last rows → AreTraceRows config rows
 read-valid config text a turns number last rows d = record { few = omega (arith, d.few, d.counted.1); each = d.each; order = d.order }
-
--- no other rows are the text's
-pub read-only : (config : Config) (text : List ℕ) (a b : Source) (turns number last : ℕ) (rows : List Row) → IsReadTo config text a turns number last rows → ReadRecord told a b false [] → (number ≡ 1 → ⊥) → (other : List Row) → AreRows config text other → other ≡ rows
-read-only config text a b turns number last rows d r more other are =
-    let told : rows_of config text ≡ Ok d.said = rest-none config text a b turns number last rows d r ∙ all_rows (number == 1) config number last d.said (not_one number more) in
-    let same : are.0 ≡ d.said = one_said are.0 d.said (sym are.1 ∙ told) in
-    d.only other (subst (λ (said : List SaidRow). AllZip Means said other) same are.2)
 
 -- an error of a reader that takes any number of fields is want of memory, or of the bytes below it
 pub read-short : (config : Config) (text : List ℕ) (a b : Source) (turns number last : ℕ) (rows : List Row) (why : ErrorKind) → IsReadTo config text a turns number last rows → ExplainsRead told a b false why → IsShortage why

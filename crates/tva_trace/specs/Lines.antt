@@ -48,7 +48,8 @@ abbrev pub reply_word : Config → Option ReplyLine → List ℕ
 reply_word config None = codes "-"
 reply_word config (Some r) =
     join_with_byte 47
-    (id_word config r.id ∷ decimal r.length ∷ shape_word r.shape ∷ back_word r.back ∷ outcome_word config r.outcome ∷ [])
+    (id_word config r.id ∷ decimal r.length ∷ shape_word r.shape ∷ back_word r.back
+    ∷ outcome_word config r.outcome ∷ [])
 
 -- the words of what happened
 abbrev pub happened_words : Config → happened.Happened → List (List ℕ)

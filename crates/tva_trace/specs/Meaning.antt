@@ -43,16 +43,11 @@ MeansWhat (say.Inject flow payload shim) w =
 abbrev pub Means : SaidRow → Row → Type 0
 Means said row = (row.time ≡ said.time) × (row.node ≡ said.node) × MeansWhat said.what row.what
 
--- the row is what was said, and no other row is
-pub record IsMeant (said : SaidRow) (row : Row) : Type 0 where
-  pub means : Means said row
-  pub only : (other : Row) → Means said other → other ≡ row
-
 -- the row that is said is put behind others, and its time is the last; where none is said nothing changes
 abbrev pub IsPut : List Row → List Row → ℕ → ℕ → Option SaidRow → Type 0
 IsPut old new last time None = (new ≡ old) × (time ≡ last)
 IsPut old new last time (Some said) =
-    (row : Row) × IsMeant said row × (new ≡ old ++ row ∷ []) × (time ≡ said.time.0)
+    (row : Row) × Means said row × (new ≡ old ++ row ∷ []) × (time ≡ said.time.0)
 
 -- the rows of a text
 abbrev pub AreRows : Config → List ℕ → List Row → Type 0

@@ -133,7 +133,8 @@ abbrev pub is_header : List (List ℕ) → Bool
 is_header fields =
     (length fields == 7) && bytes_eq (field fields 0) (codes "time") && bytes_eq (field fields 1) (codes "node")
     && bytes_eq (field fields 2) (codes "kind") && bytes_eq (field fields 3) (codes "src")
-    && bytes_eq (field fields 4) (codes "dst") && bytes_eq (field fields 5) (codes "payload") && bytes_eq (field fields 6) (codes "shim")
+    && bytes_eq (field fields 4) (codes "dst") && bytes_eq (field fields 5) (codes "payload")
+    && bytes_eq (field fields 6) (codes "shim")
 
 -- what a record says: nothing where it is the first
 abbrev pub header_of : List (List ℕ) → Judged (Option SaidRow)

@@ -1,10 +1,5 @@
 // What the shim of a row carries.
-ghost use Rattle.std.specs.Prelude.{◌≡◌, IfNone, IfSome};
-ghost use Rattle.tva_shim.specs.declared.packets.Carried.{Carried};
-ghost use Rattle.tva_shim.specs.Layout.{layout};
-ghost use Rattle.tva_shim.specs.Shims.{IsShim, ShimData};
-ghost use Rattle.tva_trace.specs.declared.rows.RowWhat.{RowWhat};
-ghost use Rattle.tva_trace.specs.Meaning.{CarriedBy, CarriedByBytes, IsMeant, Means, MeansWhat};
+ghost use Rattle.tva_trace.specs.Meaning.{CarriedBy, CarriedByBytes, Means, MeansWhat};
 
 use crate::rows::{Row, RowWhat};
 use crate::said::{RawBytes, SaidRow, SaidShim, SaidWhat};
@@ -12,7 +7,7 @@ use tva_shim::{Carried, decode};
 
 /// The row that is meant.
 pub fn row_from(said: SaidRow) -> Row
-    ensures { IsMeant said result }
+    ensures { Means said result }
 {
     let SaidRow { time, node, what } = said;
     Row {
@@ -23,8 +18,7 @@ pub fn row_from(said: SaidRow) -> Row
 }
 
 fn what_from(said: SaidWhat) -> RowWhat
-    ensures means { MeansWhat said result }
-    ensures only { (other : RowWhat) → MeansWhat said other → other ≡ result }
+    ensures { MeansWhat said result }
 {
     match said {
         SaidWhat::Send { dst, payload } => RowWhat::Send { dst, payload },
@@ -41,8 +35,7 @@ fn what_from(said: SaidWhat) -> RowWhat
 }
 
 fn carried_from(shim: SaidShim) -> Carried
-    ensures carried { CarriedBy shim result }
-    ensures only { (other : Carried) → CarriedBy shim other → other ≡ result }
+    ensures { CarriedBy shim result }
 {
     match shim {
         SaidShim::Built(shim) => Carried::Shim(shim),
@@ -53,8 +46,7 @@ fn carried_from(shim: SaidShim) -> Carried
 /// What bytes carry: no bytes nothing, the layout of a shim that shim, and all others so many bytes
 /// that are none.
 fn carried_by_bytes(bytes: &RawBytes) -> Carried
-    ensures carried { CarriedByBytes bytes.now result }
-    ensures only { (other : Carried) → CarriedByBytes bytes.now other → other ≡ result }
+    ensures { CarriedByBytes bytes.now result }
 {
     let bytes = bytes.as_slice();
     if bytes.is_empty() {

@@ -1,22 +1,23 @@
-//! Traces and the lines of reports. Its contract promises that a trace is read to its rows or to the
-//! first rule that its first bad record breaks, and that a line has the bytes of its event.
+//! Traces and the lines of reports. Its contract promises that a trace is read to its rows, which are
+//! the only ones, or to the first rule that its first bad record breaks, and that a line has the bytes
+//! of its event.
 #![tactic(auto)]
 
 mod carried;
 mod fields;
 mod items;
 mod judge;
+mod laws;
 mod lines;
 mod names;
 mod parts;
 mod read;
 mod rows;
 mod said;
-#[cfg(test)]
-mod tests;
 mod texts;
 mod words;
 
+pub use laws::texts_have_one_meaning;
 pub use lines::{line_text, summary_text};
 pub use read::read_trace;
 pub use rows::{Row, RowWhat, TraceError, TraceFault, TraceRule};

@@ -44,7 +44,6 @@ fn read_rows(
 ) -> Result<Vec<Row>, TraceError>
     requires { Numbers config.now.nodes numbers.now }
     ensures answer { Answers config.now text.now result }
-    ensures only { IfOk result (λ rows. (other : List Row) → AreRows config.now text.now other → other ≡ rows.items) }
     ensures valid { IfOk result (λ rows. AreTraceRows config.now rows.items) }
 {
     let mut rows = Vec::new(alloc);

@@ -2,6 +2,7 @@ ghost use Rattle.std.specs.Prelude.{◌≡◌, ◌≤◌, IfOk};
 ghost use Rattle.tva_base.specs.Plan.{AreClassLimits, AreLinkLimits};
 
 use super::*;
+use crate::bounds::{longest_regular_wait, longest_request_wait};
 use crate::cases::CASES;
 use std::process::Abort;
 use std::test::Fail;
@@ -196,6 +197,18 @@ fn sequences_of_queueings_and_decisions(rt: HostRuntime) -> Result<(), Fail> {
         }
         calls = calls.wrapping_add(1);
     }
-    assert_eq!(rt; calls, 432);
+    assert_eq!(rt; calls, 455);
     Ok(())
+}
+
+/// The bounds of packets in the two floods of 1,000 bytes each, whose packets start at 20,000: by W, the
+/// most bytes up to such a packet, which is 63 * (2,048 + 2,048) + 1,000 = 259,048.
+#[test]
+fn bounds_of_the_floods(rt: HostRuntime) {
+    let limits = limits_of(
+        &rt,
+        "port ns_per_byte=10 share=20 burst=4096 quantum=2048 request=64/32/65536/1048576 regular=64/32/65536/1048576 legacy=256/262144",
+    );
+    assert_eq!(rt; longest_request_wait(&limits, 1000), 52_628_800);
+    assert_eq!(rt; longest_regular_wait(&limits, 1000), 2_791_495);
 }

@@ -1,4 +1,4 @@
-use Rattle.std.proofs.Common.{ℕ, List, [], ◌++◌, subst, arith}
+use Rattle.std.proofs.Common.{List, [], subst, arith}
 use Rattle.tva_port.specs.Log.{Entry}
 use Rattle.tva_port.specs.Legal.{IsLegal}
 use Rattle.tva_port.proofs.Logs.{legal-front}

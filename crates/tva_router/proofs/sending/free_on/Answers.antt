@@ -1,4 +1,4 @@
-use Rattle.std.proofs.Common.{◌≡◌, ℕ, ◌≤◌, Some, None, eqb, sym, ◌∙◌, arith}
+use Rattle.std.proofs.Common.{ℕ, Some, None, eqb, sym, ◌∙◌, arith}
 use Rattle.tva_base.specs.declared.limits.LinkLimits.{LinkLimits}
 use Rattle.tva_router.proofs.Links.{is_at, at_within, find_nowhere}
 use Rattle.tva_router.proofs.Ports.{ports-length, port-get, free-at, place-in}

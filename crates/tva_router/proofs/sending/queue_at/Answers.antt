@@ -23,10 +23,10 @@ returns-clause-outcome c logs s =
     c.outcome_of.ensures
     ∙ sent-at logs c.args.class c.args.packet c.args.link _ _ c.queue.result
     (found c.args.plan.now.outgoing c.args.place c.args.link (c.args.link, c.index_mut.result.now.limits) c.requires.place)
-    (answered c.args.plan.now.outgoing c.args.now.0 c.args.ports.now.items logs c.args.place c.args.link (c.args.link, c.index_mut.result.now.limits) c.index_mut.result.now c.args.class c.key_of-key.result c.args.packet c.queue.result
-    c.requires.place c.requires.ports s c.index_mut.ensures.value c.key_of-key.ensures c.queue.ensures.answer)
+    (answered c.args.plan.now.outgoing c.args.now.0 c.args.ports.now.items logs c.args.place c.args.link (c.args.link, c.index_mut.result.now.limits) c.index_mut.result.now c.args.class c.queue_key-key.result c.args.packet c.queue.result
+    c.requires.place c.requires.ports s c.index_mut.ensures.value c.queue_key-key.ensures c.queue.ensures.answer)
 
 pub returns-clause-stands : goal.returns-clause-stands
 returns-clause-stands c logs s =
-    stands-queued c.args.plan.now.outgoing c.args.now.0 c.args.ports.now.items logs c.args.place c.args.link (c.args.link, c.index_mut.result.now.limits) c.index_mut.result.now c.queue.new.self c.args.now.0 c.args.class c.key_of-key.result c.args.packet c.queue.result
-    c.requires.plan.outgoing c.requires.place c.requires.ports s c.index_mut.ensures.value c.key_of-key.ensures c.queue.ensures.answer c.queue.ensures.stands c.queue.ensures.same.0
+    stands-queued c.args.plan.now.outgoing c.args.now.0 c.args.ports.now.items logs c.args.place c.args.link (c.args.link, c.index_mut.result.now.limits) c.index_mut.result.now c.queue.new.self c.args.now.0 c.args.class c.queue_key-key.result c.args.packet c.queue.result
+    c.requires.plan.outgoing c.requires.place c.requires.ports s c.index_mut.ensures.value c.queue_key-key.ensures c.queue.ensures.answer c.queue.ensures.stands c.queue.ensures.same.0

@@ -1,7 +1,7 @@
 use Rattle.std.proofs.Common.{◌∙◌, sym, ap, refl, inl, inr, true}
 use Rattle.csv.specs.Reading.{with_flexible}
 use Rattle.csv.specs.Records.{fields_of}
-use Rattle.tva_trace.proofs.Reading.{read-start, read-fault, read-on, read-nothing, read-only, read-valid, read-whole}
+use Rattle.tva_trace.proofs.Reading.{read-start, read-fault, read-on, read-nothing, read-valid, read-whole}
 use Rattle.tva_trace.proofs.read.read_rows.Goals as goal
 
 pub loop-record-init : goal.loop-record-init
@@ -48,9 +48,3 @@ returns-clause-answer c =
 
 pub returns-clause-valid : goal.returns-clause-valid
 returns-clause-valid c = read-valid c.args.config.now c.args.text.now c.loop-record.record-iterator.rdr c.loop-record.record-iterator.left c.loop-record.number c.loop-record.last c.loop-record.rows.items c.loop-record.invariant
-
-pub returns-clause-only : goal.returns-clause-only
-returns-clause-only c =
-    let inv = c.loop-record.invariant in
-    let s = rw c.in-None.is at ((c.next.ensures.steps inv.goes_on inv.untrimmed).0 inv.is_ready) in
-    read-only c.args.config.now c.args.text.now c.loop-record.record-iterator.rdr c.next.new.self.rdr c.loop-record.record-iterator.left c.loop-record.number c.loop-record.last c.loop-record.rows.items inv s c.if-number-eq1.false

@@ -1,9 +1,11 @@
-use Rattle.std.proofs.Common.{◌≡◌, ◌↔◌, ℕ, ◌+◌, ◌*◌, Some, ap, sym, ◌∙◌, subst}
+use Rattle.std.proofs.Common.{◌≡◌, ◌↔◌, ℕ, ◌+◌, ◌*◌, ◌++◌, Some, ap, sym, ◌∙◌, subst}
 use Rattle.tva_shim.specs.Packets.{PacketData, packet_length}
 use Rattle.tva_base.specs.Plan.{AreLinkLimits}
 use Rattle.tva_drr.specs.Queues.{head}
 use Rattle.tva_port.specs.Waiting.{Waiting, IsEmpty, IsRequestAlone}
-use Rattle.tva_port.specs.Decide.{NoneDueBefore}
+use Rattle.tva_port.specs.Decide.{NoneDueBefore, started_by}
+use Rattle.tva_port.specs.Legal.{IsLegal}
+use Rattle.tva_port.proofs.Served.{all_served}
 use Rattle.tva_port.specs.Stands.{PortData}
 use Rattle.tva_port.specs.Steps.{freed}
 use Rattle.tva_port.proofs.Logs.{later-weaker}
@@ -88,3 +90,14 @@ returns-clause-missed c log until s m i =
     m
     (subst (λ (z : PortData). NoneDueBefore c.start_next-decision.result (freed z.limits z.free_at c.args.now.0 c.start_next-decision.result) until) c.self.view_is
     (subst (λ (x : ℕ). NoneDueBefore c.start_next-decision.result x until) c.occupy-self-inside.ensures.value i))
+
+pub returns-clause-served : goal.returns-clause-served
+returns-clause-served c log s m =
+    let stood = stands_by_decide _ c.args.self.now log c.args.now.0 c.grow-self-inside.result c.pay-self-inside.result c.occupy-self-inside.result _ c.start_next-decision.result c.self.view_is s c.requires.time c.requires.free
+    c.grow-self-inside.ensures c.start_next-decision.ensures.decision c.pay-self-inside.ensures c.occupy-self-inside.ensures.value c.start_next-decision.ensures.left in
+    all_served c.args.self.now.limits log c.args.now.0 c.start_next-decision.result
+    (subst (λ (z : PortData). AreLinkLimits z.limits) c.self.view_is c.self.invariant.limits)
+    (subst (λ (z : PortData). IsLegal z.limits (log ++ started_by c.start_next-decision.result c.args.now.0)) c.self.view_is stood.legal)
+    (later-weaker c.args.self.now.last c.args.now.0 log c.requires.time s.past)
+    (decided _ c.args.self.now log c.args.now.0 c.grow-self-inside.result c.start_next-decision.result c.self.view_is s c.requires.time c.grow-self-inside.ensures c.start_next-decision.ensures.decision)
+    m

@@ -1,9 +1,10 @@
-use Rattle.std.proofs.Common.{◌≡◌, ◌≤◌, ◌<◌, ◌++◌, sym, ap, ◌∙◌, subst, arith}
+use Rattle.std.proofs.Common.{◌≡◌, ◌≤◌, false, leb, ◌++◌, sym, ap, ◌∙◌, subst}
 use Rattle.tva_base.specs.declared.packet.Fate.{Fate}
 use Rattle.tva_shim.specs.Packets.{PacketData}
 use Rattle.tva_router.specs.declared.judged.Arrival.{Arrival}
 use Rattle.tva_router.specs.Judging.{judge}
-use Rattle.tva_router.specs.Handling.{Handled, arrival, goes_on, handle, sent, queued, way_to, nonce_in}
+use Rattle.tva_shim.specs.Shows.{nonce_in}
+use Rattle.tva_router.specs.Handling.{Handled, arrival, goes_on, handle, sent, queued, way_to}
 use Rattle.tva_router.specs.Stands.{RouterData, router_data, IsByPlan, StandsFor, StandForLogs, ◌with◌}
 use Rattle.tva_router.specs.Steps.{IsGuard, Keeps}
 use Rattle.tva_router.proofs.Ports.{ports-later}
@@ -16,19 +17,17 @@ invariant_of-self c =
     sound-later c.self.inside.plan c.self.inside.last c.args.now.0 c.self.inside.guard c.self.inside.ports.items
     (subst (λ (z : RouterData). z.last ≤ c.args.now.0) (sym c.self.view_is) c.requires.time) c.self.invariant
 
-pub returns-then-packet-ge32-clause-fate : goal.returns-then-packet-ge32-clause-fate
-returns-then-packet-ge32-clause-fate c h logs s =
-    let many : 32 ≤ c.packet.inside.hops = omega (arith, c.if-packet-ge32.true) in
+pub returns-then-at_hop_limit-clause-fate : goal.returns-then-at_hop_limit-clause-fate
+returns-then-at_hop_limit-clause-fate c h logs s =
     c.stopped.ensures
-    ∙ sym (ap (λ (z : Handled). z.fate) (handle-stopped c.args.self.now.plan h logs c.args.now.0 c.args.from c.args.packet (subst (λ (z : PacketData). 32 ≤ z.hops) c.packet.view_is many)))
+    ∙ sym (ap (λ (z : Handled). z.fate) (handle-stopped c.args.self.now.plan h logs c.args.now.0 c.args.from c.args.packet (sym c.at_hop_limit.ensures ∙ c.if-at_hop_limit.true)))
 
-pub returns-then-packet-ge32-clause-stands : goal.returns-then-packet-ge32-clause-stands
-returns-then-packet-ge32-clause-stands c h logs s =
-    let many : 32 ≤ c.packet.inside.hops = omega (arith, c.if-packet-ge32.true) in
+pub returns-then-at_hop_limit-clause-stands : goal.returns-then-at_hop_limit-clause-stands
+returns-then-at_hop_limit-clause-stands c h logs s =
     subst (λ (z : RouterData). StandsFor (router_data c.self.inside.plan c.args.now.0 c.self.inside.guard.minter c.self.inside.guard.cache c.self.inside.ports.items)
     (h ++ (handle z.plan h logs c.args.now.0 c.args.from c.args.packet).charges) (logs with (handle z.plan h logs c.args.now.0 c.args.from c.args.packet).queued)) c.self.view_is
     (stands-stopped c.self.inside.plan c.self.inside.last c.args.now.0 c.self.inside.guard.minter c.self.inside.guard.cache c.self.inside.ports.items h logs c.args.from c.args.packet
-    (subst (λ (z : PacketData). 32 ≤ z.hops) c.packet.view_is many) (subst (λ (z : RouterData). z.last ≤ c.args.now.0) (sym c.self.view_is) c.requires.time) (subst (λ (z : RouterData). StandsFor z h logs) (sym c.self.view_is) s))
+    (sym c.at_hop_limit.ensures ∙ c.if-at_hop_limit.true) (subst (λ (z : RouterData). z.last ≤ c.args.now.0) (sym c.self.view_is) c.requires.time) (subst (λ (z : RouterData). StandsFor z h logs) (sym c.self.view_is) s))
 
 pub send-outcome-requires-clause-ports : goal.send-outcome-requires-clause-ports
 send-outcome-requires-clause-ports c =
@@ -48,7 +47,7 @@ returns-clause-fate c h logs s =
     let went : c.send-outcome.result ≡ sent logs c.judge-class.result.class (goes_on packet c.judge-class.result.carried) (way_to plan packet.flow.dst) =
     c.send-outcome.ensures.outcome logs stood.links
     ∙ ap (λ (z : PacketData). sent logs c.judge-class.result.class z (way_to plan z.flow.dst)) c.new-packet.ensures in
-    let few : packet.hops < 32 = omega (arith, c.if-packet-ge32.false) in
+    let few : leb 32 packet.hops ≡ false = subst (λ (z : PacketData). leb 32 z.hops ≡ false) (sym c.packet.view_is) (sym c.at_hop_limit.ensures ∙ c.if-at_hop_limit.false) in
     let fate : Fate = record { class = c.judge-class.result.class; cause = c.judge-class.result.cause; charge = c.judge-class.result.charge; outcome = c.send-outcome.result } in
     subst (λ (z : RouterData). fate ≡ (handle z.plan h logs c.args.now.0 c.args.from c.args.packet).fate) c.self.view_is
     (subst (λ (z : PacketData). fate ≡ (handle plan h logs c.args.now.0 c.args.from z).fate) c.packet.view_is
@@ -75,7 +74,7 @@ returns-clause-stands c h logs s =
       guard = subst (λ (z : Arrival). IsGuard plan z.time.0 c.judge-class.new.self) came c.judge-class.ensures.guard;
       ports = c.send-outcome.ensures.ports;
     }) in
-    let few : packet.hops < 32 = omega (arith, c.if-packet-ge32.false) in
+    let few : leb 32 packet.hops ≡ false = subst (λ (z : PacketData). leb 32 z.hops ≡ false) (sym c.packet.view_is) (sym c.at_hop_limit.ensures ∙ c.if-at_hop_limit.false) in
     subst (λ (z : RouterData). StandsFor (router_data plan c.args.now.0 c.judge-class.new.self.minter c.judge-class.new.self.cache c.send-outcome.new.ports.items)
     (h ++ (handle z.plan h logs c.args.now.0 c.args.from c.args.packet).charges) (logs with (handle z.plan h logs c.args.now.0 c.args.from c.args.packet).queued)) c.self.view_is
     (subst (λ (z : PacketData). StandsFor (router_data plan c.args.now.0 c.judge-class.new.self.minter c.judge-class.new.self.cache c.send-outcome.new.ports.items)
@@ -83,13 +82,13 @@ returns-clause-stands c h logs s =
     (stands-forwarded plan c.self.inside.last c.args.now.0 c.self.inside.guard.minter c.judge-class.new.self.minter c.self.inside.guard.cache c.judge-class.new.self.cache c.self.inside.ports.items c.send-outcome.new.ports.items
     h logs c.args.from packet c.judge-class.result few judged stood keeps links by))
 
-pub returns-then-packet-ge32-clause-uncharged : goal.returns-then-packet-ge32-clause-uncharged
-returns-then-packet-ge32-clause-uncharged c h logs s none =
+pub returns-then-at_hop_limit-clause-uncharged : goal.returns-then-at_hop_limit-clause-uncharged
+returns-then-at_hop_limit-clause-uncharged c h logs s none =
     stands-uncharged _ c.args.self.now.plan h logs _ c.args.now.0 c.args.from c.args.packet c.stopped.result
-    (returns-then-packet-ge32-clause-fate c h logs s) (returns-then-packet-ge32-clause-stands c h logs s) none
+    (returns-then-at_hop_limit-clause-fate c h logs s) (returns-then-at_hop_limit-clause-stands c h logs s) none
 
-pub returns-then-packet-ge32-clause-missed : goal.returns-then-packet-ge32-clause-missed
-returns-then-packet-ge32-clause-missed c h logs link until limits s f i m =
+pub returns-then-at_hop_limit-clause-missed : goal.returns-then-at_hop_limit-clause-missed
+returns-then-at_hop_limit-clause-missed c h logs link until limits s f i m =
     missed_handled c.args.self.now.plan h logs c.args.now.0 c.args.from c.args.packet link until limits (known c.args.self.now h logs link limits c.args.now.0 s f c.requires.time).later i m
 
 pub returns-clause-uncharged : goal.returns-clause-uncharged

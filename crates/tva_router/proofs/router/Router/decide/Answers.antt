@@ -1,15 +1,13 @@
-use Rattle.std.proofs.Common.{◌≡◌, ℕ, ◌≤◌, ◌+◌, ◌*◌, ◌++◌, Some, sym, ap, ◌∙◌, subst}
-use Rattle.tva_base.specs.declared.limits.LinkLimits.{LinkLimits}
-use Rattle.tva_shim.specs.Packets.{packet_length}
+use Rattle.std.proofs.Common.{◌≡◌, ◌≤◌, ◌++◌, Some, sym, ap, ◌∙◌, subst}
 use Rattle.tva_port.specs.declared.decision.Decision.{Decision}
 use Rattle.tva_port.specs.Log.{free_after}
-use Rattle.tva_port.specs.Decide.{decision, started_by}
+use Rattle.tva_port.specs.Decide.{started_by}
 use Rattle.tva_port.proofs.Logs.{free-started}
 use Rattle.tva_port.proofs.Resting.{first_covered}
 use Rattle.tva_port.proofs.Idling.{idles, waits_alone}
 use Rattle.tva_port.proofs.Steady.{next_sized, ends_later, steady, rests_after, misses_after}
 use Rattle.tva_router.specs.Handling.{outgoing_link}
-use Rattle.tva_router.specs.Stands.{RouterData, router_data, StandsFor, StandForLogs, free_of}
+use Rattle.tva_router.specs.Stands.{RouterData, router_data, StandsFor, StandForLogs}
 use Rattle.tva_router.proofs.Ports.{ports-later}
 use Rattle.tva_router.proofs.Answers.{guard-later}
 use Rattle.tva_router.proofs.Handled.{by-plan}

@@ -1,0 +1,149 @@
+-- Two queues of a class that are never empty send about as much as each other.
+use Rattle.std.proofs.Common.{◌≡◌, ◌≢◌, ℕ, ◌+◌, ◌*◌, ◌<◌, true, ◌&&◌, cond, List, [], ◌∷◌, ◌++◌, Some, refl, sym, ap, ◌∙◌, subst, zero-add, arith}
+use Rattle.tva_base.specs.declared.limits.DrrLimits.{DrrLimits}
+use Rattle.tva_base.specs.declared.limits.LinkLimits.{LinkLimits}
+use Rattle.tva_base.specs.declared.packet.Class.{Class}
+use Rattle.tva_base.specs.declared.packet.Class.TheVariants.{Request, Regular, Legacy}
+use Rattle.tva_base.specs.Plan.{AreLinkLimits}
+use Rattle.tva_shim.specs.Packets.{PacketData, packet_length}
+use Rattle.tva_drr.specs.Queues.{Queue, Fair, fair, has_key, first, head}
+use Rattle.tva_drr.specs.Offer.{put, lacks_queue, lacks_room, offer_leaves}
+use Rattle.tva_drr.specs.Take.{take_leaves}
+use Rattle.tva_drr.specs.Service as drr
+use Rattle.tva_drr.specs.Service.{Step, Offer, Take, is_front, first_bytes, head_bytes, AreOffers, bytes_from}
+use Rattle.tva_drr.proofs.Falling.{by_test}
+use Rattle.tva_drr.proofs.Until.{offer_cases}
+use Rattle.tva_drr.proofs.Fairness.{fairly}
+use Rattle.tva_port.specs.Log.{Entry, Queued, Started}
+use Rattle.tva_port.specs.Waiting.{same_class, fair_step, waiting_after}
+use Rattle.tva_port.specs.Decide.{credit_after}
+use Rattle.tva_port.specs.Legal.{Follows, GoesOn, IsStarted, IsLegal}
+use Rattle.tva_port.specs.Bounds.{queues_of, bytes_started, AlwaysWaits}
+use Rattle.tva_port.proofs.Logs.{legal-front, goes_on-push}
+use Rattle.tva_port.proofs.Deciding.{covered_pays}
+use Rattle.tva_port.proofs.Legality.{started_is}
+use Rattle.tva_port.proofs.Idling.{within}
+use Rattle.tva_port.proofs.Tracking.{IsQueueing, limits_of, fair_now, queues-step}
+use Rattle.tva_port.proofs.Beginning.{goes_rest}
+
+-- what an entry does to the queues of a class
+abbrev step_of : Class → Entry → List (Step PacketData)
+step_of c (Queued t d k x) = cond (same_class d c) (Offer k x ∷ []) []
+step_of c (Started t d x) = cond (same_class d c) (Take ∷ []) []
+
+abbrev steps_of : Class → List Entry → List (Step PacketData)
+steps_of c [] = []
+steps_of c (e ∷ es) = step_of c e ++ steps_of c es
+
+-- the queues of a class under their limits
+abbrev state : LinkLimits → Class → List Entry → Fair PacketData
+state l c log = fair (limits_of l c) (queues_of c (waiting_after l log))
+
+offer_limits : (d : DrrLimits) (qs : List (Queue PacketData)) (k : ℕ) (x : PacketData) → offer_leaves packet_length (fair d qs) k x ≡ fair d (offer_leaves packet_length (fair d qs) k x).queues
+offer_limits d qs k x = offer_cases (lacks_queue (fair d qs) k) (lacks_room packet_length (fair d qs) k x) (fair d qs) (fair d (put d.quantum k x qs)) (λ (g : Fair PacketData). g ≡ fair d g.queues) refl (λ _ _. refl)
+
+same_own : (d e : Class) → same_class d e ≡ true → d ≡ e
+same_own Request Request h = refl
+same_own Regular Regular h = refl
+same_own Legacy Legacy h = refl
+same_own Request Regular h = absurd (cc)
+same_own Request Legacy h = absurd (cc)
+same_own Regular Request h = absurd (cc)
+same_own Regular Legacy h = absurd (cc)
+same_own Legacy Request h = absurd (cc)
+same_own Legacy Regular h = absurd (cc)
+
+first_of : (xs : List PacketData) (x : PacketData) → first xs ≡ Some x → first_bytes packet_length xs ≡ packet_length x
+first_of [] x e = absurd (cc)
+first_of (y ∷ ys) x e = let k : y ≡ x = cc in ap packet_length k
+
+head_of : (qs : List (Queue PacketData)) (x : PacketData) → head qs ≡ Some x → head_bytes packet_length qs ≡ packet_length x
+head_of [] x e = absurd (cc)
+head_of (p ∷ ps) x e = first_of p.items x e
+
+head_started : (l : LinkLimits) (c : Class) (log : List Entry) (t : ℕ) (x : PacketData) → IsQueueing c → IsStarted l log t c x → head (queues_of c (waiting_after l log)) ≡ Some x
+head_started l Request log t x q f = (covered_pays l (credit_after l log t) (head (waiting_after l log).requests.queues) x (started_is l log t Request x f)).0
+head_started l Regular log t x q f = started_is l log t Regular x f
+head_started l Legacy log t x q f = absurd q
+
+module _ (l : LinkLimits) (c : Class) (q : IsQueueing c) (a : AreLinkLimits l) where
+  state-step : (log : List Entry) (e : Entry) → IsLegal l log → state l c (log ++ e ∷ []) ≡ fair (limits_of l c) (fair_step c (state l c log) e).queues
+  state-step log e g = ap (λ qs. fair (limits_of l c) qs) (queues-step l c log e q (within l log a g))
+
+  -- the packet that starts is the first of the front
+  starts_head : (log : List Entry) (t : ℕ) (x : PacketData) → IsStarted l log t c x → head (queues_of c (waiting_after l log)) ≡ Some x
+  starts_head log t x f = head_started l c log t x q f
+
+  -- one more entry, by whether it is of the class
+  started_one : (key : ℕ) (log : List Entry) (e : Entry) (es : List Entry) → IsLegal l log → Follows l log e → bytes_started l c key (log ++ e ∷ []) es ≡ bytes_from packet_length key (state l c (log ++ e ∷ [])) (steps_of c es)
+      → bytes_started l c key log (e ∷ es) ≡ bytes_from packet_length key (state l c log) (step_of c e ++ steps_of c es)
+  started_one key log (Queued t d k x) es g f h =
+      let s = state-step log (Queued t d k x) g in
+      by_test (same_class d c) (λ b. fair (limits_of l c) (cond b (offer_leaves packet_length (state l c log) k x) (state l c log)).queues ≡ state l c (log ++ Queued t d k x ∷ []) → 0 + bytes_started l c key (log ++ Queued t d k x ∷ []) es ≡ bytes_from packet_length key (state l c log) (cond b (Offer k x ∷ []) [] ++ steps_of c es))
+      (λ _ e. zero-add (bytes_started l c key (log ++ Queued t d k x ∷ []) es) ∙ h ∙ ap (λ z. bytes_from packet_length key z (steps_of c es)) (sym e ∙ sym (offer_limits (limits_of l c) (queues_of c (waiting_after l log)) k x)))
+      (λ _ e. zero-add (bytes_started l c key (log ++ Queued t d k x ∷ []) es) ∙ h ∙ ap (λ z. bytes_from packet_length key z (steps_of c es)) (sym e))
+      (sym s)
+  started_one key log (Started t d x) es g f h =
+      let s = state-step log (Started t d x) g in
+      by_test (same_class d c) (λ b. (same_class d c ≡ b) → fair (limits_of l c) (cond b (take_leaves packet_length (state l c log)) (state l c log)).queues ≡ state l c (log ++ Started t d x ∷ [])
+      → cond (b && is_front key (queues_of c (waiting_after l log))) (packet_length x) 0 + bytes_started l c key (log ++ Started t d x ∷ []) es ≡ bytes_from packet_length key (state l c log) (cond b (Take ∷ []) [] ++ steps_of c es))
+      (λ _ w e.
+      let own : IsStarted l log t c x = subst (λ z. IsStarted l log t z x) (same_own d c w) f in
+      let bytes : packet_length x ≡ head_bytes packet_length (queues_of c (waiting_after l log)) = sym (head_of (queues_of c (waiting_after l log)) x (starts_head log t x own)) in
+      ap (λ z. cond (is_front key (queues_of c (waiting_after l log))) z 0 + bytes_started l c key (log ++ Started t d x ∷ []) es) bytes
+      ∙ ap (λ z. cond (is_front key (queues_of c (waiting_after l log))) (head_bytes packet_length (queues_of c (waiting_after l log))) 0 + z) (h ∙ ap (λ z. bytes_from packet_length key z (steps_of c es)) (sym e)))
+      (λ _ _ e. zero-add (bytes_started l c key (log ++ Started t d x ∷ []) es) ∙ h ∙ ap (λ z. bytes_from packet_length key z (steps_of c es)) (sym e))
+      refl (sym s)
+
+  started_are : (key : ℕ) (log es : List Entry) → IsLegal l log → GoesOn l log es → bytes_started l c key log es ≡ bytes_from packet_length key (state l c log) (steps_of c es)
+  started_are key log [] g r = refl
+  started_are key log (e ∷ es) g r = started_one key log e es g r.0 (started_are key (log ++ e ∷ []) es (goes_on-push l [] log e g r.0) r.1)
+
+  -- so it is with what waits all along
+  waits_one : (key : ℕ) (log : List Entry) (e : Entry) (es : List Entry) → IsLegal l log → has_key key (queues_of c (waiting_after l log)) ≡ true → drr.AlwaysWaits packet_length key (state l c (log ++ e ∷ [])) (steps_of c es)
+      → drr.AlwaysWaits packet_length key (state l c log) (step_of c e ++ steps_of c es)
+  waits_one key log (Queued t d k x) es g w h =
+      let s = state-step log (Queued t d k x) g in
+      by_test (same_class d c) (λ b. fair (limits_of l c) (cond b (offer_leaves packet_length (state l c log) k x) (state l c log)).queues ≡ state l c (log ++ Queued t d k x ∷ []) → drr.AlwaysWaits packet_length key (state l c log) (cond b (Offer k x ∷ []) [] ++ steps_of c es))
+      (λ _ e. (w, subst (λ z. drr.AlwaysWaits packet_length key z (steps_of c es)) (sym e ∙ sym (offer_limits (limits_of l c) (queues_of c (waiting_after l log)) k x)) h))
+      (λ _ e. subst (λ z. drr.AlwaysWaits packet_length key z (steps_of c es)) (sym e) h)
+      (sym s)
+  waits_one key log (Started t d x) es g w h =
+      let s = state-step log (Started t d x) g in
+      by_test (same_class d c) (λ b. fair (limits_of l c) (cond b (take_leaves packet_length (state l c log)) (state l c log)).queues ≡ state l c (log ++ Started t d x ∷ []) → drr.AlwaysWaits packet_length key (state l c log) (cond b (Take ∷ []) [] ++ steps_of c es))
+      (λ _ e. (w, subst (λ z. drr.AlwaysWaits packet_length key z (steps_of c es)) (sym e) h))
+      (λ _ e. subst (λ z. drr.AlwaysWaits packet_length key z (steps_of c es)) (sym e) h)
+      (sym s)
+
+  waits_all : (key : ℕ) (log es : List Entry) → IsLegal l log → GoesOn l log es → AlwaysWaits l c key log es → drr.AlwaysWaits packet_length key (state l c log) (steps_of c es)
+  waits_all key log [] g r w = w
+  waits_all key log (e ∷ es) g r w = waits_one key log e es g w.0 (waits_all key (log ++ e ∷ []) es (goes_on-push l [] log e g r.0) r.1 w.1)
+
+  offers_all : (log es : List Entry) → GoesOn l log es → (limits_of l c).max ≡ 2048 → AreOffers packet_length (limits_of l c).max (steps_of c es)
+  offers_all log [] r m = tt
+  offers_all log (Queued t d k x ∷ es) r m =
+      let h = offers_all (log ++ Queued t d k x ∷ []) es r.1 m in
+      by_test (same_class d c) (λ b. AreOffers packet_length (limits_of l c).max (cond b (Offer k x ∷ []) [] ++ steps_of c es)) (λ _. ((omega (arith, r.0.sized), omega (arith, r.0.sized, m)), h)) (λ _. h)
+  offers_all log (Started t d x ∷ es) r m =
+      let h = offers_all (log ++ Started t d x ∷ []) es r.1 m in
+      by_test (same_class d c) (λ b. AreOffers packet_length (limits_of l c).max (cond b (Take ∷ []) [] ++ steps_of c es)) (λ _. h) (λ _. h)
+
+most_of : (l : LinkLimits) (c : Class) → AreLinkLimits l → (limits_of l c).max ≡ 2048
+most_of l Request a = a.request.max
+most_of l Regular a = a.regular.max
+most_of l Legacy a = a.regular.max
+
+-- between two places of a log
+pub even : (l : LinkLimits) (c : Class) (before between : List Entry) (a b : ℕ) → IsQueueing c → AreLinkLimits l → IsLegal l (before ++ between) → a ≢ b → AlwaysWaits l c a before between → AlwaysWaits l c b before between
+    → bytes_started l c a before between < bytes_started l c b before between + ((limits_of l c).quantum + 2 * (limits_of l c).max)
+even l c before between a b q v g n w u =
+    let legal = legal-front l [] before between g in
+    let rest = goes_rest l [] before between g in
+    let now = fair_now l c before q (within l before v legal) in
+    omega (
+      arith,
+      started_are l c q v a before between legal rest,
+      started_are l c q v b before between legal rest,
+      most_of l c v,
+      fairly a b n packet_length (limits_of l c) (queues_of c (waiting_after l before)) (steps_of c between) now (offers_all l c q v before between rest (most_of l c v)) (waits_all l c q v a before between legal rest w) (waits_all l c q v b before between legal rest u),
+    )

@@ -1,0 +1,187 @@
+-- A link while a packet waits: what its log says of each time, and of each start.
+use Rattle.std.proofs.Common.{◌≡◌, ℕ, zero, suc, ◌+◌, ◌*◌, ◌<◌, ◌≤◌, true, false, cond, ltb, List, [], ◌∷◌, ◌++◌, drop, Option, Some, None, refl, sym, ap, ◌∙◌, subst, inl, inr, arith, append-nil, mul_assoc}
+use Rattle.std.specs.List.{filter_map}
+use Rattle.std.proofs.Math.Nat.{mul-le-mul_right, add-mul, mul_comm}
+use Rattle.std.proofs.lemmas.Bool.Decides.{leb_tells}
+use Rattle.std.proofs.lemmas.List.Elements.{filter-append}
+use Rattle.tva_base.specs.declared.limits.DrrLimits.{DrrLimits}
+use Rattle.tva_base.specs.declared.limits.LinkLimits.{LinkLimits}
+use Rattle.tva_base.specs.declared.packet.Class.{Class}
+use Rattle.tva_base.specs.declared.packet.Class.TheVariants.{Request, Regular, Legacy}
+use Rattle.tva_base.specs.Plan.{AreLinkLimits}
+use Rattle.tva_shim.specs.Packets.{PacketData, packet_length}
+use Rattle.tva_drr.specs.Queues.{Queue, first, head}
+use Rattle.tva_drr.specs.Fair.{AreMeasured, AreFair}
+use Rattle.tva_port.specs.declared.decision.Decision.{Decision}
+use Rattle.tva_port.specs.declared.decision.Decision.TheVariants.{Start}
+use Rattle.tva_port.specs.Requests.{cost}
+use Rattle.tva_port.specs.Log.{Entry, Queued, Started, entry_time, NoneLater, cut, free_after}
+use Rattle.tva_port.specs.Waiting.{waiting_after, queued_legacy}
+use Rattle.tva_port.specs.Decide.{covered, start_or, decision, credit_after, is_start, RestsAt}
+use Rattle.tva_port.specs.Legal.{Follows, GoesOn, IsStarted, IsLegal}
+use Rattle.tva_port.specs.Bounds.{starts_first, start_of}
+use Rattle.tva_port.proofs.Logs.{later-front, cut-all, free-queued, free-started, legal-all, queued-push, goes_on-push}
+use Rattle.tva_port.proofs.Deciding.{Rests, none_starts, covered_pays}
+use Rattle.tva_port.proofs.Legality.{started_is}
+use Rattle.tva_port.proofs.Idling.{within}
+use Rattle.tva_port.proofs.Tracking.{fair_now}
+
+-- ## costs
+
+pub cost-add : (l : LinkLimits) (a b : ℕ) → cost l (a + b) ≡ cost l a + cost l b
+cost-add l a b = ap (λ z. z * l.ns_per_byte) (add-mul a b l.share) ∙ add-mul (a * l.share) (b * l.share) l.ns_per_byte
+
+pub cost_le : (l : LinkLimits) (a b : ℕ) → a ≤ b → cost l a ≤ cost l b
+cost_le l a b h = mul-le-mul_right l.ns_per_byte (mul-le-mul_right l.share h)
+
+-- a request costs at least twice the time that it occupies the link
+pub cost_twice : (l : LinkLimits) (n : ℕ) → AreLinkLimits l → 2 * (n * l.ns_per_byte) ≤ cost l n
+cost_twice l n a =
+    let m : 2 * n ≤ n * l.share = (let k = mul-le-mul_right n a.share.0 in omega (arith, k, mul_comm l.share n)) in
+    let k = mul-le-mul_right l.ns_per_byte m in
+    omega (arith, k, mul_assoc 2 n l.ns_per_byte)
+
+-- ## times
+
+pub order_of : (l : LinkLimits) (before : List Entry) (e : Entry) → Follows l before e → NoneLater (entry_time e) before
+order_of l before (Queued t c k p) f = f.order
+order_of l before (Started t c p) f = f.order
+
+-- an entry is no later than those after it
+abbrev ComeFrom : ℕ → List Entry → Type 0
+ComeFrom time [] = Unit {0}
+ComeFrom time (e ∷ es) = (time ≤ entry_time e) × ComeFrom time es
+
+come_from : (l : LinkLimits) (time : ℕ) (before es : List Entry) → GoesOn l before es → ((t : ℕ) → NoneLater t before → time ≤ t) → ComeFrom time es
+come_from l time before [] g h = tt
+come_from l time before (e ∷ es) g h = (h (entry_time e) (order_of l before e g.0), come_from l time (before ++ e ∷ []) es g.1 (λ t n. h t (later-front t before e n).0))
+
+cut_none : (until : ℕ) (es : List Entry) → ComeFrom until es → cut until es ≡ []
+cut_none until [] c = refl
+cut_none until (e ∷ es) c =
+    elim (leb_tells (suc (entry_time e)) until) [
+      | inl k ↦ absurd (omega (arith, k.1, c.0))
+      | inr k ↦ subst (λ b. cond b (e ∷ cut until es) (cut until es) ≡ []) (sym k.0) (cut_none until es c.1)
+    ]
+
+later_from : (time until : ℕ) (es : List Entry) → until ≤ time → ComeFrom time es → ComeFrom until es
+later_from time until [] h c = tt
+later_from time until (e ∷ es) h c = (omega (arith, h, c.0), later_from time until es h c.1)
+
+-- just before an entry, the log up to then stands
+pub cut_here : (l : LinkLimits) (log : List Entry) (e : Entry) (es : List Entry) (time until : ℕ) → IsLegal l (log ++ e ∷ []) → GoesOn l (log ++ e ∷ []) es → NoneLater time log → time < until → until ≤ entry_time e → cut until (log ++ e ∷ es) ≡ log
+cut_here l log e es time until g r n h k =
+    let after : ComeFrom (entry_time e) es = come_from l (entry_time e) (log ++ e ∷ []) es r (λ t m. (later-front t log e m).1) in
+    let none : cut until (e ∷ es) ≡ [] = cut_none until (e ∷ es) (k, later_from (entry_time e) until es k after) in
+    filter-append (λ (x : Entry). ltb (entry_time x) until) log (e ∷ es) ∙ (ap (λ zs. cut until log ++ zs) none ∙ (append-nil (cut until log) ∙ cut-all time until log h n))
+
+-- where no start was missed, and the log up to a time is this one, a link that is free starts nothing then
+pub rests_free : (l : LinkLimits) (log : List Entry) (time : ℕ) → RestsAt l log time → free_after l log ≤ time → is_start (decision l log time) ≡ false
+rests_free l log time r h = elim r [ inl k ↦ absurd (omega arith) | inr k ↦ k ]
+
+pub resting_at : (l : LinkLimits) (log : List Entry) (time : ℕ) → is_start (decision l log time) ≡ false → Rests l (waiting_after l log) (credit_after l log time)
+unfolding decision
+resting_at l log time e = none_starts l (waiting_after l log) (credit_after l log time) time e
+
+-- ## starts
+
+-- a start of another class finds no request that is covered, and a legacy one no regular packet
+no_request : (a other : Decision) (o : Option PacketData) (class : Class) (p : PacketData) → (class ≡ Request → ⊥) → start_or Request o other ≡ Start class p → o ≡ None
+no_request a other None class p n e = refl
+no_request a other (Some x) class p n e = absurd (n (let k : Request ≡ class = cc in sym k))
+
+no_regular : (o b : Option PacketData) (other : Decision) (p : PacketData) → start_or Request o (start_or Regular b other) ≡ Start Legacy p → b ≡ None
+no_regular (Some x) b other p e = absurd (let k : Request ≡ Legacy = cc in cc)
+no_regular None None other p e = refl
+no_regular None (Some x) other p e = absurd (let k : Regular ≡ Legacy = cc in cc)
+
+pub not_covered : (l : LinkLimits) (log : List Entry) (time : ℕ) (class : Class) (p : PacketData) → (class ≡ Request → ⊥) → decision l log time ≡ Start class p → covered l (credit_after l log time) (head (waiting_after l log).requests.queues) ≡ None
+unfolding decision
+not_covered l log time class p n e = no_request (Start class p) _ (covered l (credit_after l log time) (head (waiting_after l log).requests.queues)) class p n e
+
+pub no_regulars : (l : LinkLimits) (log : List Entry) (time : ℕ) (p : PacketData) → decision l log time ≡ Start Legacy p → head (waiting_after l log).regulars.queues ≡ None
+unfolding decision
+no_regulars l log time p e = no_regular (covered l (credit_after l log time) (head (waiting_after l log).requests.queues)) (head (waiting_after l log).regulars.queues) _ p e
+
+-- ## sizes
+
+abbrev AreSized : List PacketData → Type 0
+AreSized [] = Unit {0}
+AreSized (p ∷ ps) = (packet_length p ≤ 2048) × AreSized ps
+
+sized-push : (ps qs : List PacketData) → AreSized ps → AreSized qs → AreSized (ps ++ qs)
+sized-push [] qs h k = k
+sized-push (p ∷ ps) qs h k = (h.0, sized-push ps qs h.1 k)
+
+legacy_sized : (l : LinkLimits) (before : List Entry) (e : Entry) → Follows l before e → AreSized (filter_map queued_legacy (e ∷ []))
+legacy_sized l before (Queued t Request k p) f = tt
+legacy_sized l before (Queued t Regular k p) f = tt
+legacy_sized l before (Queued t Legacy k p) f = (f.sized.1, tt)
+legacy_sized l before (Started t c p) f = tt
+
+all_sized : (l : LinkLimits) (log : List Entry) → IsLegal l log → AreSized (filter_map queued_legacy log)
+all_sized l log g =
+    legal-all l (λ (z : List Entry). AreSized (filter_map queued_legacy z)) tt
+    (λ before e f h. subst AreSized (sym (queued-push before e)) (sized-push (filter_map queued_legacy before) (filter_map queued_legacy (e ∷ [])) h (legacy_sized l before e f))) log g
+
+sized-drop : (n : ℕ) (ps : List PacketData) (p : PacketData) → AreSized ps → first (drop n ps) ≡ Some p → packet_length p ≤ 2048
+sized-drop zero [] p h e = absurd (cc)
+sized-drop zero (x ∷ xs) p h e = let k : x ≡ p = cc in subst (λ z. packet_length z ≤ 2048) k h.0
+sized-drop (suc n) [] p h e = absurd (cc)
+sized-drop (suc n) (x ∷ xs) p h e = sized-drop n xs p h.1 e
+
+first_sized : (d : DrrLimits) (xs : List PacketData) (p : PacketData) → AreMeasured packet_length d xs → first xs ≡ Some p → (1 ≤ packet_length p) × (packet_length p ≤ d.max)
+first_sized d [] p m e = absurd (cc)
+first_sized d (x ∷ xs) p m e = let k : x ≡ p = cc in subst (λ z. (1 ≤ packet_length z) × (packet_length z ≤ d.max)) k m.0
+
+pub head_sized : (d : DrrLimits) (qs : List (Queue PacketData)) (p : PacketData) → AreFair packet_length d qs → head qs ≡ Some p → (1 ≤ packet_length p) × (packet_length p ≤ d.max)
+head_sized d [] p f e = absurd (cc)
+head_sized d (q ∷ qs) p f e = first_sized d q.items p f.each.0.measured e
+
+-- each packet that starts has at most 2,048 bytes
+pub start_sized : (l : LinkLimits) (log : List Entry) (time : ℕ) (class : Class) (p : PacketData) → AreLinkLimits l → IsLegal l log → IsStarted l log time class p → packet_length p ≤ 2048
+start_sized l log time Request p a g f =
+    let h = (covered_pays l (credit_after l log time) (head (waiting_after l log).requests.queues) p (started_is l log time Request p f)).0 in
+    omega (arith, head_sized l.request (waiting_after l log).requests.queues p (fair_now l Request log tt (within l log a g)).queues h, a.request.max)
+start_sized l log time Regular p a g f =
+    omega (arith, head_sized l.regular (waiting_after l log).regulars.queues p (fair_now l Regular log tt (within l log a g)).queues (started_is l log time Regular p f), a.regular.max)
+start_sized l log time Legacy p a g f = sized-drop _ (filter_map queued_legacy log) p (all_sized l log g) (started_is l log time Legacy p f)
+
+-- so a link is free at most the time of a greatest packet after its last entry
+abbrev IsFreeSoon : LinkLimits → List Entry → Type 0
+IsFreeSoon l log = IsLegal l log × ((time : ℕ) → NoneLater time log → free_after l log ≤ time + 2048 * l.ns_per_byte)
+
+free_soon-step : (l : LinkLimits) → AreLinkLimits l → (before : List Entry) (e : Entry) → Follows l before e → IsFreeSoon l before → IsFreeSoon l (before ++ e ∷ [])
+free_soon-step l a before (Queued t c k p) f h =
+    (goes_on-push l [] before (Queued t c k p) h.0 f, λ time n. let r = later-front time before (Queued t c k p) n in omega (arith, free-queued l 0 before t c k p, h.1 time r.0))
+free_soon-step l a before (Started t c p) f h = (
+  goes_on-push l [] before (Started t c p) h.0 f,
+  λ time n.
+      let r = later-front time before (Started t c p) n in
+      omega (arith, free-started l 0 before t c p, r.1, mul-le-mul_right l.ns_per_byte (start_sized l before t c p a h.0 f)),
+)
+
+pub free_soon : (l : LinkLimits) (log : List Entry) (time : ℕ) → AreLinkLimits l → IsLegal l log → NoneLater time log → free_after l log ≤ time + 2048 * l.ns_per_byte
+free_soon l log time a g n = (legal-all l (IsFreeSoon l) (tt, λ t _. omega arith) (free_soon-step l a) log g).1 time n
+
+-- ## the start of an item
+
+-- among these entries the packet starts by that time, where so many wait before it
+pub record Finds (l : LinkLimits) (class : Class) (key : ℕ) (p : PacketData) (ahead : ℕ) (log rest : List Entry) (time : ℕ) : Type 0 where
+  pub start : ℕ
+  pub found : start_of l class key ahead log rest ≡ Some (Started start class p)
+  pub soon : start ≤ time
+
+module _ (l : LinkLimits) (class : Class) (key : ℕ) (p : PacketData) where
+  start_other : (n : ℕ) (log : List Entry) (e : Entry) (es : List Entry) → starts_first l class key log e ≡ false → start_of l class key n log (e ∷ es) ≡ start_of l class key n (log ++ e ∷ []) es
+  start_other zero log e es h = ap (λ b. cond b (Some e) (start_of l class key zero (log ++ e ∷ []) es)) h
+  start_other (suc n) log e es h = ap (λ b. start_of l class key (cond b n (suc n)) (log ++ e ∷ []) es) h
+
+  pub finds_later : (n : ℕ) (log : List Entry) (e : Entry) (es : List Entry) (time : ℕ) → starts_first l class key log e ≡ false → Finds l class key p n (log ++ e ∷ []) es time → Finds l class key p n log (e ∷ es) time
+  finds_later n log e es time h f = record { start = f.start; found = start_other n log e es h ∙ f.found; soon = f.soon }
+
+  pub finds_next : (n : ℕ) (log : List Entry) (e : Entry) (es : List Entry) (time : ℕ) → starts_first l class key log e ≡ true → Finds l class key p n (log ++ e ∷ []) es time → Finds l class key p (suc n) log (e ∷ es) time
+  finds_next n log e es time h f = record { start = f.start; found = ap (λ b. start_of l class key (cond b n (suc n)) (log ++ e ∷ []) es) h ∙ f.found; soon = f.soon }
+
+  pub finds_here : (log : List Entry) (start : ℕ) (q : PacketData) (es : List Entry) (time : ℕ) → starts_first l class key log (Started start class q) ≡ true → q ≡ p → start ≤ time → Finds l class key p zero log (Started start class q ∷ es) time
+  finds_here log start q es time h e k = record { start = start; found = ap (λ b. cond b (Some (Started start class q)) (start_of l class key zero (log ++ Started start class q ∷ []) es)) h ∙ ap (λ z. Some (Started start class z)) e; soon = k }

@@ -1,0 +1,29 @@
+-- After a decision each packet whose bound is over has started.
+use Rattle.std.proofs.Common.{◌≡◌, ℕ, ◌+◌, List, ◌++◌, sym, subst, inl, inr, suc, arith}
+use Rattle.std.proofs.lemmas.Bool.Decides.{leb_tells}
+use Rattle.tva_base.specs.declared.limits.LinkLimits.{LinkLimits}
+use Rattle.tva_base.specs.Plan.{AreLinkLimits}
+use Rattle.tva_port.specs.declared.decision.Decision.{Decision}
+use Rattle.tva_port.specs.Log.{Entry, NoneLater}
+use Rattle.tva_port.specs.Decide.{decision, started_by, RestsAt, MissesNone}
+use Rattle.tva_port.specs.Legal.{IsLegal}
+use Rattle.tva_port.specs.Bounds.{AreRequestsServed, AreRegularsServed}
+use Rattle.tva_port.proofs.Logs.{cut-all}
+use Rattle.tva_port.proofs.Resting.{cut_away, none_later}
+use Rattle.tva_port.proofs.Steady.{none_again}
+use Rattle.tva_port.proofs.RequestBound.{requests_served}
+use Rattle.tva_port.proofs.RegularBound.{regulars_served}
+
+-- no start is missed up to the decision, and at its time
+misses_now : (l : LinkLimits) (log : List Entry) (now : ℕ) (d : Decision) → AreLinkLimits l → NoneLater now log → d ≡ decision l log now → MissesNone l now log → MissesNone l (now + 1) (log ++ started_by d now)
+misses_now l log now d a n e m = λ time k. elim (leb_tells (suc time) now) [
+  | inl h ↦ subst (λ z. RestsAt l z time) (sym (cut_away log d (time + 1) now (omega (arith, h.1)))) (m time (omega (arith, h.1)))
+  | inr h ↦ subst (λ z. RestsAt l z time) (sym (cut-all now (time + 1) (log ++ started_by d now) (omega (arith, h.1)) (none_later log d now n)))
+      (subst (λ z. RestsAt l (log ++ started_by d now) z) (let q : now ≡ time = omega (arith, h.1) in q) (none_again l log now d a e))
+]
+
+pub all_served : (l : LinkLimits) (log : List Entry) (now : ℕ) (d : Decision) → AreLinkLimits l → IsLegal l (log ++ started_by d now) → NoneLater now log → d ≡ decision l log now → MissesNone l now log
+    → AreRequestsServed l now (log ++ started_by d now) × AreRegularsServed l now (log ++ started_by d now)
+all_served l log now d a g n e m =
+    let none = misses_now l log now d a n e m in
+    (requests_served l (log ++ started_by d now) now (now + 1) a g none (omega arith), regulars_served l (log ++ started_by d now) now (now + 1) a g none (omega arith))

@@ -1,0 +1,70 @@
+// How soon a packet that is queued starts, and how evenly queues are served, whatever others send.
+ghost use Rattle.std.specs.Prelude.{◌≡◌, ◌≢◌, ℕ, ◌+◌, ◌*◌, ◌^◌, ◌<◌, ◌≤◌, List, ◌++◌};
+ghost use Rattle.tva_base.specs.declared.limits.LinkLimits.{LinkLimits};
+ghost use Rattle.tva_base.specs.declared.packet.Class.TheVariants.{Request, Regular};
+ghost use Rattle.tva_base.specs.Plan.{AreClassLimits, AreLinkLimits};
+ghost use Rattle.tva_drr.specs.Service.{most_until};
+ghost use Rattle.tva_port.specs.Log.{Entry};
+ghost use Rattle.tva_port.specs.Decide.{MissesNone};
+ghost use Rattle.tva_port.specs.Legal.{IsLegal};
+ghost use Rattle.tva_port.specs.Bounds.{request_bound, regular_bound, AreRequestsServed, AreRegularsServed, bytes_started, AlwaysWaits};
+
+use tva_base::{DrrLimits, LinkLimits};
+
+/// The most bytes of a class that go up to a packet and with it, where so many wait under its key up to
+/// it and with it.
+fn most_bytes(limits: &DrrLimits, bytes: u32) -> u64
+    requires { AreClassLimits limits.now }
+    ensures value { result ≡ most_until limits.now bytes }
+    ensures small { result ≤ 2 ^ 50 }
+{
+    let turns = u64::from(bytes).div_ceil(u64::from(limits.quantum));
+    let turn = turns * u64::from(limits.quantum) + u64::from(limits.max);
+    u64::from(limits.queues - 1) * turn + u64::from(bytes)
+}
+
+/// The most nanoseconds that a request waits on a link, whatever others send, where so many bytes wait
+/// under its key up to it and with it when it is queued.
+pub fn longest_request_wait(limits: &LinkLimits, bytes: u32) -> u128
+    requires { AreLinkLimits limits.now }
+    ensures { result ≡ request_bound limits.now bytes }
+{
+    let most = most_bytes(&limits.request, bytes) + 2 * u64::from(limits.request.max);
+    u128::from(most) * u128::from(limits.share) * u128::from(limits.ns_per_byte)
+}
+
+/// The most nanoseconds that a regular packet waits on a link, whatever others send, where so many bytes
+/// wait under its key up to it and with it when it is queued.
+pub fn longest_regular_wait(limits: &LinkLimits, bytes: u32) -> u128
+    requires { AreLinkLimits limits.now }
+    ensures { result ≡ regular_bound limits.now bytes }
+{
+    let most = most_bytes(&limits.regular, bytes) + u64::from(limits.regular.max) + limits.burst;
+    let cost = u128::from(most) * u128::from(limits.share) * u128::from(limits.ns_per_byte);
+    cost.div_ceil(u128::from(limits.share - 1))
+}
+
+/// Whatever else comes, on a link where no start was missed up to a time, in nanoseconds, each packet
+/// whose bound is over by then has started within it: the bound of a request and of a regular packet for
+/// the bytes that waited under its key up to it and with it, when it was queued.
+pub fn packets_start_in_time()
+    ensures requests { (l : LinkLimits) (log : List Entry) (now until : ℕ) → AreLinkLimits l → IsLegal l log
+        → MissesNone l until log → now < until → AreRequestsServed l now log }
+    ensures regulars { (l : LinkLimits) (log : List Entry) (now until : ℕ) → AreLinkLimits l → IsLegal l log
+        → MissesNone l until log → now < until → AreRegularsServed l now log }
+{}
+
+/// Between two places of a link's log, two keys of a class under which something waits all along start
+/// about as many bytes as each other: one less than a quantum and two greatest packets more.
+pub fn keys_are_served_alike()
+    ensures requests { (l : LinkLimits) (before between : List Entry) (a b : ℕ) → AreLinkLimits l
+        → IsLegal l (before ++ between) → a ≢ b → AlwaysWaits l Request a before between
+        → AlwaysWaits l Request b before between
+        → bytes_started l Request a before between
+        < bytes_started l Request b before between + (l.request.quantum + 2 * l.request.max) }
+    ensures regulars { (l : LinkLimits) (before between : List Entry) (a b : ℕ) → AreLinkLimits l
+        → IsLegal l (before ++ between) → a ≢ b → AlwaysWaits l Regular a before between
+        → AlwaysWaits l Regular b before between
+        → bytes_started l Regular a before between
+        < bytes_started l Regular b before between + (l.regular.quantum + 2 * l.regular.max) }
+{}

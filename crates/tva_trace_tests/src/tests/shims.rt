@@ -1,0 +1,164 @@
+// Shims with their texts.
+use std::test::Fail;
+use tva_trace::shim_text;
+
+// The bytes in hexadecimal digits, and the text.
+const SHIMS: [(&str, &str); 50] = [
+    ("", "malformed"),
+    ("10", "malformed"),
+    ("1006", "malformed"),
+    (
+        "100600",
+        "v1 request demoted=0 protocol=6 entries=- return=-",
+    ),
+    (
+        "180600",
+        "v1 request demoted=1 protocol=6 entries=- return=-",
+    ),
+    (
+        "10ff00",
+        "v1 request demoted=0 protocol=255 entries=- return=-",
+    ),
+    (
+        "100000",
+        "v1 request demoted=0 protocol=0 entries=- return=-",
+    ),
+    ("10060000", "malformed"),
+    (
+        "100601000105aabbccddeeff00",
+        "v1 request demoted=0 protocol=6 entries=0001:05aabbccddeeff00 return=-",
+    ),
+    (
+        "100602000105aabbccddeeff0000000600000000000001",
+        "v1 request demoted=0 protocol=6 entries=0001:05aabbccddeeff00,0000:0600000000000001 return=-",
+    ),
+    ("100602000105aabbccddeeff00000006000000000000", "malformed"),
+    (
+        "100602000105aabbccddeeff000000060000000000000100",
+        "malformed",
+    ),
+    (
+        "14060001",
+        "v1 request demoted=0 protocol=6 entries=- return=notice",
+    ),
+    ("14060003", "malformed"),
+    ("14060000", "malformed"),
+    ("140600", "malformed"),
+    ("1406000100", "malformed"),
+    (
+        "1406000200080a",
+        "v1 request demoted=0 protocol=6 entries=- return=grant n=32 t=10 caps=-",
+    ),
+    (
+        "1406000201080a0511223344556677",
+        "v1 request demoted=0 protocol=6 entries=- return=grant n=32 t=10 caps=0511223344556677",
+    ),
+    ("1406000201080a", "malformed"),
+    (
+        "1c060001",
+        "v1 request demoted=1 protocol=6 entries=- return=notice",
+    ),
+    (
+        "110600000000000a0100080a0500112233445566",
+        "v1 list demoted=0 protocol=6 nonce=00000000000a pointer=0 n=32 t=10 caps=0500112233445566 return=-",
+    ),
+    ("110600000000000a0100080a05001122334455", "malformed"),
+    ("110600000000000a0100080a050011223344556600", "malformed"),
+    (
+        "110600000000000a010100400500112233445566",
+        "v1 list demoted=0 protocol=6 nonce=00000000000a pointer=1 n=1 t=0 caps=0500112233445566 return=-",
+    ),
+    ("110600000000000a010200400500112233445566", "malformed"),
+    (
+        "110600000000000a0000ffff",
+        "v1 list demoted=0 protocol=6 nonce=00000000000a pointer=0 n=1023 t=63 caps=- return=-",
+    ),
+    ("110600000000000a00010000", "malformed"),
+    ("110600000000000a", "malformed"),
+    ("11060000000000", "malformed"),
+    (
+        "190600000000000a0100080a0500112233445566",
+        "v1 list demoted=1 protocol=6 nonce=00000000000a pointer=0 n=32 t=10 caps=0500112233445566 return=-",
+    ),
+    (
+        "150600000000000a0100080a050011223344556601",
+        "v1 list demoted=0 protocol=6 nonce=00000000000a pointer=0 n=32 t=10 caps=0500112233445566 return=notice",
+    ),
+    (
+        "150600000000000a0100080a05001122334455660201004205ffffffffffffff",
+        "v1 list demoted=0 protocol=6 nonce=00000000000a pointer=0 n=32 t=10 caps=0500112233445566 return=grant n=1 t=2 caps=05ffffffffffffff",
+    ),
+    ("150600000000000a0100080a0500112233445566", "malformed"),
+    (
+        "1206ffffffffffff",
+        "v1 nonce demoted=0 protocol=6 nonce=ffffffffffff return=-",
+    ),
+    ("1206ffffffffff", "malformed"),
+    ("1206ffffffffffff00", "malformed"),
+    (
+        "1a06000000000000",
+        "v1 nonce demoted=1 protocol=6 nonce=000000000000 return=-",
+    ),
+    (
+        "160600000000000101",
+        "v1 nonce demoted=0 protocol=6 nonce=000000000001 return=notice",
+    ),
+    (
+        "160600000000000102000000",
+        "v1 nonce demoted=0 protocol=6 nonce=000000000001 return=grant n=0 t=0 caps=-",
+    ),
+    ("1606000000000001", "malformed"),
+    ("16060000000000010102", "malformed"),
+    (
+        "130600000000000b0201080a05001122334455660600112233445566",
+        "v1 renewal demoted=0 protocol=6 nonce=00000000000b pointer=1 n=32 t=10 caps=0500112233445566,0600112233445566 return=-",
+    ),
+    (
+        "1b0600000000000b0000080a",
+        "v1 renewal demoted=1 protocol=6 nonce=00000000000b pointer=0 n=32 t=10 caps=- return=-",
+    ),
+    (
+        "170600000000000b0000080a01",
+        "v1 renewal demoted=0 protocol=6 nonce=00000000000b pointer=0 n=32 t=10 caps=- return=notice",
+    ),
+    (
+        "130600000000000b0203084005001122334455660500112233445566",
+        "malformed",
+    ),
+    ("000600", "malformed"),
+    ("200600", "malformed"),
+    ("f00600", "malformed"),
+    (
+        "1F06ABCDEFABCDEF0000080A01",
+        "v1 renewal demoted=1 protocol=6 nonce=abcdefabcdef pointer=0 n=32 t=10 caps=- return=notice",
+    ),
+];
+
+#[test]
+fn texts_of_shims(rt: HostRuntime) -> Result<(), Fail> {
+    let alloc = rt.alloc();
+    for (digits, want) in SHIMS {
+        let Ok(bytes) = hex::decode(alloc, digits) else {
+            return Err(Fail::from("no digits"));
+        };
+        assert_eq!(rt; shim_text(alloc, &bytes)?.as_str(), want, "{digits}");
+    }
+    Ok(())
+}
+
+// Each proper prefix of a list's bytes is malformed.
+#[test]
+fn prefixes_are_malformed(rt: HostRuntime) -> Result<(), Fail> {
+    let alloc = rt.alloc();
+    let Ok(bytes) = hex::decode(alloc, "110600000000000a0100080a0500112233445566") else {
+        return Err(Fail::from("no digits"));
+    };
+    for count in 0..bytes.len() {
+        assert_eq!(rt;
+            shim_text(alloc, &bytes[..count])?.as_str(),
+            "malformed",
+            "{count}"
+        );
+    }
+    Ok(())
+}
