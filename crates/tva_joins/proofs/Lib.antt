@@ -1,3 +1,4 @@
 pub mod Joins
 pub mod Putting
 pub mod Joined
+pub mod Places

@@ -8,7 +8,7 @@ use Rattle.std.proofs.lemmas.List.{append-nil, append_assoc}
 use Rattle.tva_joins.specs.Joins.{MayPrecede, IsInOrder, from_source, cut, precedes, put_in, put_all, NeverFalls}
 use Rattle.tva_joins.proofs.Joins.{filter-true, filter-false, filter-none, each-weaker, may_precede_trans}
 
-before_yes : (a b c d : ℕ) → (nat_lt a c || ((a == c) && nat_lt b d)) ≡ true → (a < c) ⊎ ((a ≡ c) × (b < d))
+pub before_yes : (a b c d : ℕ) → (nat_lt a c || ((a == c) && nat_lt b d)) ≡ true → (a < c) ⊎ ((a ≡ c) × (b < d))
 before_yes a b c d h = grind (arith, nat_tests)
 
 before_no : (a b c d : ℕ) → (nat_lt a c || ((a == c) && nat_lt b d)) ≡ false → (c < a) ⊎ ((c ≡ a) × (d ≤ b))

@@ -1,0 +1,85 @@
+-- What a node makes of an input, over what stands before it in its log.
+use Rattle.std.specs.Prelude.{ℕ, List, Option, Some, None}
+use Rattle.std.specs.Option.{option_map}
+use Rattle.tva_base.specs.declared.packet.PacketId.{PacketId}
+use Rattle.tva_base.specs.declared.packet.Outcome.{Outcome}
+use Rattle.tva_base.specs.declared.plan.RouterPlan.{RouterPlan}
+use Rattle.tva_base.specs.declared.plan.HostPlan.{HostPlan}
+use Rattle.tva_base.specs.declared.event.ShapeKind.TheVariants as shape
+use Rattle.tva_shim.specs.Packets.{PacketData, class_by_shim}
+use Rattle.tva_router.specs.Handling.{handle, sent}
+use Rattle.tva_host.specs.declared.made.Made.{Made}
+use Rattle.tva_host.specs.declared.made.Receipt.{Receipt}
+use Rattle.tva_base.specs.Ordinals.{ordinal_behind}
+use Rattle.tva_host.specs.History.{History}
+use Rattle.tva_host.specs.Calls.{history_of}
+use Rattle.tva_host.specs.Sending.{intended, next_packet}
+use Rattle.tva_host.specs.Receiving.{receipt_of}
+use Rattle.tva_config.specs.declared.config.NodePlan.TheVariants.{Router, Host}
+use Rattle.tva_trace.specs.declared.rows.RowWhat.{RowWhat}
+use Rattle.tva_trace.specs.declared.rows.RowWhat.TheVariants.{Send, Inject}
+use Rattle.tva_config.specs.declared.config.NodePlan.{NodePlan}
+use Rattle.tva_log.specs.declared.kinds.Input.{Input}
+use Rattle.tva_log.specs.declared.kinds.Input.TheVariants.{FromTrace, Arrival}
+use Rattle.tva_log.specs.Sites.{Site, limits_out}
+use Rattle.tva_log.specs.Entries.{Content, Arrived, Sent, Received, Entry}
+use Rattle.tva_log.specs.Parts.{charges, port_logs, rows_in, calls}
+
+-- ## at a router
+
+-- the packet of a row, which passed no router; a router takes no row that sends
+abbrev pub packet_of_row : PacketId → RowWhat → Option PacketData
+packet_of_row id (Send dst payload) = None
+packet_of_row id (Inject flow payload carried) =
+    Some (record { id = id; flow = flow; hops = 0; payload = payload; carried = carried })
+
+-- the next packet from the trace: they are numbered from 1 on, and those of links are not counted
+abbrev pub next_id : ℕ → List Entry → PacketId
+next_id number before = record { node = number; ordinal = ordinal_behind (rows_in before) }
+
+-- what a router makes of a packet that comes in on a link, or from the trace
+unfoldable pub arrived : RouterPlan → List Entry → ℕ → Option ℕ → PacketData → Content
+arrived plan before now from packet =
+    Arrived from packet (handle plan (charges before) (port_logs before) now from packet).fate
+    (handle plan (charges before) (port_logs before) now from packet).onward
+
+abbrev pub routed : ℕ → RouterPlan → List Entry → Input → Option Content
+routed number plan before (FromTrace row) =
+    option_map (arrived plan before row.time.0 None) (packet_of_row (next_id number before) row.what)
+routed number plan before (Arrival time link packet) = Some (arrived plan before time.0 (Some link) packet)
+
+-- ## at a host
+
+-- where a packet ends up that is offered to the host's one link
+abbrev pub goes_out : Site → HostPlan → List Entry → PacketData → Outcome
+goes_out site plan before packet =
+    sent (port_logs before) (class_by_shim packet.carried) packet (limits_out site plan.uplink)
+
+-- the packet that a host makes for a row, or that the row injects
+abbrev pub made_for : ℕ → HostPlan → History → ℕ → RowWhat → Made
+made_for number plan h now (Send dst payload) = intended number plan h now dst payload
+made_for number plan h now (Inject flow payload carried) =
+    record { packet = next_packet number h flow payload carried; shape = shape.Trace }
+
+abbrev pub sent_out : Site → HostPlan → List Entry → Made → Content
+sent_out site plan before made = Sent made (goes_out site plan before made.packet)
+
+abbrev pub received : Site → HostPlan → List Entry → ℕ → PacketData → Receipt → Content
+received site plan before link packet receipt =
+    Received link packet receipt (option_map (λ made. goes_out site plan before made.packet) receipt.reply)
+
+abbrev pub hosted : Site → HostPlan → List Entry → Input → Content
+hosted site plan before (FromTrace row) =
+    sent_out site plan before (made_for site.number plan (history_of plan (calls before)) row.time.0 row.what)
+hosted site plan before (Arrival time link packet) =
+    received site plan before link packet (receipt_of site.number plan (history_of plan (calls before)) time.0 packet)
+
+-- ## at a node
+
+abbrev pub content_by : Site → NodePlan → List Entry → Input → Option Content
+content_by site (Router plan) before input = routed site.number plan before input
+content_by site (Host plan) before input = Some (hosted site plan before input)
+
+-- what a node makes of an input, after these entries
+abbrev pub content : Site → List Entry → Input → Option Content
+content site before input = content_by site site.plan before input

@@ -1,0 +1,37 @@
+// What holds of every log of a node.
+ghost use Rattle.std.specs.Prelude.{◌≡◌, ℕ, ◌≤◌, List};
+ghost use Rattle.tva_joins.specs.Joins.{IsInOrder, cut};
+ghost use Rattle.tva_log.specs.declared.kinds.Input.{Input};
+ghost use Rattle.tva_log.specs.Sites.{Site};
+ghost use Rattle.tva_log.specs.Entries.{Entry, input_time, input_source, entry_time};
+ghost use Rattle.tva_log.specs.NodeLog.{IsNodeLog, due};
+ghost use Rattle.tva_log.specs.Next.{AreLegal, IsQuiet};
+
+/// What the log of a node has before an earlier time is its log up to that time. Times are in
+/// nanoseconds.
+pub fn log_up_to()
+    ensures { (site : Site) (inputs : List Input) (time until : ℕ) (log : List Entry)
+        → IsInOrder input_time input_source inputs → time ≤ until
+        → IsNodeLog site inputs until log → IsNodeLog site inputs time (cut entry_time time log) }
+{}
+
+/// A node has at most one log up to a time, and the same one over all inputs that agree before it.
+pub fn one_log()
+    ensures { (site : Site) (inputs others : List Input) (until : ℕ) (log other : List Entry)
+        → due until inputs ≡ due until others
+        → IsNodeLog site inputs until log → IsNodeLog site others until other → log ≡ other }
+{}
+
+/// A log up to a time has nothing at that time or later.
+pub fn log_ends()
+    ensures { (site : Site) (inputs : List Input) (until : ℕ) (log : List Entry)
+        → IsNodeLog site inputs until log → cut entry_time until log ≡ log }
+{}
+
+/// Where there is nothing to do at a node from one time on up to another, a log up to the one is its
+/// log up to the other. Times are in nanoseconds.
+pub fn quiet_log()
+    ensures { (site : Site) (inputs : List Input) (from until : ℕ) (log : List Entry) → AreLegal site from log
+        → from ≤ until → IsQuiet site inputs log from until
+        → IsNodeLog site inputs from log → IsNodeLog site inputs until log }
+{}

@@ -1,0 +1,13 @@
+//! The log of a node: all that happens at a router or a host of a network, as one list of entries over
+//! the node's inputs. An entry is an input that is taken, with what the node makes of it, or a packet
+//! that a link starts. Its definitions say of a whole list that it is the log up to a time, and its
+//! contracts promise what a network stands on: there is one at most, it is the same over all inputs
+//! that agree up to that time, what it has before an earlier time is the log up to that, and it stays
+//! as it is while nothing is to be done.
+#![tactic(auto)]
+
+mod kinds;
+mod laws;
+
+pub use kinds::{Input, Sending};
+pub use laws::{log_ends, log_up_to, one_log, quiet_log};
