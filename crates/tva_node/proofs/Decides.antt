@@ -1,0 +1,264 @@
+-- What a link of a node does at a time, and what the node stands for then.
+use Rattle.std.proofs.Common.{◌≡◌, ℕ, suc, ◌+◌, ◌*◌, ◌<◌, ◌≤◌, Bool, true, false, List, [], ◌∷◌, ◌++◌, length, get_or, map, set, All, Option, Some, None, Result, Ok, Err, refl, sym, subst, ◌∙◌, ap, arith, inl, inr, append-nil}
+use Rattle.std.specs.Prelude.{◌==◌, OnOk}
+use Rattle.std.specs.Option.{option_map_or, option_and_then}
+use Rattle.std.specs.List.{find, filter_map}
+use Rattle.std.proofs.lemmas.Bool.{eq-eqb, cond-true}
+use Rattle.std.proofs.lemmas.List.{get_or-map, get_or_default, length-map, set-get_or, map-set}
+use Rattle.std.proofs.lemmas.List.Elements.{filter_map-append, All-get_or}
+use Rattle.std.proofs.Math.Nat.{mul-le-mul_right}
+use Rattle.tva_base.specs.declared.event.Event.{Event}
+use Rattle.tva_base.specs.declared.event.Happened.TheVariants as happens
+use Rattle.tva_base.specs.declared.limits.LinkLimits.{LinkLimits}
+use Rattle.tva_base.specs.declared.plan.LinkPlan.{LinkPlan}
+use Rattle.tva_base.specs.declared.packet.Class.{Class}
+use Rattle.tva_base.specs.Plan.{AreLinkLimits, links_of}
+use Rattle.tva_shim.specs.Packets.{PacketData, packet_length}
+use Rattle.tva_port.specs.declared.decision.Decision.{Decision}
+use Rattle.tva_port.specs.declared.decision.Decision.TheVariants.{Start, WaitUntil, Idle}
+use Rattle.tva_port.specs.Log as port
+use Rattle.tva_port.specs.Legal.{IsLegal}
+use Rattle.tva_port.specs.Decide.{decision, is_start}
+use Rattle.tva_port.proofs.Logs.{free-started}
+use Rattle.tva_log.specs.declared.kinds.Input.{Input}
+use Rattle.tva_log.specs.declared.kinds.Sending.{Sending}
+use Rattle.tva_log.specs.Sites.{Site, IsSite, IsLinkOut, AreRising, link_out, limits_out, site_of}
+use Rattle.tva_log.specs.Entries.{Entry, Started}
+use Rattle.tva_log.specs.Parts.{port_entry, port_logs}
+use Rattle.tva_log.specs.NodeLog.{starts, start_of, start_after}
+use Rattle.tva_log.specs.Told.{event_of, sending_of, at_time}
+use Rattle.tva_log.specs.Next.{next_by, next_decision, next_on}
+use Rattle.tva_log.proofs.Ports.{busy_starts_none, free_starts, next_busy, next_rested}
+use Rattle.tva_node.specs.declared.parts.Link.{Link}
+use Rattle.tva_node.specs.declared.parts.Parts.{Parts}
+use Rattle.tva_node.specs.declared.role.Role.{Role}
+use Rattle.tva_node.specs.declared.turns.Turn.{Turn}
+use Rattle.tva_node.specs.States.{NodeState, StandsAt, RoleStands, IsBy, Decides, link_pair, role_plan, site_at, started_by, state_of}
+use Rattle.tva_node.specs.Work.{IsRank, DecidesAt, IsStartable, all_taken, end_on, start_event, start_sending}
+use Rattle.tva_node.proofs.Finding.{find-at, link_valid}
+use Rattle.tva_node.proofs.Roles.{role_legal}
+use Rattle.tva_node.proofs.Works.{found, rested, started_one}
+
+no_start_none : (d : Decision) → is_start d ≡ false → start_of d ≡ None
+no_start_none (Start class p) e = absurd (cc)
+no_start_none (WaitUntil u) e = refl
+no_start_none Idle e = refl
+
+-- a start is the last entry of its link's log
+logs-own : (log : List Entry) (now link : ℕ) (class : Class) (packet : PacketData) → port_logs (log ++ Started now link class packet ∷ []) link ≡ port_logs log link ++ port.Started now class packet ∷ []
+logs-own log now link class packet =
+    filter_map-append (port_entry link) log (Started now link class packet ∷ [])
+    ∙ ap (λ (more : List port.Entry). port_logs log link ++ more) (rw (eq-eqb link link refl) refl)
+
+module _ (p : Parts) (now place rank : ℕ) (log : List Entry) (d : Link) (ranked : IsRank rank place p.links.items) (st : StandsAt (state_of p) now rank (all_taken (state_of p) now) log) (within : place < length p.links.items) where
+  abbrev v : NodeState
+  v = state_of p
+
+  abbrev site : Site
+  site = site_at p
+
+  -- the link in that place
+  abbrev here : Link
+  here = get_or p.links.items place d
+
+  abbrev limits : LinkLimits
+  limits = here.plan.limits
+
+  abbrev ports : List port.Entry
+  ports = port_logs log here.number
+
+  pub is_out : limits_out site here.number ≡ Some (here.number, limits)
+  is_out = found v now place rank log d ranked st within
+
+  pub valid : AreLinkLimits limits
+  valid = (link_valid site here.number (here.number, limits) st.site is_out).0
+
+  legal : IsLegal limits ports × port.NoneLater now ports
+  legal = role_legal site p.role log now st.site st.plan st.role st.past here.number (here.number, limits) is_out
+
+  starts_is : (es : List Entry) → starts site es here.number now ≡ start_after limits (port_logs es here.number) now
+  starts_is es = ap (option_and_then (λ o. start_after o.1 (port_logs es here.number) now)) is_out
+
+  next_is : (es : List Entry) → next_on site es (now + 1) here.number ≡ next_decision limits (port_logs es here.number) (now + 1)
+  next_is es = ap (option_and_then (λ o. next_decision o.1 (port_logs es here.number) (now + 1))) is_out
+
+  -- the links with that next decision of this one
+  abbrev pub put : Option ℕ → List Link
+  put next = set p.links.items place (record here { next = next })
+
+  pub pairs_same : (next : Option ℕ) → map link_pair (put next) ≡ map link_pair p.links.items
+  pairs_same next =
+      let pairs = map link_pair p.links.items in
+      map-set link_pair p.links.items place (record here { next = next })
+      ∙ (ap (set pairs place) (sym (get_or-map link_pair p.links.items place d (link_pair d) within))
+      ∙ set-get_or pairs place (link_pair d))
+
+  -- what the node is then
+  abbrev pub state : Option ℕ → Role → List Event → List Sending → NodeState
+  state next role events sendings = record v {
+    site = site_of p.number (role_plan role) (map link_pair (put next));
+    links = put next;
+    role = role;
+    events = events;
+    sendings = sendings;
+  }
+
+  same_site : (next : Option ℕ) (role : Role) → role_plan role ≡ role_plan p.role → site ≡ site_of p.number (role_plan role) (map link_pair (put next))
+  same_site next role e = λ i. site_of p.number (sym e i) (sym (pairs_same next) i)
+
+  at_site : (next : Option ℕ) (role : Role) (events : List Event) (sendings : List Sending) → role_plan role ≡ role_plan p.role
+      → DecidesAt (record v { links = put next; role = role; events = events; sendings = sendings }) now (place + 1) → DecidesAt (state next role events sendings) now (place + 1)
+  at_site next role events sendings e h = subst (λ (s : Site). DecidesAt (record v { site = s; links = put next; role = role; events = events; sendings = sendings }) now (place + 1)) (same_site next role e) h
+
+  -- it is busy
+  pub busy : (free : ℕ) → free ≡ port.free_after limits ports → now < free → DecidesAt (state (Some free) p.role p.log.items p.outbox.items) now (place + 1)
+  busy free e h =
+      let late : now < port.free_after limits ports = omega arith in
+      at_site (Some free) p.role p.log.items p.outbox.items refl
+      (rested v now place rank log d ranked st within (Some free) p.role
+      (starts_is log ∙ busy_starts_none limits ports now late)
+      (ap Some e ∙ (sym (next_busy limits ports (now + 1) (omega arith) (omega arith)) ∙ sym (next_is log)))
+      st.role refl st.past)
+
+  no_entry : (decides : Decision) → is_start decides ≡ false → log ++ started_by here.number now decides ≡ log
+  no_entry (Start class packet) e = absurd (cc)
+  no_entry (WaitUntil time) e = append-nil log
+  no_entry Idle e = append-nil log
+
+  -- it starts nothing
+  pub rest : (decides : Decision) (role : Role) → port.free_after limits ports ≤ now → Decides site log here.number now limits decides role → is_start decides ≡ false → role_plan role ≡ role_plan p.role → IsBy now role
+      → DecidesAt (state (next_by now decides) role p.log.items p.outbox.items) now (place + 1)
+  rest decides role free h none e by =
+      at_site (next_by now decides) role p.log.items p.outbox.items e
+      (rested v now place rank log d ranked st within (next_by now decides) role
+      (starts_is log ∙ (free_starts limits ports now free ∙ (ap start_of (sym h.0) ∙ no_start_none decides none)))
+      (sym (next_rested limits ports now decides valid legal.0 legal.1 free h.0 none) ∙ sym (next_is log))
+      (subst (RoleStands site role) (no_entry decides none) h.1) e by)
+
+  link_is : link_out site here.number ≡ Some (link_pair here)
+  link_is = find-at p.links.items place d (subst (λ (os : List (ℕ × LinkPlan)). AreRising (links_of os)) st.out st.site.rising) within
+
+  -- it starts a packet
+  pub start : (class : Class) (packet : PacketData) (role : Role) → port.free_after limits ports ≤ now → Decides site log here.number now limits (Start class packet) role → role_plan role ≡ role_plan p.role → IsBy now role
+      → DecidesAt (state (Some (end_on here now packet)) role (p.log.items ++ start_event p.number here now class packet ∷ []) (p.outbox.items ++ start_sending here now packet ∷ [])) now (place + 1)
+  start class packet role free h e by =
+      let entry = Started now here.number class packet in
+      let after = port_logs (log ++ entry ∷ []) here.number in
+      let end = end_on here now packet in
+      let freed : port.free_after limits after ≡ end = ap (port.free_from limits 0) (logs-own log now here.number class packet) ∙ free-started limits 0 ports now class packet in
+      let rate : 1 ≤ limits.ns_per_byte = valid.ns_per_byte.0 in
+      let some : 1 ≤ packet_length packet * limits.ns_per_byte = (let a : 1 * limits.ns_per_byte ≤ packet_length packet * limits.ns_per_byte = mul-le-mul_right limits.ns_per_byte (let b : 1 ≤ packet_length packet = omega arith in b) in omega arith) in
+      let later : now < port.free_after limits after = omega (arith, freed) in
+      at_site (Some end) role (p.log.items ++ start_event p.number here now class packet ∷ []) (p.outbox.items ++ start_sending here now packet ∷ []) e
+      (started_one v now place rank log d ranked st within class packet (Some end) role (start_event p.number here now class packet) (start_sending here now packet)
+      (starts_is log ∙ (free_starts limits ports now free ∙ ap start_of (sym h.0)))
+      (starts_is (log ++ entry ∷ []) ∙ busy_starts_none limits after now later)
+      (ap Some (sym freed) ∙ (sym (next_busy limits after (now + 1) (omega arith) (omega arith)) ∙ sym (next_is (log ++ entry ∷ []))))
+      h.1 e by
+      (λ i. record {
+        time = at_time now;
+        node = p.number;
+        happened = happens.Started packet.id (packet_length packet) here.number class (at_time (option_map_or (λ x. now + packet_length packet * x.1.limits.ns_per_byte) (sym link_is i) now));
+      })
+      (λ i. Some (record {
+        link = here.number;
+        arrive = at_time (option_map_or (λ x. now + packet_length packet * x.1.limits.ns_per_byte + x.1.delay) (sym link_is i) now);
+        packet = packet;
+      })))
+
+-- ## by what the code reads
+
+-- a link's number and plan stay where its next decision is changed
+pub pairs_set : (ls : List Link) (place : ℕ) (a b : Link) (next : Option ℕ) → a ≡ get_or ls place a → b ≡ get_or ls place b → place < length ls → map link_pair (set ls place (record b { next = next })) ≡ map link_pair ls
+pairs_set ls place a b next ea eb h =
+    let pairs = map link_pair ls in
+    map-set link_pair ls place (record b { next = next })
+    ∙ (ap (λ (x : Link). set pairs place (link_pair x)) eb
+    ∙ (ap (set pairs place) (sym (get_or-map link_pair ls place b (link_pair b) h))
+    ∙ set-get_or pairs place (link_pair b)))
+
+-- what a node was that is now
+pub from_fields : (q : Parts) (number horizon worked : ℕ) (role : Role) (links : List Link) (inbox : List Input) (turns : List Turn) (es : List Event) (ss : List Sending)
+    → q.number ≡ number → q.horizon ≡ horizon → q.worked_to ≡ worked → q.role ≡ role → q.links.items ≡ links → q.inbox.items ≡ inbox → q.turns ≡ turns → q.log.items ≡ es → q.outbox.items ≡ ss
+    → record { site = site_of number (role_plan role) (map link_pair links); horizon = horizon; inbox = inbox; events = es; sendings = ss; worked_to = worked; role = role; links = links; turns = turns } ≡ state_of q
+from_fields q number horizon worked role links inbox turns es ss e1 e2 e3 e4 e5 e6 e7 e8 e9 = λ i. record {
+  site = site_of (sym e1 i) (role_plan (sym e4 i)) (map link_pair (sym e5 i));
+  horizon = sym e2 i;
+  inbox = sym e6 i;
+  events = sym e8 i;
+  sendings = sym e9 i;
+  worked_to = sym e3 i;
+  role = sym e4 i;
+  links = sym e5 i;
+  turns = sym e7 i;
+}
+
+pub on_both : {T E : Type 0} (A B C : Type 0) (r : Result T E) → (A → B → C) → OnOk r A → OnOk r B → OnOk r C
+on_both A B C (Ok x) f a b = f a b
+on_both A B C (Err e) f a b = tt
+
+module _ (p : Parts) (now place : ℕ) (a : Link) (ea : a ≡ get_or p.links.items place a) (within : place < length p.links.items) (d : DecidesAt (state_of p) now place) where
+  abbrev site' : Site
+  site' = site_at p
+
+  abbrev log' : List Entry
+  log' = d.1
+
+  abbrev stands' : StandsAt (state_of p) now d.0 (all_taken (state_of p) now) d.1
+  stands' = d.3
+
+  pub read_out : limits_out site' a.number ≡ Some (a.number, a.plan.limits)
+  read_out = subst (λ (x : Link). limits_out site' x.number ≡ Some (x.number, x.plan.limits)) (sym ea) (is_out p now place d.0 d.1 a d.2 d.3 within)
+
+  -- the node with that next decision of a link that was read
+  abbrev pub state_at : Link → Option ℕ → Role → List Event → List Sending → NodeState
+  state_at b next role es ss = record (state_of p) {
+    site = site_of p.number (role_plan role) (map link_pair (set p.links.items place (record b { next = next })));
+    links = set p.links.items place (record b { next = next });
+    role = role;
+    events = es;
+    sendings = ss;
+  }
+
+  moved : (b : Link) (next : Option ℕ) (role : Role) (es : List Event) (ss : List Sending) → b ≡ get_or p.links.items place b
+      → DecidesAt (state_at (get_or p.links.items place a) next role es ss) now (place + 1) → DecidesAt (state_at b next role es ss) now (place + 1)
+  moved b next role es ss eb h =
+      subst (λ (x : Link). DecidesAt (state_at x next role es ss) now (place + 1)) (get_or_default p.links.items place a b within ∙ sym eb) h
+
+  pub read_busy : (free : ℕ) (b : Link) → b ≡ get_or p.links.items place b → free ≡ port.free_after a.plan.limits (port_logs log' a.number) → now < free
+      → DecidesAt (state_at b (Some free) p.role p.log.items p.outbox.items) now (place + 1)
+  read_busy free b eb e h =
+      moved b (Some free) p.role p.log.items p.outbox.items eb
+      (busy p now place d.0 d.1 a d.2 d.3 within free (subst (λ (x : Link). free ≡ port.free_after x.plan.limits (port_logs log' x.number)) ea e) h)
+
+  pub read_rest : (decides : Decision) (next : Option ℕ) (role : Role) (b : Link) → b ≡ get_or p.links.items place b → next ≡ next_by now decides → port.free_after a.plan.limits (port_logs log' a.number) ≤ now
+      → Decides site' log' a.number now a.plan.limits decides role → is_start decides ≡ false → role_plan role ≡ role_plan p.role → IsBy now role
+      → DecidesAt (state_at b next role p.log.items p.outbox.items) now (place + 1)
+  read_rest decides next role b eb n free h none e by =
+      moved b next role p.log.items p.outbox.items eb
+      (subst (λ (o : Option ℕ). DecidesAt (state_at (get_or p.links.items place a) o role p.log.items p.outbox.items) now (place + 1)) (sym n)
+      (rest p now place d.0 d.1 a d.2 d.3 within decides role
+      (subst (λ (x : Link). port.free_after x.plan.limits (port_logs log' x.number) ≤ now) ea free)
+      (subst (λ (x : Link). Decides site' log' x.number now x.plan.limits decides role) ea h) none e by))
+
+  pub read_start : (class : Class) (packet : PacketData) (role : Role) → port.free_after a.plan.limits (port_logs log' a.number) ≤ now
+      → Decides site' log' a.number now a.plan.limits (Start class packet) role → role_plan role ≡ role_plan p.role → IsBy now role
+      → DecidesAt (state_at (get_or p.links.items place a) (Some (end_on (get_or p.links.items place a) now packet)) role
+      (p.log.items ++ start_event p.number (get_or p.links.items place a) now class packet ∷ []) (p.outbox.items ++ start_sending (get_or p.links.items place a) now packet ∷ [])) now (place + 1)
+  read_start class packet role free h e by =
+      start p now place d.0 d.1 a d.2 d.3 within class packet role
+      (subst (λ (x : Link). port.free_after x.plan.limits (port_logs log' x.number) ≤ now) ea free)
+      (subst (λ (x : Link). Decides site' log' x.number now x.plan.limits (Start class packet) role) ea h) e by
+
+  -- its numbers fit their types
+  pub read_fits : (x : Link) → IsStartable now (get_or p.links.items place x)
+  read_fits x =
+      let limits = valid p now place d.0 d.1 x d.2 d.3 within in
+      let pairs : All (IsLinkOut site'.number) (map link_pair p.links.items) = subst (All (IsLinkOut site'.number)) stands'.out stands'.site.links in
+      let out : IsLinkOut site'.number (link_pair (get_or p.links.items place x)) =
+      subst (IsLinkOut site'.number) (get_or-map link_pair p.links.items place x (link_pair x) within) (All-get_or (IsLinkOut site'.number) (map link_pair p.links.items) place (link_pair x) (rw (length-map p.links.items link_pair) within) pairs) in
+      record {
+        time = (let h = stands'.horizon in omega (arith, h.0, h.1));
+        rate = limits.ns_per_byte.1;
+        delay = out.delay.1;
+      }

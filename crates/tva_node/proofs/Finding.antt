@@ -1,0 +1,67 @@
+-- The links of a node by their numbers.
+use Rattle.std.proofs.Common.{◌≡◌, ℕ, zero, suc, ◌<◌, ◌≤◌, Bool, true, false, List, [], ◌∷◌, ◌++◌, length, get_or, map, take, drop, All, Option, Some, None, refl, sym, subst, ◌∙◌, ap, arith, inl, inr}
+use Rattle.std.specs.Prelude.{◌==◌}
+use Rattle.std.specs.Option.{option_map}
+use Rattle.std.specs.List.{find}
+use Rattle.std.proofs.lemmas.Bool.{eq-eqb, ne_eqb, eqb-true, cases_Bool, cond-true, cond-false}
+use Rattle.std.proofs.lemmas.List.Elements.{All-head, All-tail, All-get_or}
+use Rattle.tva_base.specs.declared.limits.LinkLimits.{LinkLimits}
+use Rattle.tva_base.specs.declared.plan.LinkPlan.{LinkPlan}
+use Rattle.tva_base.specs.Plan.{AreLinkLimits, links_of}
+use Rattle.tva_log.specs.Sites.{AreRising, Site, IsSite, IsLinkOut, limits_out}
+use Rattle.tva_node.specs.declared.parts.Link.{Link}
+use Rattle.tva_node.specs.States.{link_pair}
+
+abbrev number_is : ℕ → ℕ × LinkPlan → Bool
+number_is k o = o.0 == k
+
+-- a number that no link has
+pub find-none : (k : ℕ) (ls : List Link) → All (λ (l : Link). l.number ≡ k → ⊥) ls → find (λ o. o.0 == k) (map link_pair ls) ≡ None
+find-none k [] h = refl
+find-none k (l ∷ ls) h =
+    cond-false (l.number == k) (Some (link_pair l)) (find (λ o. o.0 == k) (map link_pair ls)) (ne_eqb l.number k (All-head (λ (x : Link). x.number ≡ k → ⊥) l ls h))
+    ∙ find-none k ls (All-tail (λ (x : Link). x.number ≡ k → ⊥) l ls h)
+
+-- what is found is a link
+pub find-some : (P : Link → Type 0) (k : ℕ) (ls : List Link) (o : ℕ × LinkPlan) → All P ls → find (λ x. x.0 == k) (map link_pair ls) ≡ Some o → (l : Link) × (P l × (l.number ≡ k) × (link_pair l ≡ o))
+find-some P k [] o h e = absurd (cc)
+find-some P k (l ∷ ls) o h e = elim (cases_Bool (l.number == k)) [
+  | inl a ↦
+      let found : Some (link_pair l) ≡ Some o = sym (cond-true (l.number == k) (Some (link_pair l)) (find (λ x. x.0 == k) (map link_pair ls)) a) ∙ e in
+      (l, (All-head P l ls h, eqb-true l.number k a, (let same : link_pair l ≡ o = cc in same)))
+  | inr a ↦ find-some P k ls o (All-tail P l ls h) (sym (cond-false (l.number == k) (Some (link_pair l)) (find (λ x. x.0 == k) (map link_pair ls)) a) ∙ e)
+]
+
+-- where the numbers rise, a link is found by its number
+pub find-at : (ls : List Link) (i : ℕ) (d : Link) → AreRising (links_of (map link_pair ls)) → i < length ls → find (λ o. o.0 == (get_or ls i d).number) (map link_pair ls) ≡ Some (link_pair (get_or ls i d))
+find-at [] i d r h = absurd (omega arith)
+find-at (l ∷ ls) zero d r h = cond-true (l.number == l.number) (Some (link_pair l)) (find (λ o. o.0 == l.number) (map link_pair ls)) (eq-eqb l.number l.number refl)
+find-at (l ∷ ls) (suc i) d r h =
+    let more : l.number < (get_or ls i d).number = above ls i r.0 (omega arith) in
+    cond-false (l.number == (get_or ls i d).number) (Some (link_pair l)) (find (λ o. o.0 == (get_or ls i d).number) (map link_pair ls)) (ne_eqb l.number (get_or ls i d).number (λ e. omega arith))
+    ∙ find-at ls i d r.1 (omega arith)
+  where
+    above : (ls : List Link) (i : ℕ) → All (λ m. l.number < m) (links_of (map link_pair ls)) → i < length ls → l.number < (get_or ls i d).number
+    above [] i a h = absurd (omega arith)
+    above (x ∷ xs) zero a h = All-head (λ m. l.number < m) x.number (links_of (map link_pair xs)) a
+    above (x ∷ xs) (suc i) a h = above xs i (All-tail (λ m. l.number < m) x.number (links_of (map link_pair xs)) a) (omega arith)
+
+-- what is found meets what all meet, and the test
+find_holds : {X : Type 0} (P : X → Type 0) (p : X → Bool) (xs : List X) (x : X) → All P xs → find p xs ≡ Some x → P x × (p x ≡ true)
+find_holds P p [] x h e = absurd (cc)
+find_holds P p (y ∷ ys) x h e = elim (cases_Bool (p y)) [
+  | inl a ↦ let found : Some y ≡ Some x = sym (cond-true (p y) (Some y) (find p ys) a) ∙ e in let same : y ≡ x = cc in subst (λ z. P z × (p z ≡ true)) same (All-head P y ys h, a)
+  | inr a ↦ find_holds P p ys x (All-tail P y ys h) (sym (cond-false (p y) (Some y) (find p ys) a) ∙ e)
+]
+
+-- a link out has valid limits, and its number
+pub link_valid : (site : Site) (k : ℕ) (x : ℕ × LinkLimits) → IsSite site → limits_out site k ≡ Some x → AreLinkLimits x.1 × (x.0 ≡ k)
+link_valid site k x s e = of_found (find (λ o. o.0 == k) site.links) refl e
+  where
+    of_found : (found : Option (ℕ × LinkPlan)) → find (λ o. o.0 == k) site.links ≡ found → option_map (λ o. (o.0, o.1.limits)) found ≡ Some x → AreLinkLimits x.1 × (x.0 ≡ k)
+    of_found None f e = absurd (cc)
+    of_found (Some o) f e =
+        let h = find_holds (IsLinkOut site.number) (λ o. o.0 == k) site.links o s.links f in
+        let pair : ℕ × LinkLimits = (o.0, o.1.limits) in
+        let same : pair ≡ x = cc in
+        subst (λ (y : ℕ × LinkLimits). AreLinkLimits y.1 × (y.0 ≡ k)) same (h.0.limits, eqb-true o.0 k h.1)

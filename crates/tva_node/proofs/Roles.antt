@@ -1,0 +1,370 @@
+-- What a router or a host that stands for a node's log tells of its links' logs, and how it goes on.
+use Rattle.std.proofs.Common.{◌≡◌, ℕ, suc, ◌+◌, ◌<◌, ◌≤◌, Bool, true, false, cond, List, [], ◌∷◌, ◌++◌, map, Option, Some, None, Result, Ok, Err, refl, sym, subst, ◌∙◌, ap, ap₂, arith, inl, inr, append-nil}
+use Rattle.std.specs.Prelude.{◌==◌, count_by, min, IfOk}
+use Rattle.std.specs.Option.{option_map, option_and_then}
+use Rattle.std.specs.List.{find, filter_map, cons_option}
+use Rattle.std.proofs.lemmas.Bool.{cond-true, cond-false, cases_Bool, eq-eqb, eqb-true}
+use Rattle.std.proofs.lemmas.List.Elements.{filter_map-append, All-weaker}
+use Rattle.std.proofs.lemmas.List.Sums.{sum_by_push}
+use Rattle.tva_base.specs.declared.limits.LinkLimits.{LinkLimits}
+use Rattle.tva_base.specs.declared.plan.LinkPlan.{LinkPlan}
+use Rattle.tva_base.specs.declared.plan.RouterPlan.{RouterPlan}
+use Rattle.tva_base.specs.declared.packet.Class.{Class}
+use Rattle.tva_base.specs.declared.packet.Time.{Time}
+use Rattle.tva_base.specs.declared.plan.HostPlan.{HostPlan}
+use Rattle.tva_base.specs.declared.event.Happened.{Happened}
+use Rattle.tva_base.specs.declared.event.Happened.TheVariants as happens
+use Rattle.tva_base.specs.declared.event.ReplyLine.{ReplyLine}
+use Rattle.tva_base.specs.declared.packet.PacketId.{PacketId}
+use Rattle.tva_base.specs.declared.packet.Fate.{Fate}
+use Rattle.tva_base.specs.declared.packet.Grant.{Grant}
+use Rattle.tva_base.specs.declared.packet.Outcome.{Outcome}
+use Rattle.tva_base.specs.declared.packet.Outcome.TheVariants.{Queued, Dropped}
+use Rattle.tva_base.specs.Plan.{links_of}
+use Rattle.tva_base.specs.Ordinals.{ordinal_behind}
+use Rattle.tva_shim.specs.Packets.{PacketData, packet_length, class_by_shim}
+use Rattle.tva_shim.specs.Shows.{key_of, nonce_in}
+use Rattle.tva_drr.specs.declared.offered.Offered.{Offered}
+use Rattle.tva_drr.specs.declared.offered.Offered.TheVariants as offers
+use Rattle.tva_flow.specs.Charges.{Charge}
+use Rattle.tva_port.specs.declared.decision.Decision.{Decision}
+use Rattle.tva_port.specs.declared.decision.Decision.TheVariants.{Start, WaitUntil, Idle}
+use Rattle.tva_port.specs.Log as port
+use Rattle.tva_port.specs.Legal.{IsLegal}
+use Rattle.tva_port.specs.Waiting.{queued_by}
+use Rattle.tva_port.specs.Decide.{started_by as port_started}
+use Rattle.tva_port.specs.Stands as port_stands
+use Rattle.tva_host.specs.declared.made.Made.{Made}
+use Rattle.tva_host.specs.declared.made.Receipt.{Receipt}
+use Rattle.tva_host.specs.Receiving.{receipt_of}
+use Rattle.tva_host.specs.Calls.{Call, Received, history_of}
+use Rattle.tva_host.specs.Stands as host_stands
+use Rattle.tva_host.specs.Stands.{HostData}
+use Rattle.tva_trace.specs.declared.rows.Row.{Row}
+use Rattle.tva_router.specs.Handling.{Logs, charged_by, entered, entered_by, handle, outcome_of, outgoing_link, sent}
+use Rattle.tva_router.specs.Stands as router
+use Rattle.tva_router.specs.Stands.{◌with◌, started_on}
+use Rattle.tva_router.proofs.Known.{known}
+use Rattle.tva_router.proofs.Fates.{charges_told, queued_told}
+use Rattle.tva_config.specs.declared.config.NodePlan.{NodePlan}
+use Rattle.tva_config.specs.declared.config.NodePlan.TheVariants as plans
+use Rattle.tva_log.specs.declared.kinds.Input.{Input}
+use Rattle.tva_log.specs.declared.kinds.Input.TheVariants.{FromTrace, Arrival}
+use Rattle.tva_log.specs.Sites.{Site, IsSite, IsPlanned, limits_out}
+use Rattle.tva_log.specs.Entries.{Content, Arrived, Sent, Entry, Took, Started, input_time}
+use Rattle.tva_log.specs.Entries as entry
+use Rattle.tva_log.specs.Parts.{call_of, call_of_input, call_of_row, reply_at, calls, charge_of, charged, charges, content_at, is_row, port_entry, port_logs, queued_at, rows_in}
+use Rattle.tva_log.specs.Contents.{arrived, content_by, goes_out, hosted, made_for, routed}
+use Rattle.tva_log.specs.Told.{content_told, reply_told}
+use Rattle.tva_log.specs.Next.{AreLegal}
+use Rattle.tva_node.specs.declared.role.Role.{Role}
+use Rattle.tva_node.specs.declared.role.Role.TheVariants as roles
+use Rattle.tva_node.specs.declared.role.Routed.{Routed}
+use Rattle.tva_node.specs.declared.role.Hosted.{Hosted}
+use Rattle.tva_node.specs.States.{RoleStands, StandsAsRouter, StandsAsHost, HostTook, IsBy, RouterTook, Takes, reply_went, role_plan, started_by, went_out}
+
+-- a time is no earlier
+pub by-later : (now later : ℕ) (role : Role) → now ≤ later → IsBy now role → IsBy later role
+by-later now later (roles.Router r) l h = omega arith
+by-later now later (roles.Host x) l h = (let a = h.0 in omega arith, let a = h.1 in omega arith)
+
+-- ## links
+
+find-map : {X Y : Type 0} (f : X → Y) (p : Y → Bool) (xs : List X) → find p (map f xs) ≡ option_map f (find (λ x. p (f x)) xs)
+find-map f p [] = refl
+find-map f p (x ∷ xs) = elim (cases_Bool (p (f x))) [
+  | inl a ↦ cond-true (p (f x)) (Some (f x)) (find p (map f xs)) a ∙ sym (ap (option_map f) (cond-true (p (f x)) (Some x) (find (λ y. p (f y)) xs) a))
+  | inr a ↦ cond-false (p (f x)) (Some (f x)) (find p (map f xs)) a ∙ (find-map f p xs ∙ sym (ap (option_map f) (cond-false (p (f x)) (Some x) (find (λ y. p (f y)) xs) a)))
+]
+
+-- a router's links out are its plan's
+pub router_out : (site : Site) (plan : RouterPlan) (link : ℕ) → IsSite site → site.plan ≡ plans.Router plan → outgoing_link plan link ≡ limits_out site link
+router_out site plan link s e =
+    let planned : IsPlanned (plans.Router plan) site.links = subst (λ (p : NodePlan). IsPlanned p site.links) e s.planned in
+    ap (find (λ o. o.0 == link)) planned.1 ∙ find-map (λ (o : ℕ × LinkPlan). (o.0, o.1.limits)) (λ o. o.0 == link) site.links
+
+-- the only link out of a host is its uplink
+only_out : (links : List (ℕ × LinkPlan)) (uplink link : ℕ) (o : ℕ × LinkLimits) → links_of links ≡ uplink ∷ [] → option_map (λ (x : ℕ × LinkPlan). let y : ℕ × LinkLimits = (x.0, x.1.limits) in y) (find (λ x. x.0 == link) links) ≡ Some o → uplink ≡ link
+only_out [] uplink link o e f = absurd (cc)
+only_out (x ∷ xs) uplink link o e f =
+    let here : x.0 ≡ uplink = cc in
+    let none : links_of xs ≡ [] = cc in
+    elim (cases_Bool (x.0 == link)) [
+      | inl a ↦ sym here ∙ eqb-true x.0 link a
+      | inr a ↦ absurd (nowhere xs none (sym (ap (option_map (λ (y : ℕ × LinkPlan). let z : ℕ × LinkLimits = (y.0, y.1.limits) in z)) (cond-false (x.0 == link) (Some x) (find (λ y. y.0 == link) xs) a)) ∙ f))
+    ]
+  where
+    nowhere : (xs : List (ℕ × LinkPlan)) → links_of xs ≡ [] → option_map (λ (x : ℕ × LinkPlan). let y : ℕ × LinkLimits = (x.0, x.1.limits) in y) (find (λ x. x.0 == link) xs) ≡ Some o → ⊥
+    nowhere [] n g = cc
+    nowhere (y ∷ ys) n g = cc
+
+pub host_out : (site : Site) (h : Hosted) (log : List Entry) (link : ℕ) (o : ℕ × LinkLimits) → IsSite site → site.plan ≡ plans.Host h.host.plan → StandsAsHost site h log → limits_out site link ≡ Some o → (h.uplink ≡ link) × (o ≡ (link, h.port.limits))
+host_out site h log link o s e st f =
+    let planned : IsPlanned (plans.Host h.host.plan) site.links = subst (λ (p : NodePlan). IsPlanned p site.links) e s.planned in
+    let same : h.uplink ≡ link = st.uplink ∙ only_out site.links h.host.plan.uplink link o planned.1 f in
+    let there : limits_out site link ≡ Some (link, h.port.limits) = subst (λ k. limits_out site k ≡ Some (k, h.port.limits)) same st.limits in
+    let k : Some o ≡ Some (link, h.port.limits) = sym f ∙ there in
+    (same, some_same o (link, h.port.limits) k)
+  where
+    some_same : (a b : ℕ × LinkLimits) → Some a ≡ Some b → a ≡ b
+    some_same a b e = cc
+
+later-weaker : (time now : ℕ) (log : List port.Entry) → time ≤ now → port.NoneLater time log → port.NoneLater now log
+later-weaker time now log h n = All-weaker (λ (x : port.Entry). port.entry_time x ≤ time) (λ (x : port.Entry). port.entry_time x ≤ now) (λ x q. omega arith) log n
+
+-- the log of each link is legal
+pub role_legal : (site : Site) (role : Role) (log : List Entry) (now : ℕ) → IsSite site → site.plan ≡ role_plan role → RoleStands site role log → IsBy now role → AreLegal site now log
+role_legal site (roles.Router r) log now s e h b = λ link o f.
+    let k = link_number site link o f in
+    let k' : limits_out site link ≡ Some (link, o.1) = f ∙ ap Some (λ i. (k i, o.1)) in
+    let is = known r.router (charges log) (port_logs log) link o.1 now h.router (router_out site r.router.plan link s e ∙ k') b in
+    (is.legal, is.later)
+  where
+    found_number : (links : List (ℕ × LinkPlan)) (link : ℕ) (o : ℕ × LinkLimits) → option_map (λ (x : ℕ × LinkPlan). let y : ℕ × LinkLimits = (x.0, x.1.limits) in y) (find (λ x. x.0 == link) links) ≡ Some o → o.0 ≡ link
+    found_number [] link o g = absurd (cc)
+    found_number (x ∷ xs) link o g = elim (cases_Bool (x.0 == link)) [
+      | inl a ↦
+          let l : option_map (λ (y : ℕ × LinkPlan). let z : ℕ × LinkLimits = (y.0, y.1.limits) in z) (Some x) ≡ Some o = sym (ap (option_map (λ (y : ℕ × LinkPlan). let z : ℕ × LinkLimits = (y.0, y.1.limits) in z)) (cond-true (x.0 == link) (Some x) (find (λ y. y.0 == link) xs) a)) ∙ g in
+          let m : x.0 ≡ o.0 = first_of_pair (x.0, x.1.limits) o (let n : Some (x.0, x.1.limits) ≡ Some o = l in n) in
+          sym m ∙ eqb-true x.0 link a
+      | inr a ↦ found_number xs link o (sym (ap (option_map (λ (y : ℕ × LinkPlan). let z : ℕ × LinkLimits = (y.0, y.1.limits) in z)) (cond-false (x.0 == link) (Some x) (find (λ y. y.0 == link) xs) a)) ∙ g)
+    ]
+      where
+        first_of_pair : (a b : ℕ × LinkLimits) → Some a ≡ Some b → a.0 ≡ b.0
+        first_of_pair a b e = let same : a ≡ b = cc in ap (λ (p : ℕ × LinkLimits). p.0) same
+
+    link_number : (site : Site) (link : ℕ) (o : ℕ × LinkLimits) → limits_out site link ≡ Some o → o.0 ≡ link
+    link_number site link o f = found_number site.links link o f
+role_legal site (roles.Host h) log now s e st b = λ link o f.
+    let out = host_out site h log link o s e st f in
+    let limits : h.port.limits ≡ o.1 = ap (λ (p : ℕ × LinkLimits). p.1) (sym out.1) in
+    subst (λ (l : LinkLimits). IsLegal l (port_logs log link) × port.NoneLater now (port_logs log link)) limits
+    (subst (λ k. IsLegal h.port.limits (port_logs log k) × port.NoneLater now (port_logs log k)) out.0
+    (st.port.legal, later-weaker h.port.last now (port_logs log h.uplink) b.1 st.port.past))
+
+-- ## one more entry
+
+-- what is queued, as one entry and as a list
+pub entered_is : (link time : ℕ) (outcome : Outcome) (class : Class) (packet : PacketData) → cons_option (queued_at link time outcome class packet) [] ≡ entered_by outcome time class packet link
+entered_is link time (Queued on) class packet = by_test (link == on)
+  where
+    by_test : (b : Bool) → cons_option (cond b (Some (port.Queued time class (key_of class packet) packet)) None) [] ≡ cond b (port.Queued time class (key_of class packet) packet ∷ []) []
+    by_test true = refl
+    by_test false = refl
+entered_is link time (Dropped cause) class packet = refl
+
+-- a link's log with one more entry
+pub logs_more : (log : List Entry) (e : Entry) (link : ℕ) → port_logs (log ++ e ∷ []) link ≡ port_logs log link ++ cons_option (port_entry link e) []
+logs_more log e link = filter_map-append (port_entry link) log (e ∷ [])
+
+pub charges_more : (log : List Entry) (e : Entry) → charges (log ++ e ∷ []) ≡ charges log ++ cons_option (charge_of e) []
+charges_more log e = filter_map-append charge_of log (e ∷ [])
+
+charged_is : (time : ℕ) (packet : PacketData) (o : Option Grant) → cons_option (option_map (charged time packet) o) [] ≡ charged_by o time (nonce_in packet.carried) (packet_length packet)
+charged_is time packet None = refl
+charged_is time packet (Some grant) = refl
+
+-- the ordinal behind one more row
+rows_more : (log : List Entry) (e : Entry) → rows_in (log ++ e ∷ []) ≡ rows_in log + cond (is_row e) 1 0
+rows_more log e = sum_by_push (λ x. cond (is_row x) 1 0) log e
+
+pub ordinal_row : (log : List Entry) (row : Row) (made : Content) (next : ℕ) → next ≡ ordinal_behind (rows_in log) → min (next + 1) 18446744073709551615 ≡ ordinal_behind (rows_in (log ++ Took (FromTrace row) made ∷ []))
+ordinal_row log row made next e = omega (arith, e, rows_more log (Took (FromTrace row) made))
+
+pub ordinal_arrival : (log : List Entry) (time : Time) (link : ℕ) (packet : PacketData) (made : Content) (next : ℕ) → next ≡ ordinal_behind (rows_in log) → next ≡ ordinal_behind (rows_in (log ++ Took (Arrival time link packet) made ∷ []))
+ordinal_arrival log time link packet made next e = omega (arith, e, rows_more log (Took (Arrival time link packet) made))
+
+-- a router goes on with an arrival
+pub router_took : (r new : Routed) (log : List Entry) (input : Input) (from : Option ℕ) (packet : PacketData) → StandsAsRouter r log
+    → (let is = handle r.router.plan (charges log) (port_logs log) (input_time input) from packet in router.StandsFor new.router (charges log ++ is.charges) (port_logs log with is.queued))
+    → new.next ≡ ordinal_behind (rows_in (log ++ Took input (arrived r.router.plan log (input_time input) from packet) ∷ []))
+    → StandsAsRouter new (log ++ Took input (arrived r.router.plan log (input_time input) from packet) ∷ [])
+unfolding arrived
+router_took r new log input from packet h st next =
+    let time = input_time input in
+    let plan = r.router.plan in
+    let is = handle plan (charges log) (port_logs log) time from packet in
+    let entry = Took input (Arrived from packet is.fate is.onward) in
+    let more : charges (log ++ entry ∷ []) ≡ charges log ++ is.charges =
+    charges_more log entry ∙ ap (λ (g : List Charge). charges log ++ g) (charged_is time packet is.fate.charge ∙ sym (charges_told plan (charges log) (port_logs log) time from packet)) in
+    let logs : (link : ℕ) → port_logs (log ++ entry ∷ []) link ≡ port_logs log link ++ is.queued link =
+    (λ link. logs_more log entry link ∙ ap (λ (es : List port.Entry). port_logs log link ++ es) (entered_is link time is.fate.outcome is.fate.class is.onward ∙ sym (queued_told plan (charges log) (port_logs log) time from packet link))) in
+    record {
+      router = subst (λ (g : List Charge). router.StandsFor new.router g (port_logs (log ++ entry ∷ []))) (sym more)
+          (subst (λ (k : Logs). router.StandsFor new.router (charges log ++ is.charges) k) (λ i link. sym (logs link) i) st);
+      next = next;
+    }
+
+pub arrived_told : (plan : RouterPlan) (log : List Entry) (time : ℕ) (from : Option ℕ) (packet : PacketData) → content_told (arrived plan log time from packet) ≡ happens.Arrived packet.id (packet_length packet) from (handle plan (charges log) (port_logs log) time from packet).fate
+unfolding arrived
+arrived_told plan log time from packet = refl
+
+-- ## decisions
+
+-- a start on a link is no charge, no row and no call
+charges_started : (log : List Entry) (now link : ℕ) (d : Decision) → charges (log ++ started_by link now d) ≡ charges log
+charges_started log now link (Start class packet) = charges_more log (Started now link class packet) ∙ append-nil (charges log)
+charges_started log now link (WaitUntil time) = ap charges (append-nil log)
+charges_started log now link Idle = ap charges (append-nil log)
+
+rows_started : (log : List Entry) (now link : ℕ) (d : Decision) → rows_in (log ++ started_by link now d) ≡ rows_in log
+rows_started log now link (Start class packet) = omega (arith, rows_more log (Started now link class packet))
+rows_started log now link (WaitUntil time) = ap rows_in (append-nil log)
+rows_started log now link Idle = ap rows_in (append-nil log)
+
+calls_started : (log : List Entry) (now link : ℕ) (d : Decision) → calls (log ++ started_by link now d) ≡ calls log
+calls_started log now link (Start class packet) = filter_map-append call_of log (Started now link class packet ∷ []) ∙ append-nil (calls log)
+calls_started log now link (WaitUntil time) = ap calls (append-nil log)
+calls_started log now link Idle = ap calls (append-nil log)
+
+-- a link's log after a decision on one
+logs_started : (log : List Entry) (now on : ℕ) (d : Decision) (link : ℕ) → port_logs (log ++ started_by on now d) link ≡ port_logs log link ++ started_on on d now link
+logs_started log now on (Start class packet) link = logs_more log (Started now on class packet) link ∙ ap (λ (es : List port.Entry). port_logs log link ++ es) (by_test (link == on))
+  where
+    by_test : (b : Bool) → cons_option (cond b (Some (port.Started now class packet)) None) [] ≡ cond b (port.Started now class packet ∷ []) []
+    by_test true = refl
+    by_test false = refl
+logs_started log now on (WaitUntil time) link = ap (λ (es : List Entry). port_logs es link) (append-nil log) ∙ nothing (link == on)
+  where
+    nothing : (b : Bool) → port_logs log link ≡ port_logs log link ++ cond b [] []
+    nothing true = sym (append-nil (port_logs log link))
+    nothing false = sym (append-nil (port_logs log link))
+logs_started log now on Idle link = ap (λ (es : List Entry). port_logs es link) (append-nil log) ∙ nothing (link == on)
+  where
+    nothing : (b : Bool) → port_logs log link ≡ port_logs log link ++ cond b [] []
+    nothing true = sym (append-nil (port_logs log link))
+    nothing false = sym (append-nil (port_logs log link))
+
+pub router_decided : (r new : Routed) (log : List Entry) (link now : ℕ) (d : Decision) → StandsAsRouter r log → router.StandsFor new.router (charges log) (port_logs log with started_on link d now) → new.next ≡ r.next → StandsAsRouter new (log ++ started_by link now d)
+router_decided r new log link now d h st next = record {
+  router = subst (λ (g : List Charge). router.StandsFor new.router g (port_logs (log ++ started_by link now d))) (sym (charges_started log now link d))
+      (subst (λ (k : Logs). router.StandsFor new.router (charges log) k) (λ i on. sym (logs_started log now link d on) i) st);
+  next = next ∙ (h.next ∙ ap ordinal_behind (sym (rows_started log now link d)));
+}
+
+started_here : (link : ℕ) (d : Decision) (now : ℕ) → started_on link d now link ≡ port_started d now
+started_here link d now = cond-true (link == link) (port_started d now) [] (eq-eqb link link refl)
+
+pub host_decided : (site : Site) (h new : Hosted) (log : List Entry) (now : ℕ) (d : Decision) → StandsAsHost site h log → port_stands.StandsFor new.port (port_logs log h.uplink ++ port_started d now) → new.host ≡ h.host → new.uplink ≡ h.uplink → new.port.limits ≡ h.port.limits
+    → StandsAsHost site new (log ++ started_by h.uplink now d)
+host_decided site h new log now d st p e u l = record {
+  host = subst (λ (cs : List Call). host_stands.StandsFor new.host cs) (sym (calls_started log now h.uplink d)) (subst (λ (x : HostData). host_stands.StandsFor x (calls log)) (sym e) st.host);
+  node = ap (λ (x : HostData). x.node) e ∙ st.node;
+  uplink = u ∙ (st.uplink ∙ ap (λ (x : HostData). x.plan.uplink) (sym e));
+  limits = subst (λ (k : ℕ). limits_out site k ≡ Some (k, new.port.limits)) (sym u) (st.limits ∙ ap (λ (x : LinkLimits). Some (h.uplink, x)) (sym l));
+  port = subst (λ (es : List port.Entry). port_stands.StandsFor new.port es) (sym (ap (port_logs (log ++ started_by h.uplink now d)) u ∙ (logs_started log now h.uplink d h.uplink ∙ ap (λ (es : List port.Entry). port_logs log h.uplink ++ es) (started_here h.uplink d now)))) p;
+}
+
+-- ## a host's inputs
+
+calls_more : (log : List Entry) (input : Input) (made : Content) → calls (log ++ Took input made ∷ []) ≡ calls log ++ call_of_input input ∷ []
+calls_more log input made = filter_map-append call_of log (Took input made ∷ [])
+
+-- a host goes on with an input
+pub host_took : (site : Site) (h new : Hosted) (log : List Entry) (input : Input) (made : Content) → StandsAsHost site h log
+    → host_stands.StandsFor new.host (calls log ++ call_of_input input ∷ [])
+    → port_stands.StandsFor new.port (port_logs log h.uplink ++ cons_option (content_at h.uplink (input_time input) made) [])
+    → new.host.node ≡ h.host.node → new.host.plan ≡ h.host.plan → new.uplink ≡ h.uplink → new.port.limits ≡ h.port.limits
+    → StandsAsHost site new (log ++ Took input made ∷ [])
+host_took site h new log input made st cs p n e u l = record {
+  host = subst (λ (xs : List Call). host_stands.StandsFor new.host xs) (sym (calls_more log input made)) cs;
+  node = n ∙ st.node;
+  uplink = u ∙ (st.uplink ∙ ap (λ (x : HostPlan). x.uplink) (sym e));
+  limits = subst (λ (k : ℕ). limits_out site k ≡ Some (k, new.port.limits)) (sym u) (st.limits ∙ ap (λ (x : LinkLimits). Some (h.uplink, x)) (sym l));
+  port = subst (λ (es : List port.Entry). port_stands.StandsFor new.port es) (sym (ap (port_logs (log ++ Took input made ∷ [])) u ∙ logs_more log (Took input made) h.uplink)) p;
+}
+
+-- where a packet goes out of a host
+pub out_is : (site : Site) (h : Hosted) (log : List Entry) (packet : PacketData) → StandsAsHost site h log → goes_out site h.host.plan log packet ≡ went_out h.uplink h.port.limits (port_logs log h.uplink) packet
+out_is site h log packet st =
+    ap (λ (k : ℕ). sent (port_logs log) (class_by_shim packet.carried) packet (limits_out site k)) (sym st.uplink)
+    ∙ ap (sent (port_logs log) (class_by_shim packet.carried) packet) st.limits
+
+-- where a queueing ends up and what it adds
+pub queued_to : (uplink now : ℕ) (class : Class) (packet : PacketData) (o : Offered PacketData) → entered_by (outcome_of uplink o) now class packet uplink ≡ queued_by o now class (key_of class packet) packet
+queued_to uplink now class packet offers.Queued = cond-true (uplink == uplink) (port.Queued now class (key_of class packet) packet ∷ []) [] (eq-eqb uplink uplink refl)
+queued_to uplink now class packet (offers.NoQueue p) = refl
+queued_to uplink now class packet (offers.QueueFull p) = refl
+
+-- ## what the code tells
+
+pub if_ok : {T E : Type 0} (P Q : T → Type 0) (r : Result T E) → ((x : T) → P x → Q x) → IfOk r P → IfOk r Q
+if_ok P Q (Ok x) f h = f x h
+if_ok P Q (Err e) f h = tt
+
+-- a router has its link
+pub router_has_out : (site : Site) (role : Role) (r : Routed) (link : ℕ) (limits : LinkLimits) → IsSite site → site.plan ≡ role_plan role → role ≡ roles.Router r → limits_out site link ≡ Some (link, limits) → outgoing_link r.router.plan link ≡ Some (link, limits)
+router_has_out site role r link limits s e is out = router_out site r.router.plan link s (e ∙ ap role_plan is) ∙ out
+
+pub not_none : (o : Option (ℕ × LinkLimits)) (x : ℕ × LinkLimits) → o ≡ Some x → o ≡ None → ⊥
+not_none o x e f = cc
+
+-- a router takes an input
+pub router_takes : (r mid new : Routed) (number : ℕ) (log : List Entry) (input : Input) (from : Option ℕ) (packet : PacketData) (told : Happened) → StandsAsRouter r log → mid.router ≡ r.router
+    → routed number r.router.plan log input ≡ Some (arrived r.router.plan log (input_time input) from packet)
+    → told ≡ happens.Arrived packet.id (packet_length packet) from (handle mid.router.plan (charges log) (port_logs log) (input_time input) from packet).fate
+    → router.StandsFor new.router (charges log ++ (handle mid.router.plan (charges log) (port_logs log) (input_time input) from packet).charges) (port_logs log with (handle mid.router.plan (charges log) (port_logs log) (input_time input) from packet).queued)
+    → new.next ≡ ordinal_behind (rows_in (log ++ Took input (arrived r.router.plan log (input_time input) from packet) ∷ []))
+    → RouterTook number r.router.plan log input told new
+router_takes r mid new number log input from packet told h e content is st next =
+    let time = input_time input in
+    let plan : mid.router.plan ≡ r.router.plan = ap (λ (v : router.RouterData). v.plan) e in (
+      arrived r.router.plan log time from packet,
+      content,
+      is ∙ (ap (λ (p : RouterPlan). happens.Arrived packet.id (packet_length packet) from (handle p (charges log) (port_logs log) time from packet).fate) plan ∙ sym (arrived_told r.router.plan log time from packet)),
+      router_took r new log input from packet h
+          (subst (λ (p : RouterPlan). router.StandsFor new.router (charges log ++ (handle p (charges log) (port_logs log) time from packet).charges) (port_logs log with (handle p (charges log) (port_logs log) time from packet).queued)) plan st)
+          next,
+    )
+
+-- a host takes an input
+pub host_takes : (site : Site) (role : Role) (h new : Hosted) (log : List Entry) (input : Input) (told : Happened) → site.plan ≡ role_plan role → role ≡ roles.Host h → HostTook site h.host.plan log input told new → Takes site log input told (roles.Host new)
+host_takes site role h new log input told e is t = (hosted site h.host.plan log input, ap (λ (p : NodePlan). content_by site p log input) (e ∙ ap role_plan is), t.0, t.1)
+
+-- a row at a host
+pub host_row : (site : Site) (h new : Hosted) (log : List Entry) (row : Row) (made : Made) (id : PacketId) (bytes : ℕ) (outcome : Outcome) → StandsAsHost site h log
+    → made ≡ made_for h.host.node h.host.plan (history_of h.host.plan (calls log)) row.time.0 row.what → id ≡ made.packet.id → bytes ≡ packet_length made.packet
+    → outcome ≡ went_out h.uplink h.port.limits (port_logs log h.uplink) made.packet
+    → host_stands.StandsFor new.host (calls log ++ call_of_row row.time.0 row.what ∷ [])
+    → port_stands.StandsFor new.port (port_logs log h.uplink ++ entered_by outcome row.time.0 (class_by_shim made.packet.carried) made.packet h.uplink)
+    → new.host.node ≡ h.host.node → new.host.plan ≡ h.host.plan → new.uplink ≡ h.uplink → new.port.limits ≡ h.port.limits
+    → HostTook site h.host.plan log (FromTrace row) (happens.Sent id bytes made.shape outcome) new
+host_row site h new log row made id bytes outcome st e ei eb eo cs ps n p u l =
+    let plan = h.host.plan in
+    let now = row.time.0 in
+    let m = made_for site.number plan (history_of plan (calls log)) now row.what in
+    let same : made ≡ m = e ∙ ap (λ (k : ℕ). made_for k plan (history_of plan (calls log)) now row.what) st.node in
+    let out : outcome ≡ goes_out site plan log m.packet = eo ∙ (ap (λ (x : Made). went_out h.uplink h.port.limits (port_logs log h.uplink) x.packet) same ∙ sym (out_is site h log m.packet st)) in
+    let id' : id ≡ m.packet.id = ei ∙ ap (λ (x : Made). x.packet.id) same in
+    let bytes' : bytes ≡ packet_length m.packet = eb ∙ ap (λ (x : Made). packet_length x.packet) same in (
+      (λ i. happens.Sent (id' i) (bytes' i) (same i).shape (out i)),
+      host_took site h new log (FromTrace row) (Sent m (goes_out site plan log m.packet)) st cs
+          (subst (λ (es : List port.Entry). port_stands.StandsFor new.port (port_logs log h.uplink ++ es)) (sym (entered_is h.uplink now (goes_out site plan log m.packet) (class_by_shim m.packet.carried) m.packet))
+          (subst (λ (o : Outcome). port_stands.StandsFor new.port (port_logs log h.uplink ++ entered_by o now (class_by_shim m.packet.carried) m.packet h.uplink)) out
+          (subst (λ (x : Made). port_stands.StandsFor new.port (port_logs log h.uplink ++ entered_by outcome now (class_by_shim x.packet.carried) x.packet h.uplink)) same ps)))
+          n p u l,
+    )
+
+-- an arrival at a host
+pub host_arrival : (site : Site) (h new : Hosted) (log : List Entry) (now : Time) (link : ℕ) (packet : PacketData) (receipt : Receipt) (id : PacketId) (bytes payload : ℕ) (told : Option ReplyLine) → StandsAsHost site h log
+    → receipt ≡ receipt_of h.host.node h.host.plan (history_of h.host.plan (calls log)) now.0 packet → id ≡ packet.id → bytes ≡ packet_length packet → payload ≡ packet.payload
+    → told ≡ reply_told receipt.reply (reply_went h.uplink h.port.limits (port_logs log h.uplink) receipt.reply)
+    → host_stands.StandsFor new.host (calls log ++ Received now.0 packet ∷ [])
+    → port_stands.StandsFor new.port (port_logs log h.uplink ++ cons_option (reply_at h.uplink now.0 receipt.reply (reply_went h.uplink h.port.limits (port_logs log h.uplink) receipt.reply)) [])
+    → new.host.node ≡ h.host.node → new.host.plan ≡ h.host.plan → new.uplink ≡ h.uplink → new.port.limits ≡ h.port.limits
+    → HostTook site h.host.plan log (Arrival now link packet) (happens.Received id bytes link payload receipt.what receipt.back told) new
+host_arrival site h new log now link packet receipt id bytes payload told st e ei eb ep et cs ps n p u l =
+    let plan = h.host.plan in
+    let r = receipt_of site.number plan (history_of plan (calls log)) now.0 packet in
+    let same : receipt ≡ r = e ∙ ap (λ (k : ℕ). receipt_of k plan (history_of plan (calls log)) now.0 packet) st.node in
+    let went : (o : Option Made) → reply_went h.uplink h.port.limits (port_logs log h.uplink) o ≡ option_map (λ made. goes_out site plan log made.packet) o = (λ o. replies o) in (
+      (λ i. happens.Received (ei i) (eb i) link (ep i) (same i).what (same i).back ((et ∙ (ap (λ (x : Receipt). reply_told x.reply (reply_went h.uplink h.port.limits (port_logs log h.uplink) x.reply)) same ∙ ap (reply_told r.reply) (went r.reply))) i)),
+      host_took site h new log (Arrival now link packet) (entry.Received link packet r (option_map (λ made. goes_out site plan log made.packet) r.reply)) st cs
+          (subst (λ (o : Option Outcome). port_stands.StandsFor new.port (port_logs log h.uplink ++ cons_option (reply_at h.uplink now.0 r.reply o) [])) (went r.reply)
+          (subst (λ (x : Receipt). port_stands.StandsFor new.port (port_logs log h.uplink ++ cons_option (reply_at h.uplink now.0 x.reply (reply_went h.uplink h.port.limits (port_logs log h.uplink) x.reply)) [])) same ps))
+          n p u l,
+    )
+  where
+    replies : (o : Option Made) → reply_went h.uplink h.port.limits (port_logs log h.uplink) o ≡ option_map (λ made. goes_out site h.host.plan log made.packet) o
+    replies None = refl
+    replies (Some made) = ap Some (sym (out_is site h log made.packet st))

@@ -1,0 +1,493 @@
+-- How a node works: what it stands for before, within and after one time.
+use Rattle.std.proofs.Common.{◌≡◌, ℕ, zero, suc, ◌+◌, ◌*◌, ◌<◌, ◌≤◌, min, List, [], ◌∷◌, ◌++◌, length, get_or, map, take, drop, set, All, Option, Some, None, Bool, true, false, refl, sym, subst, ◌∙◌, ap, ap₂, arith, inl, inr, ◌⊎◌, append-nil, append_assoc}
+use Rattle.std.specs.Prelude.{nat_lt, ◌==◌, IfSome, Contains, slice_get}
+use Rattle.std.specs.Option.{option_map, option_and_then}
+use Rattle.std.specs.List.{AllByRecursion, AllZip, find, filter_map, cons_option}
+use Rattle.std.proofs.lemmas.Bool.{cases_lt}
+use Rattle.std.proofs.lemmas.List.{map_push, drop_more, take-append-drop, set-get_or, get_or-map, map-set, take_more_set, take_more, drop-set-lt, set_split, take_all}
+use Rattle.std.proofs.lemmas.List.Elements.{All-nil, All-cons, All-head, All-tail, All-map, All-contains, All-from_recursion, All-weaker, All-append, All-take, All-get_or, filter_map-append}
+use Rattle.tva_base.specs.declared.event.Event.{Event}
+use Rattle.tva_base.specs.declared.event.Happened.{Happened}
+use Rattle.tva_base.specs.declared.limits.LinkLimits.{LinkLimits}
+use Rattle.tva_base.specs.declared.plan.LinkPlan.{LinkPlan}
+use Rattle.tva_base.specs.declared.packet.Class.{Class}
+use Rattle.tva_base.specs.Plan.{AreLinkLimits, links_of}
+use Rattle.tva_port.specs.Log as port
+use Rattle.tva_shim.specs.Packets.{PacketData, packet_length}
+use Rattle.tva_joins.proofs.Joins.{each-append, each-weaker, each-cut}
+use Rattle.tva_log.specs.declared.kinds.Input.{Input}
+use Rattle.tva_log.specs.declared.kinds.Sending.{Sending}
+use Rattle.tva_log.specs.Sites.{Site, limits_out, IsSite, IsLinkOut, AreRising}
+use Rattle.tva_log.specs.Entries.{Content, Entry, Took, Started, input_time, input_source}
+use Rattle.tva_log.specs.Parts.{port_logs}
+use Rattle.tva_log.specs.Contents.{content}
+use Rattle.tva_log.specs.NodeLog.{IsNodeLog, in_turn, due, starts}
+use Rattle.tva_log.specs.Told.{events, sendings, event_of, sending_of, content_told, at_time}
+use Rattle.tva_log.specs.Next.{next_decision, next_on, IsQuiet, IsWorkAt, AreLegal}
+use Rattle.tva_log.proofs.Logs.{logs-other}
+use Rattle.tva_log.proofs.Ports.{next_again}
+use Rattle.tva_log.proofs.Quiet.{due_same, quiet_log, late_on}
+use Rattle.tva_node.specs.declared.parts.Link.{Link}
+use Rattle.tva_node.specs.declared.role.Role.{Role}
+use Rattle.tva_node.specs.declared.turns.Turn.{Turn}
+use Rattle.tva_node.specs.AtTime.{IsAt}
+use Rattle.tva_node.specs.Turns.{AreLeft, IsTurnOf}
+use Rattle.tva_node.specs.States.{NodeState, StandsFor, StandsAt, Stands, KnowsNext, Takes, Fits, RoleStands, IsBy, link_pair, role_plan}
+use Rattle.tva_node.specs.Work.{IsNoneBefore, sooner, turn_next, least_next, work_time, is_due, TakesAt, IsRank, DecidesAt, all_taken}
+use Rattle.tva_node.proofs.Steps.{begins, takes, rests, starts_one, ends}
+use Rattle.tva_node.proofs.Finding.{find-none, find-some, find-at, link_valid}
+use Rattle.tva_node.proofs.Left.{in_turn-ordered, rest_late, left_late, left_turns_late, taken_due, turn_late, next_left, none_due, slice_read, slice_within}
+use Rattle.tva_node.proofs.Roles.{by-later, role_legal}
+
+-- ## where there is work
+
+some_is : (a b : ℕ) → Some a ≡ Some b → a ≡ b
+some_is a b e = cc
+
+none_left : (end : ℕ) (a b : Option ℕ) → IsNoneBefore end (sooner a b) → IsNoneBefore end a × IsNoneBefore end b
+none_left end None None h = (tt, tt)
+none_left end None (Some b) h = (tt, h)
+none_left end (Some a) None h = (h, tt)
+none_left end (Some a) (Some b) h = (omega arith, omega arith)
+
+no_link : (end : ℕ) (ls : List Link) → IsNoneBefore end (least_next ls) → All (λ (l : Link). IsNoneBefore end l.next) ls
+no_link end [] h = All-nil (λ (l : Link). IsNoneBefore end l.next)
+no_link end (l ∷ ls) h = let k = none_left end l.next (least_next ls) h in All-cons (λ (x : Link). IsNoneBefore end x.next) l ls k.0 (no_link end ls k.1)
+
+-- nothing is before the time itself
+pub none_sooner : (t : ℕ) (o : Option ℕ) → o ≡ Some t → IsNoneBefore t o
+none_sooner t None e = absurd (cc)
+none_sooner t (Some u) e = let k = some_is u t e in omega arith
+
+pub either : (a b : Option ℕ) (t : ℕ) → sooner a b ≡ Some t → (a ≡ Some t) ⊎ (b ≡ Some t)
+either None b t e = inr e
+either (Some a) None t e = inl e
+either (Some a) (Some b) t e =
+    let k : min a b ≡ t = some_is (min a b) t e in
+    elim (cases_lt b a) [ inl l ↦ inr (ap Some (let m : b ≡ t = omega arith in m)) | inr l ↦ inl (ap Some (let m : a ≡ t = omega arith in m)) ]
+
+pub any_link : (P : Link → Type 0) (ls : List Link) (t : ℕ) → All P ls → least_next ls ≡ Some t → (l : Link) × (P l × (l.next ≡ Some t))
+any_link P [] t h e = absurd (cc)
+any_link P (l ∷ ls) t h e = elim (either l.next (least_next ls) t e) [
+  | inl a ↦ (l, (All-head P l ls h, a))
+  | inr a ↦ any_link P ls t (All-tail P l ls h) a
+]
+
+-- ## links out
+
+abbrev limits_in : Option (ℕ × LinkPlan) → Option (ℕ × LinkLimits)
+limits_in found = option_map (λ o. (o.0, o.1.limits)) found
+
+limits_are : (site : Site) (ls : List Link) (k : ℕ) → site.links ≡ map link_pair ls → limits_out site k ≡ limits_in (find (λ o. o.0 == k) (map link_pair ls))
+limits_are site ls k e = ap (λ (os : List (ℕ × LinkPlan)). limits_in (find (λ o. o.0 == k) os)) e
+
+limits_some : (P : Link → Type 0) (k : ℕ) (ls : List Link) (found : Option (ℕ × LinkPlan)) (o : ℕ × LinkLimits) → All P ls → find (λ x. x.0 == k) (map link_pair ls) ≡ found → limits_in found ≡ Some o → (l : Link) × (P l × (l.number ≡ k))
+limits_some P k ls None o h e f = absurd (cc)
+limits_some P k ls (Some x) o h e f = let found = find-some P k ls x h e in (found.0, (found.1.0, found.1.1))
+
+-- a link out is one of the links
+pub out_link : (P : Link → Type 0) (site : Site) (ls : List Link) (k : ℕ) (o : ℕ × LinkLimits) → site.links ≡ map link_pair ls → All P ls → limits_out site k ≡ Some o → (l : Link) × (P l × (l.number ≡ k))
+out_link P site ls k o e h f = limits_some P k ls (find (λ x. x.0 == k) (map link_pair ls)) o h refl (sym (limits_are site ls k e) ∙ f)
+
+-- a number that no link has is no link out
+pub no_out : (site : Site) (ls : List Link) (k : ℕ) → site.links ≡ map link_pair ls → All (λ (l : Link). l.number ≡ k → ⊥) ls → limits_out site k ≡ None
+no_out site ls k e h = limits_are site ls k e ∙ ap limits_in (find-none k ls h)
+
+next_out : (o : Option (ℕ × LinkLimits)) (f : ℕ × LinkLimits → Option ℕ) (t : ℕ) → option_and_then f o ≡ Some t → (x : ℕ × LinkLimits) × (o ≡ Some x)
+next_out None f t e = absurd (cc)
+next_out (Some x) f t e = (x, refl)
+
+-- ## before a time
+
+module _ (v : NodeState) (log : List Entry) (h : StandsFor v log) where
+  pub legal : AreLegal v.site v.worked_to log
+  legal = role_legal v.site v.role log v.worked_to h.site h.plan h.role h.past
+
+  -- work comes no earlier than what is worked
+  pub work_late : (t : ℕ) → work_time v.turns v.links ≡ Some t → v.worked_to ≤ t
+  work_late t e = elim (either (turn_next v.turns) (least_next v.links) t e) [
+    | inl a ↦ turn_late v.worked_to v.inbox v.turns t h.left a
+    | inr a ↦
+        let l = any_link (KnowsNext v.site log v.worked_to) v.links t h.links a in
+        late_on v.site log v.worked_to t l.0.number (limits_out v.site l.0.number) (sym l.1.0 ∙ l.1.1)
+  ]
+
+  no_input : (end t : ℕ) → IsNoneBefore end (turn_next v.turns) → v.worked_to ≤ t → t < end → Contains (map input_time (in_turn v.inbox)) t → ⊥
+  no_input end t n l k c =
+      let P : ℕ → Type 0 = λ u. (u < v.worked_to) ⊎ (end ≤ u) in
+      let Q : Input → Type 0 = λ i. P (input_time i) in
+      let taken = due v.worked_to (in_turn v.inbox) in
+      let early : AllByRecursion Q taken = each-weaker (λ i. input_time i < v.worked_to) Q (λ i a. inl a) taken (each-cut input_time input_source v.worked_to (in_turn v.inbox)) in
+      let late : AllByRecursion Q h.left.0 = each-weaker (λ i. end ≤ input_time i) Q (λ i a. inr a) h.left.0 (left_late v.inbox taken v.turns h.left end n) in
+      let all : AllByRecursion Q (in_turn v.inbox) = subst (AllByRecursion Q) (sym h.left.1) (each-append Q taken h.left.0 early late) in
+      elim (All-contains P (map input_time (in_turn v.inbox)) t (All-map P input_time (in_turn v.inbox) (All-from_recursion Q (in_turn v.inbox) all)) c) [
+        | inl a ↦ omega arith
+        | inr a ↦ omega arith
+      ]
+
+  no_decision : (end t link : ℕ) → IsNoneBefore end (least_next v.links) → t < end → next_on v.site log v.worked_to link ≡ Some t → ⊥
+  no_decision end t link n k e =
+      let o = next_out (limits_out v.site link) (λ o. next_decision o.1 (port_logs log link) v.worked_to) t e in
+      let P : Link → Type 0 = λ l. IsNoneBefore end l.next in
+      let Q : Link → Type 0 = λ l. P l × KnowsNext v.site log v.worked_to l in
+      let l = out_link Q v.site v.links link o.0 h.out (both v.links (no_link end v.links n) h.links) o.1 in
+      let same : l.0.next ≡ Some t = l.1.0.1 ∙ subst (λ k. next_on v.site log v.worked_to k ≡ Some t) (sym l.1.1) e in
+      let late : end ≤ t = subst (IsNoneBefore end) same l.1.0.0 in
+      omega arith
+    where
+      both : (ls : List Link) → All (λ (l : Link). IsNoneBefore end l.next) ls → All (KnowsNext v.site log v.worked_to) ls → All (λ (l : Link). IsNoneBefore end l.next × KnowsNext v.site log v.worked_to l) ls
+      both [] a b = All-nil (λ (l : Link). IsNoneBefore end l.next × KnowsNext v.site log v.worked_to l)
+      both (x ∷ xs) a b =
+          All-cons (λ (l : Link). IsNoneBefore end l.next × KnowsNext v.site log v.worked_to l) x xs
+          (All-head (λ (l : Link). IsNoneBefore end l.next) x xs a, All-head (KnowsNext v.site log v.worked_to) x xs b)
+          (both xs (All-tail (λ (l : Link). IsNoneBefore end l.next) x xs a) (All-tail (KnowsNext v.site log v.worked_to) x xs b))
+
+  -- before the next time nothing is to be done
+  pub quiet : (end : ℕ) → IsNoneBefore end (work_time v.turns v.links) → IsQuiet v.site (in_turn v.inbox) log v.worked_to end
+  quiet end n t k w =
+      let parts = none_left end (turn_next v.turns) (least_next v.links) n in
+      elim w.1 [
+        | inl c ↦ no_input end t parts.0 w.0 k c
+        | inr d ↦ no_decision end t d.0 parts.1 k d.1
+      ]
+
+  due_then : (end : ℕ) → v.worked_to ≤ end → IsNoneBefore end (work_time v.turns v.links) → due end (in_turn v.inbox) ≡ due v.worked_to (in_turn v.inbox)
+  due_then end l n = due_same v.worked_to end (in_turn v.inbox) l (λ t a b c. quiet end n t b (a, inl c))
+
+  log_then : (end : ℕ) → v.worked_to ≤ end → IsNoneBefore end (work_time v.turns v.links) → IsNodeLog v.site (in_turn v.inbox) end log
+  log_then end l n = quiet_log v.site (in_turn v.inbox) v.worked_to end log legal l (quiet end n) h.whole
+
+  -- a node goes to a time before which there is nothing to do
+  pub rests_until : (end : ℕ) → end ≤ v.horizon + 1 → v.worked_to ≤ end → IsNoneBefore end (work_time v.turns v.links) → StandsFor (record v { worked_to = end }) log
+  rests_until end b l n = record {
+    site = h.site;
+    plan = h.plan;
+    out = h.out;
+    horizon = (h.horizon.0, b);
+    whole = log_then end l n;
+    events = h.events;
+    sendings = h.sendings;
+    role = h.role;
+    past = by-later v.worked_to end v.role l h.past;
+    links = knows v.links (no_link end v.links (none_left end (turn_next v.turns) (least_next v.links) n).1) h.links;
+    fits = h.fits;
+    left = subst (λ (taken : List Input). AreLeft v.inbox taken v.turns) (sym (due_then end l n)) h.left;
+  }
+    where
+      again : (k : ℕ) (next : Option ℕ) (o : Option (ℕ × LinkLimits)) → o ≡ limits_out v.site k → IsNoneBefore end next → next ≡ option_and_then (λ x. next_decision x.1 (port_logs log k) v.worked_to) o → next ≡ option_and_then (λ x. next_decision x.1 (port_logs log k) end) o
+      again k next None e a q = q
+      again k next (Some x) e a q =
+          let g = legal k x (sym e) in
+          q ∙ sym (next_again x.1 (port_logs log k) v.worked_to end (link_valid v.site k x h.site (sym e)).0 g.0 g.1 l (λ t f. subst (IsNoneBefore end) (q ∙ f) a))
+
+      knows : (ls : List Link) → All (λ (x : Link). IsNoneBefore end x.next) ls → All (KnowsNext v.site log v.worked_to) ls → All (KnowsNext v.site log end) ls
+      knows [] a b = All-nil (KnowsNext v.site log end)
+      knows (x ∷ xs) a b =
+          All-cons (KnowsNext v.site log end) x xs
+          (again x.number x.next (limits_out v.site x.number) refl (All-head (λ (y : Link). IsNoneBefore end y.next) x xs a) (All-head (KnowsNext v.site log v.worked_to) x xs b))
+          (knows xs (All-tail (λ (y : Link). IsNoneBefore end y.next) x xs a) (All-tail (KnowsNext v.site log v.worked_to) x xs b))
+
+  -- a time begins at which there is work
+  pub begins_at : (now : ℕ) → now ≤ v.horizon → work_time v.turns v.links ≡ Some now → TakesAt v now
+  begins_at now b w =
+      let n = none_sooner now (work_time v.turns v.links) w in
+      let l = work_late now w in
+      let taken = due now (in_turn v.inbox) in
+      let left : AreLeft v.inbox taken v.turns = subst (λ (is : List Input). AreLeft v.inbox is v.turns) (sym (due_then now l n)) h.left in (
+        taken,
+        log,
+        record {
+          site = h.site;
+          plan = h.plan;
+          out = h.out;
+          horizon = (h.horizon.0, b);
+          worked = begins v.site (in_turn v.inbox) now log (log_then now l n);
+          events = h.events;
+          sendings = h.sendings;
+          role = h.role;
+          past = by-later v.worked_to now v.role l h.past;
+          links = no_rank v.links;
+          fits = h.fits;
+          early = each-weaker (λ i. input_time i < now) (λ i. input_time i ≤ now) (λ i a. omega arith) taken (each-cut input_time input_source now (in_turn v.inbox));
+          late = left_turns_late v.inbox taken v.turns left now (none_left now (turn_next v.turns) (least_next v.links) n).0;
+          left = left;
+        },
+      )
+    where
+      no_rank : (ls : List Link) → All (λ (x : Link). x.number < 0 → KnowsNext v.site log (now + 1) x) ls
+      no_rank [] = All-nil (λ (x : Link). x.number < 0 → KnowsNext v.site log (now + 1) x)
+      no_rank (x ∷ xs) = All-cons (λ (y : Link). y.number < 0 → KnowsNext v.site log (now + 1) y) x xs (λ a. absurd (omega arith)) (no_rank xs)
+
+-- ## inputs
+
+same_input : (a b : Input) (o : Option Input) → o ≡ Some a → o ≡ Some b → a ≡ b
+same_input a b o e f = let k : Some a ≡ Some b = sym e ∙ f in cc
+
+module _ (v : NodeState) (now : ℕ) (taken : List Input) (log : List Entry) (st : StandsAt v now 0 taken log) where
+  -- the next turn is that of an input
+  pub input_next : (turn : Turn) (ts : List Turn) → v.turns ≡ turn ∷ ts → (input : Input) × (IsTurnOf v.inbox turn input × AreLeft v.inbox (taken ++ input ∷ []) ts)
+  input_next turn ts e = next_left v.inbox taken turn ts (subst (AreLeft v.inbox taken) e st.left)
+
+  -- which is read there
+  pub read_next : (turn : Turn) (ts : List Turn) (x : Input) → v.turns ≡ turn ∷ ts → turn.time ≡ now → x ≡ get_or v.inbox turn.place x
+      → (input_time x ≡ now) × Fits v.site.plan x × (slice_get v.inbox turn.place ≡ Some x)
+  read_next turn ts x e here read =
+      let next = input_next turn ts e in
+      let same : x ≡ next.0 = read ∙ slice_read v.inbox turn.place next.0 x next.1.0.place in
+      let fit = All-get_or (λ i. (input_time i ≤ v.horizon) × Fits v.site.plan i) v.inbox turn.place x (slice_within v.inbox turn.place next.0 next.1.0.place) st.fits in (
+        ap input_time same ∙ (sym next.1.0.time ∙ here),
+        subst (Fits v.site.plan) (sym read) fit.1,
+        next.1.0.place ∙ ap Some (sym same),
+      )
+
+  -- it is taken
+  pub took_one : (turn : Turn) (ts : List Turn) (input : Input) (told : Happened) (role : Role) → v.turns ≡ turn ∷ ts → turn.time ≡ now → slice_get v.inbox turn.place ≡ Some input
+      → Takes v.site log input told role → role_plan role ≡ role_plan v.role → IsBy now role
+      → TakesAt (record v { turns = ts; role = role; events = v.events ++ record { time = at_time now; node = v.site.number; happened = told } ∷ [] }) now
+  took_one turn ts input told role e here at t plan by =
+      let next = input_next turn ts e in
+      let same : next.0 ≡ input = same_input next.0 input (slice_get v.inbox turn.place) next.1.0.place at in
+      let time : input_time input ≡ now = ap input_time (sym same) ∙ (sym next.1.0.time ∙ here) in
+      let made = t.0 in
+      let entry = Took input made in (
+        taken ++ input ∷ [],
+        log ++ entry ∷ [],
+        record {
+          site = st.site;
+          plan = st.plan ∙ sym plan;
+          out = st.out;
+          horizon = st.horizon;
+          worked = takes v.site now taken log input made time t.1 st.worked;
+          events = ap₂ (λ (es : List Event) (x : Event). es ++ x ∷ []) st.events (λ i. record { time = at_time (sym time i); node = v.site.number; happened = t.2 i }) ∙ sym (map_push (event_of v.site) log entry);
+          sendings = st.sendings ∙ sym (filter_map-append (sending_of v.site) log (entry ∷ []) ∙ append-nil (sendings v.site log));
+          role = t.3;
+          past = by;
+          links = none_yet (log ++ entry ∷ []) v.links;
+          fits = st.fits;
+          early = each-append (λ i. input_time i ≤ now) taken (input ∷ []) st.early (omega arith, tt);
+          late = (subst (AllByRecursion (λ (x : Turn). now ≤ x.time)) e st.late).1;
+          left = subst (λ (i : Input). AreLeft v.inbox (taken ++ i ∷ []) ts) same next.1.1;
+        },
+      )
+    where
+      none_yet : (log' : List Entry) (ls : List Link) → All (λ (x : Link). x.number < 0 → KnowsNext v.site log' (now + 1) x) ls
+      none_yet log' [] = All-nil (λ (x : Link). x.number < 0 → KnowsNext v.site log' (now + 1) x)
+      none_yet log' (x ∷ xs) = All-cons (λ (y : Link). y.number < 0 → KnowsNext v.site log' (now + 1) y) x xs (λ a. absurd (omega arith)) (none_yet log' xs)
+
+  low : (ls : List Link) → All (λ (l : Link). 0 ≤ l.number) ls
+  low [] = All-nil (λ (l : Link). 0 ≤ l.number)
+  low (l ∷ ls) = All-cons (λ (x : Link). 0 ≤ x.number) l ls (omega arith) (low ls)
+
+  -- where none comes any more, all inputs of the time are taken
+  pub all_in : is_due now v.turns ≡ false → DecidesAt v now 0
+  all_in e =
+      let n = none_due now v.turns e st.late in
+      let due_is : due (now + 1) (in_turn v.inbox) ≡ taken = taken_due v.inbox taken v.turns st.left (now + 1) (each-weaker (λ i. input_time i ≤ now) (λ i. input_time i < now + 1) (λ i a. omega arith) taken st.early) n in
+      (0, log, record { before = All-nil (λ (l : Link). l.number < 0); behind = low v.links }, subst (λ (is : List Input). StandsAt v now 0 is log) (sym due_is) st)
+
+-- ## links
+
+module _ (v : NodeState) (now place rank : ℕ) (log : List Entry) (d : Link) (ranked : IsRank rank place v.links) (st : StandsAt v now rank (all_taken v now) log) (within : place < length v.links) where
+  abbrev link : Link
+  link = get_or v.links place d
+
+  rising : AreRising (links_of (map link_pair v.links))
+  rising = subst (λ (os : List (ℕ × LinkPlan)). AreRising (links_of os)) st.out st.site.rising
+
+  -- its number is no lower than those that have decided
+  low_enough : rank ≤ link.number
+  low_enough = All-head (λ (l : Link). rank ≤ l.number) link (drop (place + 1) v.links) (subst (All (λ (l : Link). rank ≤ l.number)) (drop_more v.links place d within) ranked.behind)
+
+  pub found : limits_out v.site link.number ≡ Some (link.number, link.plan.limits)
+  found = limits_are v.site v.links link.number st.out ∙ ap limits_in (find-at v.links place d rising within)
+
+  -- the links behind it have higher numbers
+  behind_higher : All (λ (l : Link). link.number < l.number) (drop (place + 1) v.links)
+  behind_higher = higher v.links place rising within
+    where
+      all_above : (n : ℕ) (ls : List Link) → All (λ m. n < m) (links_of (map link_pair ls)) → All (λ (l : Link). n < l.number) ls
+      all_above n [] a = All-nil (λ (l : Link). n < l.number)
+      all_above n (x ∷ xs) a = All-cons (λ (l : Link). n < l.number) x xs (All-head (λ m. n < m) x.number (links_of (map link_pair xs)) a) (all_above n xs (All-tail (λ m. n < m) x.number (links_of (map link_pair xs)) a))
+
+      higher' : (ls : List Link) (i : ℕ) → AreRising (links_of (map link_pair ls)) → i < length ls → All (λ (l : Link). (get_or ls i d).number < l.number) (drop (suc i) ls)
+      higher' [] i r h = absurd (omega arith)
+      higher' (x ∷ xs) zero r h = all_above x.number xs r.0
+      higher' (x ∷ xs) (suc i) r h = higher' xs i r.1 (omega arith)
+
+      higher : (ls : List Link) (i : ℕ) → AreRising (links_of (map link_pair ls)) → i < length ls → All (λ (l : Link). (get_or ls i d).number < l.number) (drop (i + 1) ls)
+      higher ls i r h = let e : suc i ≡ i + 1 = omega arith in subst (λ k. All (λ (l : Link). (get_or ls i d).number < l.number) (drop k ls)) e (higher' ls i r h)
+
+  -- numbers between are no links out
+  pub none_between : (k : ℕ) → rank ≤ k → k < link.number → starts v.site log k now ≡ None
+  none_between k l h =
+      let P : Link → Type 0 = λ x. x.number ≡ k → ⊥ in
+      let front : All P (take place v.links) = All-weaker (λ (x : Link). x.number < rank) P (λ x a e. absurd (omega arith)) (take place v.links) ranked.before in
+      let more : All P (drop (place + 1) v.links) = All-weaker (λ (x : Link). link.number < x.number) P (λ x a e. absurd (omega arith)) (drop (place + 1) v.links) behind_higher in
+      let back : All P (drop place v.links) = subst (All P) (sym (drop_more v.links place d within)) (All-cons P link (drop (place + 1) v.links) (λ e. absurd (omega arith)) more) in
+      let all : All P v.links = subst (All P) (take-append-drop place v.links) (All-append P (take place v.links) (drop place v.links) front back) in
+      rw (no_out v.site v.links k st.out all) refl
+
+  abbrev put_next : Option ℕ → Link
+  put_next next = record link { next = next }
+
+  set_same : (next : Option ℕ) → v.site.links ≡ map link_pair (set v.links place (put_next next))
+  set_same next =
+      let pairs = map link_pair v.links in
+      st.out
+      ∙ (sym (set-get_or pairs place (link_pair d))
+      ∙ (ap (set pairs place) (get_or-map link_pair v.links place d (link_pair d) within)
+      ∙ sym (map-set link_pair v.links place (put_next next))))
+
+  set_ranked : (next : Option ℕ) → IsRank (suc link.number) (place + 1) (set v.links place (put_next next))
+  set_ranked next =
+      let P : Link → Type 0 = λ x. x.number < suc link.number in
+      let front : All P (take place v.links) = All-weaker (λ (x : Link). x.number < rank) P (λ x a. let b = low_enough in omega arith) (take place v.links) ranked.before in
+      record {
+        before = subst (All P) (sym (take_more_set v.links place (put_next next) within)) (All-append P (take place v.links) (put_next next ∷ []) front (All-cons P (put_next next) [] (omega arith) (All-nil P)));
+        behind = subst (All (λ (x : Link). suc link.number ≤ x.number)) (sym (drop-set-lt (place + 1) v.links place (put_next next) (omega arith)))
+            (All-weaker (λ (x : Link). link.number < x.number) (λ (x : Link). suc link.number ≤ x.number) (λ x a. omega arith) (drop (place + 1) v.links) behind_higher);
+      }
+
+  set_knows : (next : Option ℕ) (log' : List Entry) → ((x : Link) → x.number < link.number → KnowsNext v.site log (now + 1) x → KnowsNext v.site log' (now + 1) x) → KnowsNext v.site log' (now + 1) (put_next next)
+      → All (λ (x : Link). x.number < suc link.number → KnowsNext v.site log' (now + 1) x) (set v.links place (put_next next))
+  set_knows next log' keep own =
+      let P : Link → Type 0 = λ x. x.number < suc link.number → KnowsNext v.site log' (now + 1) x in
+      let Q : Link → Type 0 = λ x. (x.number < rank) × (x.number < rank → KnowsNext v.site log (now + 1) x) in
+      let low = low_enough in
+      let front : All P (take place v.links) = All-weaker Q P (λ x a b. keep x (let c = a.0 in omega arith) (a.1 a.0)) (take place v.links) (both (take place v.links) ranked.before (All-take (λ (x : Link). x.number < rank → KnowsNext v.site log (now + 1) x) place v.links st.links)) in
+      let back : All P (drop (suc place) v.links) = subst (λ k. All P (drop k v.links)) (let e : place + 1 ≡ suc place = omega arith in e) (All-weaker (λ (x : Link). link.number < x.number) P (λ x a b. absurd (omega arith)) (drop (place + 1) v.links) behind_higher) in
+      subst (All P) (sym (set_split v.links place (put_next next) within)) (All-append P (take place v.links) (put_next next ∷ drop (suc place) v.links) front (All-cons P (put_next next) (drop (suc place) v.links) (λ a. own) back))
+    where
+      both : (ls : List Link) → All (λ (x : Link). x.number < rank) ls → All (λ (x : Link). x.number < rank → KnowsNext v.site log (now + 1) x) ls → All (λ (x : Link). (x.number < rank) × (x.number < rank → KnowsNext v.site log (now + 1) x)) ls
+      both [] a b = All-nil (λ (x : Link). (x.number < rank) × (x.number < rank → KnowsNext v.site log (now + 1) x))
+      both (x ∷ xs) a b =
+          All-cons (λ (x : Link). (x.number < rank) × (x.number < rank → KnowsNext v.site log (now + 1) x)) x xs
+          (All-head (λ (x : Link). x.number < rank) x xs a, All-head (λ (x : Link). x.number < rank → KnowsNext v.site log (now + 1) x) x xs b)
+          (both xs (All-tail (λ (x : Link). x.number < rank) x xs a) (All-tail (λ (x : Link). x.number < rank → KnowsNext v.site log (now + 1) x) x xs b))
+
+  -- the link starts nothing
+  pub rested : (next : Option ℕ) (role : Role) → starts v.site log link.number now ≡ None → next ≡ next_on v.site log (now + 1) link.number
+      → RoleStands v.site role log → role_plan role ≡ role_plan v.role → IsBy now role
+      → DecidesAt (record v { links = set v.links place (put_next next); role = role }) now (place + 1)
+  rested next role none is h plan by = (
+    suc link.number,
+    log,
+    set_ranked next,
+    record {
+      site = st.site;
+      plan = st.plan ∙ sym plan;
+      out = set_same next;
+      horizon = st.horizon;
+      worked = rests v.site now rank (suc link.number) (all_taken v now) log (let l = low_enough in omega arith) quiet_to st.worked;
+      events = st.events;
+      sendings = st.sendings;
+      role = h;
+      past = by;
+      links = set_knows next log (λ x a k. k) is;
+      fits = st.fits;
+      early = st.early;
+      late = st.late;
+      left = st.left;
+    },
+  )
+    where
+      quiet_to : (k : ℕ) → rank ≤ k → k < suc link.number → starts v.site log k now ≡ None
+      quiet_to k a b = elim (cases_lt k link.number) [
+        | inl c ↦ none_between k a c
+        | inr c ↦ let same : link.number ≡ k = omega arith in subst (λ j. starts v.site log j now ≡ None) same none
+      ]
+
+  abbrev start_event : Class → PacketData → Event
+  start_event class packet = event_of v.site (Started now link.number class packet)
+
+  -- the link starts a packet
+  pub started_one : (class : Class) (packet : PacketData) (next : Option ℕ) (role : Role) (event : Event) (sending : Sending)
+      → starts v.site log link.number now ≡ Some (class, packet)
+      → starts v.site (log ++ Started now link.number class packet ∷ []) link.number now ≡ None
+      → next ≡ next_on v.site (log ++ Started now link.number class packet ∷ []) (now + 1) link.number
+      → RoleStands v.site role (log ++ Started now link.number class packet ∷ []) → role_plan role ≡ role_plan v.role → IsBy now role
+      → event ≡ start_event class packet → Some sending ≡ sending_of v.site (Started now link.number class packet)
+      → DecidesAt (record v { links = set v.links place (put_next next); role = role; events = v.events ++ event ∷ []; sendings = v.sendings ++ sending ∷ [] }) now (place + 1)
+  started_one class packet next role event sending some busy is h plan by told sent =
+      let entry = Started now link.number class packet in (
+        suc link.number,
+        log ++ entry ∷ [],
+        set_ranked next,
+        record {
+          site = st.site;
+          plan = st.plan ∙ sym plan;
+          out = set_same next;
+          horizon = st.horizon;
+          worked = starts_one v.site now link.number class packet (all_taken v now) log some busy (rests v.site now rank link.number (all_taken v now) log low_enough none_between st.worked);
+          events = ap₂ (λ (es : List Event) (x : Event). es ++ x ∷ []) st.events told ∙ sym (map_push (event_of v.site) log entry);
+          sendings = ap₂ (λ (xs : List Sending) (x : Sending). xs ++ x ∷ []) st.sendings refl ∙ sym (filter_map-append (sending_of v.site) log (entry ∷ []) ∙ ap (λ (o : Option Sending). sendings v.site log ++ cons_option o []) (sym sent));
+          role = h;
+          past = by;
+          links = set_knows next (log ++ entry ∷ []) (λ x a k. k ∙ sym (ap (λ (ps : List port.Entry). option_and_then (λ o. next_decision o.1 ps (now + 1)) (limits_out v.site x.number)) (logs-other log now link.number class packet x.number (λ e. omega arith)))) is;
+          fits = st.fits;
+          early = st.early;
+          late = st.late;
+          left = st.left;
+        },
+      )
+
+-- ## after a time
+
+-- where all links have decided, the node is worked up to the next time
+pub worked_one : (v : NodeState) (now : ℕ) → DecidesAt v now (length v.links) → Stands (record v { worked_to = now + 1 })
+worked_one v now (rank, log, ranked, st) =
+    let P : Link → Type 0 = λ x. x.number < rank in
+    let low : All P v.links = subst (All P) (take_all (length v.links) v.links (omega arith)) ranked.before in (
+      log,
+      record {
+        site = st.site;
+        plan = st.plan;
+        out = st.out;
+        horizon = (st.horizon.0, (let a = st.horizon.1 in omega arith));
+        whole = subst (λ t. IsNodeLog v.site (in_turn v.inbox) t log) (let e : suc now ≡ now + 1 = omega arith in e)
+            (ends v.site (in_turn v.inbox) now rank log
+            (λ k a. rw (no_out v.site v.links k st.out (All-weaker P (λ (x : Link). x.number ≡ k → ⊥) (λ x b e. absurd (omega arith)) v.links low)) refl)
+            (subst (λ t. IsAt v.site now rank (due t (in_turn v.inbox)) log) (let e : now + 1 ≡ suc now = omega arith in e) st.worked));
+        events = st.events;
+        sendings = st.sendings;
+        role = st.role;
+        past = by-later now (now + 1) v.role (omega arith) st.past;
+        links = all_know v.links low st.links;
+        fits = st.fits;
+        left = st.left;
+      },
+    )
+  where
+    all_know : (ls : List Link) → All (λ (x : Link). x.number < rank) ls → All (λ (x : Link). x.number < rank → KnowsNext v.site log (now + 1) x) ls → All (KnowsNext v.site log (now + 1)) ls
+    all_know [] a b = All-nil (KnowsNext v.site log (now + 1))
+    all_know (x ∷ xs) a b =
+        All-cons (KnowsNext v.site log (now + 1)) x xs
+        (All-head (λ (y : Link). y.number < rank → KnowsNext v.site log (now + 1) y) x xs b (All-head (λ (y : Link). y.number < rank) x xs a))
+        (all_know xs (All-tail (λ (y : Link). y.number < rank) x xs a) (All-tail (λ (y : Link). y.number < rank → KnowsNext v.site log (now + 1) y) x xs b))
+
+-- ## going on
+
+least-push : (ls : List Link) (l : Link) → least_next (ls ++ l ∷ []) ≡ sooner (least_next ls) l.next
+least-push [] l = sooner-nothing l.next
+  where
+    sooner-nothing : (o : Option ℕ) → sooner o None ≡ o
+    sooner-nothing None = refl
+    sooner-nothing (Some a) = refl
+least-push (x ∷ xs) l = ap (sooner x.next) (least-push xs l) ∙ assoc x.next (least_next xs) l.next
+  where
+    assoc : (a b c : Option ℕ) → sooner a (sooner b c) ≡ sooner (sooner a b) c
+    assoc None b c = refl
+    assoc (Some a) None c = refl
+    assoc (Some a) (Some b) None = refl
+    assoc (Some a) (Some b) (Some c) = ap Some (let e : min a (min b c) ≡ min (min a b) c = omega arith in e)
+
+-- the next decision of one more link
+pub least_more : (ls : List Link) (i : ℕ) (d : Link) (next more : Option ℕ) → i < length ls → next ≡ least_next (take i ls) → more ≡ sooner next (get_or ls i d).next → more ≡ least_next (take (i + 1) ls)
+least_more ls i d next more h e f = f ∙ (ap (λ o. sooner o (get_or ls i d).next) e ∙ (sym (least-push (take i ls) (get_or ls i d)) ∙ ap least_next (sym (take_more ls i d h))))
+
+-- a node goes to a time, or stays where it is
+pub goes_to : (v : NodeState) (end to : ℕ) → Stands v → end ≤ v.horizon + 1 → IsNoneBefore end (work_time v.turns v.links) → ((v.worked_to ≤ end) × (to ≡ end)) ⊎ ((end ≤ v.worked_to) × (to ≡ v.worked_to)) → Stands (record v { worked_to = to })
+goes_to v end to (log, h) b n c = elim c [
+  | inl a ↦ subst (λ t. Stands (record v { worked_to = t })) (sym a.1) (log, rests_until v log h end b a.0 n)
+  | inr a ↦ subst (λ t. Stands (record v { worked_to = t })) (sym a.1) (log, h)
+]

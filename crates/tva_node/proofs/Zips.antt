@@ -1,0 +1,61 @@
+-- Relations that hold place by place, over lists in parts.
+use Rattle.std.proofs.Common.{◌≡◌, ℕ, zero, suc, ◌+◌, ◌<◌, List, [], ◌∷◌, ◌++◌, length, get_or, take, drop, set, refl, sym, subst, ◌∙◌, ap, arith, append-nil}
+use Rattle.std.specs.List.{AllByRecursion, AllZip}
+use Rattle.std.proofs.lemmas.List.{drop_more, take_more, take_more_set, take-append-drop, drop-set-lt}
+use Rattle.tva_node.specs.States.{NodeState, Keeps, Stands}
+
+pub AllZip-append : {X Y : Type 0} (R : X → Y → Type 0) (xs zs : List X) (ys ws : List Y) → AllZip R xs ys → AllZip R zs ws → AllZip R (xs ++ zs) (ys ++ ws)
+AllZip-append R [] zs [] ws a b = b
+AllZip-append R [] zs (y ∷ ys) ws a b = absurd a
+AllZip-append R (x ∷ xs) zs [] ws a b = absurd a
+AllZip-append R (x ∷ xs) zs (y ∷ ys) ws a b = (a.0, AllZip-append R xs zs ys ws a.1 b)
+
+-- what holds of both halves holds of the whole
+pub all_zip_halves : {X Y : Type 0} (R : X → Y → Type 0) (whole front back : List X) (ys ws : List Y) → whole ≡ front ++ back → AllZip R front ys → AllZip R back ws → AllZip R whole (ys ++ ws)
+all_zip_halves R whole front back ys ws e a b = rw e (AllZip-append R front back ys ws a b)
+
+pub AllZip-same : {X : Type 0} (R : X → X → Type 0) → ((x : X) → R x x) → (xs : List X) → AllZip R xs xs
+AllZip-same R r [] = tt
+AllZip-same R r (x ∷ xs) = (r x, AllZip-same R r xs)
+
+pub each_at : {X : Type 0} (P : X → Type 0) (xs : List X) (i : ℕ) (d : X) → AllByRecursion P xs → i < length xs → P (get_or xs i d)
+each_at P [] i d a h = absurd (omega arith)
+each_at P (x ∷ xs) zero d a h = a.0
+each_at P (x ∷ xs) (suc i) d a h = each_at P xs i d a.1 (omega arith)
+
+-- a node that nothing was done to keeps all
+pub keeps_same : (v : NodeState) → Keeps v v
+keeps_same v = record { site = refl; horizon = refl; inbox = refl; events = ([], sym (append-nil v.events)) }
+
+-- ## a list that is gone through
+
+module _ {X : Type 0} (old xs : List X) (i : ℕ) (o w : X) (within : i < length xs) (long : length xs ≡ length old) (rest : drop i xs ≡ drop i old) (read : o ≡ get_or xs i o) where
+  conses : get_or xs i o ∷ drop (i + 1) xs ≡ get_or old i o ∷ drop (i + 1) old
+  conses = sym (drop_more xs i o within) ∙ (rest ∙ drop_more old i o (let k : i < length old = omega (arith, long) in k))
+
+  same_cons : (x y : X) (us vs : List X) → x ∷ us ≡ y ∷ vs → (x ≡ y) × (us ≡ vs)
+  same_cons x y us vs e = (cc, cc)
+
+  was : o ≡ get_or old i o
+  was = read ∙ (same_cons (get_or xs i o) (get_or old i o) (drop (i + 1) xs) (drop (i + 1) old) conses).0
+
+  pub rest_more : drop (i + 1) (set xs i w) ≡ drop (i + 1) old
+  rest_more = drop-set-lt (i + 1) xs i w (omega arith) ∙ (same_cons (get_or xs i o) (get_or old i o) (drop (i + 1) xs) (drop (i + 1) old) conses).1
+
+  pub zip_more : (R : X → X → Type 0) → AllZip R (take i old) (take i xs) → R o w → AllZip R (take (i + 1) old) (take (i + 1) (set xs i w))
+  zip_more R a r =
+      let one : take (i + 1) old ≡ take i old ++ o ∷ [] = take_more old i o (let k : i < length old = omega (arith, long) in k) ∙ ap (λ (x : X). take i old ++ x ∷ []) (sym was) in
+      let two : take (i + 1) (set xs i w) ≡ take i xs ++ w ∷ [] = take_more_set xs i w within in
+      subst (λ (us : List X). AllZip R us (take (i + 1) (set xs i w))) (sym one)
+      (subst (λ (vs : List X). AllZip R (take i old ++ o ∷ []) vs) (sym two)
+      (AllZip-append R (take i old) (o ∷ []) (take i xs) (w ∷ []) a (r, tt)))
+
+  -- the others stay as they were
+  pub zip_whole : (R : X → X → Type 0) → ((x : X) → R x x) → AllZip R (take i old) (take i xs) → R o w → AllZip R old (set xs i w)
+  zip_whole R same a r =
+      let both = zip_more R a r in
+      let front : AllZip R (take (i + 1) old ++ drop (i + 1) old) (take (i + 1) (set xs i w) ++ drop (i + 1) (set xs i w)) =
+      AllZip-append R (take (i + 1) old) (drop (i + 1) old) (take (i + 1) (set xs i w)) (drop (i + 1) (set xs i w)) both
+      (subst (λ (vs : List X). AllZip R (drop (i + 1) old) vs) (sym rest_more) (AllZip-same R same (drop (i + 1) old))) in
+      subst (λ (us : List X). AllZip R us (set xs i w)) (take-append-drop (i + 1) old)
+      (subst (λ (vs : List X). AllZip R (take (i + 1) old ++ drop (i + 1) old) vs) (take-append-drop (i + 1) (set xs i w)) front)

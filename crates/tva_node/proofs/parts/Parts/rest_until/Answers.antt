@@ -1,0 +1,14 @@
+use Rattle.std.proofs.Common.{rules, ◌≡◌, ◌≤◌, max, arith, inl, inr}
+use Rattle.std.proofs.lemmas.Bool.{cases_lt}
+use Rattle.tva_node.specs.States.{state_of}
+use Rattle.tva_node.proofs.Works.{goes_to}
+use Rattle.tva_node.proofs.parts.Parts.rest_until.Goals as goal
+
+pub returns-clause-stands : goal.returns-clause-stands
+returns-clause-stands c =
+    let from = c.args.self.now.worked_to in
+    goes_to (state_of c.args.self.now) c.args.end c.max-self.result c.requires.stands c.requires.end c.requires.none
+    (elim (cases_lt from c.args.end) [
+      | inl a ↦ inl (omega arith, let e : c.max-self.result ≡ c.args.end = grind (arith, rules, c.max-self.ensures) in e)
+      | inr a ↦ inr (a, let e : c.max-self.result ≡ from = grind (arith, rules, c.max-self.ensures) in e)
+    ])

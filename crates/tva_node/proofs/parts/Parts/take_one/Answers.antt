@@ -1,0 +1,57 @@
+use Rattle.std.proofs.Common.{rules, ◌≡◌, ◌≤◌, ◌<◌, ◌∷◌, [], ◌++◌, List, length, get_or, map, false, true, vec_len, refl, sym, subst, ◌∙◌, ap, arith}
+use Rattle.std.proofs.lemmas.List.Elements.{All-get_or}
+use Rattle.tva_base.specs.declared.event.Event.{Event}
+use Rattle.tva_log.specs.declared.kinds.Input.{Input}
+use Rattle.tva_log.specs.Entries.{input_time}
+use Rattle.tva_log.specs.Sites.{Site, site_of}
+use Rattle.tva_node.specs.declared.turns.Turn.{Turn}
+use Rattle.tva_node.specs.States.{NodeState, Fits, IsBy, link_pair, role_plan, site_at, state_of}
+use Rattle.tva_node.specs.Work.{TakesAt, is_due}
+use Rattle.tva_node.proofs.Left.{slice_read, slice_within, some_due}
+use Rattle.tva_node.proofs.Works.{input_next, read_next, took_one}
+use Rattle.tva_node.proofs.parts.Parts.take_one.Goals as goal
+
+pub returns-in_default-clause-fewer : goal.returns-in_default-clause-fewer
+returns-in_default-clause-fewer c =
+    let none : false ≡ true = subst (λ (ts : List Turn). is_due c.args.now ts ≡ true) c.in_default.ensures.0 c.requires.next in
+    absurd (cc)
+
+pub index-requires : goal.index-requires
+index-requires c =
+    let st = c.requires.stands in
+    let i = input_next (state_of c.args.self.now) c.args.now st.0 st.1 st.2 c.in-Some.turn c.take.new.self c.in-Some.ensures in
+    let size : length c.args.self.now.inbox.items ≡ vec_len c.args.self.now.inbox = search rules in
+    subst (λ n. c.in-Some.turn.place < n) size (slice_within c.args.self.now.inbox.items c.in-Some.turn.place i.0 i.1.0.place)
+
+pub take-requires-2-clause-time : goal.take-requires-2-clause-time
+take-requires-2-clause-time c =
+    let st = c.requires.stands in
+    let r = read_next (state_of c.args.self.now) c.args.now st.0 st.1 st.2 c.in-Some.turn c.take.new.self c.index.result.now c.in-Some.ensures (some_due c.args.now c.args.self.now.turns c.in-Some.turn c.take.new.self c.requires.next c.in-Some.ensures) c.index.ensures in
+    subst (λ t. IsBy t c.args.self.now.role) (sym r.0) st.2.past
+
+pub take-requires-2-clause-horizon : goal.take-requires-2-clause-horizon
+take-requires-2-clause-horizon c =
+    let st = c.requires.stands in
+    let r = read_next (state_of c.args.self.now) c.args.now st.0 st.1 st.2 c.in-Some.turn c.take.new.self c.index.result.now c.in-Some.ensures (some_due c.args.now c.args.self.now.turns c.in-Some.turn c.take.new.self c.requires.next c.in-Some.ensures) c.index.ensures in
+    let h = st.2.horizon in
+    omega (arith, r.0, h.0, h.1)
+
+pub take-requires-2-clause-fits : goal.take-requires-2-clause-fits
+take-requires-2-clause-fits c =
+    let st = c.requires.stands in
+    (read_next (state_of c.args.self.now) c.args.now st.0 st.1 st.2 c.in-Some.turn c.take.new.self c.index.result.now c.in-Some.ensures (some_due c.args.now c.args.self.now.turns c.in-Some.turn c.take.new.self c.requires.next c.in-Some.ensures) c.index.ensures).1
+
+pub returns-clause-stands : goal.returns-clause-stands
+returns-clause-stands c =
+    let st = c.requires.stands in
+    let p = c.args.self.now in
+    let v = state_of p in
+    let due = some_due c.args.now p.turns c.in-Some.turn c.take.new.self c.requires.next c.in-Some.ensures in
+    let r = read_next v c.args.now st.0 st.1 st.2 c.in-Some.turn c.take.new.self c.index.result.now c.in-Some.ensures due c.index.ensures in
+    let told = c.in_ok-happened.ensures.took (site_at p) st.1 st.2.site refl st.2.plan st.2.role in
+    let done = took_one v c.args.now st.0 st.1 st.2 c.in-Some.turn c.take.new.self c.index.result.now c.in_ok-happened.happened c.take-2.new.self c.in-Some.ensures due r.2 told c.in_ok-happened.ensures.plan
+    (subst (λ t. IsBy t c.take-2.new.self) r.0 c.in_ok-happened.ensures.last) in
+    let at : NodeState → NodeState = λ w. record w { site = site_of p.number (role_plan c.take-2.new.self) (map link_pair p.links.items); events = c.push.new.self.items } in
+    let same : record v { turns = c.take.new.self; role = c.take-2.new.self; events = p.log.items ++ record { time = record { 0 = c.args.now }; node = p.number; happened = c.in_ok-happened.happened } ∷ [] } ≡ at (record v { turns = c.take.new.self; role = c.take-2.new.self }) =
+    (λ i. record v { site = site_of p.number (sym c.in_ok-happened.ensures.plan i) (map link_pair p.links.items); turns = c.take.new.self; role = c.take-2.new.self; events = sym c.in_ok-push.ensures.items i }) in
+    subst (λ (w : NodeState). TakesAt w c.args.now) same done

@@ -1,0 +1,28 @@
+use Rattle.std.proofs.Common.{◌≡◌, ◌∙◌, sym, subst, ap}
+use Rattle.tva_base.specs.declared.limits.LinkLimits.{LinkLimits}
+use Rattle.tva_port.specs.Log.{free_after}
+use Rattle.tva_log.specs.Parts.{charges, port_logs}
+use Rattle.tva_node.specs.declared.role.Role.{Role}
+use Rattle.tva_node.specs.States.{RoleStands, role_plan}
+use Rattle.tva_node.proofs.Roles.{host_out, not_none, router_has_out}
+use Rattle.tva_node.proofs.role.Role.free_at.Goals as goal
+
+pub free_at-requires : goal.free_at-requires
+free_at-requires c =
+    let r = c.requires in
+    let out = router_has_out r.0 c.args.self.now c.in-Router.routed c.args.link r.1 r.2 r.3 c.in-Router.is r.4 in
+    record { outgoing = λ none. not_none _ (c.args.link, r.1) out none }
+
+pub returns-in-Router-clause-free : goal.returns-in-Router-clause-free
+returns-in-Router-clause-free c = λ site log limits s e out st.
+    c.free_at.ensures.free (charges log) (port_logs log) limits (subst (λ (r : Role). RoleStands site r log) c.in-Router.is st).router
+    (router_has_out site c.args.self.now c.in-Router.routed c.args.link limits s e c.in-Router.is out)
+
+pub returns-in-Host-clause-free : goal.returns-in-Host-clause-free
+returns-in-Host-clause-free c = λ site log limits s e out st.
+    let h = c.in-Host.hosted in
+    let stands = subst (λ (r : Role). RoleStands site r log) c.in-Host.is st in
+    let o = host_out site h log c.args.link (c.args.link, limits) s (e ∙ ap role_plan c.in-Host.is) stands out in
+    let same : h.port.limits ≡ limits = ap (λ p. p.1) (sym o.1) in
+    c.free_at-in-Host.ensures.free (port_logs log h.uplink) stands.port
+    ∙ (ap (λ (l : LinkLimits). free_after l (port_logs log h.uplink)) same ∙ ap (λ k. free_after limits (port_logs log k)) o.0)

@@ -1,0 +1,4 @@
+pub mod AtTime
+pub mod Turns
+pub mod States
+pub mod Work

@@ -1,0 +1,229 @@
+-- What a node keeps, and for which log it stands.
+use Rattle.std.specs.Prelude.{◌≡◌, ℕ, ◌+◌, ◌<◌, ◌≤◌, min, max, List, [], ◌∷◌, ◌++◌, All, map, Option, Some, None}
+use Rattle.std.specs.Option.{option_map}
+use Rattle.std.specs.List.{AllByRecursion}
+use Rattle.tva_base.specs.declared.event.Event.{Event}
+use Rattle.tva_base.specs.declared.event.Happened.{Happened}
+use Rattle.tva_base.specs.declared.limits.LinkLimits.{LinkLimits}
+use Rattle.tva_base.specs.declared.packet.Time.{Time}
+use Rattle.tva_base.specs.declared.plan.LinkPlan.{LinkPlan}
+use Rattle.tva_base.specs.Ordinals.{ordinal_behind}
+use Rattle.tva_base.specs.declared.packet.Outcome.{Outcome}
+use Rattle.tva_base.specs.declared.plan.RouterPlan.{RouterPlan}
+use Rattle.tva_base.specs.declared.plan.HostPlan.{HostPlan}
+use Rattle.tva_shim.specs.Packets.{PacketData, IsCarried, class_by_shim}
+use Rattle.tva_port.specs.Log as port_log
+use Rattle.tva_router.specs.Handling.{offered, outcome_of}
+use Rattle.tva_host.specs.declared.made.Made.{Made}
+use Rattle.tva_port.specs.declared.decision.Decision.{Decision}
+use Rattle.tva_port.specs.declared.decision.Decision.TheVariants.{Start, WaitUntil, Idle}
+use Rattle.tva_port.specs.Decide.{decision}
+use Rattle.tva_port.specs.Stands as port
+use Rattle.tva_router.specs.Stands as router
+use Rattle.tva_host.specs.Stands as host
+use Rattle.tva_config.specs.declared.config.NodePlan.{NodePlan}
+use Rattle.tva_config.specs.declared.config.NodePlan.TheVariants as plans
+use Rattle.tva_trace.specs.declared.rows.RowWhat.{RowWhat}
+use Rattle.tva_trace.specs.declared.rows.RowWhat.TheVariants as rows
+use Rattle.tva_log.specs.declared.kinds.Input.{Input}
+use Rattle.tva_log.specs.declared.kinds.Input.TheVariants.{FromTrace, Arrival}
+use Rattle.tva_log.specs.declared.kinds.Sending.{Sending}
+use Rattle.tva_log.specs.Sites.{Site, site_of, limits_out, IsSite}
+use Rattle.tva_log.specs.Entries.{Content, Entry, Took, Started, input_time}
+use Rattle.tva_log.specs.Parts.{port_logs, charges, rows_in, calls}
+use Rattle.tva_log.specs.Contents.{content, routed, hosted}
+use Rattle.tva_log.specs.NodeLog.{IsNodeLog, in_turn, due}
+use Rattle.tva_log.specs.Told.{events, sendings, content_told}
+use Rattle.tva_log.specs.Next.{IsWorkAt, next_on}
+use Rattle.tva_node.specs.declared.role.Role.{Role}
+use Rattle.tva_node.specs.declared.role.Role.TheVariants as roles
+use Rattle.tva_node.specs.declared.role.Routed.{Routed}
+use Rattle.tva_node.specs.declared.role.Hosted.{Hosted}
+use Rattle.tva_node.specs.declared.parts.Link.{Link}
+use Rattle.tva_node.specs.declared.parts.Parts.{Parts}
+use Rattle.tva_node.specs.declared.turns.Turn.{Turn}
+use Rattle.tva_node.specs.AtTime.{IsAt}
+use Rattle.tva_node.specs.Turns.{AreLeft}
+
+-- ## what a node is
+
+abbrev pub role_plan : Role → NodePlan
+role_plan (roles.Router r) = plans.Router r.router.plan
+role_plan (roles.Host h) = plans.Host h.host.plan
+
+-- a router stands for the charges and the logs of the node's log, and knows the ordinal behind the rows
+pub record StandsAsRouter (r : Routed) (log : List Entry) : Type 0 where
+  pub router : router.StandsFor r.router (charges log) (port_logs log)
+  pub next : r.next ≡ ordinal_behind (rows_in log)
+
+-- a host stands for its calls, and the port of its one link for that link's log
+pub record StandsAsHost (site : Site) (h : Hosted) (log : List Entry) : Type 0 where
+  pub host : host.StandsFor h.host (calls log)
+  pub node : h.host.node ≡ site.number
+  pub uplink : h.uplink ≡ h.host.plan.uplink
+  pub limits : limits_out site h.uplink ≡ Some (h.uplink, h.port.limits)
+  pub port : port.StandsFor h.port (port_logs log h.uplink)
+
+-- a router or a host stands for a node's log
+abbrev pub RoleStands : Site → Role → List Entry → Type 0
+RoleStands site (roles.Router r) log = StandsAsRouter r log
+RoleStands site (roles.Host h) log = StandsAsHost site h log
+
+-- it was called no later than that
+abbrev pub IsBy : ℕ → Role → Type 0
+IsBy now (roles.Router r) = r.router.last ≤ now
+IsBy now (roles.Host h) = (h.host.last ≤ now) × (h.port.last ≤ now)
+
+-- when a link out is free
+abbrev pub role_free : Role → ℕ → ℕ
+role_free (roles.Router r) link = router.free_of r.router link
+role_free (roles.Host h) link = h.port.free_at
+
+-- ## one step
+
+-- an input is taken: this is told of it, and that becomes of the router or host
+abbrev pub Takes : Site → List Entry → Input → Happened → Role → Type 0
+Takes site log input told new =
+    (made : Content) × (content site log input ≡ Some made) × (told ≡ content_told made) × RoleStands site new (log ++ Took input made ∷ [])
+
+-- the same of a router
+abbrev pub RouterTook : ℕ → RouterPlan → List Entry → Input → Happened → Routed → Type 0
+RouterTook number plan log input told new =
+    (made : Content) × (routed number plan log input ≡ Some made) × (told ≡ content_told made) × StandsAsRouter new (log ++ Took input made ∷ [])
+
+-- and of a host
+abbrev pub HostTook : Site → HostPlan → List Entry → Input → Happened → Hosted → Type 0
+HostTook site plan log input told new =
+    (told ≡ content_told (hosted site plan log input)) × StandsAsHost site new (log ++ Took input (hosted site plan log input) ∷ [])
+
+-- where a packet ends up that a host offers to the port of its link
+abbrev pub went_out : ℕ → LinkLimits → List port_log.Entry → PacketData → Outcome
+went_out uplink limits log packet = outcome_of uplink (offered limits log (class_by_shim packet.carried) packet)
+
+-- where a reply ends up
+abbrev pub reply_went : ℕ → LinkLimits → List port_log.Entry → Option Made → Option Outcome
+reply_went uplink limits log reply = option_map (λ made. went_out uplink limits log made.packet) reply
+
+-- what a decision adds to the log
+abbrev pub started_by : ℕ → ℕ → Decision → List Entry
+started_by link now (Start class packet) = Started now link class packet ∷ []
+started_by link now (WaitUntil time) = []
+started_by link now Idle = []
+
+-- a link with these limits decides: that is what it decides, and that becomes of the router or host
+abbrev pub Decides : Site → List Entry → ℕ → ℕ → LinkLimits → Decision → Role → Type 0
+Decides site log link now limits d new =
+    (d ≡ decision limits (port_logs log link) now) × RoleStands site new (log ++ started_by link now d)
+
+-- an input that a node can take: a row that sends is for a host
+abbrev pub FitsRow : NodePlan → RowWhat → Type 0
+FitsRow (plans.Router plan) (rows.Send dst payload) = ⊥
+FitsRow (plans.Router plan) (rows.Inject flow payload carried) = (payload ≤ 1600) × IsCarried carried
+FitsRow (plans.Host plan) (rows.Send dst payload) = payload ≤ 1600
+FitsRow (plans.Host plan) (rows.Inject flow payload carried) = (payload ≤ 1600) × IsCarried carried
+
+abbrev pub Fits : NodePlan → Input → Type 0
+Fits plan (FromTrace row) = FitsRow plan row.what
+Fits plan (Arrival time link packet) = Unit {0}
+
+-- ## a node
+
+-- a node: what it is, the horizon in nanoseconds, its inputs, its events and sendings, the time up to which it is
+-- worked; and what it keeps besides
+pub record NodeState : Type 0 where
+  pub site : Site
+  pub horizon : ℕ
+  pub inbox : List Input
+  pub events : List Event
+  pub sendings : List Sending
+  pub worked_to : ℕ
+  pub role : Role
+  pub links : List Link
+  pub turns : List Turn
+
+abbrev pub link_pair : Link → ℕ × LinkPlan
+link_pair link = (link.number, link.plan)
+
+abbrev pub site_at : Parts → Site
+site_at p = site_of p.number (role_plan p.role) (map link_pair p.links.items)
+
+abbrev pub state_of : Parts → NodeState
+state_of p = record {
+  site = site_at p;
+  horizon = p.horizon;
+  inbox = p.inbox.items;
+  events = p.log.items;
+  sendings = p.outbox.items;
+  worked_to = p.worked_to;
+  role = p.role;
+  links = p.links.items;
+  turns = p.turns;
+}
+
+-- the link knows when it decides next by itself, from that time on
+abbrev pub KnowsNext : Site → List Entry → ℕ → Link → Type 0
+KnowsNext site log from link = link.next ≡ next_on site log from link.number
+
+-- the node stands for the log: it is the log over the node's inputs up to the time up to which it is worked, its events
+-- and sendings are the node's, and what the node keeps besides is by it
+pub record StandsFor (v : NodeState) (log : List Entry) : Type 0 where
+  pub site : IsSite v.site
+  pub plan : v.site.plan ≡ role_plan v.role
+  pub out : v.site.links ≡ map link_pair v.links
+  pub horizon : (v.horizon ≤ 1000000000000000) × (v.worked_to ≤ v.horizon + 1)
+  pub whole : IsNodeLog v.site (in_turn v.inbox) v.worked_to log
+  pub events : v.events ≡ events v.site log
+  pub sendings : v.sendings ≡ sendings v.site log
+  pub role : RoleStands v.site v.role log
+  pub past : IsBy v.worked_to v.role
+  pub links : All (KnowsNext v.site log v.worked_to) v.links
+  pub fits : All (λ i. (input_time i ≤ v.horizon) × Fits v.site.plan i) v.inbox
+  pub left : AreLeft v.inbox (due v.worked_to (in_turn v.inbox)) v.turns
+
+-- it stands for some log, which is the only one
+abbrev pub Stands : NodeState → Type 0
+Stands v = (log : List Entry) × StandsFor v log
+
+-- within a time: these inputs are taken, and the links below that number have decided
+pub record StandsAt (v : NodeState) (now rank : ℕ) (taken : List Input) (log : List Entry) : Type 0 where
+  pub site : IsSite v.site
+  pub plan : v.site.plan ≡ role_plan v.role
+  pub out : v.site.links ≡ map link_pair v.links
+  pub horizon : (v.horizon ≤ 1000000000000000) × (now ≤ v.horizon)
+  pub worked : IsAt v.site now rank taken log
+  pub events : v.events ≡ events v.site log
+  pub sendings : v.sendings ≡ sendings v.site log
+  pub role : RoleStands v.site v.role log
+  pub past : IsBy now v.role
+  pub links : All (λ l. l.number < rank → KnowsNext v.site log (now + 1) l) v.links
+  pub fits : All (λ i. (input_time i ≤ v.horizon) × Fits v.site.plan i) v.inbox
+  pub early : AllByRecursion (λ i. input_time i ≤ now) taken
+  pub late : AllByRecursion (λ t. now ≤ t.time) v.turns
+  pub left : AreLeft v.inbox taken v.turns
+
+-- a log of events begins with another
+abbrev pub BeginsWith : List Event → List Event → Type 0
+BeginsWith old new = (more : List Event) × (new ≡ old ++ more)
+
+-- what a call leaves of a node, whatever it answers
+pub record Keeps (old new : NodeState) : Type 0 where
+  pub site : new.site ≡ old.site
+  pub horizon : new.horizon ≡ old.horizon
+  pub inbox : new.inbox ≡ old.inbox
+  pub events : BeginsWith old.events new.events
+
+-- a node that was worked up to a time, and no further than the horizon
+pub record IsAdvanced (until : ℕ) (old new : NodeState) : Type 0 where
+  pub stands : Stands new
+  pub upto : new.worked_to ≡ max old.worked_to (min until (old.horizon + 1))
+
+-- the first time up to the horizon at which there is work that isn't done yet
+abbrev pub IsFirstWork : Site → List Input → List Entry → ℕ → ℕ → Option Time → Type 0
+IsFirstWork site inputs log from horizon None = (time : ℕ) → time ≤ horizon → IsWorkAt site inputs log from time → ⊥
+IsFirstWork site inputs log from horizon (Some next) =
+    (next.0 ≤ horizon) × IsWorkAt site inputs log from next.0
+    × ((time : ℕ) → time < next.0 → IsWorkAt site inputs log from time → ⊥)
+
+-- a link out that decides nothing by itself yet
+abbrev pub first_link : ℕ × LinkPlan → Link
+first_link o = record { number = o.0; plan = o.1; next = None }

@@ -1,0 +1,92 @@
+-- Kit: when there is work at a node, and how far it is within one time.
+use Rattle.std.specs.Prelude.{◌≡◌, ℕ, ◌+◌, ◌*◌, ◌≤◌, ◌<◌, ◌==◌, min, Bool, false, List, [], ◌∷◌, All, take, drop, set, get_or, Option, Some, None, IfSome}
+use Rattle.tva_base.specs.declared.event.Event.{Event}
+use Rattle.tva_base.specs.declared.event.Happened.TheVariants as happens
+use Rattle.tva_base.specs.declared.packet.Class.{Class}
+use Rattle.tva_shim.specs.Packets.{PacketData, packet_length}
+use Rattle.tva_log.specs.declared.kinds.Sending.{Sending}
+use Rattle.tva_log.specs.Told.{at_time}
+use Rattle.tva_log.specs.declared.kinds.Input.{Input}
+use Rattle.tva_log.specs.Entries.{Entry}
+use Rattle.tva_log.specs.NodeLog.{in_turn, due}
+use Rattle.tva_node.specs.declared.parts.Link.{Link}
+use Rattle.tva_node.specs.declared.turns.Turn.{Turn}
+use Rattle.tva_node.specs.States.{NodeState, StandsAt}
+
+-- ## the next time
+
+-- the sooner of two times
+abbrev pub sooner : Option ℕ → Option ℕ → Option ℕ
+sooner None other = other
+sooner (Some a) None = Some a
+sooner (Some a) (Some b) = Some (min a b)
+
+-- the time of the next input that is not taken
+abbrev pub turn_next : List Turn → Option ℕ
+turn_next [] = None
+turn_next (turn ∷ turns) = Some turn.time
+
+-- the next time at which one of the links decides by itself
+abbrev pub least_next : List Link → Option ℕ
+least_next [] = None
+least_next (link ∷ links) = sooner link.next (least_next links)
+
+-- the next time at which there is work
+abbrev pub work_time : List Turn → List Link → Option ℕ
+work_time turns links = sooner (turn_next turns) (least_next links)
+
+-- none is before that time
+abbrev pub IsNoneBefore : ℕ → Option ℕ → Type 0
+IsNoneBefore end next = IfSome next (λ time. end ≤ time)
+
+-- the next input comes at that time
+abbrev pub is_due : ℕ → List Turn → Bool
+is_due now [] = false
+is_due now (turn ∷ turns) = turn.time == now
+
+-- ## within one time
+
+-- its inputs are being taken
+abbrev pub TakesAt : NodeState → ℕ → Type 0
+TakesAt v now = (taken : List Input) × (log : List Entry) × StandsAt v now 0 taken log
+
+-- all of them are taken
+abbrev pub all_taken : NodeState → ℕ → List Input
+all_taken v now = due (now + 1) (in_turn v.inbox)
+
+-- the links before a place have decided, and those from it on have not: their numbers are below that one, and no lower
+pub record IsRank (rank place : ℕ) (links : List Link) : Type 0 where
+  pub before : All (λ l. l.number < rank) (take place links)
+  pub behind : All (λ l. rank ≤ l.number) (drop place links)
+
+-- after all inputs, the links before a place have decided
+abbrev pub DecidesAt : NodeState → ℕ → ℕ → Type 0
+DecidesAt v now place = (rank : ℕ) × (log : List Entry) × IsRank rank place v.links × StandsAt v now rank (all_taken v now) log
+
+-- ## what a link starts
+
+-- when a link is free again on which a packet starts at a time
+abbrev pub end_on : Link → ℕ → PacketData → ℕ
+end_on link now packet = now + packet_length packet * link.plan.limits.ns_per_byte
+
+-- the event of a start at a node
+abbrev pub start_event : ℕ → Link → ℕ → Class → PacketData → Event
+start_event node link now class packet = record {
+  time = at_time now;
+  node = node;
+  happened = happens.Started packet.id (packet_length packet) link.number class (at_time (end_on link now packet));
+}
+
+-- what it sends
+abbrev pub start_sending : Link → ℕ → PacketData → Sending
+start_sending link now packet = record { link = link.number; arrive = at_time (end_on link now packet + link.plan.delay); packet = packet }
+
+-- the links with a next decision of the one in that place
+abbrev pub with_next : ℕ → Option ℕ → List Link → Link → List Link
+with_next place next links d = set links place (record (get_or links place d) { next = next })
+
+-- numbers of a start on a link fit their types
+pub record IsStartable (now : ℕ) (link : Link) : Type 0 where
+  pub time : now ≤ 1000000000000000
+  pub rate : link.plan.limits.ns_per_byte ≤ 1000000
+  pub delay : link.plan.delay ≤ 1000000000000

@@ -1,0 +1,86 @@
+// All nodes, worked in halves at once.
+ghost use Rattle.std.specs.Prelude.{◌≡◌, ◌≤◌, OnOk};
+ghost use Rattle.std.specs.List.{AllByRecursion, AllZip};
+ghost use Rattle.std.specs.Thread.{IsSync};
+ghost use Rattle.tva_node.specs.States.{IsAdvanced, Keeps, Stands};
+
+use crate::node::Node;
+use std::alloc::AllocError;
+use std::thread::{Threads, available_parallelism, join_mut};
+use tva_base::Time;
+use tva_outside::Gate;
+
+/// Works each node before a time, in nanoseconds, and up to the horizon, the first half of the nodes
+/// beside the second. The gate is told of each node before it is worked. Each node's log is that of
+/// its inputs, whatever the others hold. After want of memory each log begins with what it held.
+pub fn advance_all<R: Threads + Sync, G: Gate>(
+    rt: &R,
+    gate: &G,
+    until: Time,
+    nodes: &mut [Node],
+) -> Result<(), AllocError>
+    requires { AllByRecursion Stands nodes.old }
+    ensures ok { OnOk result (AllZip (IsAdvanced until.0) nodes.old nodes.new) }
+    ensures kept { AllZip Keeps nodes.old nodes.new }
+{
+    work_parts(rt, gate, until, nodes, processors(rt))
+}
+
+// As many parts as there are processors, and two at least.
+fn processors<R: Threads>(rt: &R) -> usize {
+    match available_parallelism(rt) {
+        Ok(count) => count.get().max(2),
+        Err(_) => 2,
+    }
+}
+
+/// The same in at most so many parts at once.
+#[tactic(auto, using(crate::proofs::Zips::all_zip_halves))]
+pub fn work_parts<R: Threads + Sync, G: Gate>(
+    rt: &R,
+    gate: &G,
+    until: Time,
+    nodes: &mut [Node],
+    parts: usize,
+) -> Result<(), AllocError>
+    requires { AllByRecursion Stands nodes.old }
+    ensures ok { OnOk result (AllZip (IsAdvanced until.0) nodes.old nodes.new) }
+    ensures kept { AllZip Keeps nodes.old nodes.new }
+{
+    if parts <= 1 || nodes.len() <= 1 {
+        return work_each(gate, until, nodes);
+    }
+    let half = nodes.len() / 2;
+    let less = parts / 2;
+    let more = parts - less;
+    let (front, back) = nodes.split_at_mut(half);
+    let (first, second) = join_mut(
+        rt,
+        &mut || -> Result<(), AllocError>
+            requires { IsSync R.row × IsSync G.row × AllByRecursion Stands front.now }
+            ensures ok { OnOk result (AllZip (IsAdvanced until.0) front.entry.now front.exit.now) }
+            ensures kept { AllZip Keeps front.entry.now front.exit.now }
+        { work_parts(rt, gate, until, front, less) },
+        &mut || -> Result<(), AllocError>
+            requires { IsSync R.row × IsSync G.row × AllByRecursion Stands back.now }
+            ensures ok { OnOk result (AllZip (IsAdvanced until.0) back.entry.now back.exit.now) }
+            ensures kept { AllZip Keeps back.entry.now back.exit.now }
+        { work_parts(rt, gate, until, back, more) },
+    );
+    first?;
+    second
+}
+
+// Works one node after another.
+fn work_each<G: Gate>(gate: &G, until: Time, nodes: &mut [Node]) -> Result<(), AllocError>
+    requires { AllByRecursion Stands nodes.old }
+    ensures ok { OnOk result (AllZip (IsAdvanced until.0) nodes.old nodes.new) }
+    ensures kept { AllZip Keeps nodes.old nodes.new }
+{
+    for place in 0..nodes.len() {
+        let node = &mut nodes[place];
+        gate.at_start(node.number());
+        node.advance(until)?;
+    }
+    Ok(())
+}

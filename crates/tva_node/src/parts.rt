@@ -1,0 +1,273 @@
+// What a node keeps, and its work.
+ghost use Rattle.std.specs.Prelude.{◌≡◌, ◌≤◌, ◌<◌, ◌+◌, ◌∷◌, [], ◌++◌, ℕ, min, max, List, Some, None, true, IfSome, OnOk, length, get_or};
+ghost use Rattle.tva_log.specs.Sites.{limits_out};
+ghost use Rattle.tva_node.specs.declared.parts.Link.{Link};
+ghost use Rattle.tva_node.specs.States.{BeginsWith, Keeps, Stands, state_of};
+ghost use Rattle.tva_node.specs.Work.{DecidesAt, IsNoneBefore, IsStartable, TakesAt, end_on, is_due, least_next, sooner, start_event, start_sending, turn_next, with_next, work_time};
+
+use crate::role::Role;
+use crate::turns::Turns;
+use std::alloc::{AllocError, Global};
+use std::cmp;
+use tva_base::{Class, Event, Happened, LinkPlan, Time};
+use tva_log::{Input, Sending};
+use tva_port::Decision;
+use tva_shim::{Packet, length};
+
+/// A link out of the node: its number, its plan, and when it decides next by itself, in nanoseconds,
+/// if it does.
+#[derive(Clone, Copy, Debug)]
+pub struct Link {
+    pub number: u16,
+    pub plan: LinkPlan,
+    pub next: Option<u64>,
+}
+
+/// A node's number, the horizon in nanoseconds, its memory, what it is, its links out by their
+/// numbers, all its inputs, the turns of those that are not taken yet, its events and sendings, and
+/// the time up to which it is worked.
+#[derive(Drop)]
+pub(crate) struct Parts {
+    pub number: u16,
+    pub horizon: u64,
+    pub alloc: Global,
+    pub role: Role,
+    pub links: Vec<Link>,
+    pub inbox: Vec<Input>,
+    pub turns: Turns,
+    pub log: Vec<Event>,
+    pub outbox: Vec<Sending>,
+    pub worked_to: u64,
+}
+
+impl Parts {
+    /// Works what is to be done before a time and up to the horizon.
+    pub fn advance(&mut self, until: u64) -> Result<(), AllocError>
+        requires stands { Stands (state_of self.old) }
+        ensures stands { OnOk result (Stands (state_of self.new)) }
+        ensures upto { OnOk result (self.new.worked_to ≡ max self.old.worked_to (min until (self.old.horizon + 1))) }
+        ensures keeps { Keeps (state_of self.old) (state_of self.new) }
+    {
+        let end = cmp::min(until, self.horizon + 1);
+        while let Some(now) = self.work_before(end) {
+            self.work_at(now)?;
+        }
+        self.rest_until(end);
+        Ok(())
+    }
+
+    // The next time at which there is work.
+    fn work_time(&self) -> Option<u64>
+        ensures { result ≡ work_time self.now.turns self.now.links.items }
+    {
+        sooner(self.turn_time(), least_next(&self.links))
+    }
+
+    /// The next time at which there is work, where it is no later than the horizon.
+    pub fn work_within(&self) -> Option<u64>
+        ensures some { IfSome result (λ now. (work_time self.now.turns self.now.links.items ≡ Some now) × (now ≤ self.now.horizon)) }
+        ensures none { result ≡ None → IsNoneBefore (self.now.horizon + 1) (work_time self.now.turns self.now.links.items) }
+    {
+        match self.work_time() {
+            Some(now) if now <= self.horizon => Some(now),
+            _ => None,
+        }
+    }
+
+    // The next time at which there is work, where it is before the end.
+    fn work_before(&self, end: u64) -> Option<u64>
+        ensures some { IfSome result (λ now. (work_time self.now.turns self.now.links.items ≡ Some now) × (now < end)) }
+        ensures none { result ≡ None → IsNoneBefore end (work_time self.now.turns self.now.links.items) }
+    {
+        match self.work_time() {
+            Some(now) if now < end => Some(now),
+            _ => None,
+        }
+    }
+
+    fn turn_time(&self) -> Option<u64>
+        ensures { result ≡ turn_next self.now.turns }
+    {
+        match self.turns.next() {
+            Some(turn) => Some(turn.time),
+            None => None,
+        }
+    }
+
+    // Goes to a time before which there is nothing to do.
+    fn rest_until(&mut self, end: u64)
+        requires stands { Stands (state_of self.old) }
+        requires end { end ≤ self.old.horizon + 1 }
+        requires none { IsNoneBefore end (work_time self.old.turns self.old.links.items) }
+        ensures stands { Stands (state_of self.new) }
+        ensures upto { self.new.worked_to ≡ max self.old.worked_to end }
+        ensures keeps { Keeps (state_of self.old) (state_of self.new) }
+    {
+        self.worked_to = cmp::max(self.worked_to, end);
+    }
+
+    // Works one time, before which there is nothing to do.
+    fn work_at(&mut self, now: u64) -> Result<(), AllocError>
+        requires stands { Stands (state_of self.old) }
+        requires horizon { now ≤ self.old.horizon }
+        requires next { work_time self.old.turns self.old.links.items ≡ Some now }
+        ensures stands { OnOk result (Stands (state_of self.new)) }
+        ensures upto { OnOk result (self.new.worked_to ≡ now + 1) }
+        ensures on { OnOk result (self.old.worked_to < self.new.worked_to) }
+        ensures keeps { Keeps (state_of self.old) (state_of self.new) }
+    {
+        self.take_all(now)?;
+        self.decide_all(now)?;
+        self.worked_to = now + 1;
+        Ok(())
+    }
+
+    // Takes all inputs of a time.
+    fn take_all(&mut self, now: u64) -> Result<(), AllocError>
+        requires { TakesAt (state_of self.old) now }
+        ensures taken { OnOk result (DecidesAt (state_of self.new) now 0) }
+        ensures links { self.new.links ≡ self.old.links }
+        ensures keeps { Keeps (state_of self.old) (state_of self.new) }
+    {
+        while self.is_due(now) {
+            self.take_one(now)?;
+        }
+        Ok(())
+    }
+
+    fn is_due(&self, now: u64) -> bool
+        ensures { result ≡ is_due now self.now.turns }
+    {
+        match self.turns.next() {
+            Some(turn) => turn.time == now,
+            None => false,
+        }
+    }
+
+    // Takes the next input, which comes at that time.
+    fn take_one(&mut self, now: u64) -> Result<(), AllocError>
+        requires stands { TakesAt (state_of self.old) now }
+        requires next { is_due now self.old.turns ≡ true }
+        ensures stands { OnOk result (TakesAt (state_of self.new) now) }
+        ensures fewer { length self.new.turns < length self.old.turns }
+        ensures links { self.new.links ≡ self.old.links }
+        ensures keeps { Keeps (state_of self.old) (state_of self.new) }
+    {
+        let Some(turn) = self.turns.take() else {
+            return Ok(());
+        };
+        let happened = self
+            .role
+            .take(self.alloc, self.number, &self.inbox[turn.place])?;
+        self.log.push(Event {
+            time: Time(now),
+            node: self.number,
+            happened,
+        })?;
+        Ok(())
+    }
+
+    // Lets each link decide, in the order of their numbers.
+    fn decide_all(&mut self, now: u64) -> Result<(), AllocError>
+        requires { DecidesAt (state_of self.old) now 0 }
+        ensures decided { OnOk result (DecidesAt (state_of self.new) now (length self.new.links.items)) }
+        ensures keeps { Keeps (state_of self.old) (state_of self.new) }
+    {
+        for place in 0..self.links.len() {
+            self.decide_at(place, now)?;
+        }
+        Ok(())
+    }
+
+    // Lets the link in that place decide, where it is free.
+    fn decide_at(&mut self, place: usize, now: u64) -> Result<(), AllocError>
+        requires stands { DecidesAt (state_of self.old) now place }
+        requires within { place < length self.old.links.items }
+        ensures stands { OnOk result (DecidesAt (state_of self.new) now (place + 1)) }
+        ensures count { length self.new.links.items ≡ length self.old.links.items }
+        ensures keeps { Keeps (state_of self.old) (state_of self.new) }
+    {
+        let number = self.links[place].number;
+        let free = self.role.free_at(number);
+        if free.0 > now {
+            self.links[place].next = Some(free.0);
+            return Ok(());
+        }
+        match self.role.decide(Time(now), number) {
+            Decision::Start(class, packet) => self.note_start(place, now, class, packet),
+            Decision::WaitUntil(time) => {
+                self.links[place].next = Some(time.0);
+                Ok(())
+            }
+            Decision::Idle => {
+                self.links[place].next = None;
+                Ok(())
+            }
+        }
+    }
+
+    // Notes that the link in that place starts a packet.
+    fn note_start(
+        &mut self,
+        place: usize,
+        now: u64,
+        class: Class,
+        packet: Packet,
+    ) -> Result<(), AllocError>
+        requires within { place < length self.old.links.items }
+        requires fits { (d : Link) → IsStartable now (get_or self.old.links.items place d) }
+        ensures links { (d : Link) → self.new.links.items
+            ≡ with_next place (Some (end_on (get_or self.old.links.items place d) now packet)) self.old.links.items d }
+        ensures log { (d : Link) → OnOk result (self.new.log.items
+            ≡ self.old.log.items ++ start_event self.old.number (get_or self.old.links.items place d) now class packet ∷ []) }
+        ensures outbox { (d : Link) → OnOk result (self.new.outbox.items
+            ≡ self.old.outbox.items ++ start_sending (get_or self.old.links.items place d) now packet ∷ []) }
+        ensures more { BeginsWith self.old.log.items self.new.log.items }
+        ensures same { (self.new.role ≡ self.old.role) × (self.new.inbox ≡ self.old.inbox) × (self.new.turns ≡ self.old.turns)
+            × (self.new.number ≡ self.old.number) × (self.new.horizon ≡ self.old.horizon) × (self.new.worked_to ≡ self.old.worked_to) }
+    {
+        let link = self.links[place];
+        let bytes = length(&packet);
+        let end = now + u64::from(bytes) * link.plan.limits.ns_per_byte;
+        self.links[place].next = Some(end);
+        self.log.push(Event {
+            time: Time(now),
+            node: self.number,
+            happened: Happened::Started {
+                id: packet.id,
+                length: bytes,
+                link: link.number,
+                class,
+                end: Time(end),
+            },
+        })?;
+        self.outbox.push(Sending {
+            link: link.number,
+            arrive: Time(end + link.plan.delay),
+            packet,
+        })?;
+        Ok(())
+    }
+}
+
+// The sooner of two times.
+fn sooner(one: Option<u64>, other: Option<u64>) -> Option<u64>
+    ensures { result ≡ sooner one other }
+{
+    match (one, other) {
+        (Some(a), Some(b)) => Some(cmp::min(a, b)),
+        (Some(a), None) => Some(a),
+        (None, b) => b,
+    }
+}
+
+// The next time at which one of the links decides by itself.
+fn least_next(links: &[Link]) -> Option<u64>
+    ensures { result ≡ least_next links.now }
+{
+    let mut next = None;
+    for link in links {
+        next = sooner(next, link.next);
+    }
+    next
+}

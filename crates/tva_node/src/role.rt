@@ -1,0 +1,375 @@
+// What a node is: a router, or a host with the port of its link.
+ghost use Rattle.std.specs.Prelude.{◌≡◌, ◌≤◌, ◌+◌, min, List, ◌∷◌, ◌++◌, [], Some, IfOk};
+ghost use Rattle.std.specs.List.{cons_option};
+ghost use Rattle.tva_base.specs.declared.limits.LinkLimits.{LinkLimits};
+ghost use Rattle.tva_base.specs.declared.event.Happened.TheVariants as happens;
+ghost use Rattle.tva_shim.specs.Packets.{packet_length, class_by_shim};
+ghost use Rattle.tva_shim.specs.Changes.{last_tag};
+ghost use Rattle.tva_shim.specs.Shows.{back_in, entries_in, key_of as shown_key};
+ghost use Rattle.tva_flow.specs.Charges.{Charge};
+ghost use Rattle.tva_port.specs.Log.{Entry as PortEntry, free_after};
+ghost use Rattle.tva_port.specs.Stands.{StandsFor as PortStandsFor};
+ghost use Rattle.tva_router.specs.Handling.{Logs, entered_by, handle, outcome_of};
+ghost use Rattle.tva_router.specs.Stands.{StandsFor as RouterStandsFor, ◌with◌};
+ghost use Rattle.tva_host.specs.Calls.{Call, history_of};
+ghost use Rattle.tva_host.specs.Stands.{StandsFor as HostStandsFor};
+ghost use Rattle.tva_config.specs.declared.config.NodePlan.TheVariants as plans;
+ghost use Rattle.tva_log.specs.Sites.{Site, IsSite, limits_out};
+ghost use Rattle.tva_log.specs.Entries.{Entry, input_time};
+ghost use Rattle.tva_log.specs.Parts.{call_of_row, port_logs, reply_at};
+ghost use Rattle.tva_log.specs.Contents.{made_for, packet_of_row};
+ghost use Rattle.tva_log.specs.Told.{brings, reply_told};
+ghost use Rattle.tva_log.specs.declared.kinds.Input.TheVariants as inputs;
+ghost use Rattle.tva_node.specs.States.{Decides, Fits, FitsRow, HostTook, IsBy, RoleStands, RouterTook, StandsAsHost, StandsAsRouter, Takes, reply_went, role_free, role_plan, went_out};
+
+use std::alloc::{AllocError, Global};
+use tva_base::{
+    BackKind, Class, DropCause, Happened, Outcome, PacketId, ReplyLine, ShapeKind, Time,
+};
+use tva_drr::Offered;
+use tva_host::{Host, Made, Receipt};
+use tva_log::Input;
+use tva_port::{Decision, Port};
+use tva_router::Router;
+use tva_shim::{Carried, Kind, Packet, ReturnInfo, class_of, length};
+use tva_trace::{Row, RowWhat};
+
+/// A router, and the ordinal of its next packet from the trace.
+#[derive(Drop)]
+pub struct Routed {
+    pub router: Router,
+    pub next: u64,
+}
+
+/// A host, the number of its one link, and the port of that.
+#[derive(Drop)]
+pub struct Hosted {
+    pub host: Host,
+    pub uplink: u16,
+    pub port: Port,
+}
+
+/// A router or a host.
+#[derive(Drop)]
+pub enum Role {
+    Router(Routed),
+    Host(Hosted),
+}
+
+impl Role {
+    /// Takes an input at its time, and tells what happened.
+    pub fn take(
+        &mut self,
+        alloc: Global,
+        number: u16,
+        input: &Input,
+    ) -> Result<Happened, AllocError>
+        requires time { IsBy (input_time input.now) self.old }
+        requires horizon { input_time input.now ≤ 1000000000000000 }
+        requires fits { Fits (role_plan self.old) input.now }
+        ensures took { (site : Site) (log : List Entry) → IsSite site → site.number ≡ number
+            → site.plan ≡ role_plan self.old → RoleStands site self.old log
+            → IfOk result (λ told. Takes site log input.now told self.new) }
+        ensures plan { role_plan self.new ≡ role_plan self.old }
+        ensures last { IfOk result (λ told. IsBy (input_time input.now) self.new) }
+    {
+        match self {
+            Role::Router(routed) => Ok(routed.take(number, input)),
+            Role::Host(hosted) => hosted.take(alloc, input),
+        }
+    }
+
+    /// What a link out does that is free.
+    pub fn decide(&mut self, now: Time, link: u16) -> Decision
+        requires time { IsBy now.0 self.old }
+        requires horizon { now.0 ≤ 1000000000000000 }
+        requires free { role_free self.old link ≤ now.0 }
+        requires out { (site : Site) × (limits : LinkLimits) × IsSite site × (site.plan ≡ role_plan self.old)
+            × (limits_out site link ≡ Some (link, limits)) }
+        ensures decides { (site : Site) (log : List Entry) (limits : LinkLimits) → IsSite site
+            → site.plan ≡ role_plan self.old → limits_out site link ≡ Some (link, limits)
+            → RoleStands site self.old log → Decides site log link now.0 limits result self.new }
+        ensures plan { role_plan self.new ≡ role_plan self.old }
+        ensures last { IsBy now.0 self.new }
+    {
+        match self {
+            Role::Router(routed) => routed.router.decide(now, link),
+            Role::Host(hosted) => hosted.port.decide(now),
+        }
+    }
+
+    /// When a link out is free.
+    pub fn free_at(&self, link: u16) -> Time
+        requires { (site : Site) × (limits : LinkLimits) × IsSite site × (site.plan ≡ role_plan self.now)
+            × (limits_out site link ≡ Some (link, limits)) }
+        ensures value { result.0 ≡ role_free self.now link }
+        ensures free { (site : Site) (log : List Entry) (limits : LinkLimits) → IsSite site
+            → site.plan ≡ role_plan self.now → limits_out site link ≡ Some (link, limits)
+            → RoleStands site self.now log → result.0 ≡ free_after limits (port_logs log link) }
+    {
+        match self {
+            Role::Router(routed) => routed.router.free_at(link),
+            Role::Host(hosted) => hosted.port.free_at(),
+        }
+    }
+}
+
+impl Routed {
+    fn take(&mut self, number: u16, input: &Input) -> Happened
+        requires time { self.old.router.last ≤ input_time input.now }
+        requires horizon { input_time input.now ≤ 1000000000000000 }
+        requires fits { Fits (plans.Router self.old.router.plan) input.now }
+        ensures took { (log : List Entry) → StandsAsRouter self.old log
+            → RouterTook number self.old.router.plan log input.now result self.new }
+        ensures plan { self.new.router.plan ≡ self.old.router.plan }
+        ensures last { self.new.router.last ≡ input_time input.now }
+    {
+        match input {
+            Input::FromTrace(row) => {
+                let packet = self.packet_of(number, &row.what);
+                self.arrive(row.time, None, packet)
+            }
+            Input::Arrival { time, link, packet } => {
+                self.arrive(*time, Some(*link), packet.copied())
+            }
+        }
+    }
+
+    // The next packet from the trace.
+    fn packet_of(&mut self, number: u16, what: &RowWhat) -> Packet
+        requires { FitsRow (plans.Router self.old.router.plan) what.now }
+        ensures packet { packet_of_row (record { node = number; ordinal = self.old.next }) what.now ≡ Some result }
+        ensures next { self.new.next ≡ min (self.old.next + 1) 18446744073709551615 }
+        ensures router { self.new.router ≡ self.old.router }
+    {
+        let id = PacketId {
+            node: number,
+            ordinal: self.next,
+        };
+        self.next = self.next.saturating_add(1);
+        match what {
+            RowWhat::Inject {
+                flow,
+                payload,
+                carried,
+            } => Packet::new(id, *flow, 0, *payload, carried.copied()),
+            RowWhat::Send { .. } => unreachable!(),
+        }
+    }
+
+    fn arrive(&mut self, now: Time, from: Option<u16>, packet: Packet) -> Happened
+        requires time { self.old.router.last ≤ now.0 }
+        requires horizon { now.0 ≤ 1000000000000000 }
+        ensures told { (h : List Charge) (logs : Logs) → RouterStandsFor self.old.router h logs
+            → result ≡ happens.Arrived packet.id (packet_length packet) from
+            (handle self.old.router.plan h logs now.0 from packet).fate }
+        ensures stands { (h : List Charge) (logs : Logs) → RouterStandsFor self.old.router h logs
+            → RouterStandsFor self.new.router (h ++ (handle self.old.router.plan h logs now.0 from packet).charges)
+            (logs with (handle self.old.router.plan h logs now.0 from packet).queued) }
+        ensures plan { self.new.router.plan ≡ self.old.router.plan }
+        ensures last { self.new.router.last ≡ now.0 }
+        ensures next { self.new.next ≡ self.old.next }
+    {
+        let id = packet.id;
+        let length = length(&packet);
+        let fate = self.router.arrive(now, from, packet);
+        Happened::Arrived {
+            id,
+            length,
+            from,
+            fate,
+        }
+    }
+}
+
+impl Hosted {
+    fn take(&mut self, alloc: Global, input: &Input) -> Result<Happened, AllocError>
+        requires host { self.old.host.last ≤ input_time input.now }
+        requires port { self.old.port.last ≤ input_time input.now }
+        requires horizon { input_time input.now ≤ 1000000000000000 }
+        requires fits { Fits (plans.Host self.old.host.plan) input.now }
+        ensures took { (site : Site) (log : List Entry) → StandsAsHost site self.old log
+            → IfOk result (λ told. HostTook site self.old.host.plan log input.now told self.new) }
+        ensures plan { self.new.host.plan ≡ self.old.host.plan }
+        ensures last { IfOk result (λ told. (self.new.host.last ≤ input_time input.now) × (self.new.port.last ≤ input_time input.now)) }
+    {
+        match input {
+            Input::FromTrace(row) => self.take_row(alloc, row),
+            Input::Arrival { time, link, packet } => {
+                self.receive(alloc, *time, *link, packet.copied())
+            }
+        }
+    }
+
+    // Makes the packet of a row, or takes it from there, and offers it to the link.
+    fn take_row(&mut self, alloc: Global, row: &Row) -> Result<Happened, AllocError>
+        requires host { self.old.host.last ≤ row.now.time.0 }
+        requires port { self.old.port.last ≤ row.now.time.0 }
+        requires horizon { row.now.time.0 ≤ 1000000000000000 }
+        requires fits { FitsRow (plans.Host self.old.host.plan) row.now.what }
+        ensures took { (site : Site) (log : List Entry) → StandsAsHost site self.old log
+            → IfOk result (λ told. HostTook site self.old.host.plan log (inputs.FromTrace row.now) told self.new) }
+        ensures plan { self.new.host.plan ≡ self.old.host.plan }
+        ensures last { IfOk result (λ told. (self.new.host.last ≤ row.now.time.0) × (self.new.port.last ≤ row.now.time.0)) }
+    {
+        let Made { packet, shape } = self.make(alloc, row.time, &row.what)?;
+        let id = packet.id;
+        let length = length(&packet);
+        let outcome = self.queue(row.time, packet);
+        Ok(Happened::Sent {
+            id,
+            length,
+            shape,
+            outcome,
+        })
+    }
+
+    // What comes of a packet that arrives, and of its reply.
+    fn receive(
+        &mut self,
+        alloc: Global,
+        now: Time,
+        from: u16,
+        packet: Packet,
+    ) -> Result<Happened, AllocError>
+        requires host { self.old.host.last ≤ now.0 }
+        requires port { self.old.port.last ≤ now.0 }
+        requires horizon { now.0 ≤ 1000000000000000 }
+        ensures took { (site : Site) (log : List Entry) → StandsAsHost site self.old log
+            → IfOk result (λ told. HostTook site self.old.host.plan log (inputs.Arrival now from packet) told self.new) }
+        ensures plan { self.new.host.plan ≡ self.old.host.plan }
+        ensures last { IfOk result (λ told. (self.new.host.last ≤ now.0) × (self.new.port.last ≤ now.0)) }
+    {
+        let id = packet.id;
+        let length = length(&packet);
+        let payload = packet.payload;
+        let Receipt { what, back, reply } = self.host.receive(alloc, now, packet)?;
+        let reply = self.answer(now, reply);
+        Ok(Happened::Received {
+            id,
+            length,
+            from,
+            payload,
+            what,
+            back,
+            reply,
+        })
+    }
+
+    // The packet of a row.
+    fn make(&mut self, alloc: Global, now: Time, what: &RowWhat) -> Result<Made, AllocError>
+        requires time { self.old.host.last ≤ now.0 }
+        requires fits { FitsRow (plans.Host self.old.host.plan) what.now }
+        ensures made { (calls : List Call) → HostStandsFor self.old.host calls → IfOk result (λ made. made
+            ≡ made_for self.old.host.node self.old.host.plan (history_of self.old.host.plan calls) now.0 what.now) }
+        ensures stands { (calls : List Call) → HostStandsFor self.old.host calls
+            → IfOk result (λ made. HostStandsFor self.new.host (calls ++ call_of_row now.0 what.now ∷ [])) }
+        ensures same { (self.new.host.node ≡ self.old.host.node) × (self.new.host.plan ≡ self.old.host.plan) }
+        ensures rest { (self.new.uplink ≡ self.old.uplink) × (self.new.port ≡ self.old.port) }
+        ensures last { self.new.host.last ≤ now.0 }
+    {
+        match what {
+            RowWhat::Send { dst, payload } => self.host.intend(alloc, now, *dst, *payload),
+            RowWhat::Inject {
+                flow,
+                payload,
+                carried,
+            } => Ok(Made {
+                packet: self.host.inject(*flow, *payload, carried.copied()),
+                shape: ShapeKind::Trace,
+            }),
+        }
+    }
+
+    // Offers a reply to the link, and tells of it.
+    fn answer(&mut self, now: Time, reply: Option<Made>) -> Option<ReplyLine>
+        requires time { self.old.port.last ≤ now.0 }
+        requires horizon { now.0 ≤ 1000000000000000 }
+        ensures told { (log : List PortEntry) → PortStandsFor self.old.port log
+            → result ≡ reply_told reply (reply_went self.old.uplink self.old.port.limits log reply) }
+        ensures stands { (log : List PortEntry) → PortStandsFor self.old.port log
+            → PortStandsFor self.new.port (log ++ cons_option
+            (reply_at self.old.uplink now.0 reply (reply_went self.old.uplink self.old.port.limits log reply)) []) }
+        ensures same { (self.new.host ≡ self.old.host) × (self.new.uplink ≡ self.old.uplink)
+            × (self.new.port.limits ≡ self.old.port.limits) }
+        ensures last { self.new.port.last ≤ now.0 }
+    {
+        let Made { packet, shape } = reply?;
+        let id = packet.id;
+        let length = length(&packet);
+        let back = back_kind(&packet.carried);
+        let outcome = self.queue(now, packet);
+        Some(ReplyLine {
+            id,
+            length,
+            shape,
+            back,
+            outcome,
+        })
+    }
+
+    // Offers a packet to the link.
+    fn queue(&mut self, now: Time, packet: Packet) -> Outcome
+        requires time { self.old.port.last ≤ now.0 }
+        requires horizon { now.0 ≤ 1000000000000000 }
+        ensures outcome { (log : List PortEntry) → PortStandsFor self.old.port log
+            → result ≡ went_out self.old.uplink self.old.port.limits log packet }
+        ensures stands { (log : List PortEntry) → PortStandsFor self.old.port log
+            → PortStandsFor self.new.port (log ++ entered_by result now.0 (class_by_shim packet.carried) packet self.old.uplink) }
+        ensures same { (self.new.host ≡ self.old.host) × (self.new.uplink ≡ self.old.uplink)
+            × (self.new.port.limits ≡ self.old.port.limits) }
+        ensures last { self.new.port.last ≡ now.0 }
+    {
+        let class = class_of(&packet);
+        let key = key_of(class, &packet);
+        outcome_of(self.uplink, &self.port.queue(now, class, key, packet))
+    }
+}
+
+fn outcome_of(link: u16, offered: &Offered<Packet>) -> Outcome
+    ensures { result ≡ outcome_of link offered.now }
+{
+    match offered {
+        Offered::Queued => Outcome::Queued(link),
+        Offered::NoQueue(_) => Outcome::Dropped(DropCause::NoQueue),
+        Offered::QueueFull(_) => Outcome::Dropped(DropCause::QueueFull),
+    }
+}
+
+// The return info that a packet brings.
+fn back_kind(carried: &Carried) -> BackKind
+    ensures { result ≡ brings (back_in carried.now) }
+{
+    match carried {
+        Carried::Shim(shim) => match &shim.back {
+            ReturnInfo::Nothing => BackKind::Nothing,
+            ReturnInfo::Notice => BackKind::Notice,
+            ReturnInfo::Grant { .. } => BackKind::Grant,
+        },
+        Carried::Nothing | Carried::Malformed(_) => BackKind::Nothing,
+    }
+}
+
+// The key under which a packet of the class is queued.
+fn key_of(class: Class, packet: &Packet) -> u32
+    ensures { result ≡ shown_key class packet.now }
+{
+    match class {
+        Class::Request => u32::from(path_tag(&packet.carried)),
+        Class::Regular => packet.flow.dst.0,
+        Class::Legacy => 0,
+    }
+}
+
+// The last nonzero tag of a request, else 0.
+fn path_tag(carried: &Carried) -> u16
+    ensures { result ≡ last_tag (entries_in carried.now) }
+{
+    match carried {
+        Carried::Shim(shim) => match &shim.kind {
+            Kind::Request(_) => shim.tag_key(),
+            Kind::List(_) | Kind::Nonce(_) | Kind::Renewal(_) => 0,
+        },
+        Carried::Nothing | Carried::Malformed(_) => 0,
+    }
+}
