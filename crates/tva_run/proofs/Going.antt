@@ -1,0 +1,161 @@
+-- How a run goes on: over a window, and where nothing is to be done.
+use Rattle.std.proofs.Common.{◌≡◌, ℕ, zero, suc, ◌+◌, ◌<◌, ◌≤◌, List, [], ◌∷◌, ◌++◌, length, Some, refl, sym, subst, ◌∙◌, ap, ap₂, arith, inl, inr}
+use Rattle.std.specs.Prelude.{nat_lt, ◌==◌, slice_get}
+use Rattle.std.specs.Option.{option_map}
+use Rattle.std.specs.List.{AllByRecursion}
+use Rattle.std.proofs.lemmas.Bool.{lt-ltb, le-ltb, cases_lt}
+use Rattle.std.proofs.lemmas.List.{get_or_past, append_cancel_left, append-nil}
+use Rattle.std.proofs.lemmas.List.Elements.{filter-append}
+use Rattle.std.proofs.lemmas.Option.{slice_get_cases}
+use Rattle.tva_base.specs.declared.event.Event.{Event}
+use Rattle.tva_base.specs.declared.plan.LinkPlan.{LinkPlan}
+use Rattle.tva_config.specs.declared.config.Config.{Config}
+use Rattle.tva_config.specs.declared.config.NodePlan.{NodePlan}
+use Rattle.tva_trace.specs.declared.rows.Row.{Row}
+use Rattle.tva_joins.specs.Joins.{IsJoin, cut}
+use Rattle.tva_joins.proofs.Joins.{filter-true, filter-false, filter_swap, in_order-filter, in_order-append, join_unique, cut-cut, each-cut}
+use Rattle.tva_joins.proofs.Putting.{each_from_sources}
+use Rattle.tva_log.specs.Sites.{Site, site_of}
+use Rattle.tva_log.specs.Entries.{input_time, input_source, entry_time}
+use Rattle.tva_log.specs.NodeLog.{due}
+use Rattle.tva_log.proofs.Logs.{IsNodeLog-cut, IsNodeLog-same, IsNodeLog-unique}
+use Rattle.tva_log.proofs.Quiet.{quiet_log}
+use Rattle.tva_run.specs.Reaching.{Logs, log_at, links_out, site_at, reaches}
+use Rattle.tva_run.specs.Run.{HasLog, IsRunTo, logs_before}
+use Rattle.tva_run.specs.Report.{event_time, event_node, events_at, AreEvents}
+use Rattle.tva_run.specs.Windows.{least_delay, window_length, IsAtRest}
+use Rattle.tva_run.proofs.Runs.{source_due, reaches_same}
+use Rattle.tva_run.proofs.Reports.{events_at-before}
+
+-- ## over a window
+
+least_first : (none : ℕ) (link : LinkPlan) (links : List LinkPlan) → least_delay none (link ∷ links) ≤ link.delay
+least_first none link [] = omega arith
+least_first none link (other ∷ links) = omega arith
+
+least_rest : (none : ℕ) (link other : LinkPlan) (links : List LinkPlan) → least_delay none (link ∷ other ∷ links) ≤ least_delay none (other ∷ links)
+least_rest none link other links = omega arith
+
+pub least_delay-least : (none : ℕ) (links : List LinkPlan) (number : ℕ) (link : LinkPlan) → slice_get links number ≡ Some link → least_delay none links ≤ link.delay
+least_delay-least none [] number link h = absurd (cc)
+least_delay-least none (first ∷ links) zero link h =
+    let same : first ≡ link = cc in
+    subst (λ (l : LinkPlan). least_delay none (first ∷ links) ≤ l.delay) same (least_first none first links)
+least_delay-least none (first ∷ []) (suc number) link h = absurd (cc)
+least_delay-least none (first ∷ other ∷ links) (suc number) link h =
+    let a = least_rest none first other links in
+    let b = least_delay-least none (other ∷ links) number link h in
+    omega arith
+
+module _ (config : Config) (rows : List Row) (from until : ℕ) (logs longer : Logs) (later : from ≤ until) (run : IsRunTo config rows from logs) (has : (node : ℕ) (site : Site) → site_at config node ≡ Some site → HasLog config rows logs until site (log_at longer node)) where
+  same_there : (node : ℕ) (plan : NodePlan) → slice_get config.nodes node ≡ Some plan → cut entry_time from (log_at longer node) ≡ log_at logs node
+  same_there node plan here =
+      let site : Site = site_of node plan (links_out node config.links) in
+      let there : site_at config node ≡ Some site = ap (option_map (λ (p : NodePlan). site_of node p (links_out node config.links))) here in
+      let h = has node site there in
+      let r = run.each node site there in
+      let same : due from h.inputs ≡ due from r.inputs =
+      join_unique input_time input_source (due from h.inputs) (due from r.inputs)
+      (in_order-filter input_time input_source (λ i. nat_lt (input_time i) from) h.inputs h.join.in_order)
+      (in_order-filter input_time input_source (λ i. nat_lt (input_time i) from) r.inputs r.join.in_order)
+      (λ s.
+      source_due config rows until from logs node s h.inputs later h.join
+      ∙ sym (source_due config rows from from logs node s r.inputs (omega arith) r.join)) in
+      IsNodeLog-unique site from h.inputs r.inputs (cut entry_time from (log_at longer node)) (log_at logs node) same
+      (IsNodeLog-cut site h.inputs from until (log_at longer node) h.join.in_order later h.is_log) r.is_log
+
+  -- the longer logs go on from the run's
+  pub same_before : length longer ≡ length config.nodes → (node : ℕ) → cut entry_time from (log_at longer node) ≡ log_at logs node
+  same_before count node =
+      elim (slice_get_cases config.nodes node).1 [
+        | inl in' ↦ same_there node in'.0 in'.2
+        | inr past ↦
+            let c = run.count in
+            let p = past.0 in
+            let none : log_at logs node ≡ [] = get_or_past logs node [] (omega arith) in
+            let none' : log_at longer node ≡ [] = get_or_past longer node [] (omega arith) in
+            rw (none, none') refl
+      ]
+
+  reached_before : length longer ≡ length config.nodes → until ≤ from + window_length config → (node source : ℕ) → due until (reaches config rows logs node source) ≡ due until (reaches config rows longer node source)
+  reached_before count short node source =
+      reaches_same config rows from until node
+      (λ number link at. let d = least_delay-least (config.horizon.0 + 1) config.links number link at in omega arith)
+      logs longer
+      (λ m.
+      ap (cut entry_time from) (sym (same_before count m))
+      ∙ cut-cut entry_time (λ e. 0) from from (log_at longer m) (omega arith)) source
+
+  pub run_goes_on : length longer ≡ length config.nodes → until ≤ from + window_length config → until ≤ config.horizon.0 + 1 → IsRunTo config rows until longer
+  run_goes_on count short within = record {
+    within = within;
+    count = count;
+    each = λ node site there.
+        let h = has node site there in
+        record {
+          inputs = h.inputs;
+          join = record { in_order = h.join.in_order; each = λ s. h.join.each s ∙ reached_before count short site.number s };
+          is_log = h.is_log;
+        };
+  }
+
+-- ## where nothing is to be done
+
+pub run_rests : (config : Config) (rows : List Row) (from until : ℕ) (logs : Logs) → from ≤ until → until ≤ config.horizon.0 + 1 → IsRunTo config rows from logs
+    → ((node : ℕ) (site : Site) → site_at config node ≡ Some site → IsAtRest config rows logs from until site (log_at logs node)) → IsRunTo config rows until logs
+run_rests config rows from until logs later within run rest = record {
+  within = within;
+  count = run.count;
+  each = λ node site there.
+      let r = run.each node site there in
+      let q = rest node site there in
+      let same : due from r.inputs ≡ due from q.inputs =
+      join_unique input_time input_source (due from r.inputs) (due from q.inputs)
+      (in_order-filter input_time input_source (λ i. nat_lt (input_time i) from) r.inputs r.join.in_order)
+      (in_order-filter input_time input_source (λ i. nat_lt (input_time i) from) q.inputs q.join.in_order)
+      (λ s.
+      source_due config rows from from logs site.number s r.inputs (omega arith) r.join
+      ∙ sym (filter_swap (λ i. input_source i == s) (λ i. nat_lt (input_time i) from) q.inputs ∙ ap (due from) (q.join.each s))) in
+      let log = quiet_log site q.inputs from until (log_at logs node) q.legal later q.quiet (IsNodeLog-same site r.inputs q.inputs from (log_at logs node) same r.is_log) in
+      record {
+        inputs = due until q.inputs;
+        join = record {
+          in_order = in_order-filter input_time input_source (λ i. nat_lt (input_time i) until) q.inputs q.join.in_order;
+          each = λ s. filter_swap (λ i. input_source i == s) (λ i. nat_lt (input_time i) until) q.inputs ∙ ap (due until) (q.join.each s);
+        };
+        is_log = IsNodeLog-same site q.inputs (due until q.inputs) until (log_at logs node) (sym (cut-cut input_time input_source until until q.inputs (omega arith))) log;
+      };
+}
+
+-- ## the events that are added
+
+late_each : {X : Type 0} (time : X → ℕ) (t : ℕ) (xs : List X) → cut time t xs ≡ [] → AllByRecursion (λ x. t ≤ time x) xs
+late_each time t [] h = tt
+late_each time t (x ∷ xs) h =
+    elim (cases_lt (time x) t) [
+      | inl l ↦ let k = sym (filter-true (λ y. nat_lt (time y) t) x xs (lt-ltb (time x) t l)) ∙ h in absurd (cc)
+      | inr l ↦ (l, late_each time t xs (sym (filter-false (λ y. nat_lt (time y) t) x xs (le-ltb (time x) t l)) ∙ h))
+    ]
+
+module _ (config : Config) (from : ℕ) (logs : Logs) (first news : List Event) (new : ℕ → List Event) (old : AreEvents config (logs_before from logs) first) (more : (node : ℕ) → events_at config logs node ≡ events_at config (logs_before from logs) node ++ new node) (join : IsJoin event_time event_node new news) where
+  new_late : (node : ℕ) → AllByRecursion (λ e. from ≤ event_time e) (new node)
+  new_late node =
+      let before = events_at config (logs_before from logs) node in
+      let is : before ≡ cut event_time from (events_at config logs node) = events_at-before config from logs node in
+      let again : cut event_time from before ≡ before = ap (cut event_time from) is ∙ (cut-cut event_time event_node from from (events_at config logs node) (omega arith) ∙ sym is) in
+      let whole : before ++ cut event_time from (new node) ≡ before ++ [] =
+      ap (λ (es : List Event). es ++ cut event_time from (new node)) (sym again)
+      ∙ (sym (filter-append (λ (e : Event). nat_lt (event_time e) from) before (new node))
+      ∙ (ap (cut event_time from) (sym (more node)) ∙ (sym is ∙ sym (append-nil before)))) in
+      late_each event_time from (new node) (append_cancel_left before (cut event_time from (new node)) [] whole)
+
+  pub events_added : AreEvents config logs (first ++ news)
+  events_added = record {
+    in_order = in_order-append event_time event_node from first news old.in_order join.in_order
+        (each_from_sources event_time event_node (λ e. event_time e < from) first (λ node.
+        rw (old.each node ∙ events_at-before config from logs node) (each-cut event_time event_node from (events_at config logs node))))
+        (each_from_sources event_time event_node (λ e. from ≤ event_time e) news (λ node. rw (join.each node) (new_late node)));
+    each = λ node.
+        filter-append (λ (e : Event). event_node e == node) first news
+        ∙ (ap₂ (λ (xs ys : List Event). xs ++ ys) (old.each node) (join.each node) ∙ sym (more node));
+  }

@@ -1,0 +1,176 @@
+-- The nodes of a valid configuration are valid.
+use Rattle.std.proofs.Common.{◌≡◌, ℕ, zero, suc, ◌+◌, ◌*◌, ◌<◌, ◌≤◌, List, [], ◌∷◌, length, map, filter, Bool, true, false, cond, Option, Some, None, refl, sym, subst, ◌∙◌, ap, ap₂, arith}
+use Rattle.std.specs.Prelude.{◌==◌, slice_get}
+use Rattle.std.specs.Option.{option_map}
+use Rattle.std.specs.List.{AllByRecursion, cons_option, find}
+use Rattle.std.proofs.lemmas.Bool.{eqb-true, eq-eqb, ne_eqb}
+use Rattle.std.proofs.lemmas.List.Elements.{All-from_recursion, recursion_from_All}
+use Rattle.std.proofs.lemmas.Option.{slice_get_within}
+use Rattle.tva_base.specs.declared.limits.LinkLimits.{LinkLimits}
+use Rattle.tva_base.specs.declared.plan.LinkPlan.{LinkPlan}
+use Rattle.tva_base.specs.Plan.{links_of}
+use Rattle.tva_config.specs.declared.config.Config.{Config}
+use Rattle.tva_config.specs.declared.config.NodePlan.{NodePlan}
+use Rattle.tva_config.specs.declared.config.NodePlan.TheVariants as plans
+use Rattle.tva_config.specs.Links.{picked, number_from, links_from}
+use Rattle.tva_config.specs.Read.{limited_from, outgoing_of}
+use Rattle.tva_config.specs.Valid.{IsConfig, IsLinkPlan, IsWired, AreWired}
+use Rattle.tva_config.proofs.Wired.{router_at, host_at}
+use Rattle.tva_joins.proofs.Joins.{each-weaker}
+use Rattle.tva_base.specs.declared.packet.Class.{Class}
+use Rattle.tva_shim.specs.Packets.{PacketData, packet_length}
+use Rattle.tva_log.specs.declared.kinds.Input.{Input}
+use Rattle.tva_log.specs.declared.kinds.Input.TheVariants.{Arrival}
+use Rattle.tva_log.specs.declared.kinds.Sending.{Sending}
+use Rattle.tva_log.specs.Entries.{Entry, Took, Started}
+use Rattle.tva_log.specs.Told.{at_time, arrives, sendings}
+use Rattle.tva_log.specs.Sites.{Site, site_of, link_out, AreRising, IsLinkOut, IsPlanned, IsSite}
+use Rattle.tva_run.specs.Reaching.{link_from, links_out, site_at, arrivals, arrival}
+
+some_same : {X : Type 0} (x y : X) → Some x ≡ Some y → x ≡ y
+some_same x y e = cc
+
+module _ (n : ℕ) where
+  -- ## the links out are the configuration's
+
+  limited_here : (k : ℕ) (l : LinkPlan) (b : Bool) (xs : List (ℕ × LinkLimits)) (os : List (ℕ × LinkPlan)) → xs ≡ map (λ o. (o.0, o.1.limits)) os
+      → cons_option (cond b (Some (k, l.limits)) None) xs ≡ map (λ o. (o.0, o.1.limits)) (cons_option (cond b (Some (k, l)) None) os)
+  limited_here k l false xs os h = h
+  limited_here k l true xs os h = ap (λ (ys : List (ℕ × LinkLimits)). (k, l.limits) ∷ ys) h
+
+  pub limited : (k : ℕ) (links : List LinkPlan) → picked (limited_from n) k links ≡ map (λ o. (o.0, o.1.limits)) (picked (link_from n) k links)
+  limited k [] = refl
+  limited k (l ∷ ls) = limited_here k l (l.from == n) (picked (limited_from n) (k + 1) ls) (picked (link_from n) (k + 1) ls) (limited (k + 1) ls)
+
+  number_here : (k : ℕ) (l : LinkPlan) (b : Bool) (xs : List ℕ) (os : List (ℕ × LinkPlan)) → links_of os ≡ xs
+      → links_of (cons_option (cond b (Some (k, l)) None) os) ≡ cons_option (cond b (Some k) None) xs
+  number_here k l false xs os h = h
+  number_here k l true xs os h = ap (λ (ys : List ℕ). k ∷ ys) h
+
+  pub numbered : (k : ℕ) (links : List LinkPlan) → links_of (picked (link_from n) k links) ≡ picked (number_from n) k links
+  numbered k [] = refl
+  numbered k (l ∷ ls) = number_here k l (l.from == n) (picked (number_from n) (k + 1) ls) (picked (link_from n) (k + 1) ls) (numbered (k + 1) ls)
+
+  -- ## each is valid, and their numbers rise
+
+  link_here : (c k : ℕ) (l : LinkPlan) (os : List (ℕ × LinkPlan)) (b : Bool) → (l.from == n) ≡ b → IsLinkPlan c l → AllByRecursion (IsLinkOut n) os → AllByRecursion (IsLinkOut n) (cons_option (cond b (Some (k, l)) None) os)
+  link_here c k l os false e h r = r
+  link_here c k l os true e h r = (record { from = eqb-true l.from n e; delay = h.delay; limits = h.limits }, r)
+
+  pub links_valid : (c k : ℕ) (links : List LinkPlan) → AllByRecursion (IsLinkPlan c) links → AllByRecursion (IsLinkOut n) (picked (link_from n) k links)
+  links_valid c k [] h = tt
+  links_valid c k (l ∷ ls) h = link_here c k l (picked (link_from n) (k + 1) ls) (l.from == n) refl h.0 (links_valid c (k + 1) ls h.1)
+
+  from_here : (k : ℕ) (b : Bool) (ns : List ℕ) → AllByRecursion (λ m. k ≤ m) ns → AllByRecursion (λ m. k ≤ m) (cons_option (cond b (Some k) None) ns)
+  from_here k false ns h = h
+  from_here k true ns h = ((omega arith), h)
+
+  numbers_late : (k : ℕ) (links : List LinkPlan) → AllByRecursion (λ m. k ≤ m) (picked (number_from n) k links)
+  numbers_late k [] = tt
+  numbers_late k (l ∷ ls) =
+      from_here k (l.from == n) (picked (number_from n) (k + 1) ls)
+      (each-weaker (λ m. k + 1 ≤ m) (λ m. k ≤ m) (λ m h. omega arith) (picked (number_from n) (k + 1) ls) (numbers_late (k + 1) ls))
+
+  rising_here : (k : ℕ) (b : Bool) (ns : List ℕ) → AllByRecursion (λ m. k + 1 ≤ m) ns → AreRising ns → AreRising (cons_option (cond b (Some k) None) ns)
+  rising_here k false ns h r = r
+  rising_here k true ns h r = (All-from_recursion (λ m. k < m) ns (each-weaker (λ m. k + 1 ≤ m) (λ m. k < m) (λ m l. omega arith) ns h), r)
+
+  numbers_rise : (k : ℕ) (links : List LinkPlan) → AreRising (picked (number_from n) k links)
+  numbers_rise k [] = tt
+  numbers_rise k (l ∷ ls) = rising_here k (l.from == n) (picked (number_from n) (k + 1) ls) (numbers_late (k + 1) ls) (numbers_rise (k + 1) ls)
+
+-- ## the nodes
+
+wired_here : (links : List LinkPlan) (k : ℕ) (ps : List NodePlan) (n : ℕ) (p : NodePlan) → AreWired links k ps → slice_get ps n ≡ Some p → IsWired links (k + n) p
+wired_here links k [] n p wired here = absurd (cc)
+wired_here links k (q ∷ ps) zero p wired here =
+    let same : q ≡ p = cc in
+    let start : k ≡ k + 0 = omega arith in
+    subst (λ m. IsWired links m p) start (subst (IsWired links k) same wired.0)
+wired_here links k (q ∷ ps) (suc n) p wired here =
+    let further : (k + 1) + n ≡ k + suc n = omega arith in
+    subst (λ m. IsWired links m p) further (wired_here links (k + 1) ps n p wired.1 here)
+
+planned : (config : Config) (n : ℕ) (p : NodePlan) → IsConfig config → slice_get config.nodes n ≡ Some p → IsWired config.links n p → IsPlanned p (links_out n config.links)
+unfolding links_from outgoing_of
+planned config n (plans.Router p) valid here wired = ((router_at config n p valid here).plan, wired.1 ∙ limited n 0 config.links)
+planned config n (plans.Host p) valid here wired = ((host_at config n p valid here).plan, numbered n 0 config.links ∙ wired)
+
+pub site_valid : (config : Config) (n : ℕ) (p : NodePlan) → IsConfig config → slice_get config.nodes n ≡ Some p → IsSite (site_of n p (links_out n config.links))
+site_valid config n p valid here =
+    let same : 0 + n ≡ n = omega arith in
+    let wired : IsWired config.links n p = subst (λ m. IsWired config.links m p) same (wired_here config.links 0 config.nodes n p valid.wired here) in
+    record {
+      number = let few = valid.few_nodes in let k = slice_get_within config.nodes n p here in omega arith;
+      planned = planned config n p valid here wired;
+      links = All-from_recursion (IsLinkOut n) (links_out n config.links) (links_valid n (length config.nodes) 0 config.links (recursion_from_All (IsLinkPlan (length config.nodes)) config.links valid.links));
+      rising = rw (numbered n 0 config.links) (numbers_rise n 0 config.links);
+    }
+
+site_by : (config : Config) (n : ℕ) (site : Site) (o : Option NodePlan) → IsConfig config → slice_get config.nodes n ≡ o
+    → option_map (λ p. site_of n p (links_out n config.links)) o ≡ Some site → (site.number ≡ n) × IsSite site
+site_by config n site None valid here h = absurd (cc)
+site_by config n site (Some p) valid here h =
+    let same = some_same (site_of n p (links_out n config.links)) site h in
+    (ap (λ (s : Site). s.number) (sym same), subst IsSite same (site_valid config n p valid here))
+
+pub site_is : (config : Config) (n : ℕ) (site : Site) → IsConfig config → site_at config n ≡ Some site → (site.number ≡ n) × IsSite site
+site_is config n site valid there = site_by config n site (slice_get config.nodes n) valid refl there
+
+number_by : (config : Config) (n : ℕ) (site : Site) (o : Option NodePlan) → option_map (λ p. site_of n p (links_out n config.links)) o ≡ Some site → site.number ≡ n
+number_by config n site None h = absurd (cc)
+number_by config n site (Some p) h = ap (λ (s : Site). s.number) (sym (some_same (site_of n p (links_out n config.links)) site h))
+
+pub site_number : (config : Config) (n : ℕ) (site : Site) → site_at config n ≡ Some site → site.number ≡ n
+site_number config n site there = number_by config n site (slice_get config.nodes n) there
+
+-- ## the link of a number
+
+found_here : (number k : ℕ) (l : LinkPlan) (b : Bool) (os : List (ℕ × LinkPlan)) → (k ≡ number → ⊥)
+    → find (λ (o : ℕ × LinkPlan). o.0 == number) (cons_option (cond b (Some (k, l)) None) os) ≡ find (λ (o : ℕ × LinkPlan). o.0 == number) os
+found_here number k l false os h = refl
+found_here number k l true os h = rw (ne_eqb k number h) refl
+
+found : (n k : ℕ) (links : List LinkPlan) (i : ℕ) (link : LinkPlan) → slice_get links i ≡ Some link → link.from ≡ n
+    → find (λ (o : ℕ × LinkPlan). o.0 == k + i) (picked (link_from n) k links) ≡ Some (k + i, link)
+found n k [] i link h e = absurd (cc)
+found n k (l ∷ ls) zero link h e =
+    let same : l ≡ link = some_same l link h in
+    let from : (l.from == n) ≡ true = eq-eqb l.from n (ap (λ (x : LinkPlan). x.from) same ∙ e) in
+    let place : k ≡ k + 0 = omega arith in
+    rw (from, eq-eqb k (k + 0) place) (ap₂ (λ (m : ℕ) (x : LinkPlan). Some (let o : ℕ × LinkPlan = (m, x) in o)) place same)
+found n k (l ∷ ls) (suc i) link h e =
+    let further : (k + 1) + i ≡ k + suc i = omega arith in
+    found_here (k + suc i) k l (l.from == n) (picked (link_from n) (k + 1) ls) (λ z. omega arith)
+    ∙ subst (λ (m : ℕ). find (λ (o : ℕ × LinkPlan). o.0 == m) (picked (link_from n) (k + 1) ls) ≡ Some (m, link)) further (found n (k + 1) ls i link h e)
+
+out_by : (config : Config) (number : ℕ) (link : LinkPlan) (site : Site) (o : Option NodePlan) → slice_get config.links number ≡ Some link
+    → option_map (λ p. site_of link.from p (links_out link.from config.links)) o ≡ Some site → link_out site number ≡ Some (number, link)
+out_by config number link site None here h = absurd (cc)
+out_by config number link site (Some p) here h =
+    let same = some_same (site_of link.from p (links_out link.from config.links)) site h in
+    let place : 0 + number ≡ number = omega arith in
+    subst (λ (s : Site). link_out s number ≡ Some (number, link)) same
+    (subst (λ (m : ℕ). find (λ (o : ℕ × LinkPlan). o.0 == m) (picked (link_from link.from) 0 config.links) ≡ Some (m, link)) place (found link.from 0 config.links number link here refl))
+
+-- the link of a number is that of the node before it
+pub link_out_is : (config : Config) (number : ℕ) (link : LinkPlan) (site : Site) → slice_get config.links number ≡ Some link → site_at config link.from ≡ Some site → link_out site number ≡ Some (number, link)
+link_out_is config number link site here there = out_by config number link site (slice_get config.nodes link.from) here there
+
+-- ## what is sent arrives
+
+module _ (number : ℕ) (link : LinkPlan) (site : Site) (out : link_out site number ≡ Some (number, link)) where
+  sent_here : (t on : ℕ) (class : Class) (packet : PacketData) (log : List Entry) (b : Bool) → (on == number) ≡ b
+      → arrivals number link log ≡ map arrival (filter (λ (s : Sending). s.link == number) (sendings site log))
+      → arrivals number link (Started t on class packet ∷ log) ≡ map arrival (filter (λ (s : Sending). s.link == number) (sendings site (Started t on class packet ∷ log)))
+  sent_here t on class packet log false e h = rw e h
+  sent_here t on class packet log true e h =
+      let same : on ≡ number = eqb-true on number e in
+      let time : arrives site t on packet ≡ t + packet_length packet * link.limits.ns_per_byte + link.delay =
+      ap (λ (k : ℕ). arrives site t k packet) same ∙ rw out refl in
+      rw e (ap₂ (λ (i : Input) (is : List Input). i ∷ is) (ap₂ (λ (a k : ℕ). Arrival (at_time a) k packet) (sym time) (sym same)) h)
+
+  pub sent_arrives : (log : List Entry) → arrivals number link log ≡ map arrival (filter (λ (s : Sending). s.link == number) (sendings site log))
+  sent_arrives [] = refl
+  sent_arrives (Took input content ∷ es) = sent_arrives es
+  sent_arrives (Started t on class packet ∷ es) = sent_here t on class packet es (on == number) refl (sent_arrives es)

@@ -1,0 +1,4 @@
+pub mod Reaching
+pub mod Run
+pub mod Report
+pub mod Windows
