@@ -6,3 +6,5 @@ pub mod Sites
 pub mod Next
 pub mod Holding
 pub mod Rising
+pub mod Queued
+pub mod Names

@@ -1,8 +1,8 @@
 -- What reaches a node from one source comes in the order of time.
-use Rattle.std.proofs.Common.{◌≡◌, ℕ, zero, suc, ◌+◌, ◌*◌, ◌<◌, ◌≤◌, List, [], ◌∷◌, ◌++◌, length, map, filter, Bool, true, false, cond, Option, Some, None, refl, sym, subst, ◌∙◌, ap, ap₂, arith, inl, inr}
+use Rattle.std.proofs.Common.{◌≡◌, ℕ, ◌+◌, ◌*◌, ◌<◌, ◌≤◌, List, [], ◌∷◌, ◌++◌, length, Bool, true, false, cond, Option, Some, None, refl, sym, subst, ◌∙◌, ap, arith, inl, inr}
 use Rattle.std.specs.Prelude.{◌==◌, slice_get}
-use Rattle.std.specs.Option.{option_map, option_map_or, option_and_then}
-use Rattle.std.specs.List.{AllByRecursion, cons_option, filter_map}
+use Rattle.std.specs.Option.{option_map, option_and_then}
+use Rattle.std.specs.List.{AllByRecursion, cons_option}
 use Rattle.std.proofs.lemmas.Bool.{cases_lt, eqb-true, eq-eqb, ne_eqb}
 use Rattle.std.proofs.lemmas.List.{append-nil, append_assoc}
 use Rattle.std.proofs.lemmas.List.Elements.{filter_map-append}
@@ -23,7 +23,7 @@ use Rattle.tva_log.specs.declared.kinds.Input.TheVariants.{Arrival}
 use Rattle.tva_log.specs.Sites.{Site, site_of, link_out, limits_out}
 use Rattle.tva_log.specs.Entries.{Content, Entry, Took, Started, input_time}
 use Rattle.tva_log.specs.Entries as entry
-use Rattle.tva_log.specs.Parts.{queued_at, made_at, reply_at, content_at, port_entry, port_logs}
+use Rattle.tva_log.specs.Parts.{queued_at, reply_at, content_at, port_entry, port_logs}
 use Rattle.tva_log.specs.NodeLog.{starts, start_after, due, GoesOn}
 use Rattle.tva_log.specs.Told.{at_time}
 use Rattle.tva_log.proofs.Ports.{busy_starts_none}

@@ -1,11 +1,12 @@
 // What holds of every run.
-ghost use Rattle.std.specs.Prelude.{◌≡◌, ℕ, ◌+◌, ◌≤◌, ◌==◌, ◌++◌, List, Some, filter, length, map, min, slice_get};
+ghost use Rattle.std.specs.Prelude.{◌≡◌, ℕ, ◌+◌, ◌≤◌, ◌==◌, ◌++◌, All, List, Some, filter, length, map, min, slice_get};
 ghost use Rattle.std.specs.List.{flat_map};
 ghost use Rattle.tva_base.specs.declared.event.Event.{Event};
 ghost use Rattle.tva_base.specs.declared.plan.LinkPlan.{LinkPlan};
 ghost use Rattle.tva_config.specs.declared.config.Config.{Config};
 ghost use Rattle.tva_config.specs.Valid.{IsConfig};
 ghost use Rattle.tva_trace.specs.declared.rows.Row.{Row};
+ghost use Rattle.tva_trace.specs.Lines.{HasEvent};
 ghost use Rattle.tva_joins.specs.Joins.{IsJoin, NeverFalls};
 ghost use Rattle.tva_log.specs.Sites.{IsSite, Site};
 ghost use Rattle.tva_log.specs.Entries.{Entry, input_time};
@@ -125,4 +126,11 @@ pub fn arrivals_rise()
     ensures { (config : Config) (rows : List Row) (until number : ℕ) (logs : Logs) (link : LinkPlan)
         → IsConfig config → IsRunTo config rows until logs → slice_get config.links number ≡ Some link
         → NeverFalls input_time (arrivals number link (log_at logs link.from)) }
+{}
+
+/// The nodes and links that the events of a run name are the configuration's. Times are in
+/// nanoseconds.
+pub fn events_have_names()
+    ensures { (config : Config) (rows : List Row) (until : ℕ) (told : List Event) → IsConfig config
+        → AreEventsTo config rows until told → All (HasEvent config) told }
 {}
