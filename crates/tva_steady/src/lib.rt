@@ -6,3 +6,6 @@
 mod laws;
 
 pub use laws::{honest_senders_are_authorised, worked_walk_is_steady};
+
+#[cfg(test)]
+mod tests;
