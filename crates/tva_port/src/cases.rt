@@ -66,6 +66,95 @@ decide 80000 -> Start regular #8 1000 free_at 90000
 decide 90000 -> Start regular #9 1000 free_at 100000
 decide 100000 -> Start regular #10 1000 free_at 110000
 decide 110000 -> Idle
+case a request waits nine tenths of its bound
+port ns_per_byte=1 share=1000 burst=4096 quantum=2048 request=1/64/65536/131072 regular=1/64/65536/131072 legacy=9/20000
+queue 0 request 1 2020 -> Queued
+queue 0 request 1 2020 -> Queued
+decide 0 -> Start request #1 2020 free_at 2020
+decide 2020 -> Start request #2 2020 free_at 4040
+queue 2021 request 1 2020 -> Queued
+queue 2021 request 1 2020 -> Queued
+queue 2021 request 1 2020 -> Queued
+queue 2021 request 1 2020 -> Queued
+queue 2021 request 1 2020 -> Queued
+queue 2021 request 1 2020 -> Queued
+queue 2021 request 1 2020 -> Queued
+queue 2021 request 1 2020 -> Queued
+queue 2021 request 1 2020 -> Queued
+queue 2021 request 1 2020 -> Queued
+queue 2021 request 1 2020 -> Queued
+queue 2021 request 1 2020 -> Queued
+queue 2021 request 1 2020 -> Queued
+queue 2021 request 1 2020 -> Queued
+queue 2021 request 1 2020 -> Queued
+queue 2021 request 1 2020 -> Queued
+queue 2021 request 1 2020 -> Queued
+queue 2021 request 1 2020 -> Queued
+queue 2021 request 1 2020 -> Queued
+decide 4040 -> WaitUntil 1964000
+decide 1964000 -> Start request #3 2020 free_at 1966020
+decide 1966020 -> WaitUntil 3984000
+decide 3984000 -> Start request #4 2020 free_at 3986020
+decide 3986020 -> WaitUntil 6004000
+decide 6004000 -> Start request #5 2020 free_at 6006020
+decide 6006020 -> WaitUntil 8024000
+decide 8024000 -> Start request #6 2020 free_at 8026020
+decide 8026020 -> WaitUntil 10044000
+decide 10044000 -> Start request #7 2020 free_at 10046020
+decide 10046020 -> WaitUntil 12064000
+decide 12064000 -> Start request #8 2020 free_at 12066020
+decide 12066020 -> WaitUntil 14084000
+decide 14084000 -> Start request #9 2020 free_at 14086020
+decide 14086020 -> WaitUntil 16104000
+decide 16104000 -> Start request #10 2020 free_at 16106020
+decide 16106020 -> WaitUntil 18124000
+decide 18124000 -> Start request #11 2020 free_at 18126020
+decide 18126020 -> WaitUntil 20144000
+decide 20144000 -> Start request #12 2020 free_at 20146020
+decide 20146020 -> WaitUntil 22164000
+decide 22164000 -> Start request #13 2020 free_at 22166020
+decide 22166020 -> WaitUntil 24184000
+decide 24184000 -> Start request #14 2020 free_at 24186020
+decide 24186020 -> WaitUntil 26204000
+decide 26204000 -> Start request #15 2020 free_at 26206020
+decide 26206020 -> WaitUntil 28224000
+decide 28224000 -> Start request #16 2020 free_at 28226020
+decide 28226020 -> WaitUntil 30244000
+decide 30244000 -> Start request #17 2020 free_at 30246020
+decide 30246020 -> WaitUntil 32264000
+decide 32264000 -> Start request #18 2020 free_at 32266020
+decide 32266020 -> WaitUntil 34284000
+decide 34284000 -> Start request #19 2020 free_at 34286020
+decide 34286020 -> WaitUntil 36304000
+decide 36304000 -> Start request #20 2020 free_at 36306020
+decide 36306020 -> WaitUntil 38324000
+decide 38324000 -> Start request #21 2020 free_at 38326020
+decide 38326020 -> Idle
+case a regular packet waits nine tenths of its bound
+port ns_per_byte=1 share=1000 burst=4096 quantum=2048 request=1/64/65536/131072 regular=1/64/65536/131072 legacy=9/20000
+queue 0 legacy 0 2020 -> Queued
+decide 0 -> Start legacy #1 2020 free_at 2020
+queue 1 request 1 2020 -> Queued
+queue 1 request 1 2020 -> Queued
+queue 1 regular 1 2020 -> Queued
+queue 1 regular 1 2020 -> Queued
+queue 1 regular 1 2020 -> Queued
+queue 1 regular 1 2020 -> Queued
+queue 1 regular 1 2020 -> Queued
+queue 1 regular 1 2020 -> Queued
+queue 1 regular 1 2020 -> Queued
+queue 1 regular 1 2020 -> Queued
+decide 2020 -> Start request #2 2020 free_at 4040
+decide 4040 -> Start request #3 2020 free_at 6060
+decide 6060 -> Start regular #4 2020 free_at 8080
+decide 8080 -> Start regular #5 2020 free_at 10100
+decide 10100 -> Start regular #6 2020 free_at 12120
+decide 12120 -> Start regular #7 2020 free_at 14140
+decide 14140 -> Start regular #8 2020 free_at 16160
+decide 16160 -> Start regular #9 2020 free_at 18180
+decide 18180 -> Start regular #10 2020 free_at 20200
+decide 20200 -> Start regular #11 2020 free_at 22220
+decide 22220 -> Idle
 case request then regular then legacy
 port ns_per_byte=10 share=20 burst=4096 quantum=2048 request=64/32/65536/1048576 regular=64/32/65536/1048576 legacy=256/262144
 queue 0 request 1 1000 -> Queued
