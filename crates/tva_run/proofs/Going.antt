@@ -13,7 +13,7 @@ use Rattle.tva_config.specs.declared.config.Config.{Config}
 use Rattle.tva_config.specs.declared.config.NodePlan.{NodePlan}
 use Rattle.tva_trace.specs.declared.rows.Row.{Row}
 use Rattle.tva_joins.specs.Joins.{IsJoin, cut}
-use Rattle.tva_joins.proofs.Joins.{filter-true, filter-false, filter_swap, in_order-filter, in_order-append, join_unique, cut-cut, each-cut}
+use Rattle.tva_joins.proofs.Joins.{filter-true, filter-false, in_order-filter, in_order-append, join_unique, cut-cut, each-cut}
 use Rattle.tva_joins.proofs.Putting.{each_from_sources}
 use Rattle.tva_log.specs.Sites.{Site, site_of}
 use Rattle.tva_log.specs.Entries.{input_time, input_source, entry_time}
@@ -115,15 +115,11 @@ run_rests config rows from until logs later within run rest = record {
       (in_order-filter input_time input_source (λ i. nat_lt (input_time i) from) q.inputs q.join.in_order)
       (λ s.
       source_due config rows from from logs site.number s r.inputs (omega arith) r.join
-      ∙ sym (filter_swap (λ i. input_source i == s) (λ i. nat_lt (input_time i) from) q.inputs ∙ ap (due from) (q.join.each s))) in
-      let log = quiet_log site q.inputs from until (log_at logs node) q.legal later q.quiet (IsNodeLog-same site r.inputs q.inputs from (log_at logs node) same r.is_log) in
+      ∙ sym (source_due config rows until from logs site.number s q.inputs later q.join)) in
       record {
-        inputs = due until q.inputs;
-        join = record {
-          in_order = in_order-filter input_time input_source (λ i. nat_lt (input_time i) until) q.inputs q.join.in_order;
-          each = λ s. filter_swap (λ i. input_source i == s) (λ i. nat_lt (input_time i) until) q.inputs ∙ ap (due until) (q.join.each s);
-        };
-        is_log = IsNodeLog-same site q.inputs (due until q.inputs) until (log_at logs node) (sym (cut-cut input_time input_source until until q.inputs (omega arith))) log;
+        inputs = q.inputs;
+        join = q.join;
+        is_log = quiet_log site q.inputs from until (log_at logs node) q.legal later q.quiet (IsNodeLog-same site r.inputs q.inputs from (log_at logs node) same r.is_log);
       };
 }
 

@@ -12,7 +12,7 @@ use Rattle.tva_config.specs.declared.config.Config.{Config}
 use Rattle.tva_config.specs.Valid.{IsConfig}
 use Rattle.tva_trace.specs.declared.rows.Row.{Row}
 use Rattle.tva_joins.specs.Joins.{cut}
-use Rattle.tva_joins.proofs.Joins.{filter-true, filter-false, cut-cut}
+use Rattle.tva_joins.proofs.Joins.{filter-true, filter-false, cut-cut, in_order-filter}
 use Rattle.tva_log.specs.declared.kinds.Input.{Input}
 use Rattle.tva_log.specs.Sites.{Site, limits_out, IsLinkOut, IsSite}
 use Rattle.tva_log.specs.Entries.{Entry, input_time, input_source, entry_time, entry_rank}
@@ -24,24 +24,24 @@ use Rattle.tva_log.proofs.Quiet.{late_on}
 use Rattle.tva_run.specs.Reaching.{Logs, log_at, site_at, reaches}
 use Rattle.tva_run.specs.Run.{IsRunTo, logs_before}
 use Rattle.tva_run.specs.Windows.{IsWork, IsNextWindow, IsAtRest, HasWork, window_length}
-use Rattle.tva_run.proofs.Runs.{are_delayed, reaches_same, log_at-before, one_run_is, IsRunTo-cut}
+use Rattle.tva_run.proofs.Runs.{are_delayed, reaches_same, source_due, log_at-before, one_run_is, IsRunTo-cut}
 use Rattle.tva_run.proofs.Going.{run_rests}
 use Rattle.tva_run.proofs.Sites.{site_is}
 
 -- ## times of inputs
 
-contains_more : (x t : ℕ) (xs : List ℕ) → Contains xs t → Contains (x ∷ xs) t
+pub contains_more : (x t : ℕ) (xs : List ℕ) → Contains xs t → Contains (x ∷ xs) t
 contains_more x t xs (i, l, e) = (suc i, omega arith, e)
 
-contains_first : (x t : ℕ) (xs : List ℕ) → x ≡ t → Contains (x ∷ xs) t
+pub contains_first : (x t : ℕ) (xs : List ℕ) → x ≡ t → Contains (x ∷ xs) t
 contains_first x t xs e = (0, omega arith, e)
 
-contains_cases : (x t : ℕ) (xs : List ℕ) → Contains (x ∷ xs) t → (x ≡ t) ⊎ Contains xs t
+pub contains_cases : (x t : ℕ) (xs : List ℕ) → Contains (x ∷ xs) t → (x ≡ t) ⊎ Contains xs t
 contains_cases x t xs (zero, l, e) = inl e
 contains_cases x t xs (suc i, l, e) = inr (i, omega arith, e)
 
 module _ {X : Type 0} (time : X → ℕ) (p : X → Bool) (t : ℕ) where
-  contains_filter : (xs : List X) → Contains (map time (filter p xs)) t → Contains (map time xs) t
+  pub contains_filter : (xs : List X) → Contains (map time (filter p xs)) t → Contains (map time xs) t
   contains_filter [] h = h
   contains_filter (x ∷ xs) h =
       elim (cases_Bool (p x)) [
@@ -56,7 +56,7 @@ module _ {X : Type 0} (time : X → ℕ) (p : X → Bool) (t : ℕ) where
             contains_more (time x) t (map time xs) (contains_filter xs k)
       ]
 
-  contains_passes : ((x : X) → time x ≡ t → p x ≡ true) → (xs : List X) → Contains (map time xs) t → Contains (map time (filter p xs)) t
+  pub contains_passes : ((x : X) → time x ≡ t → p x ≡ true) → (xs : List X) → Contains (map time xs) t → Contains (map time (filter p xs)) t
   contains_passes w [] h = h
   contains_passes w (x ∷ xs) h =
       elim (cases_Bool (p x)) [
@@ -129,7 +129,21 @@ module _ (config : Config) (rows : List Row) (from start until : ℕ) (logs whol
       one_run_is config rows t logs (logs_before t whole) (are_delayed config valid)
       (run_rests config rows from t logs a (omega arith) run (λ node site there.
       let q = rest node site there in
-      record { inputs = q.inputs; join = q.join; legal = q.legal; quiet = λ u l w. q.quiet u (omega arith) w }))
+      record {
+        inputs = due t q.inputs;
+        join = record {
+          in_order = in_order-filter input_time input_source (λ i. nat_lt (input_time i) t) q.inputs q.join.in_order;
+          each = λ s. source_due config rows start t logs site.number s q.inputs b q.join;
+        };
+        legal = q.legal;
+        quiet = λ u l w. q.quiet u (omega arith) (
+          w.0,
+          elim w.1 [
+            | inl c ↦ inl (contains_filter input_time (λ i. nat_lt (input_time i) t) u q.inputs c)
+            | inr d ↦ inr d
+          ],
+        );
+      }))
       (IsRunTo-cut config rows (are_delayed config valid) t until whole (omega arith) later)
 
   log_stays : (t node : ℕ) → from ≤ t → t ≤ start → cut entry_time t (log_at whole node) ≡ log_at logs node
@@ -152,9 +166,11 @@ module _ (config : Config) (rows : List Row) (from start until : ℕ) (logs whol
           | inl c ↦
               let here : Contains (map input_time (reaches config rows logs w.node w.source)) t =
               contains_due t (reaches config rows whole w.node w.source) (reaches config rows logs w.node w.source) (reached_stays t w.node w.source a early) c in
-              let joined : filter (λ i. input_source i == w.source) q.inputs ≡ reaches config rows logs w.node w.source =
-              q.join.each w.source ∙ ap (λ (n : ℕ). reaches config rows logs n w.source) number in
-              inl (contains_filter input_time (λ i. input_source i == w.source) t q.inputs (subst (λ (is : List Input). Contains (map input_time is) t) (sym joined) here))
+              let due_early : Contains (map input_time (due start (reaches config rows logs w.node w.source))) t =
+              contains_passes input_time (λ i. nat_lt (input_time i) start) t (λ i same. lt-ltb (input_time i) start (omega arith)) (reaches config rows logs w.node w.source) here in
+              let joined : filter (λ i. input_source i == w.source) q.inputs ≡ due start (reaches config rows logs w.node w.source) =
+              q.join.each w.source ∙ ap (λ (n : ℕ). due start (reaches config rows logs n w.source)) number in
+              inl (contains_filter input_time (λ i. input_source i == w.source) t q.inputs (subst (λ (is : List Input). Contains (map input_time is) t) (sym joined) due_early))
           | inr d ↦
               let link = d.0 in
               let same : next_on w.site (log_at logs w.node) t link ≡ Some t = ap (λ (l : List Entry). next_on w.site l t link) (sym (log_stays t w.node a early)) ∙ d.1 in

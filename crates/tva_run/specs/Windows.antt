@@ -9,6 +9,7 @@ use Rattle.tva_joins.specs.Joins.{IsJoin, cut}
 use Rattle.tva_log.specs.Sites.{Site}
 use Rattle.tva_log.specs.declared.kinds.Input.{Input}
 use Rattle.tva_log.specs.Entries.{Entry, input_time, input_source, entry_time}
+use Rattle.tva_log.specs.NodeLog.{due}
 use Rattle.tva_log.specs.Next.{AreLegal, IsQuiet, IsWorkAt}
 use Rattle.tva_run.specs.Reaching.{Logs, log_at, site_at, reaches}
 use Rattle.tva_run.specs.Report.{event_time}
@@ -65,11 +66,12 @@ given told windows = filter (λ es. nat_lt 0 (length es)) (map (events_in told) 
 
 -- ## how a run goes on
 
--- where so much was sent, a node with this log has nothing to do from one time on up to another
+-- where so much was sent, a node with this log has nothing to do from one time on up to another, over what reaches it
+-- before that
 pub record IsAtRest (config : Config) (rows : List Row) (sent : Logs) (from until : ℕ) (site : Site) (log : List Entry)
     : Type 0 where
   pub inputs : List Input
-  pub join : IsJoin input_time input_source (reaches config rows sent site.number) inputs
+  pub join : IsJoin input_time input_source (λ source. due until (reaches config rows sent site.number source)) inputs
   pub legal : AreLegal site from log
   pub quiet : IsQuiet site inputs log from until
 
