@@ -1,0 +1,175 @@
+-- What a node makes of an input: what goes to its links has its place there, and is within the sizes of a network.
+use Rattle.std.proofs.Common.{◌≡◌, ℕ, ◌≤◌, List, [], Option, Some, None, refl, sym, ap, ◌∙◌, subst, inl, inr, arith}
+use Rattle.std.specs.Option.{option_map, IfSome}
+use Rattle.std.proofs.lemmas.Bool.{cases_lt}
+use Rattle.tva_base.specs.declared.limits.LinkLimits.{LinkLimits}
+use Rattle.tva_base.specs.declared.packet.Grant.{Grant}
+use Rattle.tva_base.specs.declared.packet.Outcome.{Outcome}
+use Rattle.tva_base.specs.declared.plan.RouterPlan.{RouterPlan}
+use Rattle.tva_base.specs.declared.plan.HostPlan.{HostPlan}
+use Rattle.tva_shim.specs.Packets.{PacketData, IsSizedPacket, class_by_shim}
+use Rattle.tva_flow.specs.Charges.{Charge}
+use Rattle.tva_flow.specs.Stands.{NoneLater, IsNext, AreNext}
+use Rattle.tva_flow.specs.Budget.{IsWithinSeconds, AreTimely}
+use Rattle.tva_port.specs.Log as port
+use Rattle.tva_router.specs.Handling.{Handled, handle, arrival, way_to}
+use Rattle.tva_host.specs.declared.made.Made.{Made}
+use Rattle.tva_host.specs.Calls.{history_of}
+use Rattle.tva_host.specs.Receiving.{receipt_of}
+use Rattle.tva_config.specs.declared.config.NodePlan.{NodePlan}
+use Rattle.tva_config.specs.declared.config.NodePlan.TheVariants as plans
+use Rattle.tva_trace.specs.declared.rows.RowWhat.{RowWhat}
+use Rattle.tva_trace.specs.declared.rows.RowWhat.TheVariants.{Send, Inject}
+use Rattle.tva_log.specs.declared.kinds.Input.{Input}
+use Rattle.tva_log.specs.declared.kinds.Input.TheVariants.{FromTrace, Arrival}
+use Rattle.tva_log.specs.Sites.{Site, IsSite, IsPlanned, limits_out}
+use Rattle.tva_log.specs.Entries.{Content, Entry, Took, input_time}
+use Rattle.tva_log.specs.Parts.{charged, charge_of, charges, calls, content_at, queued_at, reply_at, port_logs}
+use Rattle.tva_log.specs.Contents.{packet_of_row, next_id, arrived, routed, goes_out, made_for, hosted, content_by, content}
+use Rattle.tva_promises.specs.Sizes.{IsSizedWhat, IsSizedInput}
+use Rattle.tva_promises.specs.Promises.{IsHandled}
+use Rattle.tva_promises.proofs.Packets.{sized_length, onward_sized}
+use Rattle.tva_promises.proofs.Made.{AreFew, made_sized, receipt_sized}
+use Rattle.tva_promises.proofs.Charging.{IsReady, charge_next}
+use Rattle.tva_promises.proofs.Fates.{at_limit, on_way, is_fate}
+use Rattle.tva_promises.proofs.Links.{IsGood, link_way, router_way, queued_good}
+
+same_some : {X : Type 0} (x y : X) → Some x ≡ Some y → x ≡ y
+same_some x y e = cc
+
+-- ## at a router
+
+-- an input at a router is a packet that came in, which is within the sizes where the input is
+record Came (sizes : Type 0) (plan : RouterPlan) (before : List Entry) (now : ℕ) (made : Content) : Type 0 where
+  from : Option ℕ
+  packet : PacketData
+  sized : sizes → IsSizedPacket packet
+  is : arrived plan before now from packet ≡ made
+
+came_row : (number : ℕ) (plan : RouterPlan) (before : List Entry) (now : ℕ) (what : RowWhat) (made : Content) → option_map (arrived plan before now None) (packet_of_row (next_id number before) what) ≡ Some made → Came (IsSizedWhat what) plan before now made
+came_row number plan before now (Send dst payload) made e = absurd (cc)
+came_row number plan before now (Inject flow payload carried) made e =
+    let p : PacketData = record { id = next_id number before; flow = flow; hops = 0; payload = payload; carried = carried } in
+    record {
+      from = None;
+      packet = p;
+      sized = λ s. record { packet = record { hops = omega arith; payload = s.0; carried = s.1 }; few = s.2 };
+      is = same_some (arrived plan before now None p) made e;
+    }
+
+came : (number : ℕ) (plan : RouterPlan) (before : List Entry) (input : Input) (made : Content) → routed number plan before input ≡ Some made → Came (IsSizedInput input) plan before (input_time input) made
+came number plan before (FromTrace row) made e = came_row number plan before row.time.0 row.what made e
+came number plan before (Arrival time link packet) made e = record {
+  from = Some link;
+  packet = packet;
+  sized = λ s. s;
+  is = same_some (arrived plan before time.0 (Some link) packet) made e;
+}
+
+abbrev IsGoodAt : LinkLimits → List Entry → ℕ → ℕ → Content → Type 0
+IsGoodAt l before link now made = IfSome (content_at link now made) (IsGood l (port_logs before link))
+
+arrived_good : (site : Site) (plan : RouterPlan) (link : ℕ) (l : LinkLimits) (before : List Entry) (now : ℕ) (from : Option ℕ) (p : PacketData) → IsSite site → site.plan ≡ plans.Router plan → limits_out site link ≡ Some (link, l)
+    → port.NoneLater now (port_logs before link) → IsSizedPacket p → IsGoodAt l before link now (arrived plan before now from p)
+unfolding arrived
+arrived_good site plan link l before now from p valid e out past s =
+    let h : List Charge = charges before in
+    let is : Handled = handle plan h (port_logs before) now from p in
+    let good : Outcome → Type 0 = λ o. IfSome (queued_at link now o is.fate.class is.onward) (IsGood l (port_logs before link)) in
+    elim (cases_lt p.hops 32) [
+      | inl below ↦
+          subst good (sym (on_way plan h (port_logs before) now from p below))
+          (queued_good site link l (port_logs before) now is.fate.class is.onward (way_to plan p.flow.dst) out (router_way site plan p.flow.dst valid e) past (onward_sized plan h (port_logs before) now from p s))
+      | inr limit ↦ subst good (sym (at_limit plan h (port_logs before) now from p limit).2) tt
+    ]
+
+router_good : (site : Site) (plan : RouterPlan) (link : ℕ) (l : LinkLimits) (before : List Entry) (input : Input) (made : Content) → IsSite site → site.plan ≡ plans.Router plan → limits_out site link ≡ Some (link, l)
+    → port.NoneLater (input_time input) (port_logs before link) → IsSizedInput input → routed site.number plan before input ≡ Some made → IsGoodAt l before link (input_time input) made
+router_good site plan link l before input made valid e out past s c =
+    let k = came site.number plan before input made c in
+    subst (IsGoodAt l before link (input_time input)) k.is (arrived_good site plan link l before (input_time input) k.from k.packet valid e out past (k.sized s))
+
+-- ## at a host
+
+sent_good : (site : Site) (plan : HostPlan) (link : ℕ) (l : LinkLimits) (before : List Entry) (now : ℕ) (p : PacketData) → limits_out site link ≡ Some (link, l) → port.NoneLater now (port_logs before link) → IsSizedPacket p
+    → IfSome (queued_at link now (goes_out site plan before p) (class_by_shim p.carried) p) (IsGood l (port_logs before link))
+sent_good site plan link l before now p out past s = queued_good site link l (port_logs before) now (class_by_shim p.carried) p (limits_out site plan.uplink) out (link_way site plan.uplink) past s
+
+reply_good : (site : Site) (plan : HostPlan) (link : ℕ) (l : LinkLimits) (before : List Entry) (now : ℕ) (reply : Option Made) → limits_out site link ≡ Some (link, l) → port.NoneLater now (port_logs before link) → IfSome reply (λ m. IsSizedPacket m.packet)
+    → IfSome (reply_at link now reply (option_map (λ m. goes_out site plan before m.packet) reply)) (IsGood l (port_logs before link))
+reply_good site plan link l before now None out past s = tt
+reply_good site plan link l before now (Some m) out past s = sent_good site plan link l before now m.packet out past s
+
+host_good : (site : Site) (plan : HostPlan) (link : ℕ) (l : LinkLimits) (before : List Entry) (input : Input) → limits_out site link ≡ Some (link, l) → port.NoneLater (input_time input) (port_logs before link) → AreFew (history_of plan (calls before)).contacts
+    → IsSizedInput input → IsGoodAt l before link (input_time input) (hosted site plan before input)
+host_good site plan link l before (FromTrace row) out past few s =
+    let h = history_of plan (calls before) in
+    sent_good site plan link l before row.time.0 (made_for site.number plan h row.time.0 row.what).packet out past (made_sized site.number plan h row.time.0 row.what s few)
+host_good site plan link l before (Arrival time from packet) out past few s =
+    let h = history_of plan (calls before) in
+    reply_good site plan link l before time.0 (receipt_of site.number plan h time.0 packet).reply out past (receipt_sized site.number plan h time.0 packet few s)
+
+-- ## at a node
+
+-- what is known of a host's history
+abbrev pub HasFew : Site → List Entry → Type 0
+HasFew site before = (plan : HostPlan) → site.plan ≡ plans.Host plan → AreFew (history_of plan (calls before)).contacts
+
+took_by : (site : Site) (plan : NodePlan) (link : ℕ) (l : LinkLimits) (before : List Entry) (input : Input) (made : Content) → IsSite site → site.plan ≡ plan → limits_out site link ≡ Some (link, l)
+    → port.NoneLater (input_time input) (port_logs before link) → HasFew site before → IsSizedInput input → content_by site plan before input ≡ Some made → IsGoodAt l before link (input_time input) made
+took_by site (plans.Router plan) link l before input made valid e out past few s c = router_good site plan link l before input made valid e out past s c
+took_by site (plans.Host plan) link l before input made valid e out past few s c =
+    subst (IsGoodAt l before link (input_time input)) (same_some (hosted site plan before input) made c) (host_good site plan link l before input out past (few plan e) s)
+
+-- what goes to a link has its place there
+pub took_good : (site : Site) (link : ℕ) (l : LinkLimits) (before : List Entry) (input : Input) (made : Content) → IsSite site → limits_out site link ≡ Some (link, l)
+    → port.NoneLater (input_time input) (port_logs before link) → HasFew site before → IsSizedInput input → content site before input ≡ Some made → IsGoodAt l before link (input_time input) made
+took_good site link l before input made valid out past few s c = took_by site site.plan link l before input made valid refl out past few s c
+
+-- ## charges
+
+-- a charge is the next one, in its grant's seconds
+abbrev pub IsNextCharge : RouterPlan → List Charge → Charge → Type 0
+IsNextCharge plan h c = IsNext plan.slots plan.clock_offset h c × IsWithinSeconds plan.clock_offset c.time c.grant
+
+charge_by : (plan : RouterPlan) (before : List Entry) (now : ℕ) (from : Option ℕ) (p : PacketData) (o : Option Grant) → IsReady plan (charges before) (arrival now from p) → (handle plan (charges before) (port_logs before) now from p).fate.charge ≡ o
+    → IfSome (option_map (charged now p) o) (IsNextCharge plan (charges before))
+charge_by plan before now from p None r e = tt
+charge_by plan before now from p (Some g) r e = let k = charge_next plan (charges before) (port_logs before) now from p g r e in (k.next, k.seconds)
+
+abbrev IsCharging : RouterPlan → List Entry → Input → Content → Type 0
+IsCharging plan before input made = IfSome (charge_of (Took input made)) (IsNextCharge plan (charges before))
+
+arrived_charge : (plan : RouterPlan) (before : List Entry) (input : Input) (from : Option ℕ) (p : PacketData) → IsReady plan (charges before) (arrival (input_time input) from p) → IsCharging plan before input (arrived plan before (input_time input) from p)
+unfolding arrived
+arrived_charge plan before input from p r = charge_by plan before (input_time input) from p (handle plan (charges before) (port_logs before) (input_time input) from p).fate.charge r refl
+
+-- what an input is charged to
+pub took_charge : (site : Site) (plan : RouterPlan) (before : List Entry) (input : Input) (made : Content) → IsSite site → site.plan ≡ plans.Router plan → input_time input ≤ 1000000000000000 → NoneLater (input_time input) (charges before)
+    → AreNext plan.slots plan.clock_offset [] (charges before) → AreTimely plan.clock_offset (charges before) → IsSizedInput input → content site before input ≡ Some made → IsCharging plan before input made
+took_charge site plan before input made valid e time past legal timely s c =
+    let planned : IsPlanned (plans.Router plan) site.links = subst (λ (p : NodePlan). IsPlanned p site.links) e valid.planned in
+    let by_plan : routed site.number plan before input ≡ Some made = sym (ap (λ (p : NodePlan). content_by site p before input) e) ∙ c in
+    let k = came site.number plan before input made by_plan in
+    let ready : IsReady plan (charges before) (arrival (input_time input) k.from k.packet) = record {
+      clock = planned.0.clock_offset;
+      time = time;
+      past = past;
+      legal = legal;
+      timely = timely;
+      sized = sized_length k.packet (k.sized s);
+    } in
+    subst (IsCharging plan before input) k.is (arrived_charge plan before input k.from k.packet ready)
+
+-- ## fates
+
+arrived_handled : (plan : RouterPlan) (before : List Entry) (input : Input) (from : Option ℕ) (p : PacketData) → IsHandled plan before input (arrived plan before (input_time input) from p)
+unfolding arrived
+arrived_handled plan before input from p = is_fate plan (charges before) (port_logs before) (input_time input) from p
+
+-- a router handles each input
+pub took_handled : (site : Site) (plan : RouterPlan) (before : List Entry) (input : Input) (made : Content) → site.plan ≡ plans.Router plan → content site before input ≡ Some made → IsHandled plan before input made
+took_handled site plan before input made e c =
+    let by_plan : routed site.number plan before input ≡ Some made = sym (ap (λ (p : NodePlan). content_by site p before input) e) ∙ c in
+    let k = came site.number plan before input made by_plan in
+    subst (IsHandled plan before input) k.is (arrived_handled plan before input k.from k.packet)

@@ -1,0 +1,11 @@
+pub mod Packets
+pub mod Made
+pub mod Waits
+pub mod Charging
+pub mod Honest
+pub mod Fates
+pub mod Links
+pub mod Entries
+pub mod Along
+pub mod Kept
+pub mod Runs

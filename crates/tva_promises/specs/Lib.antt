@@ -1,0 +1,4 @@
+pub mod Sizes
+pub mod Honest
+pub mod Fates
+pub mod Promises

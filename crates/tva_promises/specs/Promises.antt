@@ -1,0 +1,66 @@
+-- What the log of every node keeps, at each of its places.
+use Rattle.std.specs.Prelude.{◌≡◌, ◌≢◌, ℕ, ◌+◌, ◌*◌, ◌<◌, ◌≤◌, List, [], ◌∷◌, ◌++◌, Some}
+use Rattle.tva_base.specs.declared.limits.LinkLimits.{LinkLimits}
+use Rattle.tva_base.specs.declared.packet.Class.{Class}
+use Rattle.tva_base.specs.declared.packet.Class.TheVariants.{Request, Regular}
+use Rattle.tva_base.specs.declared.plan.RouterPlan.{RouterPlan}
+use Rattle.tva_flow.specs.Charges.{Charge, living_count}
+use Rattle.tva_flow.specs.Stands.{NoneLater, AreNext}
+use Rattle.tva_flow.specs.Budget.{AreTimely, IsWithinBudget}
+use Rattle.tva_port.specs.Log as port
+use Rattle.tva_port.specs.Decide.{MissesNone}
+use Rattle.tva_port.specs.Legal.{IsLegal}
+use Rattle.tva_port.specs.Keeps.{StaysWithinLimits}
+use Rattle.tva_port.specs.Bounds.{AreRequestsServed, AreRegularsServed, AlwaysWaits, bytes_started}
+use Rattle.tva_config.specs.declared.config.NodePlan.TheVariants.{Router}
+use Rattle.tva_log.specs.declared.kinds.Input.{Input}
+use Rattle.tva_log.specs.Sites.{Site, limits_out}
+use Rattle.tva_log.specs.Entries.{Content, Arrived, Sent, Received, Entry, Took, input_time}
+use Rattle.tva_log.specs.Parts.{port_logs, charges}
+use Rattle.tva_promises.specs.Fates.{IsFate}
+
+-- the charges of a router are a list that its cache can have: each came in one of its grant's seconds, no grant
+-- has charges of twice its units of 1,024 bytes, and no more flows live than there are slots
+pub record KeepsGrants (plan : RouterPlan) (h : List Charge) : Type 0 where
+  pub legal : AreNext plan.slots plan.clock_offset [] h
+  pub timely : AreTimely plan.clock_offset h
+  pub budget : IsWithinBudget h
+  pub living : (now : ℕ) → NoneLater now h → living_count h now ≤ plan.slots
+
+-- from one place of a port's log to another, two keys of a class under which something waits all along start less than
+-- so many bytes more than each other
+abbrev pub AreServedAlike : LinkLimits → Class → ℕ → List port.Entry → List port.Entry → Type 0
+AreServedAlike limits class more before between =
+    (a b : ℕ) → a ≢ b → AlwaysWaits limits class a before between → AlwaysWaits limits class b before between
+    → bytes_started limits class a before between < bytes_started limits class b before between + more
+
+-- the log of a link's port up to a time: it is one that a port can have, what waits is within the limits at each
+-- place, no start was missed, each request and each regular packet whose bound is over has started within it, and
+-- between any two places keys are served alike
+pub record KeepsService (limits : LinkLimits) (until : ℕ) (log : List port.Entry) : Type 0 where
+  pub legal : IsLegal limits log
+  pub room : StaysWithinLimits limits log
+  pub missed : MissesNone limits until log
+  pub requests : (now : ℕ) → now < until → AreRequestsServed limits now log
+  pub regulars : (now : ℕ) → now < until → AreRegularsServed limits now log
+  pub alike : (before between rest : List port.Entry) → log ≡ before ++ between ++ rest
+      → AreServedAlike limits Request (limits.request.quantum + 2 * limits.request.max) before between
+      × AreServedAlike limits Regular (limits.regular.quantum + 2 * limits.regular.max) before between
+
+-- a router handles each input
+abbrev pub IsHandled : RouterPlan → List Entry → Input → Content → Type 0
+IsHandled plan before input (Arrived from packet fate onward) =
+    IsFate plan (charges before) (port_logs before) (input_time input) from packet fate onward
+IsHandled plan before input (Sent made outcome) = ⊥
+IsHandled plan before input (Received from packet receipt went) = ⊥
+
+-- a node's log up to a time: at each place a router's charges keep their grants, the log of each link out of the
+-- node keeps its service, and each arrival at a router has its fate over what stands before it
+pub record KeepsPromises (site : Site) (until : ℕ) (log : List Entry) : Type 0 where
+  pub grants : (plan : RouterPlan) → site.plan ≡ Router plan → (before rest : List Entry) → log ≡ before ++ rest
+      → KeepsGrants plan (charges before)
+  pub links : (link : ℕ) (limits : LinkLimits) → limits_out site link ≡ Some (link, limits)
+      → KeepsService limits until (port_logs log link)
+  pub fates : (plan : RouterPlan) → site.plan ≡ Router plan
+      → (before : List Entry) (input : Input) (made : Content) (rest : List Entry)
+      → log ≡ before ++ Took input made ∷ rest → IsHandled plan before input made

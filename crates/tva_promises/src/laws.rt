@@ -1,0 +1,36 @@
+// What every log of a node keeps, and so every run.
+ghost use Rattle.std.specs.Prelude.{◌≡◌, ℕ, ◌≤◌, List, Some};
+ghost use Rattle.std.specs.List.{AllByRecursion};
+ghost use Rattle.tva_config.specs.declared.config.Config.{Config};
+ghost use Rattle.tva_config.specs.Valid.{IsConfig};
+ghost use Rattle.tva_trace.specs.declared.rows.Row.{Row};
+ghost use Rattle.tva_trace.specs.Valid.{AreTraceRows};
+ghost use Rattle.tva_log.specs.declared.kinds.Input.{Input};
+ghost use Rattle.tva_log.specs.Sites.{IsSite, Site};
+ghost use Rattle.tva_log.specs.Entries.{Entry};
+ghost use Rattle.tva_log.specs.NodeLog.{IsNodeLog};
+ghost use Rattle.tva_run.specs.Reaching.{Logs, log_at, site_at};
+ghost use Rattle.tva_run.specs.Run.{IsRunTo};
+ghost use Rattle.tva_promises.specs.Sizes.{IsSizedEntry, IsSizedInput};
+ghost use Rattle.tva_promises.specs.Promises.{KeepsPromises};
+
+/// Whatever reaches a node, within the sizes of a network and up to a time of at most 10^15 nanoseconds,
+/// its log keeps its promises, and what its links send is within those sizes. The budget of a grant is
+/// TVA's.
+pub fn nodes_keep_promises()
+    ensures kept { (site : Site) (inputs : List Input) (until : ℕ) (log : List Entry) → IsSite site
+        → until ≤ 1000000000000001 → AllByRecursion IsSizedInput inputs → IsNodeLog site inputs until log
+        → KeepsPromises site until log }
+    ensures sized { (site : Site) (inputs : List Input) (until : ℕ) (log : List Entry) → IsSite site
+        → until ≤ 1000000000000001 → AllByRecursion IsSizedInput inputs → IsNodeLog site inputs until log
+        → AllByRecursion IsSizedEntry log }
+{}
+
+/// In every run up to a time, in nanoseconds, of a configuration and the rows of a trace, the log of each
+/// node keeps its promises.
+pub fn runs_keep_promises()
+    ensures { (config : Config) (rows : List Row) (until : ℕ) (logs : Logs) → IsConfig config
+        → AreTraceRows config rows → IsRunTo config rows until logs
+        → (node : ℕ) (site : Site) → site_at config node ≡ Some site
+        → KeepsPromises site until (log_at logs node) }
+{}
