@@ -38,10 +38,10 @@ use Rattle.tva_router.specs.Handling.{Logs, arrival, stopped, forwarded, handle}
 
 -- ## a valid capability
 
-before_end : (a b : ℕ) → leb a b ≡ false → b < a
+pub before_end : (a b : ℕ) → leb a b ≡ false → b < a
 before_end a b h = grind (arith, nat_tests)
 
-no_sooner : (a b : ℕ) → ltb a b ≡ false → b ≤ a
+pub no_sooner : (a b : ℕ) → ltb a b ≡ false → b ≤ a
 no_sooner a b h = grind (arith, nat_tests)
 
 valid_parts : (b c d : Bool) (g k : Grant) → cond b checks.Expired (cond c checks.BadHash (cond d (checks.Valid g) checks.BadHash)) ≡ checks.Valid k → (b ≡ false) × (c ≡ false) × (g ≡ k)
@@ -95,7 +95,7 @@ pub record IsCharged (plan : RouterPlan) (h : List Charge) (a : Arrival) (nonce 
 second_small : (now offset : ℕ) → now ≤ 1000000000000000 → offset ≤ 1000000000000000 → (now + offset) / 1000000000 ≤ 2000000
 second_small now offset a b = omega arith
 
-authorised_by : (v : Verdict) (g : Grant) → answer_of v ≡ Ok g → v ≡ verdict.Authorised g
+pub authorised_by : (v : Verdict) (g : Grant) → answer_of v ≡ Ok g → v ≡ verdict.Authorised g
 authorised_by (verdict.Authorised k) g e = let same : k ≡ g = cc in ap verdict.Authorised same
 authorised_by verdict.Expired g e = absurd (cc)
 authorised_by verdict.OverN g e = absurd (cc)
@@ -151,11 +151,11 @@ by_nonce plan h a nonce g r e =
 
 -- ## judgements
 
-by_answer : (shim changed : ShimData) (o : Answer) (g : Grant) → (judged_by shim changed o).charge ≡ Some g → o ≡ Ok g
+pub by_answer : (shim changed : ShimData) (o : Answer) (g : Grant) → (judged_by shim changed o).charge ≡ Some g → o ≡ Ok g
 by_answer shim changed (Ok k) g e = let same : k ≡ g = cc in ap Ok same
 by_answer shim changed (Err c) g e = absurd (cc)
 
-no_request : (plan : RouterPlan) (a : Arrival) (shim : ShimData) (g : Grant) → (judged_request plan a shim).charge ≡ Some g → ⊥
+pub no_request : (plan : RouterPlan) (a : Arrival) (shim : ShimData) (g : Grant) → (judged_request plan a shim).charge ≡ Some g → ⊥
 no_request plan a shim g e =
     let entry : entries.Entry = record { tag = tag_of plan a.from; precap = fresh_for plan a } in
     (elim (eqb (length (entries_of shim.kind)) 16) as (λ b. (cond b (marked shim cause.PathFull) (judged class.Request None None (carried.Shim (with_entry entry shim)))).charge ≡ Some g → ⊥) [

@@ -24,6 +24,8 @@ use Rattle.tva_router.specs.declared.judged.Arrival.{Arrival}
 use Rattle.tva_router.specs.declared.judged.Judged.{Judged}
 use Rattle.tva_router.specs.Judging.{Answer, tag_of, second_of, fresh_for, answer_of, answer_to_checked, answer_to_cap, answer_to_shown, answer_to_nonce, judged, marked, judged_by, judged_request, judged_kind, judged_shim, judge}
 use Rattle.tva_router.specs.Handling.{Logs, arrival, sent, way_to, stopped, forwarded, handle}
+use Rattle.tva_router.proofs.Fates.{mark_told}
+use Rattle.tva_promises.proofs.Only.{charged_only}
 use Rattle.tva_promises.proofs.Honest.{steady_regular}
 use Rattle.tva_promises.specs.Fates.{refusal, cause_of_kind, cause_in, cause_of, NoRowRefusesShown, NoRowRefusesNonce, NoRowRefusesKind, NoRowRefuses, IsFate}
 
@@ -177,5 +179,7 @@ is_fate plan h logs now from p = record {
   stopped = λ l. at_limit plan h logs now from p l;
   way = λ l. on_way plan h logs now from p l;
   taken = λ g l n. taken plan h logs now from p g l n;
+  only = λ g e. charged_only plan h logs now from p g e;
+  mark = mark_told plan h logs now from p;
   honest = λ w miles prepared s l leads steady shows. steady_regular plan h logs now from p w miles prepared s l leads steady shows;
 }

@@ -2,6 +2,7 @@ pub mod Packets
 pub mod Made
 pub mod Waits
 pub mod Charging
+pub mod Only
 pub mod Honest
 pub mod Fates
 pub mod Links
