@@ -1,9 +1,8 @@
 -- What a link of a node does at a time, and what the node stands for then.
-use Rattle.std.proofs.Common.{◌≡◌, ℕ, suc, ◌+◌, ◌*◌, ◌<◌, ◌≤◌, Bool, true, false, List, [], ◌∷◌, ◌++◌, length, get_or, map, set, All, Option, Some, None, Result, Ok, Err, refl, sym, subst, ◌∙◌, ap, arith, inl, inr, append-nil}
-use Rattle.std.specs.Prelude.{◌==◌, OnOk}
+use Rattle.std.proofs.Common.{◌≡◌, ℕ, ◌+◌, ◌*◌, ◌<◌, ◌≤◌, false, List, [], ◌∷◌, ◌++◌, length, get_or, map, set, All, Option, Some, None, Result, Ok, Err, refl, sym, subst, ◌∙◌, ap, arith, append-nil}
+use Rattle.std.specs.Prelude.{OnOk}
 use Rattle.std.specs.Option.{option_map_or, option_and_then}
-use Rattle.std.specs.List.{find, filter_map}
-use Rattle.std.proofs.lemmas.Bool.{eq-eqb, cond-true}
+use Rattle.std.proofs.lemmas.Bool.{eq-eqb}
 use Rattle.std.proofs.lemmas.List.{get_or-map, get_or_default, length-map, set-get_or, map-set}
 use Rattle.std.proofs.lemmas.List.Elements.{filter_map-append, All-get_or}
 use Rattle.std.proofs.Math.Nat.{mul-le-mul_right}
@@ -18,22 +17,23 @@ use Rattle.tva_port.specs.declared.decision.Decision.{Decision}
 use Rattle.tva_port.specs.declared.decision.Decision.TheVariants.{Start, WaitUntil, Idle}
 use Rattle.tva_port.specs.Log as port
 use Rattle.tva_port.specs.Legal.{IsLegal}
-use Rattle.tva_port.specs.Decide.{decision, is_start}
+use Rattle.tva_port.specs.Decide.{is_start}
 use Rattle.tva_port.proofs.Logs.{free-started}
 use Rattle.tva_log.specs.declared.kinds.Input.{Input}
 use Rattle.tva_log.specs.declared.kinds.Sending.{Sending}
-use Rattle.tva_log.specs.Sites.{Site, IsSite, IsLinkOut, AreRising, link_out, limits_out, site_of}
+use Rattle.tva_log.specs.Sites.{Site, IsLinkOut, AreRising, link_out, limits_out, site_of}
 use Rattle.tva_log.specs.Entries.{Entry, Started}
 use Rattle.tva_log.specs.Parts.{port_entry, port_logs}
 use Rattle.tva_log.specs.NodeLog.{starts, start_of, start_after}
-use Rattle.tva_log.specs.Told.{event_of, sending_of, at_time}
+use Rattle.tva_log.specs.Told.{at_time}
 use Rattle.tva_log.specs.Next.{next_by, next_decision, next_on}
 use Rattle.tva_log.proofs.Ports.{busy_starts_none, free_starts, next_busy, next_rested}
 use Rattle.tva_node.specs.declared.parts.Link.{Link}
 use Rattle.tva_node.specs.declared.parts.Parts.{Parts}
 use Rattle.tva_node.specs.declared.role.Role.{Role}
 use Rattle.tva_node.specs.declared.turns.Turn.{Turn}
-use Rattle.tva_node.specs.States.{NodeState, StandsAt, RoleStands, IsBy, Decides, link_pair, role_plan, site_at, started_by, state_of}
+use Rattle.tva_node.specs.States.{NodeState, RoleStands, IsBy, link_pair, role_plan, site_at, state_of}
+use Rattle.tva_node.specs.Steps.{StandsAt, Decides, started_by}
 use Rattle.tva_node.specs.Work.{IsRank, DecidesAt, IsStartable, all_taken, end_on, start_event, start_sending}
 use Rattle.tva_node.proofs.Finding.{find-at, link_valid}
 use Rattle.tva_node.proofs.Roles.{role_legal}

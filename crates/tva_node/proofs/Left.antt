@@ -1,13 +1,13 @@
 -- The inputs of a node that are left, and their turns.
-use Rattle.std.proofs.Common.{◌≡◌, ℕ, zero, suc, ◌+◌, ◌<◌, ◌≤◌, List, [], ◌∷◌, ◌++◌, length, get_or, Option, Some, None, refl, sym, subst, ◌∙◌, ap, arith, inl, inr, ◌⊎◌, false, true, append-nil, append_assoc}
-use Rattle.std.specs.Prelude.{nat_lt, IfSome, slice_get}
+use Rattle.std.proofs.Common.{◌≡◌, ℕ, zero, suc, ◌+◌, ◌<◌, ◌≤◌, List, [], ◌∷◌, ◌++◌, length, get_or, Some, sym, subst, ◌∙◌, ap, arith, inl, inr, false, true, append-nil, append_assoc}
+use Rattle.std.specs.Prelude.{nat_lt, slice_get}
 use Rattle.std.specs.List.{AllByRecursion, AllZip}
 use Rattle.std.proofs.lemmas.Bool.{lt-ltb, le-ltb, cases_lt}
 use Rattle.std.proofs.lemmas.Bool.Decides.{nat_tests}
 use Rattle.std.proofs.lemmas.List.{append_cancel_left}
 use Rattle.std.proofs.lemmas.List.Elements.{filter-append}
-use Rattle.tva_joins.specs.Joins.{MayPrecede, IsInOrder, cut}
-use Rattle.tva_joins.proofs.Joins.{filter-true, filter-false, each-weaker, cut-early, cut-late, each-cut, each_later}
+use Rattle.tva_joins.specs.Joins.{IsInOrder}
+use Rattle.tva_joins.proofs.Joins.{filter-true, filter-false, cut-early, cut-late, each-cut, each_later}
 use Rattle.tva_joins.proofs.Putting.{in_order-put_all}
 use Rattle.tva_log.specs.declared.kinds.Input.{Input}
 use Rattle.tva_log.specs.Entries.{input_time, input_source}

@@ -1,33 +1,33 @@
 -- What a node stands for that is new, or that is given one more input; and when it has work.
-use Rattle.std.proofs.Common.{◌≡◌, ℕ, zero, suc, ◌+◌, ◌<◌, ◌≤◌, Bool, true, false, cond, List, [], ◌∷◌, ◌++◌, length, get_or, map, All, Option, Some, None, refl, sym, subst, ◌∙◌, ap, arith, inl, inr, ◌⊎◌, append_assoc}
+use Rattle.std.proofs.Common.{◌≡◌, ℕ, zero, suc, ◌+◌, ◌<◌, ◌≤◌, false, List, [], ◌∷◌, ◌++◌, length, get_or, map, All, Option, Some, None, refl, sym, subst, ◌∙◌, ap, arith, inl, inr}
 use Rattle.std.specs.Prelude.{nat_lt, ◌==◌, ◌||◌, ◌&&◌, Contains, slice_get}
 use Rattle.std.specs.Option.{option_and_then, option_map}
 use Rattle.std.specs.List.{AllByRecursion, AllZip, find}
 use Rattle.std.proofs.lemmas.Bool.{cases_Bool, cond-true, cond-false, eq-eqb}
 use Rattle.std.proofs.lemmas.Bool.Decides.{nat_tests}
 use Rattle.std.proofs.lemmas.List.{map-append}
-use Rattle.std.proofs.lemmas.List.Elements.{All-nil, All-cons, All-head, All-push, Contains-append_right, Contains-append_left, Contains-get_or}
+use Rattle.std.proofs.lemmas.List.Elements.{All-nil, All-cons, All-head, All-push, Contains-append_right, Contains-get_or}
 use Rattle.tva_base.specs.declared.limits.LinkLimits.{LinkLimits}
 use Rattle.tva_base.specs.declared.plan.LinkPlan.{LinkPlan}
-use Rattle.tva_base.specs.declared.packet.Time.{Time}
 use Rattle.tva_base.specs.Plan.{AreLinkLimits, links_of}
 use Rattle.tva_config.specs.declared.config.NodePlan.{NodePlan}
 use Rattle.tva_port.specs.Decide.{decision}
-use Rattle.tva_joins.specs.Joins.{cut, precedes, put_in}
-use Rattle.tva_joins.proofs.Joins.{each-cut, each-weaker, cut-zero}
+use Rattle.tva_joins.specs.Joins.{precedes, put_in}
+use Rattle.tva_joins.proofs.Joins.{each-cut, each-weaker}
 use Rattle.tva_joins.proofs.Putting.{cut-put_all, put_all-append}
 use Rattle.tva_log.specs.declared.kinds.Input.{Input}
 use Rattle.tva_log.specs.Sites.{Site, IsLinkOut, IsSite, limits_out, site_of}
 use Rattle.tva_log.specs.Entries.{Entry, input_source, input_time}
-use Rattle.tva_log.specs.NodeLog.{IsNodeLog, in_turn, due}
-use Rattle.tva_log.specs.Next.{next_decision, next_on, IsWorkAt}
+use Rattle.tva_log.specs.NodeLog.{in_turn, due}
+use Rattle.tva_log.specs.Next.{next_decision, IsWorkAt}
 use Rattle.tva_log.proofs.Logs.{IsNodeLog-same}
 use Rattle.tva_node.specs.declared.parts.Link.{Link}
 use Rattle.tva_node.specs.declared.role.Role.{Role}
 use Rattle.tva_node.specs.declared.turns.Turn.{Turn}
 use Rattle.tva_node.specs.Turns.{AreLeft, IsTurnOf, turn_source, turn_time}
-use Rattle.tva_node.specs.States.{NodeState, Fits, IsBy, IsFirstWork, KnowsNext, RoleStands, Stands, StandsFor, first_link, link_pair, role_plan}
-use Rattle.tva_node.specs.Work.{IsNoneBefore, sooner, turn_next, least_next, work_time}
+use Rattle.tva_node.specs.States.{NodeState, Fits, IsBy, IsFirstWork, KnowsNext, RoleStands, Stands, StandsFor, link_pair, role_plan}
+use Rattle.tva_node.specs.Steps.{first_link}
+use Rattle.tva_node.specs.Work.{IsNoneBefore, turn_next, least_next, work_time}
 use Rattle.tva_node.proofs.Works.{any_link, either, none_sooner, quiet, work_late}
 
 -- ## one more input

@@ -1,8 +1,8 @@
 -- What a router or a host that stands for a node's log tells of its links' logs, and how it goes on.
-use Rattle.std.proofs.Common.{◌≡◌, ℕ, suc, ◌+◌, ◌<◌, ◌≤◌, Bool, true, false, cond, List, [], ◌∷◌, ◌++◌, map, Option, Some, None, Result, Ok, Err, refl, sym, subst, ◌∙◌, ap, ap₂, arith, inl, inr, append-nil}
-use Rattle.std.specs.Prelude.{◌==◌, count_by, min, IfOk}
-use Rattle.std.specs.Option.{option_map, option_and_then}
-use Rattle.std.specs.List.{find, filter_map, cons_option}
+use Rattle.std.proofs.Common.{◌≡◌, ℕ, ◌+◌, ◌≤◌, Bool, true, false, cond, List, [], ◌∷◌, ◌++◌, map, Option, Some, None, Result, Ok, Err, refl, sym, subst, ◌∙◌, ap, arith, inl, inr, append-nil}
+use Rattle.std.specs.Prelude.{◌==◌, min, IfOk}
+use Rattle.std.specs.Option.{option_map}
+use Rattle.std.specs.List.{find, cons_option}
 use Rattle.std.proofs.lemmas.Bool.{cond-true, cond-false, cases_Bool, eq-eqb, eqb-true}
 use Rattle.std.proofs.lemmas.List.Elements.{filter_map-append, All-weaker}
 use Rattle.std.proofs.lemmas.List.Sums.{sum_by_push}
@@ -16,7 +16,6 @@ use Rattle.tva_base.specs.declared.event.Happened.{Happened}
 use Rattle.tva_base.specs.declared.event.Happened.TheVariants as happens
 use Rattle.tva_base.specs.declared.event.ReplyLine.{ReplyLine}
 use Rattle.tva_base.specs.declared.packet.PacketId.{PacketId}
-use Rattle.tva_base.specs.declared.packet.Fate.{Fate}
 use Rattle.tva_base.specs.declared.packet.Grant.{Grant}
 use Rattle.tva_base.specs.declared.packet.Outcome.{Outcome}
 use Rattle.tva_base.specs.declared.packet.Outcome.TheVariants.{Queued, Dropped}
@@ -41,7 +40,7 @@ use Rattle.tva_host.specs.Calls.{Call, Received, history_of}
 use Rattle.tva_host.specs.Stands as host_stands
 use Rattle.tva_host.specs.Stands.{HostData}
 use Rattle.tva_trace.specs.declared.rows.Row.{Row}
-use Rattle.tva_router.specs.Handling.{Logs, charged_by, entered, entered_by, handle, outcome_of, outgoing_link, sent}
+use Rattle.tva_router.specs.Handling.{Logs, charged_by, entered_by, handle, outcome_of, outgoing_link, sent}
 use Rattle.tva_router.specs.Stands as router
 use Rattle.tva_router.specs.Stands.{◌with◌, started_on}
 use Rattle.tva_router.proofs.Known.{known}
@@ -61,7 +60,8 @@ use Rattle.tva_node.specs.declared.role.Role.{Role}
 use Rattle.tva_node.specs.declared.role.Role.TheVariants as roles
 use Rattle.tva_node.specs.declared.role.Routed.{Routed}
 use Rattle.tva_node.specs.declared.role.Hosted.{Hosted}
-use Rattle.tva_node.specs.States.{RoleStands, StandsAsRouter, StandsAsHost, HostTook, IsBy, RouterTook, Takes, reply_went, role_plan, started_by, went_out}
+use Rattle.tva_node.specs.States.{RoleStands, StandsAsRouter, StandsAsHost, IsBy, role_plan}
+use Rattle.tva_node.specs.Steps.{HostTook, RouterTook, Takes, reply_went, started_by, went_out}
 
 -- a time is no earlier
 pub by-later : (now later : ℕ) (role : Role) → now ≤ later → IsBy now role → IsBy later role

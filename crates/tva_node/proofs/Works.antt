@@ -1,8 +1,8 @@
 -- How a node works: what it stands for before, within and after one time.
-use Rattle.std.proofs.Common.{◌≡◌, ℕ, zero, suc, ◌+◌, ◌*◌, ◌<◌, ◌≤◌, min, List, [], ◌∷◌, ◌++◌, length, get_or, map, take, drop, set, All, Option, Some, None, Bool, true, false, refl, sym, subst, ◌∙◌, ap, ap₂, arith, inl, inr, ◌⊎◌, append-nil, append_assoc}
-use Rattle.std.specs.Prelude.{nat_lt, ◌==◌, IfSome, Contains, slice_get}
+use Rattle.std.proofs.Common.{◌≡◌, ℕ, zero, suc, ◌+◌, ◌<◌, ◌≤◌, min, List, [], ◌∷◌, ◌++◌, length, get_or, map, take, drop, set, All, Option, Some, None, false, refl, sym, subst, ◌∙◌, ap, ap₂, arith, inl, inr, ◌⊎◌, append-nil}
+use Rattle.std.specs.Prelude.{◌==◌, Contains, slice_get}
 use Rattle.std.specs.Option.{option_map, option_and_then}
-use Rattle.std.specs.List.{AllByRecursion, AllZip, find, filter_map, cons_option}
+use Rattle.std.specs.List.{AllByRecursion, find, cons_option}
 use Rattle.std.proofs.lemmas.Bool.{cases_lt}
 use Rattle.std.proofs.lemmas.List.{map_push, drop_more, take-append-drop, set-get_or, get_or-map, map-set, take_more_set, take_more, drop-set-lt, set_split, take_all}
 use Rattle.std.proofs.lemmas.List.Elements.{All-nil, All-cons, All-head, All-tail, All-map, All-contains, All-from_recursion, All-weaker, All-append, All-take, All-get_or, filter_map-append}
@@ -11,19 +11,18 @@ use Rattle.tva_base.specs.declared.event.Happened.{Happened}
 use Rattle.tva_base.specs.declared.limits.LinkLimits.{LinkLimits}
 use Rattle.tva_base.specs.declared.plan.LinkPlan.{LinkPlan}
 use Rattle.tva_base.specs.declared.packet.Class.{Class}
-use Rattle.tva_base.specs.Plan.{AreLinkLimits, links_of}
+use Rattle.tva_base.specs.Plan.{links_of}
 use Rattle.tva_port.specs.Log as port
-use Rattle.tva_shim.specs.Packets.{PacketData, packet_length}
+use Rattle.tva_shim.specs.Packets.{PacketData}
 use Rattle.tva_joins.proofs.Joins.{each-append, each-weaker, each-cut}
 use Rattle.tva_log.specs.declared.kinds.Input.{Input}
 use Rattle.tva_log.specs.declared.kinds.Sending.{Sending}
-use Rattle.tva_log.specs.Sites.{Site, limits_out, IsSite, IsLinkOut, AreRising}
-use Rattle.tva_log.specs.Entries.{Content, Entry, Took, Started, input_time, input_source}
+use Rattle.tva_log.specs.Sites.{Site, limits_out, AreRising}
+use Rattle.tva_log.specs.Entries.{Entry, Took, Started, input_time, input_source}
 use Rattle.tva_log.specs.Parts.{port_logs}
-use Rattle.tva_log.specs.Contents.{content}
 use Rattle.tva_log.specs.NodeLog.{IsNodeLog, in_turn, due, starts}
-use Rattle.tva_log.specs.Told.{events, sendings, event_of, sending_of, content_told, at_time}
-use Rattle.tva_log.specs.Next.{next_decision, next_on, IsQuiet, IsWorkAt, AreLegal}
+use Rattle.tva_log.specs.Told.{sendings, event_of, sending_of, at_time}
+use Rattle.tva_log.specs.Next.{next_decision, next_on, IsQuiet, AreLegal}
 use Rattle.tva_log.proofs.Logs.{logs-other}
 use Rattle.tva_log.proofs.Ports.{next_again}
 use Rattle.tva_log.proofs.Quiet.{due_same, quiet_log, late_on}
@@ -32,11 +31,12 @@ use Rattle.tva_node.specs.declared.role.Role.{Role}
 use Rattle.tva_node.specs.declared.turns.Turn.{Turn}
 use Rattle.tva_node.specs.AtTime.{IsAt}
 use Rattle.tva_node.specs.Turns.{AreLeft, IsTurnOf}
-use Rattle.tva_node.specs.States.{NodeState, StandsFor, StandsAt, Stands, KnowsNext, Takes, Fits, RoleStands, IsBy, link_pair, role_plan}
+use Rattle.tva_node.specs.States.{NodeState, StandsFor, Stands, KnowsNext, Fits, RoleStands, IsBy, link_pair, role_plan}
+use Rattle.tva_node.specs.Steps.{StandsAt, Takes}
 use Rattle.tva_node.specs.Work.{IsNoneBefore, sooner, turn_next, least_next, work_time, is_due, TakesAt, IsRank, DecidesAt, all_taken}
 use Rattle.tva_node.proofs.Steps.{begins, takes, rests, starts_one, ends}
 use Rattle.tva_node.proofs.Finding.{find-none, find-some, find-at, link_valid}
-use Rattle.tva_node.proofs.Left.{in_turn-ordered, rest_late, left_late, left_turns_late, taken_due, turn_late, next_left, none_due, slice_read, slice_within}
+use Rattle.tva_node.proofs.Left.{left_late, left_turns_late, taken_due, turn_late, next_left, none_due, slice_read, slice_within}
 use Rattle.tva_node.proofs.Roles.{by-later, role_legal}
 
 -- ## where there is work

@@ -1,5 +1,5 @@
 -- Kit: a node's log within one time, while its inputs are taken and its links decide in turn.
-use Rattle.std.specs.Prelude.{◌≡◌, ℕ, ◌<◌, ◌≤◌, ◌⊎◌, List, [], Option, None}
+use Rattle.std.specs.Prelude.{◌≡◌, ℕ, ◌<◌, ◌≤◌, ◌⊎◌, List, [], None}
 use Rattle.std.specs.List.{AllByRecursion}
 use Rattle.tva_joins.specs.Joins.{IsInOrder}
 use Rattle.tva_log.specs.declared.kinds.Input.{Input}

@@ -1,4 +1,5 @@
-pub mod AtTime
 pub mod Turns
 pub mod States
+pub mod AtTime
+pub mod Steps
 pub mod Work

@@ -1,4 +1,4 @@
--- Kit: the inputs of a node that are not taken yet, by what orders them and their places.
+-- The inputs of a node that are not taken yet, by what orders them and their places.
 use Rattle.std.specs.Prelude.{◌≡◌, ℕ, List, [], ◌∷◌, ◌++◌, Option, Some, None, slice_get}
 use Rattle.std.specs.List.{AllZip}
 use Rattle.tva_log.specs.declared.kinds.Input.{Input}

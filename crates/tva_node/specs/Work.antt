@@ -1,5 +1,6 @@
 -- Kit: when there is work at a node, and how far it is within one time.
-use Rattle.std.specs.Prelude.{◌≡◌, ℕ, ◌+◌, ◌*◌, ◌≤◌, ◌<◌, ◌==◌, min, Bool, false, List, [], ◌∷◌, All, take, drop, set, get_or, Option, Some, None, IfSome}
+use Rattle.std.specs.Prelude.{ℕ, ◌+◌, ◌*◌, ◌≤◌, ◌<◌, ◌==◌, min, Bool, false, List, [], ◌∷◌, All, take, drop, set}
+use Rattle.std.specs.Prelude.{get_or, Option, Some, None, IfSome}
 use Rattle.tva_base.specs.declared.event.Event.{Event}
 use Rattle.tva_base.specs.declared.event.Happened.TheVariants as happens
 use Rattle.tva_base.specs.declared.packet.Class.{Class}
@@ -11,7 +12,8 @@ use Rattle.tva_log.specs.Entries.{Entry}
 use Rattle.tva_log.specs.NodeLog.{in_turn, due}
 use Rattle.tva_node.specs.declared.parts.Link.{Link}
 use Rattle.tva_node.specs.declared.turns.Turn.{Turn}
-use Rattle.tva_node.specs.States.{NodeState, StandsAt}
+use Rattle.tva_node.specs.States.{NodeState}
+use Rattle.tva_node.specs.Steps.{StandsAt}
 
 -- ## the next time
 
@@ -61,7 +63,8 @@ pub record IsRank (rank place : ℕ) (links : List Link) : Type 0 where
 
 -- after all inputs, the links before a place have decided
 abbrev pub DecidesAt : NodeState → ℕ → ℕ → Type 0
-DecidesAt v now place = (rank : ℕ) × (log : List Entry) × IsRank rank place v.links × StandsAt v now rank (all_taken v now) log
+DecidesAt v now place =
+    (rank : ℕ) × (log : List Entry) × IsRank rank place v.links × StandsAt v now rank (all_taken v now) log
 
 -- ## what a link starts
 
@@ -79,7 +82,8 @@ start_event node link now class packet = record {
 
 -- what it sends
 abbrev pub start_sending : Link → ℕ → PacketData → Sending
-start_sending link now packet = record { link = link.number; arrive = at_time (end_on link now packet + link.plan.delay); packet = packet }
+start_sending link now packet =
+    record { link = link.number; arrive = at_time (end_on link now packet + link.plan.delay); packet = packet }
 
 -- the links with a next decision of the one in that place
 abbrev pub with_next : ℕ → Option ℕ → List Link → Link → List Link

@@ -3,7 +3,8 @@ ghost use Rattle.std.specs.Prelude.{◌≡◌, ◌≤◌, ◌+◌, ◌∷◌, []
 ghost use Rattle.tva_log.specs.Entries.{Entry, input_source, input_time};
 ghost use Rattle.tva_log.specs.NodeLog.{in_turn};
 ghost use Rattle.tva_log.specs.Sites.{IsSite, site_of};
-ghost use Rattle.tva_node.specs.States.{Fits, IsBy, IsFirstWork, Keeps, RoleStands, Stands, StandsFor, first_link, role_plan};
+ghost use Rattle.tva_node.specs.States.{Fits, IsBy, IsFirstWork, Keeps, RoleStands, Stands, StandsFor, role_plan};
+ghost use Rattle.tva_node.specs.Steps.{first_link};
 
 use crate::parts::{Link, Parts};
 use crate::role::{Hosted, Role, Routed};

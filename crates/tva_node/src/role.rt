@@ -4,8 +4,7 @@ ghost use Rattle.std.specs.List.{cons_option};
 ghost use Rattle.tva_base.specs.declared.limits.LinkLimits.{LinkLimits};
 ghost use Rattle.tva_base.specs.declared.event.Happened.TheVariants as happens;
 ghost use Rattle.tva_shim.specs.Packets.{packet_length, class_by_shim};
-ghost use Rattle.tva_shim.specs.Changes.{last_tag};
-ghost use Rattle.tva_shim.specs.Shows.{back_in, entries_in, key_of as shown_key};
+ghost use Rattle.tva_shim.specs.Shows.{back_in};
 ghost use Rattle.tva_flow.specs.Charges.{Charge};
 ghost use Rattle.tva_port.specs.Log.{Entry as PortEntry, free_after};
 ghost use Rattle.tva_port.specs.Stands.{StandsFor as PortStandsFor};
@@ -20,7 +19,8 @@ ghost use Rattle.tva_log.specs.Parts.{call_of_row, port_logs, reply_at};
 ghost use Rattle.tva_log.specs.Contents.{made_for, packet_of_row};
 ghost use Rattle.tva_log.specs.Told.{brings, reply_told};
 ghost use Rattle.tva_log.specs.declared.kinds.Input.TheVariants as inputs;
-ghost use Rattle.tva_node.specs.States.{Decides, Fits, FitsRow, HostTook, IsBy, RoleStands, RouterTook, StandsAsHost, StandsAsRouter, Takes, reply_went, role_free, role_plan, went_out};
+ghost use Rattle.tva_node.specs.States.{Fits, FitsRow, IsBy, RoleStands, StandsAsHost, StandsAsRouter, role_plan};
+ghost use Rattle.tva_node.specs.Steps.{Decides, HostTook, RouterTook, Takes, reply_went, role_free, went_out};
 
 use std::alloc::{AllocError, Global};
 use tva_base::{
@@ -31,7 +31,7 @@ use tva_host::{Host, Made, Receipt};
 use tva_log::Input;
 use tva_port::{Decision, Port};
 use tva_router::Router;
-use tva_shim::{Carried, Kind, Packet, ReturnInfo, class_of, length};
+use tva_shim::{Carried, Packet, ReturnInfo, class_of, length, queue_key};
 use tva_trace::{Row, RowWhat};
 
 /// A router, and the ordinal of its next packet from the trace.
@@ -321,7 +321,7 @@ impl Hosted {
         ensures last { self.new.port.last ≡ now.0 }
     {
         let class = class_of(&packet);
-        let key = key_of(class, &packet);
+        let key = queue_key(class, &packet);
         outcome_of(self.uplink, &self.port.queue(now, class, key, packet))
     }
 }
@@ -347,29 +347,5 @@ fn back_kind(carried: &Carried) -> BackKind
             ReturnInfo::Grant { .. } => BackKind::Grant,
         },
         Carried::Nothing | Carried::Malformed(_) => BackKind::Nothing,
-    }
-}
-
-// The key under which a packet of the class is queued.
-fn key_of(class: Class, packet: &Packet) -> u32
-    ensures { result ≡ shown_key class packet.now }
-{
-    match class {
-        Class::Request => u32::from(path_tag(&packet.carried)),
-        Class::Regular => packet.flow.dst.0,
-        Class::Legacy => 0,
-    }
-}
-
-// The last nonzero tag of a request, else 0.
-fn path_tag(carried: &Carried) -> u16
-    ensures { result ≡ last_tag (entries_in carried.now) }
-{
-    match carried {
-        Carried::Shim(shim) => match &shim.kind {
-            Kind::Request(_) => shim.tag_key(),
-            Kind::List(_) | Kind::Nonce(_) | Kind::Renewal(_) => 0,
-        },
-        Carried::Nothing | Carried::Malformed(_) => 0,
     }
 }

@@ -1,5 +1,5 @@
 use Rattle.std.proofs.Common.{◌≡◌, map, take}
-use Rattle.tva_node.specs.States.{first_link}
+use Rattle.tva_node.specs.Steps.{first_link}
 use Rattle.tva_node.proofs.node.links_out.Given as goal
 
 abbrev pub invariant-loop-number : goal.invariant-loop-number

@@ -1,8 +1,7 @@
-use Rattle.std.proofs.Common.{rules, ◌≡◌, ◌≤◌, ◌<◌, ◌+◌, ◌-◌, ◌/◌, length, take, get_or, false, sym, subst, ◌∙◌, ap, arith}
+use Rattle.std.proofs.Common.{rules, ◌≡◌, ◌<◌, ◌+◌, ◌-◌, ◌/◌, length, get_or, sym, ◌∙◌, ap, arith}
 use Rattle.tva_joins.specs.Joins.{precedes}
 use Rattle.tva_joins.proofs.Places.{put_in-at, none_sooner}
 use Rattle.tva_node.specs.Turns.{turn_time, turn_source}
-use Rattle.tva_node.specs.declared.turns.Turn.{Turn}
 use Rattle.tva_node.proofs.turns.place_for.Goals as goal
 
 pub loop-low-preserved : goal.loop-low-preserved

@@ -1,8 +1,7 @@
-use Rattle.std.proofs.Common.{◌≡◌, ◌≤◌, [], List, map, sym, subst, ◌∙◌, ap}
-use Rattle.tva_base.specs.declared.plan.LinkPlan.{LinkPlan}
+use Rattle.std.proofs.Common.{[], map, sym, subst, ◌∙◌, ap}
 use Rattle.tva_config.specs.declared.config.NodePlan.{NodePlan}
 use Rattle.tva_log.specs.Sites.{IsSite, site_of}
-use Rattle.tva_node.specs.States.{NodeState, RoleStands, Stands, link_pair, role_plan}
+use Rattle.tva_node.specs.States.{RoleStands, Stands, link_pair, role_plan}
 use Rattle.tva_node.proofs.Posts.{built, pairs_first}
 use Rattle.tva_node.proofs.node.Node.build.Goals as goal
 

@@ -1,5 +1,4 @@
-use Rattle.std.proofs.Common.{◌≡◌, ◌+◌, ◌<◌, List, Option, Some, None, subst, arith}
-use Rattle.tva_base.specs.declared.packet.Time.{Time}
+use Rattle.std.proofs.Common.{◌+◌, ◌<◌, List, Some, None, subst, arith}
 use Rattle.tva_log.specs.Entries.{Entry}
 use Rattle.tva_log.specs.NodeLog.{in_turn}
 use Rattle.tva_node.specs.States.{NodeState, IsFirstWork, StandsFor, state_of}

@@ -1,8 +1,7 @@
 use Rattle.std.proofs.Common.{◌≡◌, ◌+◌, ◌∷◌, [], ◌++◌, Some, None, get_or, map, refl, sym, subst, ◌∙◌, ap, arith, append-nil}
 use Rattle.std.proofs.lemmas.List.{get_or_default}
-use Rattle.std.specs.Prelude.{OnOk}
-use Rattle.tva_port.specs.declared.decision.Decision.TheVariants.{Start, WaitUntil, Idle}
-use Rattle.tva_node.specs.States.{NodeState, BeginsWith, link_pair, role_plan, site_at, state_of}
+use Rattle.tva_port.specs.declared.decision.Decision.TheVariants.{WaitUntil, Idle}
+use Rattle.tva_node.specs.States.{NodeState, link_pair, role_plan, site_at, state_of}
 use Rattle.tva_node.specs.Work.{DecidesAt, end_on, start_event, start_sending}
 use Rattle.tva_node.proofs.Decides.{from_fields, on_both, pairs_set, read_busy, read_fits, read_out, read_rest, read_start}
 use Rattle.tva_node.proofs.parts.Parts.decide_at.Goals as goal

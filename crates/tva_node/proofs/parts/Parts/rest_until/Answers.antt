@@ -1,4 +1,4 @@
-use Rattle.std.proofs.Common.{rules, ◌≡◌, ◌≤◌, max, arith, inl, inr}
+use Rattle.std.proofs.Common.{rules, ◌≡◌, arith, inl, inr}
 use Rattle.std.proofs.lemmas.Bool.{cases_lt}
 use Rattle.tva_node.specs.States.{state_of}
 use Rattle.tva_node.proofs.Works.{goes_to}

@@ -1,13 +1,9 @@
-use Rattle.std.proofs.Common.{rules, ◌≡◌, ◌≤◌, ◌<◌, ◌∷◌, [], ◌++◌, List, length, get_or, map, false, true, vec_len, refl, sym, subst, ◌∙◌, ap, arith}
-use Rattle.std.proofs.lemmas.List.Elements.{All-get_or}
-use Rattle.tva_base.specs.declared.event.Event.{Event}
-use Rattle.tva_log.specs.declared.kinds.Input.{Input}
-use Rattle.tva_log.specs.Entries.{input_time}
-use Rattle.tva_log.specs.Sites.{Site, site_of}
+use Rattle.std.proofs.Common.{rules, ◌≡◌, ◌<◌, ◌∷◌, [], ◌++◌, List, length, map, false, true, vec_len, refl, sym, subst, arith}
+use Rattle.tva_log.specs.Sites.{site_of}
 use Rattle.tva_node.specs.declared.turns.Turn.{Turn}
-use Rattle.tva_node.specs.States.{NodeState, Fits, IsBy, link_pair, role_plan, site_at, state_of}
+use Rattle.tva_node.specs.States.{NodeState, IsBy, link_pair, role_plan, site_at, state_of}
 use Rattle.tva_node.specs.Work.{TakesAt, is_due}
-use Rattle.tva_node.proofs.Left.{slice_read, slice_within, some_due}
+use Rattle.tva_node.proofs.Left.{slice_within, some_due}
 use Rattle.tva_node.proofs.Works.{input_next, read_next, took_one}
 use Rattle.tva_node.proofs.parts.Parts.take_one.Goals as goal
 

@@ -1,4 +1,4 @@
-use Rattle.std.proofs.Common.{◌≡◌, ◌∙◌, ◌++◌, List, sym, subst, ap}
+use Rattle.std.proofs.Common.{◌≡◌, ◌++◌, List, sym, subst}
 use Rattle.tva_base.specs.declared.packet.Class.{Class}
 use Rattle.tva_base.specs.declared.packet.Outcome.{Outcome}
 use Rattle.tva_shim.specs.Packets.{class_by_shim}
@@ -15,7 +15,7 @@ returns-clause-stands c = λ log h.
     let now = c.args.now.0 in
     let uplink = c.args.self.now.uplink in
     let class : c.class_of-class.result ≡ class_by_shim c.args.packet.carried = c.class_of-class.ensures in
-    let key : c.key_of-key.result ≡ key_of c.class_of-class.result c.args.packet = c.key_of-key.ensures in
+    let key : c.queue_key-key.result ≡ key_of c.class_of-class.result c.args.packet = c.queue_key-key.ensures in
     let stands = c.queue.ensures.stands log h in
     let by_key : StandsFor c.queue.new.self (log ++ queued_by c.queue.result now c.class_of-class.result (key_of c.class_of-class.result c.args.packet) c.args.packet) =
     subst (λ k. StandsFor c.queue.new.self (log ++ queued_by c.queue.result now c.class_of-class.result k c.args.packet)) key stands in

@@ -1,4 +1,4 @@
-use Rattle.std.proofs.Common.{◌≡◌, ◌∙◌, ◌∷◌, [], ◌++◌, sym, subst, ap}
+use Rattle.std.proofs.Common.{◌∙◌, ◌∷◌, [], ◌++◌, sym, subst, ap}
 use Rattle.tva_shim.specs.Packets.{PacketData}
 use Rattle.tva_host.specs.Calls.{Received}
 use Rattle.tva_host.specs.Stands.{HostData, StandsFor}

@@ -1,4 +1,4 @@
-use Rattle.std.proofs.Common.{◌≡◌, ◌∙◌, ◌∷◌, [], ◌++◌, refl, sym, subst, ap}
+use Rattle.std.proofs.Common.{◌≡◌, ◌∙◌, ◌∷◌, [], ◌++◌, sym, subst, ap}
 use Rattle.tva_base.specs.declared.limits.LinkLimits.{LinkLimits}
 use Rattle.tva_shim.specs.Packets.{PacketData, class_by_shim}
 use Rattle.tva_port.specs.Stands.{PortData, StandsFor}
@@ -6,7 +6,7 @@ use Rattle.tva_router.specs.Handling.{entered_by}
 use Rattle.tva_host.specs.Stands.{HostData}
 use Rattle.tva_host.specs.Stands as host
 use Rattle.tva_log.specs.Parts.{call_of_row, calls, port_logs}
-use Rattle.tva_node.specs.States.{went_out}
+use Rattle.tva_node.specs.Steps.{went_out}
 use Rattle.tva_node.proofs.Roles.{host_row}
 use Rattle.tva_node.proofs.role.Hosted.take_row.Goals as goal
 

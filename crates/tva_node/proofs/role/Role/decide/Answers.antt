@@ -4,7 +4,8 @@ use Rattle.tva_port.specs.Decide.{decision}
 use Rattle.tva_log.specs.Parts.{charges, port_logs}
 use Rattle.tva_node.specs.declared.role.Role.{Role}
 use Rattle.tva_node.specs.declared.role.Hosted.{Hosted}
-use Rattle.tva_node.specs.States.{RoleStands, StandsAsHost, role_plan, started_by}
+use Rattle.tva_node.specs.States.{RoleStands, StandsAsHost, role_plan}
+use Rattle.tva_node.specs.Steps.{started_by}
 use Rattle.tva_node.proofs.Roles.{host_decided, host_out, not_none, router_decided, router_has_out}
 use Rattle.tva_node.proofs.role.Role.decide.Goals as goal
 

@@ -6,7 +6,7 @@ use Rattle.tva_log.specs.declared.kinds.Input.{Input}
 use Rattle.tva_log.specs.declared.kinds.Input.TheVariants.{FromTrace, Arrival}
 use Rattle.tva_log.specs.Parts.{charges, port_logs}
 use Rattle.tva_log.specs.Contents.{arrived, packet_of_row}
-use Rattle.tva_node.specs.States.{RouterTook}
+use Rattle.tva_node.specs.Steps.{RouterTook}
 use Rattle.tva_node.proofs.Roles.{ordinal_arrival, ordinal_row, router_takes}
 use Rattle.tva_node.proofs.role.Routed.take.Goals as goal
 

@@ -1,4 +1,4 @@
-use Rattle.std.proofs.Common.{rules, ◌≡◌, ◌∙◌, sym, subst, List}
+use Rattle.std.proofs.Common.{◌∙◌, sym, subst, List}
 use Rattle.tva_joins.specs.Joins.{IsInOrder}
 use Rattle.tva_joins.proofs.Putting.{in_order-put_in}
 use Rattle.tva_node.specs.Turns.{turn_time, turn_source}
