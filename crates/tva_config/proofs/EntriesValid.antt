@@ -19,7 +19,7 @@ use Rattle.tva_config.specs.Entries.{router_keys, router_of, host_keys, host_of,
 use Rattle.tva_config.specs.Tables.{entry_step, entries_of}
 use Rattle.tva_config.specs.Valid.{IsName, IsRouterEntry, IsHostEntry, IsLinkEntry, IsRouteEntry}
 use Rattle.tva_config.proofs.KindsValid.{IsWithin, required_valid, optional_valid, number_valid, name_valid, prefix_kind_valid, nonce_valid}
-use Rattle.tva_config.proofs.Turns.{first_gave, gave_one, in_turn_keeps, all_push}
+use Rattle.tva_config.proofs.Turns.{when_gave, gave_one, in_turn_keeps, all_push}
 
 pub number_needed : (low high : ℕ) (p : Place) (ms : Members) (key : List ℕ) (n : ℕ)
     → required p ms key (value.number low high) ≡ Ok n → IsWithin low high n
@@ -45,12 +45,12 @@ bytes_within n (least, most) = (least, omega arith)
 pub router_valid : (p : Place) (ms : Members) (r : RouterEntry) → router_of p ms ≡ Ok r → IsRouterEntry r
 unfolding router_of
 router_valid p ms r gave =
-    let (u, known, g1) = first_gave (only_listed p router_keys ms) _ r gave in
-    let (name, k1, g2) = first_gave (required p ms (codes "name") value.name) _ r g1 in
-    let (master, k2, g3) = first_gave (required p ms (codes "master") value.master) _ r g2 in
-    let (slots, k3, g4) = first_gave (required p ms (codes "slots") (value.number 0 1000000)) _ r g3 in
-    let (offset, k4, g5) = first_gave (optional p ms (codes "clock_offset_ns") (value.number 0 1000000000000000) 0) _ r g4 in
-    let (tag, k5, g6) = first_gave (optional p ms (codes "edge_tag") (value.number 0 65535) 0) _ r g5 in
+    when_gave IsRouterEntry (only_listed p router_keys ms) _ r gave (λ u known g1.
+    when_gave IsRouterEntry (required p ms (codes "name") value.name) _ r g1 (λ name k1 g2.
+    when_gave IsRouterEntry (required p ms (codes "master") value.master) _ r g2 (λ master k2 g3.
+    when_gave IsRouterEntry (required p ms (codes "slots") (value.number 0 1000000)) _ r g3 (λ slots k3 g4.
+    when_gave IsRouterEntry (optional p ms (codes "clock_offset_ns") (value.number 0 1000000000000000) 0) _ r g4 (λ offset k4 g5.
+    when_gave IsRouterEntry (optional p ms (codes "edge_tag") (value.number 0 65535) 0) _ r g5 (λ tag k5 g6.
     let made : RouterEntry = record { name = name; master = master; slots = slots; clock_offset = offset; edge_tag = tag } in
     let same : made ≡ r = gave_one made r g6 in
     let valid : IsRouterEntry made = record {
@@ -58,23 +58,23 @@ router_valid p ms r gave =
       slots = (number_needed 0 1000000 p ms (codes "slots") slots k3).1;
       clock_offset = (number_or 0 1000000000000000 0 p ms (codes "clock_offset_ns") offset refl k4).1;
     } in
-    subst IsRouterEntry same valid
+    subst IsRouterEntry same valid))))))
 
 pub host_valid : (p : Place) (ms : Members) (h : HostEntry) → host_of p ms ≡ Ok h → IsHostEntry h
 unfolding host_of
 host_valid p ms h gave =
-    let (u, known, g1) = first_gave (only_listed p host_keys ms) _ h gave in
-    let (name, k1, g2) = first_gave (required p ms (codes "name") value.name) _ h g1 in
-    let (address, k2, g3) = first_gave (required p ms (codes "address") value.address) _ h g2 in
-    let (nonce, k3, g4) = first_gave (optional p ms (codes "nonce") value.nonce 1) _ h g3 in
-    let (margin, k4, g5) = first_gave (optional p ms (codes "margin_ns") (value.number 0 1000000000000) 1000000) _ h g4 in
-    let (retry, k5, g6) = first_gave (optional p ms (codes "retry_ns") (value.number 0 10000000000000) 2000000000) _ h g5 in
-    let (kind, k6, g7) = first_gave (optional p ms (codes "policy") value.policy_kind policy.DenyAll) _ h g6 in
-    let (n, k7, g8) = first_gave (optional p ms (codes "n") (value.number 0 1023) 32) _ h g7 in
-    let (t, k8, g9) = first_gave (optional p ms (codes "t") (value.number 0 63) 10) _ h g8 in
-    let (grants, k9, g10) = first_gave (optional p ms (codes "grants") (value.number 0 1000000) 1000) _ h g9 in
-    let (deny, k10, g11) = first_gave (optional p ms (codes "deny") value.addresses []) _ h g10 in
-    let (deny_tags, k11, g12) = first_gave (optional p ms (codes "deny_tags") value.tags []) _ h g11 in
+    when_gave IsHostEntry (only_listed p host_keys ms) _ h gave (λ u known g1.
+    when_gave IsHostEntry (required p ms (codes "name") value.name) _ h g1 (λ name k1 g2.
+    when_gave IsHostEntry (required p ms (codes "address") value.address) _ h g2 (λ address k2 g3.
+    when_gave IsHostEntry (optional p ms (codes "nonce") value.nonce 1) _ h g3 (λ nonce k3 g4.
+    when_gave IsHostEntry (optional p ms (codes "margin_ns") (value.number 0 1000000000000) 1000000) _ h g4 (λ margin k4 g5.
+    when_gave IsHostEntry (optional p ms (codes "retry_ns") (value.number 0 10000000000000) 2000000000) _ h g5 (λ retry k5 g6.
+    when_gave IsHostEntry (optional p ms (codes "policy") value.policy_kind policy.DenyAll) _ h g6 (λ kind k6 g7.
+    when_gave IsHostEntry (optional p ms (codes "n") (value.number 0 1023) 32) _ h g7 (λ n k7 g8.
+    when_gave IsHostEntry (optional p ms (codes "t") (value.number 0 63) 10) _ h g8 (λ t k8 g9.
+    when_gave IsHostEntry (optional p ms (codes "grants") (value.number 0 1000000) 1000) _ h g9 (λ grants k9 g10.
+    when_gave IsHostEntry (optional p ms (codes "deny") value.addresses []) _ h g10 (λ deny k10 g11.
+    when_gave IsHostEntry (optional p ms (codes "deny_tags") value.tags []) _ h g11 (λ deny_tags k11 g12.
     let made : HostEntry = record {
       name = name;
       address = address;
@@ -94,16 +94,16 @@ host_valid p ms h gave =
         seconds = (number_or 0 63 10 p ms (codes "t") t refl k8).1;
       };
     } in
-    subst IsHostEntry same valid
+    subst IsHostEntry same valid))))))))))))
 
 row_valid : (p : Place) (ms : Members) (request regular : List ℕ) (low high default : ℕ) (q : ℕ × ℕ) → (nat_le low default && nat_le default high) ≡ true
     → row p ms request regular low high default ≡ Ok q → IsWithin low high q.0 × IsWithin low high q.1
 row_valid p ms request regular low high default q usual gave =
-    let (first, k1, g1) = first_gave (optional p ms request (value.number low high) default) _ q gave in
-    let (second, k2, g2) = first_gave (optional p ms regular (value.number low high) default) _ q g1 in
+    when_gave (λ (r : ℕ × ℕ). IsWithin low high r.0 × IsWithin low high r.1) (optional p ms request (value.number low high) default) _ q gave (λ first k1 g1.
+    when_gave (λ (r : ℕ × ℕ). IsWithin low high r.0 × IsWithin low high r.1) (optional p ms regular (value.number low high) default) _ q g1 (λ second k2 g2.
     let same : (first, second) ≡ q = gave_one (first, second) q g2 in
     subst (λ (r : ℕ × ℕ). IsWithin low high r.0 × IsWithin low high r.1) same
-    (number_or low high default p ms request first usual k1, number_or low high default p ms regular second usual k2)
+    (number_or low high default p ms request first usual k1, number_or low high default p ms regular second usual k2)))
 
 class_valid : (queues ring queue_bytes class_bytes quantum : ℕ) → IsWithin 1 65536 queues → IsWithin 1 65536 ring
     → IsWithin 2048 1073741824 queue_bytes → IsWithin 2048 1073741824 class_bytes → IsWithin 2048 1000000 quantum
@@ -120,15 +120,15 @@ class_valid queues ring queue_bytes class_bytes quantum a b c d e = record {
 limits_valid : (p : Place) (ns : ℕ) (ms : Members) (l : LinkLimits) → IsWithin 1 1000000 ns → limits_of p ns ms ≡ Ok l → AreLinkLimits l
 unfolding limits_of
 limits_valid p ns ms l rate gave =
-    let (share, k1, g1) = first_gave (optional p ms (codes "share") (value.number 2 1000) 20) _ l gave in
-    let (burst, k2, g2) = first_gave (optional p ms (codes "burst") (value.number 4096 1000000) 8192) _ l g1 in
-    let (quantum, k3, g3) = first_gave (optional p ms (codes "quantum") (value.number 2048 1000000) 2048) _ l g2 in
-    let (queues, k4, g4) = first_gave (row p ms (codes "request_queues") (codes "regular_queues") 1 65536 64) _ l g3 in
-    let (rings, k5, g5) = first_gave (row p ms (codes "request_ring") (codes "regular_ring") 1 65536 32) _ l g4 in
-    let (queue_bytes, k6, g6) = first_gave (row p ms (codes "request_queue_bytes") (codes "regular_queue_bytes") 2048 1073741824 65536) _ l g5 in
-    let (class_bytes, k7, g7) = first_gave (row p ms (codes "request_bytes") (codes "regular_bytes") 2048 1073741824 1048576) _ l g6 in
-    let (legacy_ring, k8, g8) = first_gave (optional p ms (codes "legacy_ring") (value.number 1 65536) 256) _ l g7 in
-    let (legacy_bytes, k9, g9) = first_gave (optional p ms (codes "legacy_bytes") (value.number 2048 1073741824) 262144) _ l g8 in
+    when_gave AreLinkLimits (optional p ms (codes "share") (value.number 2 1000) 20) _ l gave (λ share k1 g1.
+    when_gave AreLinkLimits (optional p ms (codes "burst") (value.number 4096 1000000) 8192) _ l g1 (λ burst k2 g2.
+    when_gave AreLinkLimits (optional p ms (codes "quantum") (value.number 2048 1000000) 2048) _ l g2 (λ quantum k3 g3.
+    when_gave AreLinkLimits (row p ms (codes "request_queues") (codes "regular_queues") 1 65536 64) _ l g3 (λ queues k4 g4.
+    when_gave AreLinkLimits (row p ms (codes "request_ring") (codes "regular_ring") 1 65536 32) _ l g4 (λ rings k5 g5.
+    when_gave AreLinkLimits (row p ms (codes "request_queue_bytes") (codes "regular_queue_bytes") 2048 1073741824 65536) _ l g5 (λ queue_bytes k6 g6.
+    when_gave AreLinkLimits (row p ms (codes "request_bytes") (codes "regular_bytes") 2048 1073741824 1048576) _ l g6 (λ class_bytes k7 g7.
+    when_gave AreLinkLimits (optional p ms (codes "legacy_ring") (value.number 1 65536) 256) _ l g7 (λ legacy_ring k8 g8.
+    when_gave AreLinkLimits (optional p ms (codes "legacy_bytes") (value.number 2048 1073741824) 262144) _ l g8 (λ legacy_bytes k9 g9.
     let made : LinkLimits = record {
       ns_per_byte = ns;
       share = share;
@@ -154,36 +154,36 @@ limits_valid p ns ms l rate gave =
       legacy_ring = number_or 1 65536 256 p ms (codes "legacy_ring") legacy_ring refl k8;
       legacy_bytes = bytes_within legacy_bytes legacy;
     } in
-    subst AreLinkLimits same valid
+    subst AreLinkLimits same valid)))))))))
 
 pub link_valid : (p : Place) (ms : Members) (l : LinkEntry) → link_of p ms ≡ Ok l → IsLinkEntry l
 unfolding link_of
 link_valid p ms l gave =
-    let (u, known, g1) = first_gave (only_listed p link_keys ms) _ l gave in
-    let (from, k1, g2) = first_gave (required p ms (codes "from") value.name) _ l g1 in
-    let (to, k2, g3) = first_gave (required p ms (codes "to") value.name) _ l g2 in
-    let (ns, k3, g4) = first_gave (required p ms (codes "ns_per_byte") (value.number 1 1000000)) _ l g3 in
-    let (delay, k4, g5) = first_gave (required p ms (codes "delay_ns") (value.number 1 1000000000000)) _ l g4 in
-    let (tag, k5, g6) = first_gave (optional p ms (codes "tag") (value.number 0 65535) 0) _ l g5 in
-    let (limits, k6, g7) = first_gave (limits_of p ns ms) _ l g6 in
+    when_gave IsLinkEntry (only_listed p link_keys ms) _ l gave (λ u known g1.
+    when_gave IsLinkEntry (required p ms (codes "from") value.name) _ l g1 (λ from k1 g2.
+    when_gave IsLinkEntry (required p ms (codes "to") value.name) _ l g2 (λ to k2 g3.
+    when_gave IsLinkEntry (required p ms (codes "ns_per_byte") (value.number 1 1000000)) _ l g3 (λ ns k3 g4.
+    when_gave IsLinkEntry (required p ms (codes "delay_ns") (value.number 1 1000000000000)) _ l g4 (λ delay k4 g5.
+    when_gave IsLinkEntry (optional p ms (codes "tag") (value.number 0 65535) 0) _ l g5 (λ tag k5 g6.
+    when_gave IsLinkEntry (limits_of p ns ms) _ l g6 (λ limits k6 g7.
     let made : LinkEntry = record { from = from; to = to; delay = delay; tag = tag; limits = limits } in
     let same : made ≡ l = gave_one made l g7 in
     let valid : IsLinkEntry made = record {
       delay = number_needed 1 1000000000000 p ms (codes "delay_ns") delay k4;
       limits = limits_valid p ns ms limits (number_needed 1 1000000 p ms (codes "ns_per_byte") ns k3) k6;
     } in
-    subst IsLinkEntry same valid
+    subst IsLinkEntry same valid)))))))
 
 pub route_valid : (p : Place) (ms : Members) (r : RouteEntry) → route_of p ms ≡ Ok r → IsRouteEntry r
 unfolding route_of
 route_valid p ms r gave =
-    let (u, known, g1) = first_gave (only_listed p route_keys ms) _ r gave in
-    let (router, k1, g2) = first_gave (required p ms (codes "router") value.name) _ r g1 in
-    let (prefix, k2, g3) = first_gave (required p ms (codes "prefix") value.prefix) _ r g2 in
-    let (via, k3, g4) = first_gave (required p ms (codes "via") value.name) _ r g3 in
+    when_gave IsRouteEntry (only_listed p route_keys ms) _ r gave (λ u known g1.
+    when_gave IsRouteEntry (required p ms (codes "router") value.name) _ r g1 (λ router k1 g2.
+    when_gave IsRouteEntry (required p ms (codes "prefix") value.prefix) _ r g2 (λ prefix k2 g3.
+    when_gave IsRouteEntry (required p ms (codes "via") value.name) _ r g3 (λ via k3 g4.
     let made : RouteEntry = record { router = router; prefix = prefix; via = via } in
     let same : made ≡ r = gave_one made r g4 in
-    subst IsRouteEntry same (required_valid IsPrefix value.prefix p ms (codes "prefix") prefix prefix_kind_valid k2)
+    subst IsRouteEntry same (required_valid IsPrefix value.prefix p ms (codes "prefix") prefix prefix_kind_valid k2)))))
 
 -- what each entry keeps, all of a table keep
 pub entries_valid : {A : Type 0} (P : A → Type 0) (t : tables.ConfigTable) (entry_of : Place → Members → Read A)

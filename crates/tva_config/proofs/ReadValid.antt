@@ -20,23 +20,26 @@ use Rattle.tva_config.specs.Valid.{IsRouterEntry, IsHostEntry, IsLinkEntry, IsRo
 use Rattle.tva_config.proofs.ConfigValid.{Passed, config_valid}
 use Rattle.tva_config.proofs.EntriesValid.{number_needed, router_valid, host_valid, link_valid, route_valid, entries_valid}
 use Rattle.tva_config.proofs.StepsKeep.{names_are, names_distinct, addresses_are, addresses_distinct, retries_late}
-use Rattle.tva_config.proofs.Turns.{first_gave, gave_one, unless_gave, in_turn_long}
+use Rattle.tva_config.proofs.Turns.{first_gave, when_gave, gave_one, unless_gave, in_turn_long}
 
-top_valid : (ms : Members) (t : Top) → top_of ms ≡ Ok t → (t.horizon ≤ 1000000000000000) × (1 ≤ t.max_events) × (t.max_events ≤ 4000000)
+abbrev AreTimes : Top → Type 0
+AreTimes t = (t.horizon ≤ 1000000000000000) × (1 ≤ t.max_events) × (t.max_events ≤ 4000000)
+
+top_valid : (ms : Members) (t : Top) → top_of ms ≡ Ok t → AreTimes t
 unfolding top_of
 top_valid ms t gave =
-    let (u, known, g1) = first_gave (only_listed top top_keys ms) _ t gave in
-    let (horizon, k1, g2) = first_gave (required top ms (codes "horizon_ns") (value.number 0 1000000000000000)) _ t g1 in
-    let (events, k2, g3) = first_gave (required top ms (codes "max_events") (value.number 1 4000000)) _ t g2 in
-    let (routers, k3, g4) = first_gave (optional top ms (codes "router") value.tables []) _ t g3 in
-    let (hosts, k4, g5) = first_gave (optional top ms (codes "host") value.tables []) _ t g4 in
-    let (links, k5, g6) = first_gave (optional top ms (codes "link") value.tables []) _ t g5 in
-    let (routes, k6, g7) = first_gave (optional top ms (codes "route") value.tables []) _ t g6 in
+    when_gave AreTimes (only_listed top top_keys ms) _ t gave (λ u known g1.
+    when_gave AreTimes (required top ms (codes "horizon_ns") (value.number 0 1000000000000000)) _ t g1 (λ horizon k1 g2.
+    when_gave AreTimes (required top ms (codes "max_events") (value.number 1 4000000)) _ t g2 (λ events k2 g3.
+    when_gave AreTimes (optional top ms (codes "router") value.tables []) _ t g3 (λ routers k3 g4.
+    when_gave AreTimes (optional top ms (codes "host") value.tables []) _ t g4 (λ hosts k4 g5.
+    when_gave AreTimes (optional top ms (codes "link") value.tables []) _ t g5 (λ links k5 g6.
+    when_gave AreTimes (optional top ms (codes "route") value.tables []) _ t g6 (λ routes k6 g7.
     let made : Top = record { horizon = horizon; max_events = events; routers = routers; hosts = hosts; links = links; routes = routes } in
     let same : made ≡ t = gave_one made t g7 in
     let most = number_needed 0 1000000000000000 top ms (codes "horizon_ns") horizon k1 in
     let some = number_needed 1 4000000 top ms (codes "max_events") events k2 in
-    subst (λ (x : Top). (x.horizon ≤ 1000000000000000) × (1 ≤ x.max_events) × (x.max_events ≤ 4000000)) same (most.1, some.0, some.1)
+    subst AreTimes same (most.1, some.0, some.1))))))))
 
 counts_valid : (nodes links routes : ℕ) → counts_of nodes links routes ≡ Ok tt → (nodes ≤ 1024) × (links ≤ 4096) × (routes ≤ 65536)
 unfolding counts_of
@@ -61,10 +64,10 @@ record AreRead (t : Top) (e : Entries) : Type 0 where
 entries_read : (t : Top) (e : Entries) → all_entries_of t ≡ Ok e → AreRead t e
 unfolding all_entries_of entries_of
 entries_read t e gave =
-    let (routers, k1, g1) = first_gave (entries_of table.Router router_of t.routers) _ e gave in
-    let (hosts, k2, g2) = first_gave (entries_of table.Host host_of t.hosts) _ e g1 in
-    let (links, k3, g3) = first_gave (entries_of table.Link link_of t.links) _ e g2 in
-    let (routes, k4, g4) = first_gave (entries_of table.Route route_of t.routes) _ e g3 in
+    when_gave (AreRead t) (entries_of table.Router router_of t.routers) _ e gave (λ routers k1 g1.
+    when_gave (AreRead t) (entries_of table.Host host_of t.hosts) _ e g1 (λ hosts k2 g2.
+    when_gave (AreRead t) (entries_of table.Link link_of t.links) _ e g2 (λ links k3 g3.
+    when_gave (AreRead t) (entries_of table.Route route_of t.routes) _ e g3 (λ routes k4 g4.
     let made : Entries = record { routers = routers; hosts = hosts; links = links; routes = routes } in
     let same : made ≡ e = gave_one made e g4 in
     let n1 = in_turn_long (entry_step table.Router router_of) [] t.routers routers k1 in
@@ -80,23 +83,26 @@ entries_read t e gave =
       links_long = omega (arith, n3);
       routes_long = omega (arith, n4);
     } in
-    subst (AreRead t) same valid
+    subst (AreRead t) same valid))))
 
-joined_passed : (t : Top) (e : Entries) (j : Joined) → (t.horizon ≤ 1000000000000000) × (1 ≤ t.max_events) × (t.max_events ≤ 4000000)
+abbrev Joins : Top → Entries → Joined → Type 0
+Joins t e j = Passed t.horizon t.max_events e.routers e.hosts e.links e.routes j.links j.uplinks j.routes
+
+joined_passed : (t : Top) (e : Entries) (j : Joined) → AreTimes t
     → (length t.routers + length t.hosts ≤ 1024) × (length t.links ≤ 4096) × (length t.routes ≤ 65536)
-    → AreRead t e → joined_of e ≡ Ok j → Passed t.horizon t.max_events e.routers e.hosts e.links e.routes j.links j.uplinks j.routes
+    → AreRead t e → joined_of e ≡ Ok j → Joins t e j
 unfolding joined_of addresses_of links_of uplinks_of routes_of
 joined_passed t e j times counts known gave =
     let rs = e.routers in
     let hs = e.hosts in
-    let (names, k1, g1) = first_gave (names_of rs hs) _ j gave in
-    let (addresses, k2, g2) = first_gave (addresses_of hs) _ j g1 in
-    let (retries, k3, g3) = first_gave (retries_of hs) _ j g2 in
-    let (links, k4, g4) = first_gave (links_of (node_of names) e.links) _ j g3 in
-    let (us, k5, g5) = first_gave (uplinks_of (length rs) links hs) _ j g4 in
-    let (routes, k6, g6) = first_gave (routes_of (length rs) (node_of names) (link_between links) e.routes) _ j g5 in
-    let (a, k7, g7) = first_gave (slots_of rs) _ j g6 in
-    let (b, k8, g8) = first_gave (rings_of links) _ j g7 in
+    when_gave (Joins t e) (names_of rs hs) _ j gave (λ names k1 g1.
+    when_gave (Joins t e) (addresses_of hs) _ j g1 (λ addresses k2 g2.
+    when_gave (Joins t e) (retries_of hs) _ j g2 (λ retries k3 g3.
+    when_gave (Joins t e) (links_of (node_of names) e.links) _ j g3 (λ links k4 g4.
+    when_gave (Joins t e) (uplinks_of (length rs) links hs) _ j g4 (λ us k5 g5.
+    when_gave (Joins t e) (routes_of (length rs) (node_of names) (link_between links) e.routes) _ j g5 (λ routes k6 g6.
+    when_gave (Joins t e) (slots_of rs) _ j g6 (λ a k7 g7.
+    when_gave (Joins t e) (rings_of links) _ j g7 (λ b k8 g8.
     let named : names ≡ node_names rs hs = names_are rs hs names k1 in
     let all : Joined = record { links = links; uplinks = us; routes = routes } in
     let made : all ≡ j = gave_one all j g8 in
@@ -126,9 +132,9 @@ joined_passed t e j times counts known gave =
       slots = k7;
       rings = k8;
     } in
-    subst (λ (x : Joined). Passed t.horizon t.max_events rs hs e.links e.routes x.links x.uplinks x.routes) made passed
+    subst (Joins t e) made passed))))))))
 
-plan_valid : (t : Top) (e : Entries) (c : Config) → (t.horizon ≤ 1000000000000000) × (1 ≤ t.max_events) × (t.max_events ≤ 4000000)
+plan_valid : (t : Top) (e : Entries) (c : Config) → AreTimes t
     → (length t.routers + length t.hosts ≤ 1024) × (length t.links ≤ 4096) × (length t.routes ≤ 65536)
     → AreRead t e → plan_of t.horizon t.max_events e ≡ Ok c → IsConfig c
 unfolding plan_of
@@ -141,10 +147,10 @@ plan_valid t e c times counts known gave =
 members_valid : (ms : Members) (c : Config) → members_read ms ≡ Ok c → IsConfig c
 unfolding members_read
 members_valid ms c gave =
-    let (t, k1, g1) = first_gave (top_of ms) _ c gave in
-    let (few, k2, g2) = first_gave (counts_of (length t.routers + length t.hosts) (length t.links) (length t.routes)) _ c g1 in
-    let (e, k3, g3) = first_gave (all_entries_of t) _ c g2 in
-    plan_valid t e c (top_valid ms t k1) (counts_valid _ _ _ k2) (entries_read t e k3) g3
+    when_gave IsConfig (top_of ms) _ c gave (λ t k1 g1.
+    when_gave IsConfig (counts_of (length t.routers + length t.hosts) (length t.links) (length t.routes)) _ c g1 (λ few k2 g2.
+    when_gave IsConfig (all_entries_of t) _ c g2 (λ e k3 g3.
+    plan_valid t e c (top_valid ms t k1) (counts_valid _ _ _ k2) (entries_read t e k3) g3)))
 
 document_valid : (o : Option Members) (c : Config) → document_read o ≡ Ok c → IsConfig c
 document_valid None c gave = absurd (cc)

@@ -11,6 +11,12 @@ pub first_gave : {A B : Type 0} (r : Read A) (next : A → Read B) (y : B) → (
 first_gave (Ok x) next y gave = (x, refl, gave)
 first_gave (Err fault) next y gave = absurd (cc)
 
+-- the same, for a chain of steps: each value is a variable where the next step is looked at
+pub when_gave : {A B : Type 0} (P : B → Type 0) (r : Read A) (next : A → Read B) (y : B)
+    → (r >>= next) ≡ Ok y → ((x : A) → r ≡ Ok x → next x ≡ Ok y → P y) → P y
+when_gave P (Ok x) next y gave go = go x refl gave
+when_gave P (Err fault) next y gave go = absurd (cc)
+
 -- what a step gave is one value
 abbrev is_given : {A : Type 0} → A → Read A → Type 0
 is_given x (Ok y) = x ≡ y

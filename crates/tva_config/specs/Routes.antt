@@ -1,5 +1,6 @@
 -- What routes must be to the nodes, the links and one another.
-use Rattle.std.specs.Prelude.{ℕ, ◌==◌, ◌&&◌, Bool, List, [], length, nat_lt, if◌then◌else◌, option_and_then, Ok, Option, Some, None, codes}
+use Rattle.std.specs.Prelude.{ℕ, ◌==◌, ◌&&◌, Bool, List, [], length, nat_lt, if◌then◌else◌}
+use Rattle.std.specs.Prelude.{option_and_then, Ok, Option, Some, None, codes}
 use Rattle.std.specs.List.{list_any}
 use Rattle.tva_base.specs.declared.addresses.Prefix.{Prefix}
 use Rattle.tva_config.specs.declared.fault.ConfigTable.TheVariants as table
@@ -24,22 +25,28 @@ link_to node link router name = option_and_then (link router) (node name)
 
 -- the route is one of this router for this prefix
 abbrev pub is_for : ℕ → Prefix → OwnedRoute → Bool
-is_for router prefix owned = (owned.router == router) && (owned.route.prefix.address.0 == prefix.address.0) && (owned.route.prefix.bits == prefix.bits)
+is_for router prefix owned =
+    (owned.router == router) && (owned.route.prefix.address.0 == prefix.address.0)
+    && (owned.route.prefix.bits == prefix.bits)
 
 -- its router is one, which has a link to the next node, by the numbers of names and those of links
 -- between nodes
-abbrev pub resolved : Place → ℕ → (List ℕ → Option ℕ) → (ℕ → ℕ → Option ℕ) → RouteEntry → Read OwnedRoute
+abbrev pub resolved : Place → ℕ → (List ℕ → Option ℕ) → (ℕ → ℕ → Option ℕ) → RouteEntry
+    → Read OwnedRoute
 resolved place routers node link entry = do
   router ← found (router_named routers node entry.router) (fault_at place rule.Owner (codes "router"))
   out ← found (link_to node link router entry.via) (fault_at place rule.Via (codes "via"))
   Ok (record { router = router; route = record { prefix = entry.prefix; link = out } })
 
 -- and no earlier route of the router is for the same prefix
-abbrev pub route_step : ℕ → (List ℕ → Option ℕ) → (ℕ → ℕ → Option ℕ) → List OwnedRoute → RouteEntry → Read OwnedRoute
+abbrev pub route_step : ℕ → (List ℕ → Option ℕ) → (ℕ → ℕ → Option ℕ) → List OwnedRoute → RouteEntry
+    → Read OwnedRoute
 route_step routers node link earlier entry = do
   owned ← resolved (at table.Route (length earlier)) routers node link entry
-  apart ← unless (list_any (is_for owned.router owned.route.prefix) earlier) (fault_at (at table.Route (length earlier)) rule.Prefix (codes "prefix"))
+  apart ← unless (list_any (is_for owned.router owned.route.prefix) earlier)
+      (fault_at (at table.Route (length earlier)) rule.Prefix (codes "prefix"))
   Ok owned
 
-unfoldable pub routes_of : ℕ → (List ℕ → Option ℕ) → (ℕ → ℕ → Option ℕ) → List RouteEntry → Read (List OwnedRoute)
+unfoldable pub routes_of : ℕ → (List ℕ → Option ℕ) → (ℕ → ℕ → Option ℕ) → List RouteEntry
+    → Read (List OwnedRoute)
 routes_of routers node link routes = in_turn (route_step routers node link) [] routes

@@ -16,6 +16,7 @@ use crate::keys::fault;
 use crate::place::Place;
 use std::alloc::{AllocError, Global};
 use std::collections::{HashMap, HashSet};
+use tva_base::SECOND;
 
 /// The numbers of the nodes by their names, or the first name that an earlier node has.
 #[tactic(auto, unfolding(crate::specs::Nodes::names_of))]
@@ -147,7 +148,7 @@ pub fn retries(hosts: &[HostEntry]) -> Result<(), ConfigFault>
 fn is_early(host: &HostEntry) -> bool
     ensures { result ≡ nat_lt host.now.retry (1000000000 + host.now.margin) }
 {
-    u128::from(host.retry) < 1_000_000_000 + u128::from(host.margin)
+    u128::from(host.retry) < u128::from(SECOND) + u128::from(host.margin)
 }
 
 /// Refuses more than 1,000,000 slots of all routers.

@@ -12,7 +12,7 @@ use crate::keys;
 use crate::place::Place;
 use std::alloc::Global;
 use toml::Table;
-use tva_base::{DrrLimits, LinkLimits, PolicyKind, PolicyPlan, Rights};
+use tva_base::{DrrLimits, LENGTH_MAX, LinkLimits, PolicyKind, PolicyPlan, Rights, TIME_MAX};
 
 /// What the entries of a table are read as.
 pub trait Entry: Drop {
@@ -22,9 +22,6 @@ pub trait Entry: Drop {
     fn read(alloc: Global, place: Place, table: &Table) -> Result<Self, ConfigError>
         ensures { Answers (entry_of place (table_view table.now)) result };
 }
-
-/// The greatest time of an event and the greatest clock offset, in nanoseconds.
-const TIME_MAX: u64 = 1_000_000_000_000_000;
 
 /// The greatest margin of a host, in nanoseconds.
 const MARGIN_MAX: u64 = 1_000_000_000_000;
@@ -130,7 +127,7 @@ fn limits(place: Place, ns_per_byte: u64, table: &Table) -> Result<LinkLimits, C
 {
     let share = keys::number_or(place, table, "share", 2, 1000, 20)?;
     let burst = keys::number_or(place, table, "burst", 4096, 1_000_000, 8192)?;
-    let quantum = keys::count_or(place, table, "quantum", 2048, 1_000_000, 2048)?;
+    let quantum = keys::count_or(place, table, "quantum", LENGTH_MAX, 1_000_000, 2048)?;
     let queues = row(
         place,
         table,
@@ -146,7 +143,7 @@ fn limits(place: Place, ns_per_byte: u64, table: &Table) -> Result<LinkLimits, C
         table,
         "request_queue_bytes",
         "regular_queue_bytes",
-        2048,
+        LENGTH_MAX,
         BYTES_MAX,
         65_536,
     )?;
@@ -155,12 +152,12 @@ fn limits(place: Place, ns_per_byte: u64, table: &Table) -> Result<LinkLimits, C
         table,
         "request_bytes",
         "regular_bytes",
-        2048,
+        LENGTH_MAX,
         BYTES_MAX,
         1_048_576,
     )?;
     let legacy_ring = keys::count_or(place, table, "legacy_ring", 1, 65_536, 256)?;
-    let legacy_bytes = keys::count_or(place, table, "legacy_bytes", 2048, BYTES_MAX, 262_144)?;
+    let legacy_bytes = keys::count_or(place, table, "legacy_bytes", LENGTH_MAX, BYTES_MAX, 262_144)?;
     Ok(LinkLimits {
         ns_per_byte,
         share,
@@ -207,7 +204,7 @@ fn class_limits(
         queue_bytes,
         class_bytes,
         quantum,
-        max: 2048,
+        max: LENGTH_MAX,
     }
 }
 

@@ -12,6 +12,7 @@ use crate::place::Place;
 use crate::tables::Entry;
 use std::alloc::Global;
 use toml::Table;
+use tva_base::TIME_MAX;
 
 /// What the top level holds: the horizon in nanoseconds, the greatest number of events, and the
 /// entries of each table.
@@ -47,7 +48,7 @@ pub fn top<'a>(alloc: Global, table: &'a Table) -> Result<TopTable<'a>, ConfigEr
             "route",
         ],
     )?;
-    let horizon = keys::number(TOP, table, "horizon_ns", 0, 1_000_000_000_000_000)?;
+    let horizon = keys::number(TOP, table, "horizon_ns", 0, TIME_MAX)?;
     let max_events = keys::number(TOP, table, "max_events", 1, 4_000_000)?;
     let routers = keys::tables(alloc, TOP, table, "router")?;
     let hosts = keys::tables(alloc, TOP, table, "host")?;

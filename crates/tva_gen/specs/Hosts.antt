@@ -14,4 +14,6 @@ hosts_in (node.Host plan ∷ plans) = plan ∷ hosts_in plans
 
 -- the four bytes of an address, the highest first, with dots between them
 abbrev pub address_text : Address → List ℕ
-address_text a = join_with_byte 46 (decimal (a.0 / 2 ^ 24) ∷ decimal (a.0 / 2 ^ 16 % 256) ∷ decimal (a.0 / 2 ^ 8 % 256) ∷ decimal (a.0 % 256) ∷ [])
+address_text a =
+    join_with_byte 46 (decimal (a.0 / 2 ^ 24) ∷ decimal (a.0 / 2 ^ 16 % 256) ∷ decimal (a.0 / 2 ^ 8 % 256)
+    ∷ decimal (a.0 % 256) ∷ [])

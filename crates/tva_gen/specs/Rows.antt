@@ -1,5 +1,6 @@
 -- The rows of a generated trace.
-use Rattle.std.specs.Prelude.{ℕ, zero, suc, if◌then◌else◌, List, [], ◌∷◌, ◌++◌, length, Option, Some, None, codes, decimal, slice_get}
+use Rattle.std.specs.Prelude.{ℕ, zero, suc, if◌then◌else◌, List, [], ◌∷◌, ◌++◌, length}
+use Rattle.std.specs.Prelude.{Option, Some, None, codes, decimal, slice_get}
 use Rattle.std.specs.List.{join_with_byte}
 use Rattle.rand_pcg.specs.Lcg.{Lcg}
 use Rattle.tva_base.specs.declared.plan.HostPlan.{HostPlan}
@@ -9,10 +10,13 @@ use Rattle.tva_gen.specs.Hosts.{address_text}
 
 -- the fields of a row that gives the bytes of a shim, and of one at which its host sends
 abbrev pub raw_fields : ℕ → HostPlan → HostPlan → ℕ → List (List ℕ)
-raw_fields time from to bytes = decimal time ∷ from.name ∷ codes "raw" ∷ address_text from.address ∷ address_text to.address ∷ decimal bytes ∷ codes "100600" ∷ []
+raw_fields time from to bytes =
+    decimal time ∷ from.name ∷ codes "raw" ∷ address_text from.address ∷ address_text to.address ∷ decimal bytes
+    ∷ codes "100600" ∷ []
 
 abbrev pub send_fields : ℕ → HostPlan → HostPlan → ℕ → List (List ℕ)
-send_fields time from to bytes = decimal time ∷ from.name ∷ codes "send" ∷ [] ∷ address_text to.address ∷ decimal bytes ∷ [] ∷ []
+send_fields time from to bytes =
+    decimal time ∷ from.name ∷ codes "send" ∷ [] ∷ address_text to.address ∷ decimal bytes ∷ [] ∷ []
 
 -- fields, joined by commas, and a line feed
 abbrev pub joined : List (List ℕ) → List ℕ
@@ -20,13 +24,16 @@ joined fields = join_with_byte 44 fields ++ codes "\n"
 
 -- the line of a row between two hosts
 abbrev pub line_between : ℕ → RowWords → Option HostPlan → Option HostPlan → List ℕ
-line_between time d (Some from) (Some to) = joined (if is_raw d then raw_fields time from to (payload d) else send_fields time from to (payload d))
+line_between time d (Some from) (Some to) =
+    joined (if is_raw d then raw_fields time from to (payload d) else send_fields time from to (payload d))
 line_between time d (Some from) None = []
 line_between time d None to = []
 
 -- the line of a row at a time: each host is the one that its word names
 unfoldable pub line_of : List HostPlan → ℕ → RowWords → List ℕ
-line_of hosts time d = line_between time d (slice_get hosts (host_number (length hosts) d.from)) (slice_get hosts (host_number (length hosts) d.to))
+line_of hosts time d =
+    line_between time d (slice_get hosts (host_number (length hosts) d.from))
+    (slice_get hosts (host_number (length hosts) d.to))
 
 -- the lines of so many rows behind a time, each drawn from the state behind the row before
 unfoldable pub rows_from : ℕ → List HostPlan → ℕ → ℕ → Lcg → List ℕ

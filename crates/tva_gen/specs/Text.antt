@@ -9,7 +9,9 @@ use Rattle.tva_gen.specs.Rows.{joined, rows_from}
 
 -- the names of the fields
 abbrev pub header : List ℕ
-header = joined (codes "time" ∷ codes "node" ∷ codes "kind" ∷ codes "src" ∷ codes "dst" ∷ codes "payload" ∷ codes "shim" ∷ [])
+header =
+    joined (codes "time" ∷ codes "node" ∷ codes "kind" ∷ codes "src" ∷ codes "dst" ∷ codes "payload"
+    ∷ codes "shim" ∷ [])
 
 -- the generator of a seed, on stream 1
 unfoldable pub generator_of : ℕ → Lcg
@@ -22,4 +24,6 @@ row_count (host ∷ hosts) count = count
 
 -- the header and the rows, from time 0 on
 unfoldable pub generated : Config → ℕ → ℕ → List ℕ
-generated config seed count = header ++ rows_from config.horizon.0 (hosts_in config.nodes) (row_count (hosts_in config.nodes) count) 0 (generator_of seed)
+generated config seed count =
+    header ++ rows_from config.horizon.0 (hosts_in config.nodes) (row_count (hosts_in config.nodes) count) 0
+    (generator_of seed)

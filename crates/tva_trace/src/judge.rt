@@ -14,6 +14,7 @@ use csv::ByteRecord;
 use std::collections::HashMap;
 use tva_base::{Flow, Time, address, decimal};
 use tva_config::{Config, NodePlan, is_host, number_of};
+use tva_shim::PAYLOAD_MAX;
 
 /// A rule that a test meets.
 fn hold(rule: TraceRule, test: bool) -> Result<(), TraceRule>
@@ -41,7 +42,7 @@ fn sending_of(row: &ByteRecord) -> Result<SaidWhat, TraceRule>
 {
     hold(TraceRule::Src, is_empty(field(row, 3)))?;
     let dst = address(field(row, 4)).ok_or(TraceRule::Dst)?;
-    let payload = decimal(field(row, 5), 1600).ok_or(TraceRule::Payload)?;
+    let payload = decimal(field(row, 5), u64::from(PAYLOAD_MAX)).ok_or(TraceRule::Payload)?;
     hold(TraceRule::Shim, is_empty(field(row, 6)))?;
     Ok(SaidWhat::Send {
         dst,
@@ -63,7 +64,7 @@ fn injection_of(
 {
     let src = address(field(row, 3)).ok_or(TraceRule::Src)?;
     let dst = address(field(row, 4)).ok_or(TraceRule::Dst)?;
-    let payload = decimal(field(row, 5), 1600).ok_or(TraceRule::Payload)?;
+    let payload = decimal(field(row, 5), u64::from(PAYLOAD_MAX)).ok_or(TraceRule::Payload)?;
     let flow = Flow { src, dst };
     let shim = shim_of(plans, numbers, kind, flow, field(row, 6)).ok_or(TraceRule::Shim)?;
     Ok(SaidWhat::Inject {
