@@ -157,7 +157,14 @@ fn limits(place: Place, ns_per_byte: u64, table: &Table) -> Result<LinkLimits, C
         1_048_576,
     )?;
     let legacy_ring = keys::count_or(place, table, "legacy_ring", 1, 65_536, 256)?;
-    let legacy_bytes = keys::count_or(place, table, "legacy_bytes", LENGTH_MAX, BYTES_MAX, 262_144)?;
+    let legacy_bytes = keys::count_or(
+        place,
+        table,
+        "legacy_bytes",
+        LENGTH_MAX,
+        BYTES_MAX,
+        262_144,
+    )?;
     Ok(LinkLimits {
         ns_per_byte,
         share,
