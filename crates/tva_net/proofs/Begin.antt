@@ -1,0 +1,153 @@
+-- What a network stands for before its first window.
+use Rattle.std.proofs.Common.{◌≡◌, ℕ, zero, suc, ◌+◌, ◌<◌, List, [], ◌∷◌, length, get_or, map, filter, replicate, Bool, true, false, cond, Option, Some, None, All, refl, sym, subst, ◌∙◌, ap, ap₂, arith}
+use Rattle.std.specs.Prelude.{◌==◌, slice_get}
+use Rattle.std.specs.Option.{option_map_or}
+use Rattle.std.specs.List.{AllByRecursion}
+use Rattle.std.proofs.lemmas.Bool.{eq-eqb, ne_eqb}
+use Rattle.std.proofs.lemmas.List.{length-map}
+use Rattle.std.proofs.lemmas.List.Elements.{All-head, All-tail}
+use Rattle.tva_base.specs.declared.event.Totals.{Totals}
+use Rattle.tva_base.specs.declared.plan.LinkPlan.{LinkPlan}
+use Rattle.tva_config.specs.declared.config.Config.{Config}
+use Rattle.tva_config.specs.Valid.{IsConfig}
+use Rattle.tva_trace.specs.declared.rows.Row.{Row}
+use Rattle.tva_trace.specs.Valid.{AreTraceRows, IsRow}
+use Rattle.tva_joins.specs.Joins.{from_source}
+use Rattle.tva_joins.proofs.Joins.{cut-early, cut-zero, each-filter, each-weaker, filter-all, filter-none}
+use Rattle.tva_log.specs.declared.kinds.Input.{Input}
+use Rattle.tva_log.specs.declared.kinds.Input.TheVariants.{FromTrace}
+use Rattle.tva_log.specs.Sites.{Site}
+use Rattle.tva_log.specs.Entries.{Entry, input_time, input_source, entry_time}
+use Rattle.tva_log.specs.NodeLog.{due}
+use Rattle.tva_log.specs.Told.{events}
+use Rattle.tva_node.specs.States.{NodeState, StandsFor}
+use Rattle.tva_run.specs.Reaching.{Logs, log_at, arrivals, arrivals_at, reaches, rows_at, site_at}
+use Rattle.tva_run.specs.Report.{AreEvents, totals_of}
+use Rattle.tva_run.specs.Run.{HasLog, IsRunTo}
+use Rattle.tva_run.specs.Windows.{window_length}
+use Rattle.tva_net.specs.Mail.{AreFirstNodes}
+use Rattle.tva_net.specs.Nets.{HasGiven, IsNodeAt, WorksFor}
+use Rattle.tva_net.proofs.Lists.{each_map}
+
+-- ## logs with nothing in them
+
+abbrev pub no_entries : NodeState → List Entry
+no_entries v = []
+
+abbrev pub no_logs : List NodeState → Logs
+no_logs nodes = map no_entries nodes
+
+no_log : (nodes : List NodeState) (n : ℕ) → log_at (no_logs nodes) n ≡ []
+no_log [] n = refl
+no_log (v ∷ vs) zero = refl
+no_log (v ∷ vs) (suc n) = no_log vs n
+
+none_early : (until : ℕ) (es : List Entry) → until ≡ 0 → AllByRecursion (λ e. entry_time e < until) es → es ≡ []
+none_early until [] z h = refl
+none_early until (e ∷ es) z h = absurd (omega (arith, z, h.0))
+
+pub zeros : (f : NodeState → ℕ) (nodes : List NodeState) → ((n : ℕ) (d : NodeState) → n < length nodes → f (get_or nodes n d) ≡ 0) → replicate (length nodes) 0 ≡ map f nodes
+zeros f [] h = refl
+zeros f (v ∷ vs) h = ap₂ ◌∷◌ (sym (h 0 v (omega arith))) (zeros f vs (λ n d l. h (suc n) d (omega (arith, l))))
+
+cond_same : (b : Bool) → cond b (let is : List Input = [] in is) [] ≡ []
+cond_same true = refl
+cond_same false = refl
+
+-- ## rows
+
+rows_source : (rs : List Row) → AllByRecursion (λ i. input_source i ≡ 0) (map FromTrace rs)
+rows_source [] = tt
+rows_source (r ∷ rs) = (refl, rows_source rs)
+
+rows_early : (config : Config) (rows : List Row) → All (IsRow config) rows → AllByRecursion (λ (r : Row). r.time.0 < config.horizon.0 + 1) rows
+rows_early config [] h = tt
+rows_early config (r ∷ rs) h =
+    let row = All-head (IsRow config) r rs h in
+    (omega (arith, row.time), rows_early config rs (All-tail (IsRow config) r rs h))
+
+module _ (config : Config) (rows : List Row) (nodes : List NodeState) (valid : IsConfig config) (trace : AreTraceRows config rows) (first : AreFirstNodes config rows nodes) where
+  abbrev logs : Logs
+  logs = no_logs nodes
+
+  rows_due : (n : ℕ) → due (config.horizon.0 + 1) (rows_at rows n) ≡ rows_at rows n
+  rows_due n =
+      let rs = filter (λ (row : Row). row.node == n) rows in
+      cut-early input_time input_source (config.horizon.0 + 1) (rows_at rows n)
+      (each_map FromTrace (λ i. input_time i < config.horizon.0 + 1) rs
+      (each-filter (λ (r : Row). r.time.0 < config.horizon.0 + 1) (λ row. row.node == n) rows (rows_early config rows trace.each)))
+
+  no_arrivals : (n k : ℕ) (o : Option LinkPlan) → option_map_or (arrivals_at logs n k) o [] ≡ []
+  no_arrivals n k None = refl
+  no_arrivals n k (Some link) =
+      ap (λ (es : List Entry). cond (link.to == n) (arrivals k link es) []) (no_log nodes link.from) ∙ cond_same (link.to == n)
+
+  reached : (n source : ℕ) → from_source input_source source (rows_at rows n) ≡ due (config.horizon.0 + 1) (reaches config rows logs n source)
+  reached n zero =
+      filter-all (λ i. input_source i == 0) (rows_at rows n)
+      (each-weaker (λ i. input_source i ≡ 0) (λ i. (input_source i == 0) ≡ true) (λ i e. eq-eqb (input_source i) 0 e) (rows_at rows n) (rows_source (filter (λ row. row.node == n) rows)))
+      ∙ sym (rows_due n)
+  reached n (suc k) =
+      filter-none (λ i. input_source i == suc k) (rows_at rows n)
+      (each-weaker (λ i. input_source i ≡ 0) (λ i. (input_source i == suc k) ≡ false) (λ i e. ne_eqb (input_source i) (suc k) (λ f. omega (arith, e, f))) (rows_at rows n) (rows_source (filter (λ row. row.node == n) rows)))
+      ∙ sym (ap (due (config.horizon.0 + 1)) (no_arrivals n k (slice_get config.links k)))
+
+  nothing_run : IsRunTo config rows 0 logs
+  nothing_run = record {
+    within = omega arith;
+    count = length-map nodes no_entries ∙ first.count;
+    each = λ n site e. subst (λ (es : List Entry). HasLog config rows logs 0 site es) (sym (no_log nodes n)) (record {
+      inputs = [];
+      join = record { in_order = tt; each = λ s. sym (cut-zero input_time input_source (reaches config rows logs site.number s)) };
+      is_log = record { in_order = tt; early = tt; steps = tt; none_left = λ time link l. absurd (omega (arith, l)) };
+    });
+  }
+
+  first_at : (n : ℕ) (d : NodeState) → n < length nodes → IsNodeAt config rows logs 0 n (get_or nodes n d)
+  first_at n d l =
+      let v = get_or nodes n d in
+      let f = first.each n d l in
+      let (log, s) = f.stands in
+      let none : log ≡ [] = none_early v.worked_to log f.nothing.2 s.whole.early in
+      record {
+        site = f.site;
+        horizon = f.horizon;
+        worked_to = f.nothing.2;
+        stands = subst (StandsFor v) (none ∙ sym (no_log nodes n)) s;
+        mail = λ source. ap (from_source input_source source) f.inbox ∙ reached n source;
+      }
+
+  no_events : (n : ℕ) (o : Option Site) → option_map_or (λ site. events site (log_at logs n)) o [] ≡ []
+  no_events n None = refl
+  no_events n (Some site) = ap (events site) (no_log nodes n)
+
+  nothing_told : AreEvents config logs []
+  nothing_told = record { in_order = tt; each = λ n. sym (no_events n (site_at config n)) }
+
+  pub begins : (horizon span : ℕ) (links : List LinkPlan) (posted shown : List ℕ) → horizon ≡ config.horizon.0 → links ≡ config.links → span ≡ window_length config → posted ≡ replicate (length nodes) 0 → shown ≡ replicate (length nodes) 0
+      → WorksFor config rows [] [] (record { horizon = horizon; links = links; span = span; nodes = nodes; posted = posted; shown = shown; worked_to = 0 })
+  begins horizon span links posted shown horizon_is links_are span_is posted_are shown_are = record {
+    valid = valid;
+    trace = trace;
+    horizon = horizon_is;
+    links = links_are;
+    span = span_is;
+    logs = logs;
+    run = nothing_run;
+    count = first.count;
+    nodes = first_at;
+    posted = posted_are ∙ zeros (λ (v : NodeState). length v.sendings) nodes (λ n d l. ap length (first.each n d l).nothing.1);
+    shown = shown_are ∙ zeros (λ (v : NodeState). length v.events) nodes (λ n d l. ap length (first.each n d l).nothing.0);
+    events = nothing_told;
+    begins = λ later longer l run. refl;
+    held = refl;
+  }
+
+pub nothing_given : (config : Config) (totals : Totals) → totals ≡ record { events = 0; routed = 0; authorised = 0; demoted = 0; dropped = 0; started = 0; received = 0; bytes = 0 } → HasGiven config [] config.max_events totals
+unfolding totals_of
+nothing_given config totals e = rw e (record {
+  most = refl;
+  few = omega arith;
+  sums = refl;
+  within = record { routed = omega arith; authorised = omega arith; demoted = omega arith; dropped = omega arith; started = omega arith; received = omega arith; bytes = omega arith };
+})

@@ -1,0 +1,155 @@
+-- What the steps of a window ask and leave.
+use Rattle.std.proofs.Common.{◌≡◌, ℕ, ◌+◌, ◌<◌, ◌≤◌, min, List, [], ◌∷◌, ◌++◌, length, get_or, Some, None, All, refl, sym, subst, ◌∙◌, ap, arith}
+use Rattle.std.specs.List.{AllByRecursion, AllZip}
+use Rattle.std.proofs.lemmas.List.{append-nil, append_assoc}
+use Rattle.std.proofs.lemmas.List.Elements.{recursion_from_All}
+use Rattle.tva_base.specs.declared.event.Event.{Event}
+use Rattle.tva_base.specs.declared.packet.Time.{Time}
+use Rattle.tva_config.specs.declared.config.Config.{Config}
+use Rattle.tva_trace.specs.declared.rows.Row.{Row}
+use Rattle.tva_node.specs.States.{BeginsWith, IsAdvanced, Keeps, NodeState, Stands}
+use Rattle.tva_run.specs.Reaching.{log_at}
+use Rattle.tva_run.specs.Windows.{Window, given}
+use Rattle.tva_net.specs.Mail.{IsPostable, KeepsWork}
+use Rattle.tva_net.specs.News.{IsFirstTime, since}
+use Rattle.tva_net.specs.Nets.{IsWholeRun, WorkState, WorksFor, told_by}
+use Rattle.tva_net.specs.Work.{AddsNothing, AddsWindow, AddsWindows, AreWorked, CanWork, EndsWindow, OfEachRun, WorksOn, WorksUpTo, if_some}
+use Rattle.tva_net.proofs.Lists.{zip_both, zip_map, zip_same}
+use Rattle.tva_net.proofs.Standing.{start_few, start_later, whole_run}
+use Rattle.tva_net.proofs.Windows as spans
+
+-- ## what is kept
+
+pub begins_same : (es : List Event) → BeginsWith es es
+begins_same es = ([], sym (append-nil es))
+
+pub begins_more : (xs ys zs : List Event) → BeginsWith xs ys → BeginsWith ys zs → BeginsWith xs zs
+begins_more xs ys zs (a, e) (b, f) = (a ++ b, f ∙ (ap (λ (es : List Event). es ++ b) e ∙ append_assoc xs a b))
+
+pub told_same : (nodes : List NodeState) → AllZip BeginsWith (told_by nodes) (told_by nodes)
+told_same nodes = zip_same BeginsWith begins_same (told_by nodes)
+
+pub told_more : (a b c : List (List Event)) → AllZip BeginsWith a b → AllZip BeginsWith b c → AllZip BeginsWith a c
+told_more a b c h k = zip_both BeginsWith BeginsWith BeginsWith begins_more a b c h k
+
+pub told_kept : (olds news : List NodeState) → AllZip Keeps olds news → AllZip BeginsWith (told_by olds) (told_by news)
+told_kept olds news h = zip_map Keeps BeginsWith (λ (v : NodeState). v.events) (λ (v : NodeState). v.events) (λ x y k. k.events) olds news h
+
+pub told_posted : (olds news : List NodeState) → AllZip KeepsWork olds news → AllZip BeginsWith (told_by olds) (told_by news)
+told_posted olds news h = zip_map KeepsWork BeginsWith (λ (v : NodeState). v.events) (λ (v : NodeState). v.events) (λ x y k. ([], k.events ∙ sym (append-nil x.events))) olds news h
+
+-- ## one window
+
+module _ (w : WorkState) (until : ℕ) (e : EndsWindow w until) where
+  pub all_stand : AllByRecursion Stands w.nodes
+  all_stand = recursion_from_All Stands w.nodes (λ n d l. (log_at e.works.logs n, (e.works.nodes n d l).stands))
+
+  module _ (mids : List NodeState) (advanced : AllZip (IsAdvanced until) w.nodes mids) (kept : AllZip Keeps w.nodes mids) where
+    pub shown_known : AllZip (λ (v : NodeState) (n : ℕ). n ≤ length v.events) mids w.shown
+    shown_known = spans.shown_known e.config e.rows e.windows e.told w e.works e.start e.first until e.ends mids advanced kept
+
+    pub mids_stand : All Stands mids
+    mids_stand = spans.mids_stand e.config e.rows e.windows e.told w e.works e.start e.first until e.ends mids advanced kept
+
+    pub mids_numbered : (n : ℕ) (d : NodeState) → n < length mids → (get_or mids n d).site.number ≡ n
+    mids_numbered = spans.mids_numbered e.config e.rows e.windows e.told w e.works e.start e.first until e.ends mids advanced kept
+
+    pub posted_known : AllZip (λ (v : NodeState) (n : ℕ). n ≤ length v.sendings) mids w.posted
+    posted_known = spans.posted_known e.config e.rows e.windows e.told w e.works e.start e.first until e.ends mids advanced kept
+
+    pub postable : All (IsPostable w.horizon w.links mids) (since (λ v. v.sendings) mids w.posted)
+    postable = spans.postable e.config e.rows e.windows e.told w e.works e.start e.first until e.ends mids advanced kept
+
+-- ## the next window
+
+pub none_left : (w : WorkState) → IsFirstTime w.nodes None → WorksOn w None w
+none_left w none = (refl, λ config rows windows told h. whole_run config rows windows told w h none)
+
+pub window_works : (w : WorkState) (start : Time) (until : ℕ) (list : List Event) (posts shows : List ℕ) (news : List NodeState) → CanWork w → IsFirstTime w.nodes (Some start) → until ≡ min (start.0 + w.span) (w.horizon + 1)
+    → AreWorked until w.horizon w.links w.posted w.shown w.nodes list posts shows news
+    → WorksOn w (Some list) (record { horizon = w.horizon; links = w.links; span = w.span; nodes = news; posted = posts; shown = shows; worked_to = until })
+window_works w start until list posts shows news (config, rows, before, told, h) first ends worked =
+    let later = start_later config rows before told w h start first in
+    let some = spans.some config rows before told w h start first until ends worked.mids worked.advanced worked.kept in (
+      omega (arith, later, some),
+      omega (arith, ends),
+      refl,
+      λ config rows before told h. record {
+        window = (start.0, until);
+        works = spans.works_on config rows before told w h start first until ends worked.mids worked.advanced worked.kept news worked.mail list posts shows worked.told worked.posting worked.showing;
+        given = spans.given_on config rows before told w h start first until ends worked.mids worked.advanced worked.kept list worked.told;
+      },
+    )
+
+-- the same, where the lists are those by equations
+pub window_works_as : (w : WorkState) (start : Time) (until : ℕ) (list : List Event) (posts shows posts' shows' : List ℕ) (news news' : List NodeState) → CanWork w → IsFirstTime w.nodes (Some start) → until ≡ min (start.0 + w.span) (w.horizon + 1)
+    → AreWorked until w.horizon w.links w.posted w.shown w.nodes list posts shows news → posts' ≡ posts → shows' ≡ shows → news' ≡ news
+    → WorksOn w (Some list) (record { horizon = w.horizon; links = w.links; span = w.span; nodes = news'; posted = posts'; shown = shows'; worked_to = until })
+window_works_as w start until list posts shows posts' shows' news news' can first ends worked p q r =
+    subst (λ (vs : List NodeState). WorksOn w (Some list) (record { horizon = w.horizon; links = w.links; span = w.span; nodes = vs; posted = posts'; shown = shows'; worked_to = until })) (sym r)
+    (subst (λ (ns : List ℕ). WorksOn w (Some list) (record { horizon = w.horizon; links = w.links; span = w.span; nodes = news; posted = ns; shown = shows'; worked_to = until })) (sym p)
+    (subst (λ (ns : List ℕ). WorksOn w (Some list) (record { horizon = w.horizon; links = w.links; span = w.span; nodes = news; posted = posts; shown = ns; worked_to = until })) (sym q)
+    (window_works w start until list posts shows news can first ends worked)))
+
+pub ends_window : (w : WorkState) (start : Time) (until : ℕ) → CanWork w → IsFirstTime w.nodes (Some start) → until ≡ min (start.0 + w.span) (w.horizon + 1) → EndsWindow w until
+ends_window w start until (config, rows, before, told, h) first ends = record { config = config; rows = rows; windows = before; told = told; works = h; start = start; first = first; ends = ends }
+
+pub room_in_time : (w : WorkState) (start : Time) → CanWork w → IsFirstTime w.nodes (Some start) → start.0 + w.span ≤ 3000000000000000
+room_in_time w start (config, rows, before, told, h) first = start_few config rows before told w h start first
+
+-- ## several windows
+
+module _ (config : Config) (rows : List Row) (windows : List Window) (told : List Event) where
+  nothing_at : (w : WorkState) → WorksFor config rows windows told w → AddsNothing config rows windows told w
+  nothing_at w h = record {
+    more = [];
+    works = subst (λ (ws : List Window). WorksFor config rows ws told w) (sym (append-nil windows)) h;
+    given = ap (given told) (append-nil windows);
+  }
+
+  nothing_then : (mid new : WorkState) → AddsNothing config rows windows told mid → OfEachRun (λ config rows windows told. AddsWindow config rows windows told [] new) mid → AddsNothing config rows windows told new
+  nothing_then mid new a on =
+      let b = on config rows (windows ++ a.more) told a.works in
+      let same : (windows ++ a.more) ++ b.window ∷ [] ≡ windows ++ (a.more ++ b.window ∷ []) = append_assoc windows a.more (b.window ∷ []) in
+      let quiet : told ++ [] ≡ told = append-nil told in
+      record {
+        more = a.more ++ b.window ∷ [];
+        works = subst (λ (ws : List Window). WorksFor config rows ws told new) same (subst (λ (es : List Event). WorksFor config rows ((windows ++ a.more) ++ b.window ∷ []) es new) quiet b.works);
+        given =
+            ap (given told) (sym same)
+            ∙ (ap (λ (es : List Event). given es ((windows ++ a.more) ++ b.window ∷ [])) (sym quiet)
+            ∙ (b.given ∙ (append-nil (given told (windows ++ a.more)) ∙ a.given)));
+      }
+
+  some_then : (mid new : WorkState) (list : List Event) → AddsNothing config rows windows told mid → OfEachRun (λ config rows windows told. AddsWindow config rows windows told list new) mid → AddsWindows config rows windows told list new
+  some_then mid new list a on =
+      let b = on config rows (windows ++ a.more) told a.works in
+      let same : (windows ++ a.more) ++ b.window ∷ [] ≡ windows ++ (a.more ++ b.window ∷ []) = append_assoc windows a.more (b.window ∷ []) in
+      record {
+        more = a.more ++ b.window ∷ [];
+        works = subst (λ (ws : List Window). WorksFor config rows ws (told ++ list) new) same b.works;
+        given = ap (given (told ++ list)) (sym same) ∙ (b.given ∙ ap (λ (xss : List (List Event)). xss ++ if_some list) a.given);
+      }
+
+pub passes_none : (w : WorkState) → OfEachRun (λ config rows windows told. AddsNothing config rows windows told w) w
+passes_none w config rows windows told h = nothing_at config rows windows told w h
+
+pub passes_one : (old mid new : WorkState) (list : List Event) → list ≡ [] → OfEachRun (λ config rows windows told. AddsNothing config rows windows told mid) old → WorksOn mid (Some list) new
+    → OfEachRun (λ config rows windows told. AddsNothing config rows windows told new) old
+passes_one old mid new list empty a b config rows windows told h =
+    nothing_then config rows windows told mid new (a config rows windows told h)
+    (subst (λ (es : List Event). OfEachRun (λ config rows windows told. AddsWindow config rows windows told es new) mid) empty b.3)
+
+pub passes_to_some : (old mid new : WorkState) (list : List Event) → 0 < length list → OfEachRun (λ config rows windows told. AddsNothing config rows windows told mid) old → WorksOn mid (Some list) new → WorksUpTo old (Some list) new
+passes_to_some old mid new list some a b = (some, λ config rows windows told h. some_then config rows windows told mid new list (a config rows windows told h) b.3)
+
+pub passes_to_none : (old mid new : WorkState) → OfEachRun (λ config rows windows told. AddsNothing config rows windows told mid) old → WorksOn mid None new → WorksUpTo old None new
+passes_to_none old mid new a b =
+    subst (λ (w : WorkState). WorksUpTo old None w) (sym b.0) (λ config rows windows told h.
+    let n = a config rows windows told h in
+    (n, subst (λ (w : WorkState). IsWholeRun config rows (windows ++ n.more) told w.nodes) b.0 (b.1 config rows (windows ++ n.more) told n.works)))
+
+pub can_still : (old new : WorkState) (list : List Event) → CanWork old → WorksOn old (Some list) new → CanWork new
+can_still old new list (config, rows, windows, told, h) b =
+    let a = b.3 config rows windows told h in
+    (config, rows, windows ++ a.window ∷ [], told ++ list, a.works)

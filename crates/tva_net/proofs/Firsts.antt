@@ -1,0 +1,119 @@
+-- The nodes of a configuration, and that each row can be given to its node.
+use Rattle.std.proofs.Common.{◌≡◌, ℕ, ◌+◌, ◌<◌, Bool, true, false, cond, List, [], ◌∷◌, ◌++◌, length, get_or, map, filter, All, Option, Some, None, refl, sym, subst, ◌∙◌, ap, arith, inl, inr}
+use Rattle.std.specs.Prelude.{◌==◌, slice_get}
+use Rattle.std.specs.Option.{option_map, option_map_or}
+use Rattle.std.proofs.lemmas.Bool.{cases_lt}
+use Rattle.std.proofs.lemmas.List.{get_or_append_left, get_or_push}
+use Rattle.std.proofs.lemmas.Option.{slice_get_read}
+use Rattle.tva_base.specs.declared.plan.LinkPlan.{LinkPlan}
+use Rattle.tva_config.specs.declared.config.Config.{Config}
+use Rattle.tva_config.specs.declared.config.NodePlan.{NodePlan}
+use Rattle.tva_config.specs.declared.config.NodePlan.TheVariants as plans
+use Rattle.tva_config.specs.Names.{is_host, is_host_plan}
+use Rattle.tva_config.specs.Valid.{IsConfig}
+use Rattle.tva_shim.specs.declared.packets.Carried.{Carried}
+use Rattle.tva_shim.specs.declared.packets.Carried.TheVariants as carried
+use Rattle.tva_shim.specs.Packets.{IsCarried}
+use Rattle.tva_trace.specs.declared.rows.Row.{Row}
+use Rattle.tva_trace.specs.declared.rows.RowWhat.{RowWhat}
+use Rattle.tva_trace.specs.declared.rows.RowWhat.TheVariants as rows
+use Rattle.tva_trace.specs.Valid.{AreTraceRows, IsRow, IsRowWhat, IsWithinWidths}
+use Rattle.tva_log.specs.declared.kinds.Input.{Input}
+use Rattle.tva_log.specs.declared.kinds.Input.TheVariants.{FromTrace}
+use Rattle.tva_log.specs.Sites.{IsSite, Site, site_of}
+use Rattle.tva_node.specs.States.{FitsRow, NodeState}
+use Rattle.tva_run.specs.Reaching.{links_out, rows_at, site_at}
+use Rattle.tva_run.proofs.Sites.{site_valid}
+use Rattle.tva_net.specs.Mail.{AreFirstNodes, CanDeliver, GotMails, IsFirstNode, mail_at}
+
+-- ## a node
+
+pub site_fits : (config : Config) (n : ℕ) (p : NodePlan) (links : List (ℕ × LinkPlan)) → IsConfig config → n < length config.nodes → p ≡ get_or config.nodes n p → links ≡ links_out n config.links → IsSite (site_of n p links)
+site_fits config n p links valid within is out =
+    subst (λ (os : List (ℕ × LinkPlan)). IsSite (site_of n p os)) (sym out)
+    (site_valid config n p valid (slice_get_read config.nodes (length config.nodes) n p refl within is))
+
+pub site_there : (config : Config) (n : ℕ) (p : NodePlan) (links : List (ℕ × LinkPlan)) (site : Site) → n < length config.nodes → p ≡ get_or config.nodes n p → links ≡ links_out n config.links → site ≡ site_of n p links → site_at config n ≡ Some site
+site_there config n p links site within is out e =
+    ap (option_map (λ plan. site_of n plan (links_out n config.links))) (slice_get_read config.nodes (length config.nodes) n p refl within is)
+    ∙ ap (λ (s : Site). Some s) (ap (λ (os : List (ℕ × LinkPlan)). site_of n p os) (sym out) ∙ sym e)
+
+-- one node more
+pub firsts_more : (config : Config) (nodes : List NodeState) (i : ℕ) (v : NodeState) → length nodes ≡ i → IsFirstNode config [] i v
+    → ((n : ℕ) (d : NodeState) → n < i → IsFirstNode config [] n (get_or nodes n d))
+    → (n : ℕ) (d : NodeState) → n < i + 1 → IsFirstNode config [] n (get_or (nodes ++ v ∷ []) n d)
+firsts_more config nodes i v c first each n d l =
+    elim (cases_lt n i) [
+      | inl k ↦
+          let here : n < length nodes = omega arith in
+          subst (λ (u : NodeState). IsFirstNode config [] n u) (sym (get_or_append_left nodes (v ∷ []) d n here)) (each n d k)
+      | inr k ↦
+          let same : i ≡ n = omega arith in
+          subst (λ (m : ℕ). IsFirstNode config [] m (get_or (nodes ++ v ∷ []) m d)) same
+          (subst (λ (u : NodeState). IsFirstNode config [] i u) (sym (get_or_push nodes v d i c)) first)
+    ]
+
+-- ## rows
+
+carried_fits : (carries : Carried) → IsWithinWidths carries → IsCarried carries
+carried_fits carried.Nothing h = tt
+carried_fits (carried.Shim shim) h = tt
+carried_fits (carried.Malformed bytes) h = h
+
+row_fits : (p : NodePlan) (w : RowWhat) (b : Bool) → is_host_plan p ≡ b → IsRowWhat b w → FitsRow p w
+row_fits (plans.Router p) (rows.Send dst payload) b e h = absurd (let no : false ≡ true = e ∙ h.0 in cc)
+row_fits (plans.Router p) (rows.Inject flow payload carries) b e h = (h.0, carried_fits carries h.1)
+row_fits (plans.Host p) (rows.Send dst payload) b e h = h.1
+row_fits (plans.Host p) (rows.Inject flow payload carries) b e h = (h.0, carried_fits carries h.1)
+
+plan_by : (config : Config) (n : ℕ) (site : Site) (o : Option NodePlan) → slice_get config.nodes n ≡ o → option_map (λ p. site_of n p (links_out n config.links)) o ≡ Some site → slice_get config.nodes n ≡ Some site.plan
+plan_by config n site None e h = absurd (cc)
+plan_by config n site (Some p) e h = e ∙ ap (option_map (λ (s : Site). s.plan)) h
+
+plan_there : (config : Config) (n : ℕ) (site : Site) → site_at config n ≡ Some site → slice_get config.nodes n ≡ Some site.plan
+plan_there config n site h = plan_by config n site (slice_get config.nodes n) refl h
+
+host_there : (config : Config) (n : ℕ) (site : Site) → site_at config n ≡ Some site → is_host_plan site.plan ≡ is_host config.nodes n
+host_there config n site h = ap (λ (o : Option NodePlan). option_map_or is_host_plan o false) (sym (plan_there config n site h))
+
+row_delivers : (config : Config) (nodes : List NodeState) (row : Row) → AreFirstNodes config [] nodes → IsRow config row → CanDeliver nodes row.node (FromTrace row)
+row_delivers config nodes row first h =
+    let there : row.node < length nodes = let k = h.node in omega (arith, first.count) in
+    record {
+      node = there;
+      takes = λ d.
+          let v = first.each row.node d there in
+          record {
+            late = let w = v.nothing.2 in omega arith;
+            within = let t = h.time in let e = v.horizon in omega arith;
+            fits = row_fits (get_or nodes row.node d).site.plan row.what (is_host config.nodes row.node) (host_there config row.node (get_or nodes row.node d).site v.site) h.what;
+          };
+    }
+
+pub rows_deliver : (config : Config) (nodes : List NodeState) (rs : List Row) → AreFirstNodes config [] nodes → AreTraceRows config rs → All (λ row. CanDeliver nodes row.node (FromTrace row)) rs
+rows_deliver config nodes rs first h k d l = row_delivers config nodes (get_or rs k d) first (h.each k d l)
+
+-- all nodes have their rows
+pub with_rows : (config : Config) (rs : List Row) (nodes filed : List NodeState) → AreFirstNodes config [] nodes → GotMails (rows_at rs) nodes filed → AreFirstNodes config rs filed
+with_rows config rs nodes filed first got = record {
+  count = got.count ∙ first.count;
+  each = λ n d l.
+      let there : n < length nodes = omega (arith, got.count) in
+      let v = first.each n d there in
+      let g = got.each n d there in
+      record {
+        site = v.site ∙ ap (λ (s : Site). Some s) (sym g.keeps.site);
+        horizon = g.keeps.horizon ∙ v.horizon;
+        inbox = g.inbox ∙ ap (λ (is : List Input). is ++ rows_at rs n) v.inbox;
+        nothing = (g.keeps.events ∙ v.nothing.0, g.keeps.sendings ∙ v.nothing.1, g.keeps.worked_to ∙ v.nothing.2);
+        stands = g.stands v.stands;
+      };
+}
+
+-- one row more is filed
+map_row : (row : Row) (b : Bool) (rs : List Row) → map FromTrace (cond b (row ∷ rs) rs) ≡ cond b (FromTrace row ∷ []) [] ++ map FromTrace rs
+map_row row false rs = refl
+map_row row true rs = refl
+
+pub row_first : (row : Row) (rs : List Row) (n : ℕ) → rows_at (row ∷ rs) n ≡ mail_at row.node (FromTrace row ∷ []) n ++ rows_at rs n
+row_first row rs n = map_row row (row.node == n) (filter (λ r. r.node == n) rs)

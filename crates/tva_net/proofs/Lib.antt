@@ -1,0 +1,17 @@
+pub mod Lists
+pub mod Rises
+pub mod Nodes
+pub mod Senders
+pub mod Given
+pub mod Standing
+pub mod Windows
+pub mod Ends
+pub mod Begin
+pub mod Answering
+pub mod Mails
+pub mod Orders
+pub mod News
+pub mod Times
+pub mod Firsts
+pub mod Adding
+pub mod Sorting

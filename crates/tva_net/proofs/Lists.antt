@@ -1,0 +1,113 @@
+-- Lists, by what stands at each place, and what a list in order has from a time on.
+use Rattle.std.proofs.Common.{◌≡◌, ℕ, zero, suc, ◌<◌, ◌≤◌, List, [], ◌∷◌, ◌++◌, length, get_or, drop, map, filter, Bool, Some, refl, sym, ◌∙◌, ap, ap₂, arith, inl, inr}
+use Rattle.std.specs.Prelude.{◌==◌, nat_lt, Contains}
+use Rattle.std.specs.List.{AllByRecursion, AllZip}
+use Rattle.std.proofs.lemmas.Bool.{lt-ltb, eq-eqb, cases_Bool, cases_lt}
+use Rattle.tva_joins.specs.Joins.{IsInOrder, NeverFalls, cut, from_source}
+use Rattle.tva_joins.proofs.Joins.{filter-true, filter-false, cut-late, each-filter, each_later}
+use Rattle.tva_run.proofs.Next.{contains_cases, contains_first, contains_more}
+
+pub some_same : {X : Type 0} (x y : X) → Some x ≡ Some y → x ≡ y
+some_same x y e = cc
+
+pub nothing_in : {X : Type 0} (xs : List X) → length xs ≡ 0 → xs ≡ []
+nothing_in [] e = refl
+nothing_in (x ∷ xs) e = absurd (omega (arith, e))
+
+-- ## by places
+
+-- two lists that are alike at each place in what is asked of them
+pub map_same : {X Y : Type 0} (f : X → Y) (xs ys : List X) → length ys ≡ length xs → ((i : ℕ) (d : X) → i < length xs → f (get_or ys i d) ≡ f (get_or xs i d)) → map f ys ≡ map f xs
+map_same f [] [] n h = refl
+map_same f [] (y ∷ ys) n h = absurd (omega (arith, n))
+map_same f (x ∷ xs) [] n h = absurd (omega (arith, n))
+map_same f (x ∷ xs) (y ∷ ys) n h =
+    ap₂ ◌∷◌ (h 0 x (omega arith)) (map_same f xs ys (omega (arith, n)) (λ i d l. h (suc i) d (omega (arith, l))))
+
+pub zip_from : {X Y : Type 0} (R : X → Y → Type 0) (xs : List X) (ys : List Y) (e : Y) → length xs ≡ length ys → ((i : ℕ) (d : X) → i < length xs → R (get_or xs i d) (get_or ys i e)) → AllZip R xs ys
+zip_from R [] [] e n h = tt
+zip_from R [] (y ∷ ys) e n h = absurd (omega (arith, n))
+zip_from R (x ∷ xs) [] e n h = absurd (omega (arith, n))
+zip_from R (x ∷ xs) (y ∷ ys) e n h = (h 0 x (omega arith), zip_from R xs ys e (omega (arith, n)) (λ i d l. h (suc i) d (omega (arith, l))))
+
+pub zip_length : {X Y : Type 0} (R : X → Y → Type 0) (xs : List X) (ys : List Y) → AllZip R xs ys → length ys ≡ length xs
+zip_length R [] [] h = refl
+zip_length R [] (y ∷ ys) h = absurd h
+zip_length R (x ∷ xs) [] h = absurd h
+zip_length R (x ∷ xs) (y ∷ ys) h = ap suc (zip_length R xs ys h.1)
+
+pub zip_map : {X Y A B : Type 0} (R : X → Y → Type 0) (S : A → B → Type 0) (f : X → A) (g : Y → B) → ((x : X) (y : Y) → R x y → S (f x) (g y)) → (xs : List X) (ys : List Y) → AllZip R xs ys → AllZip S (map f xs) (map g ys)
+zip_map R S f g w [] [] h = tt
+zip_map R S f g w [] (y ∷ ys) h = absurd h
+zip_map R S f g w (x ∷ xs) [] h = absurd h
+zip_map R S f g w (x ∷ xs) (y ∷ ys) h = (w x y h.0, zip_map R S f g w xs ys h.1)
+
+pub zip_both : {X Y Z : Type 0} (R : X → Y → Type 0) (S : Y → Z → Type 0) (T : X → Z → Type 0) → ((x : X) (y : Y) (z : Z) → R x y → S y z → T x z) → (xs : List X) (ys : List Y) (zs : List Z) → AllZip R xs ys → AllZip S ys zs → AllZip T xs zs
+zip_both R S T w [] [] [] a b = tt
+zip_both R S T w [] [] (z ∷ zs) a b = absurd b
+zip_both R S T w [] (y ∷ ys) zs a b = absurd a
+zip_both R S T w (x ∷ xs) [] zs a b = absurd a
+zip_both R S T w (x ∷ xs) (y ∷ ys) [] a b = absurd b
+zip_both R S T w (x ∷ xs) (y ∷ ys) (z ∷ zs) a b = (w x y z a.0 b.0, zip_both R S T w xs ys zs a.1 b.1)
+
+pub zip_same : {X : Type 0} (R : X → X → Type 0) → ((x : X) → R x x) → (xs : List X) → AllZip R xs xs
+zip_same R r [] = tt
+zip_same R r (x ∷ xs) = (r x, zip_same R r xs)
+
+-- ## filters
+
+pub each_map : {X Y : Type 0} (f : X → Y) (P : Y → Type 0) (xs : List X) → AllByRecursion (λ x. P (f x)) xs → AllByRecursion P (map f xs)
+each_map f P [] h = tt
+each_map f P (x ∷ xs) h = (h.0, each_map f P xs h.1)
+
+pub drop_none : {X : Type 0} (p : X → Bool) (n : ℕ) (xs : List X) → filter p xs ≡ [] → filter p (drop n xs) ≡ []
+drop_none p zero xs h = h
+drop_none p (suc n) [] h = refl
+drop_none p (suc n) (x ∷ xs) h =
+    elim (cases_Bool (p x)) [
+      | inl a ↦ let no = sym (filter-true p x xs a) ∙ h in absurd (cc)
+      | inr a ↦ drop_none p n xs (sym (filter-false p x xs a) ∙ h)
+    ]
+
+pub never_falls-filter : {X : Type 0} (time : X → ℕ) (p : X → Bool) (xs : List X) → NeverFalls time xs → NeverFalls time (filter p xs)
+never_falls-filter time p [] h = tt
+never_falls-filter time p (x ∷ xs) h =
+    elim (cases_Bool (p x)) [
+      | inl a ↦ rw (filter-true p x xs a) (each-filter (λ y. time x ≤ time y) p xs h.0, never_falls-filter time p xs h.1)
+      | inr a ↦ rw (filter-false p x xs a) (never_falls-filter time p xs h.1)
+    ]
+
+-- ## a list in order
+
+-- it goes on from what it has before a time with what it has from then on
+pub split_at : {X : Type 0} (time source : X → ℕ) (t : ℕ) (xs : List X) → IsInOrder time source xs → (rest : List X) × (xs ≡ cut time t xs ++ rest) × AllByRecursion (λ x. t ≤ time x) rest
+split_at time source t [] o = ([], refl, tt)
+split_at time source t (x ∷ xs) o =
+    elim (cases_lt (time x) t) [
+      | inl l ↦
+          let (rest, e, late) = split_at time source t xs o.1 in
+          (rest, rw (filter-true (λ y. nat_lt (time y) t) x xs (lt-ltb (time x) t l)) (ap (λ ys. x ∷ ys) e), late)
+      | inr l ↦
+          let late = each_later time source t x xs o l in
+          (x ∷ xs, rw (cut-late time source t (x ∷ xs) late) refl, late)
+    ]
+
+-- what comes at a time comes then from some source
+pub contains_from : {X : Type 0} (time source : X → ℕ) (t : ℕ) (xs : List X) → Contains (map time xs) t → (s : ℕ) × Contains (map time (from_source source s xs)) t
+contains_from time source t [] (i, l, e) = absurd (omega (arith, l))
+contains_from time source t (x ∷ xs) h =
+    elim (contains_cases (time x) t (map time xs) h) [
+      | inl e ↦ (
+        source x,
+        rw (filter-true (λ y. source y == source x) x xs (eq-eqb (source x) (source x) refl)) (contains_first (time x) t (map time (from_source source (source x) xs)) e),
+      )
+      | inr m ↦
+          let (s, c) = contains_from time source t xs m in
+          (s, more s c)
+    ]
+  where
+    more : (s : ℕ) → Contains (map time (from_source source s xs)) t → Contains (map time (from_source source s (x ∷ xs))) t
+    more s c = elim (cases_Bool (source x == s)) [
+      | inl a ↦ rw (filter-true (λ y. source y == s) x xs a) (contains_more (time x) t (map time (from_source source s xs)) c)
+      | inr a ↦ rw (filter-false (λ y. source y == s) x xs a) c
+    ]

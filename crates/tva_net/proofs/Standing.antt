@@ -1,0 +1,195 @@
+-- What stands between two windows: the nodes by their places, and when there is nothing to do.
+use Rattle.std.proofs.Common.{◌≡◌, ℕ, suc, ◌+◌, ◌<◌, ◌≤◌, List, [], ◌∷◌, ◌++◌, length, get_or, Option, Some, None, All, refl, sym, subst, ◌∙◌, ap, arith, inl, inr}
+use Rattle.std.specs.Prelude.{slice_get}
+use Rattle.std.specs.Option.{option_map, option_map_or}
+use Rattle.std.specs.List.{AllByRecursion}
+use Rattle.std.proofs.lemmas.Option.{slice_get_cases, slice_get_within, get_or_from_slice_get}
+use Rattle.tva_base.specs.declared.event.Event.{Event}
+use Rattle.tva_base.specs.declared.packet.Time.{Time}
+use Rattle.tva_base.specs.declared.plan.LinkPlan.{LinkPlan}
+use Rattle.tva_config.specs.declared.config.Config.{Config}
+use Rattle.tva_config.specs.declared.config.NodePlan.{NodePlan}
+use Rattle.tva_config.specs.Valid.{IsLinkPlan}
+use Rattle.tva_config.proofs.Wired.{all_here}
+use Rattle.tva_trace.specs.declared.rows.Row.{Row}
+use Rattle.tva_log.specs.Sites.{Site, site_of}
+use Rattle.tva_log.specs.NodeLog.{in_turn}
+use Rattle.tva_log.specs.Next.{AreLegal, IsWorkAt}
+use Rattle.tva_log.specs.Told.{events}
+use Rattle.tva_node.specs.States.{NodeState}
+use Rattle.tva_node.proofs.Works.{legal}
+use Rattle.tva_run.specs.Reaching.{Logs, log_at, links_out, site_at}
+use Rattle.tva_run.specs.Report.{events_at}
+use Rattle.tva_run.specs.Run.{IsRunTo}
+use Rattle.tva_run.specs.Windows.{AreWindows, HasWork, IsAtRest, IsNextWindow, IsOver, Window, least_delay, window_length}
+use Rattle.tva_run.proofs.Going.{run_rests}
+use Rattle.tva_run.proofs.Next.{none_before}
+use Rattle.tva_run.proofs.Runs.{are_delayed}
+use Rattle.tva_net.specs.News.{HasNone, IsFirstTime}
+use Rattle.tva_net.specs.Nets.{AreFirstWindows, IsNodeAt, IsRunSoFar, IsWholeRun, TellOf, WorkState, WorksFor}
+use Rattle.tva_net.proofs.Lists.{some_same}
+use Rattle.tva_net.proofs.Nodes.{rests, has_work}
+use Rattle.tva_net.proofs.Rises.{reaches_rise}
+
+-- ## windows
+
+module _ (config : Config) (rows : List Row) (logs : Logs) where
+  -- one more window behind the first ones
+  pub first_push : (from : ℕ) (windows : List Window) (behind : ℕ) (window : Window) → AreFirstWindows config rows logs from windows behind → IsNextWindow config rows logs behind window
+      → AreFirstWindows config rows logs from (windows ++ window ∷ []) window.1
+  first_push from [] behind window h n = (subst (λ (t : ℕ). IsNextWindow config rows logs t window) (sym h) n, refl)
+  first_push from (x ∷ xs) behind window h n = (h.0, first_push x.1 xs behind window h.1 n)
+
+  -- they are all where there is nothing more to do
+  pub first_whole : (from : ℕ) (windows : List Window) (behind : ℕ) → AreFirstWindows config rows logs from windows behind → IsOver config rows logs behind → AreWindows config rows logs from windows
+  first_whole from [] behind h o = subst (λ (t : ℕ). IsOver config rows logs t) (sym h) o
+  first_whole from (x ∷ xs) behind h o = (h.0, first_whole x.1 xs behind h.1 o)
+
+  -- each ends no later than they all do
+  pub first_ends : (from : ℕ) (windows : List Window) (behind : ℕ) → AreFirstWindows config rows logs from windows behind → AllByRecursion (λ (x : Window). x.1 ≤ behind) windows × (from ≤ behind)
+  first_ends from [] behind h = (tt, omega (arith, h))
+  first_ends from (x ∷ xs) behind h =
+      let (each, last) = first_ends x.1 xs behind h.1 in
+      let later = h.0.later in
+      let within = h.0.within in
+      let ends = h.0.ends in
+      ((last, each), omega arith)
+
+least_some : (none : ℕ) (links : List LinkPlan) → 1 ≤ none → ((number : ℕ) (link : LinkPlan) → slice_get links number ≡ Some link → 1 ≤ link.delay) → 1 ≤ least_delay none links
+least_some none [] l h = l
+least_some none (link ∷ []) l h = h 0 link refl
+least_some none (link ∷ other ∷ links) l h =
+    let a = h 0 link refl in
+    let b = least_some none (other ∷ links) l (λ number x e. h (suc number) x e) in
+    omega (arith, a, b)
+
+least_few : (none : ℕ) (links : List LinkPlan) (most : ℕ) → none ≤ most → ((number : ℕ) (link : LinkPlan) → slice_get links number ≡ Some link → link.delay ≤ most) → least_delay none links ≤ most
+least_few none [] most l h = l
+least_few none (link ∷ []) most l h = h 0 link refl
+least_few none (link ∷ other ∷ links) most l h = let a = h 0 link refl in omega (arith, a)
+
+-- ## nodes
+
+site_plan : (config : Config) (n : ℕ) (site : Site) (o : Option NodePlan) → option_map (λ p. site_of n p (links_out n config.links)) o ≡ Some site → (p : NodePlan) × (o ≡ Some p)
+site_plan config n site None e = absurd (cc)
+site_plan config n site (Some p) e = (p, refl)
+
+pub site_within : (config : Config) (n : ℕ) (site : Site) → site_at config n ≡ Some site → n < length config.nodes
+site_within config n site e =
+    let (p, f) = site_plan config n site (slice_get config.nodes n) e in
+    slice_get_within config.nodes n p f
+
+pub events_there : (config : Config) (logs : Logs) (n : ℕ) (site : Site) → site_at config n ≡ Some site → events_at config logs n ≡ events site (log_at logs n)
+events_there config logs n site e = ap (λ (o : Option Site). option_map_or (λ s. events s (log_at logs n)) o []) e
+
+module _ (config : Config) (rows : List Row) (windows : List Window) (told : List Event) (w : WorkState) (h : WorksFor config rows windows told w) where
+  pub place_of : (n : ℕ) (site : Site) → site_at config n ≡ Some site → (d : NodeState) × (n < length w.nodes) × ((get_or w.nodes n d).site ≡ site)
+  place_of n site e =
+      let l : n < length w.nodes = omega (arith, site_within config n site e, h.count) in
+      elim (slice_get_cases w.nodes n).1 [
+        | inl in' ↦ (in'.0, l, some_same (get_or w.nodes n in'.0).site site (sym (h.nodes n in'.0 l).site ∙ e))
+        | inr past ↦ absurd (omega (arith, past.0, l))
+      ]
+
+  pub run_within : w.worked_to ≤ config.horizon.0 + 1
+  run_within = h.run.within
+
+  -- what the nodes tell
+  pub tell_of : TellOf config h.logs w.nodes
+  tell_of = record {
+    count = h.count;
+    each = λ n d l.
+        let a = h.nodes n d l in
+        a.stands.events ∙ sym (events_there config h.logs n (get_or w.nodes n d).site a.site);
+  }
+
+  pub so_far : IsRunSoFar config rows windows told w.worked_to w.nodes
+  so_far = record { logs = h.logs; run = h.run; tell = tell_of; events = h.events; begins = h.begins }
+
+  -- where no node has anything to do before a time, each is at rest
+  pub rest_by : (until : ℕ) → until ≤ config.horizon.0 + 1
+      → ((n : ℕ) (d : NodeState) → n < length w.nodes → (t : ℕ) → t < until → IsWorkAt (get_or w.nodes n d).site (in_turn (get_or w.nodes n d).inbox) (log_at h.logs n) (get_or w.nodes n d).worked_to t → ⊥)
+      → (n : ℕ) (site : Site) → site_at config n ≡ Some site → IsAtRest config rows h.logs w.worked_to until site (log_at h.logs n)
+  rest_by until l none n site e =
+      let (d, k, same) = place_of n site e in
+      let v = get_or w.nodes n d in
+      let a = h.nodes n d k in
+      let log = log_at h.logs n in
+      subst (λ (s : Site). IsAtRest config rows h.logs w.worked_to until s log) same
+      (rests config rows h.logs n v a.site a.mail (reaches_rise config rows w.worked_to h.logs h.valid h.trace.order h.run n) log w.worked_to until
+      (subst (λ (t : ℕ). AreLegal v.site t log) a.worked_to (legal v log a.stands)) l
+      (λ t m x. none n d k t m (subst (λ (f : ℕ). IsWorkAt v.site (in_turn v.inbox) log f t) (sym a.worked_to) x)))
+
+  -- ## where no node has anything left to do
+
+  module _ (none : All HasNone w.nodes) where
+    rest_end : (n : ℕ) (site : Site) → site_at config n ≡ Some site → IsAtRest config rows h.logs w.worked_to (config.horizon.0 + 1) site (log_at h.logs n)
+    rest_end = rest_by (config.horizon.0 + 1) (omega arith) (λ n d l t k x.
+        let a = h.nodes n d l in
+        none n d l (log_at h.logs n) t a.stands (omega (arith, a.horizon, k)) x)
+
+    run_end : IsRunTo config rows (config.horizon.0 + 1) h.logs
+    run_end = run_rests config rows w.worked_to (config.horizon.0 + 1) h.logs run_within (omega arith) h.run rest_end
+
+    over : IsOver config rows h.logs w.worked_to
+    over time a b x =
+        let at_end : config.horizon.0 + 1 ≤ config.horizon.0 + 1 = omega arith in
+        none_before config rows w.worked_to (config.horizon.0 + 1) (config.horizon.0 + 1) h.logs h.logs h.valid h.run run_end run_within at_end rest_end time a (omega (arith, b)) x
+
+    pub whole_run : IsWholeRun config rows windows told w.nodes
+    whole_run = record {
+      logs = h.logs;
+      run = run_end;
+      tell = tell_of;
+      events = h.events;
+      all = first_whole config rows h.logs 0 windows w.worked_to (h.begins (config.horizon.0 + 1) h.logs run_within run_end) over;
+    }
+
+  -- ## where one has
+
+  module _ (start : Time) (first : IsFirstTime w.nodes (Some start)) where
+    worker : IsNodeAt config rows h.logs w.worked_to first.0.place first.0.node
+    worker =
+        let s = first.0 in
+        subst (λ (v : NodeState). IsNodeAt config rows h.logs w.worked_to s.place v) (get_or_from_slice_get w.nodes s.place s.node s.node s.is_node)
+        (h.nodes s.place s.node (slice_get_within w.nodes s.place s.node s.is_node))
+
+    begins : IsWorkAt first.0.node.site (in_turn first.0.node.inbox) (log_at h.logs first.0.place) w.worked_to start.0
+    begins =
+        let s = first.0 in
+        subst (λ (f : ℕ). IsWorkAt s.node.site (in_turn s.node.inbox) (log_at h.logs s.place) f start.0) worker.worked_to
+        (s.work (log_at h.logs s.place) worker.stands).1
+
+    pub start_later : w.worked_to ≤ start.0
+    start_later = begins.0
+
+    pub start_within : start.0 ≤ config.horizon.0
+    start_within =
+        let s = first.0 in
+        let within = (s.work (log_at h.logs s.place) worker.stands).0 in
+        omega (arith, within, worker.horizon)
+
+    pub work_starts : HasWork config rows h.logs w.worked_to start.0
+    work_starts =
+        let s = first.0 in
+        has_work config rows h.logs s.place s.node worker.site worker.mail (reaches_rise config rows w.worked_to h.logs h.valid h.trace.order h.run s.place) w.worked_to start.0 begins
+
+    pub rest_start : (n : ℕ) (site : Site) → site_at config n ≡ Some site → IsAtRest config rows h.logs w.worked_to start.0 site (log_at h.logs n)
+    rest_start = rest_by start.0 (omega (arith, start_within)) (λ n d l t k x.
+        let a = h.nodes n d l in
+        first.1 n d l (log_at h.logs n) t a.stands (omega (arith, a.horizon, k, start_within)) k x)
+
+    pub run_start : IsRunTo config rows start.0 h.logs
+    run_start = run_rests config rows w.worked_to start.0 h.logs start_later (omega (arith, start_within)) h.run rest_start
+
+    -- times in the window fit their type
+    pub start_few : start.0 + w.span ≤ 3000000000000000
+    start_few =
+        let horizon = h.valid.horizon in
+        let least = least_few (config.horizon.0 + 1) config.links 1000000000000001 (omega (arith, horizon)) (λ number link e.
+        let plan = all_here (IsLinkPlan (length config.nodes)) config.links number link h.valid.links e in
+        omega (arith, plan.delay.1)) in
+        omega (arith, least, h.span, start_within, horizon)
+
+    pub length_some : 1 ≤ window_length config
+    length_some = least_some (config.horizon.0 + 1) config.links (omega arith) (are_delayed config h.valid)

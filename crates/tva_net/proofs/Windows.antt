@@ -1,0 +1,509 @@
+-- A window keeps the run: what the nodes' logs add is the run's, and the inboxes have it all afterwards.
+use Rattle.std.proofs.Common.{◌≡◌, ℕ, zero, suc, ◌+◌, ◌<◌, ◌≤◌, min, List, [], ◌∷◌, ◌++◌, length, get_or, drop, map, filter, Bool, true, false, cond, Option, Some, None, All, refl, sym, subst, ◌∙◌, ap, ap₂, arith, inl, inr}
+use Rattle.std.specs.Prelude.{slice_get, nat_lt, ◌==◌}
+use Rattle.std.specs.Option.{option_map, option_map_or}
+use Rattle.std.specs.List.{AllByRecursion, AllZip}
+use Rattle.std.proofs.lemmas.List.{append-nil, drop_at, get_or-map, map-append, length-map}
+use Rattle.std.proofs.Common.{length-append}
+use Rattle.std.proofs.lemmas.List.Elements.{filter-append, filter_map-append, All-from_recursion, AllZip-get_or}
+use Rattle.std.proofs.lemmas.Option.{slice_get_cases, slice_get-get_or, slice_get_past, slice_get_within, get_or_from_slice_get}
+use Rattle.tva_base.specs.declared.event.Event.{Event}
+use Rattle.tva_base.specs.declared.packet.Time.{Time}
+use Rattle.tva_base.specs.declared.plan.LinkPlan.{LinkPlan}
+use Rattle.tva_config.specs.declared.config.Config.{Config}
+use Rattle.tva_config.specs.declared.config.NodePlan.{NodePlan}
+use Rattle.tva_config.specs.Valid.{IsLinkPlan}
+use Rattle.tva_config.proofs.Wired.{all_here}
+use Rattle.tva_trace.specs.declared.rows.Row.{Row}
+use Rattle.tva_joins.specs.Joins.{IsJoin, cut, from_source}
+use Rattle.tva_joins.proofs.Joins.{each-filter, each-weaker}
+use Rattle.tva_joins.proofs.Putting.{cut-put_all, each_from_sources, put_all-append}
+use Rattle.tva_log.specs.declared.kinds.Input.{Input}
+use Rattle.tva_log.specs.declared.kinds.Sending.{Sending}
+use Rattle.tva_log.specs.Sites.{Site, link_out, site_of}
+use Rattle.tva_log.specs.Entries.{Entry, input_time, input_source, entry_time, entry_rank}
+use Rattle.tva_log.specs.NodeLog.{IsNodeLog, due, in_turn}
+use Rattle.tva_log.specs.Told.{event_of, events, sending_of, sendings}
+use Rattle.tva_log.proofs.Logs.{IsNodeLog-unique}
+use Rattle.tva_node.specs.States.{IsAdvanced, Keeps, NodeState, Stands, StandsFor}
+use Rattle.tva_run.specs.Reaching.{Logs, log_at, arrival, arrival_of, arrivals, arrivals_at, links_out, reaches, rows_at, site_at}
+use Rattle.tva_run.specs.Report.{AreEvents, event_node, event_time, events_at}
+use Rattle.tva_run.specs.Run.{HasLog, IsRunTo, logs_before}
+use Rattle.tva_run.specs.Windows.{IsNextWindow, Window, given, window_length}
+use Rattle.tva_run.proofs.Going.{events_added, least_delay-least, run_goes_on, same_before}
+use Rattle.tva_run.proofs.Holding.{HappensAt, events_work}
+use Rattle.tva_run.proofs.Next.{window_next}
+use Rattle.tva_run.proofs.Runs.{log_at-before}
+use Rattle.tva_run.proofs.Sites.{link_out_is, sent_arrives, site_number}
+use Rattle.tva_net.specs.Mail.{CanDeliver, GotMail, GotMails, IsPostable, goes_to, mail_to}
+use Rattle.tva_net.specs.News.{IsFirstTime, since, told_since}
+use Rattle.tva_net.specs.Nets.{EachBeginsWith, IsNodeAt, WorkState, WorksFor}
+use Rattle.tva_net.specs.Work.{if_some}
+use Rattle.tva_net.proofs.Lists.{each_map, map_same, some_same, split_at, zip_from, zip_length}
+use Rattle.tva_net.proofs.Given.{given_more, held_more}
+use Rattle.tva_net.proofs.Nodes.{has_log}
+use Rattle.tva_net.proofs.Rises.{reaches_rise}
+use Rattle.tva_net.proofs.Senders.{HasLink, IsSentFrom, arrive_no_rows, each_since, goes_linked, mail_none, mail_on, out_is, sends_none, sent_from, since_one}
+use Rattle.tva_net.proofs.Standing.{events_there, first_ends, first_push, length_some, place_of, rest_start, run_start, start_later, start_within, work_starts}
+
+-- ## the nodes' logs once they are worked
+
+abbrev pub advanced_logs : (until : ℕ) (olds mids : List NodeState) → AllZip (IsAdvanced until) olds mids → Logs
+advanced_logs until [] [] h = []
+advanced_logs until [] (y ∷ ys) h = []
+advanced_logs until (x ∷ xs) [] h = []
+advanced_logs until (x ∷ xs) (y ∷ ys) h = h.0.stands.0 ∷ advanced_logs until xs ys h.1
+
+advanced_count : (until : ℕ) (olds mids : List NodeState) (h : AllZip (IsAdvanced until) olds mids) → length (advanced_logs until olds mids h) ≡ length mids
+advanced_count until [] [] h = refl
+advanced_count until [] (y ∷ ys) h = absurd h
+advanced_count until (x ∷ xs) [] h = absurd h
+advanced_count until (x ∷ xs) (y ∷ ys) h = ap suc (advanced_count until xs ys h.1)
+
+advanced_at : (until : ℕ) (olds mids : List NodeState) (h : AllZip (IsAdvanced until) olds mids) (n : ℕ) (d : NodeState) → n < length mids → StandsFor (get_or mids n d) (log_at (advanced_logs until olds mids h) n)
+advanced_at until [] [] h n d l = absurd (omega (arith, l))
+advanced_at until [] (y ∷ ys) h n d l = absurd h
+advanced_at until (x ∷ xs) [] h n d l = absurd h
+advanced_at until (x ∷ xs) (y ∷ ys) h zero d l = h.0.stands.1
+advanced_at until (x ∷ xs) (y ∷ ys) h (suc n) d l = advanced_at until xs ys h.1 n d (omega (arith, l))
+
+each_right : {X : Type 0} (P : X → Type 0) (xs ys : List X) → AllByRecursion P (xs ++ ys) → AllByRecursion P ys
+each_right P [] ys h = h
+each_right P (x ∷ xs) ys h = each_right P xs ys h.1
+
+each_any : (es : List Entry) → AllByRecursion (λ e. 0 ≤ entry_time e) es
+each_any [] = tt
+each_any (e ∷ es) = (omega arith, each_any es)
+
+-- a node that is worked up to a time, over what reaches it of what was sent before
+pub record IsMid (config : Config) (rows : List Row) (sent longer : Logs) (until : ℕ) (n : ℕ) (v : NodeState) : Type 0 where
+  pub site : site_at config n ≡ Some v.site
+  pub horizon : v.horizon ≡ config.horizon.0
+  pub worked_to : v.worked_to ≡ until
+  pub stands : StandsFor v (log_at longer n)
+  pub mail : (source : ℕ) → from_source input_source source v.inbox ≡ due (config.horizon.0 + 1) (reaches config rows sent n source)
+
+-- what its log has further
+pub record IsFurther (sent longer : Logs) (start : ℕ) (n : ℕ) (rest : List Entry) : Type 0 where
+  pub log : log_at longer n ≡ log_at sent n ++ rest
+  pub late : AllByRecursion (λ e. start ≤ entry_time e) rest
+
+-- a packet that is under way on a link, and arrives at a time or later
+pub record IsGoing (config : Config) (until : ℕ) (s : Sending) : Type 0 where
+  pub link : LinkPlan
+  pub here : slice_get config.links s.link ≡ Some link
+  pub late : until ≤ s.arrive.0
+
+module _ (config : Config) (rows : List Row) (windows : List Window) (told : List Event) (w : WorkState) (h : WorksFor config rows windows told w)
+    (start : Time) (first : IsFirstTime w.nodes (Some start)) (until : ℕ) (ends : until ≡ min (start.0 + w.span) (w.horizon + 1))
+    (mids : List NodeState) (advanced : AllZip (IsAdvanced until) w.nodes mids) (kept : AllZip Keeps w.nodes mids) where
+  abbrev pub longer : Logs
+  longer = advanced_logs until w.nodes mids advanced
+
+  -- ## the window
+
+  ends_is : until ≡ min (start.0 + window_length config) (config.horizon.0 + 1)
+  ends_is = ends ∙ ap₂ (λ (a b : ℕ). min (start.0 + a) (b + 1)) h.span h.horizon
+
+  later : w.worked_to ≤ start.0
+  later = start_later config rows windows told w h start first
+
+  within : start.0 ≤ config.horizon.0
+  within = start_within config rows windows told w h start first
+
+  pub some : start.0 < until
+  some = omega (arith, ends_is, within, length_some config rows windows told w h start first)
+
+  pub whole : until ≤ config.horizon.0 + 1
+  whole = omega (arith, ends_is)
+
+  short : until ≤ start.0 + window_length config
+  short = omega (arith, ends_is)
+
+  ordered : start.0 ≤ until
+  ordered = omega (arith, some)
+
+  -- ## the nodes
+
+  pub mid_count : length mids ≡ length w.nodes
+  mid_count = zip_length (IsAdvanced until) w.nodes mids advanced
+
+  config_count : length mids ≡ length config.nodes
+  config_count = mid_count ∙ h.count
+
+  long_count : length longer ≡ length config.nodes
+  long_count = advanced_count until w.nodes mids advanced ∙ config_count
+
+  pub mid_at : (n : ℕ) (d : NodeState) → n < length mids → IsMid config rows h.logs longer until n (get_or mids n d)
+  mid_at n d l =
+      let k : n < length w.nodes = omega (arith, l, mid_count) in
+      let a = h.nodes n d k in
+      let keeps : Keeps (get_or w.nodes n d) (get_or mids n d) = AllZip-get_or Keeps w.nodes mids n d d kept k in
+      let done : IsAdvanced until (get_or w.nodes n d) (get_or mids n d) = AllZip-get_or (IsAdvanced until) w.nodes mids n d d advanced k in
+      let upto = done.upto in
+      let from = a.worked_to in
+      let bound = a.horizon in
+      record {
+        site = a.site ∙ ap Some (sym keeps.site);
+        horizon = keeps.horizon ∙ bound;
+        worked_to = omega (arith, upto, from, bound, later, some, whole);
+        stands = advanced_at until w.nodes mids advanced n d l;
+        mail = λ source. ap (from_source input_source source) keeps.inbox ∙ a.mail source;
+      }
+
+  mid_of : (n : ℕ) (site : Site) → site_at config n ≡ Some site → (d : NodeState) × (n < length mids) × ((get_or mids n d).site ≡ site)
+  mid_of n site e =
+      let (d, k, same) = place_of config rows windows told w h n site e in
+      let l : n < length mids = omega (arith, k, mid_count) in
+      (d, l, some_same (get_or mids n d).site site (sym (mid_at n d l).site ∙ e))
+
+  has : (n : ℕ) (site : Site) → site_at config n ≡ Some site → HasLog config rows h.logs until site (log_at longer n)
+  has n site e =
+      let (d, l, same) = mid_of n site e in
+      let v = get_or mids n d in
+      let m = mid_at n d l in
+      subst (λ (s : Site). HasLog config rows h.logs until s (log_at longer n)) same
+      (has_log config rows h.logs n v m.site m.mail (reaches_rise config rows w.worked_to h.logs h.valid h.trace.order h.run n) (log_at longer n) until whole
+      (subst (λ (t : ℕ). IsNodeLog v.site (in_turn v.inbox) t (log_at longer n)) m.worked_to m.stands.whole))
+
+  starts : IsRunTo config rows start.0 h.logs
+  starts = run_start config rows windows told w h start first
+
+  pub run_on : IsRunTo config rows until longer
+  run_on = run_goes_on config rows start.0 until h.logs longer ordered starts has long_count short whole
+
+  before : (n : ℕ) → cut entry_time start.0 (log_at longer n) ≡ log_at h.logs n
+  before = same_before config rows start.0 until h.logs longer ordered starts has long_count
+
+  further : (n : ℕ) (d : NodeState) → n < length mids → (rest : List Entry) × IsFurther h.logs longer start.0 n rest
+  further n d l =
+      let (rest, e, late) = split_at entry_time entry_rank start.0 (log_at longer n) (mid_at n d l).stands.whole.in_order in
+      (rest, record { log = e ∙ ap (λ (es : List Entry). es ++ rest) (before n); late = late })
+
+  -- ## what they tell
+
+  shown_at : (n : ℕ) (d : NodeState) → n < length mids → get_or w.shown n 0 ≡ length (events (get_or mids n d).site (log_at h.logs n))
+  shown_at n d l =
+      let k : n < length w.nodes = omega (arith, l, mid_count) in
+      let a = h.nodes n d k in
+      let same : (get_or w.nodes n d).site ≡ (get_or mids n d).site = some_same (get_or w.nodes n d).site (get_or mids n d).site (sym a.site ∙ (mid_at n d l).site) in
+      ap (λ (ns : List ℕ). get_or ns n 0) h.shown
+      ∙ (get_or-map (λ (v : NodeState). length v.events) w.nodes n d 0 k
+      ∙ (ap length a.stands.events ∙ ap (λ (s : Site). length (events s (log_at h.logs n))) same))
+
+  events_both : (n : ℕ) (d : NodeState) (l : n < length mids) (rest : List Entry) → IsFurther h.logs longer start.0 n rest
+      → (get_or mids n d).events ≡ events (get_or mids n d).site (log_at h.logs n) ++ events (get_or mids n d).site rest
+  events_both n d l rest f =
+      let site = (get_or mids n d).site in
+      (mid_at n d l).stands.events ∙ (ap (events site) f.log ∙ map-append (event_of site) (log_at h.logs n) rest)
+
+  told_there : (n : ℕ) (d : NodeState) (l : n < length mids) (rest : List Entry) → IsFurther h.logs longer start.0 n rest → told_since mids w.shown n ≡ events (get_or mids n d).site rest
+  told_there n d l rest f =
+      let site = (get_or mids n d).site in
+      ap (λ (o : Option NodeState). option_map_or (λ v. drop (get_or w.shown n 0) v.events) o []) (slice_get-get_or mids n d l)
+      ∙ (ap (drop (get_or w.shown n 0)) (events_both n d l rest f)
+      ∙ drop_at (events site (log_at h.logs n)) (events site rest) (get_or w.shown n 0) (sym (shown_at n d l)))
+
+  told_past : (n : ℕ) → length mids ≤ n → told_since mids w.shown n ≡ []
+  told_past n l = ap (λ (o : Option NodeState). option_map_or (λ v. drop (get_or w.shown n 0) v.events) o []) (slice_get_past mids n l)
+
+  no_site : (n : ℕ) → length mids ≤ n → site_at config n ≡ None
+  no_site n l = ap (option_map (λ (p : NodePlan). site_of n p (links_out n config.links))) (slice_get_past config.nodes n (omega (arith, l, config_count)))
+
+  before_is : (n : ℕ) → log_at (logs_before start.0 longer) n ≡ log_at h.logs n
+  before_is n = log_at-before start.0 longer n ∙ before n
+
+  events_before : (n : ℕ) → events_at config h.logs n ≡ events_at config (logs_before start.0 longer) n
+  events_before n = ap (λ (log : List Entry). option_map_or (λ site. events site log) (site_at config n) []) (sym (before_is n))
+
+  events_more : (n : ℕ) → events_at config longer n ≡ events_at config (logs_before start.0 longer) n ++ told_since mids w.shown n
+  events_more n =
+      elim (slice_get_cases mids n).1 [
+        | inl in' ↦
+            let d = in'.0 in
+            let l = in'.1 in
+            let site = (get_or mids n d).site in
+            let there = (mid_at n d l).site in
+            let (rest, f) = further n d l in
+            events_there config longer n site there
+            ∙ (ap (events site) f.log
+            ∙ (map-append (event_of site) (log_at h.logs n) rest
+            ∙ ap₂ (λ (xs ys : List Event). xs ++ ys)
+            (sym (events_there config h.logs n site there) ∙ events_before n) (sym (told_there n d l rest f))))
+        | inr past ↦
+            let l = past.0 in
+            let none = no_site n l in
+            let lost : events_at config longer n ≡ [] = ap (λ (o : Option Site). option_map_or (λ s. events s (log_at longer n)) o []) none in
+            let lost' : events_at config (logs_before start.0 longer) n ≡ [] = ap (λ (o : Option Site). option_map_or (λ s. events s (log_at (logs_before start.0 longer) n)) o []) none in
+            lost ∙ sym (ap₂ (λ (xs ys : List Event). xs ++ ys) lost' (told_past n l))
+      ]
+
+  told_before : AreEvents config (logs_before start.0 longer) told
+  told_before = record { in_order = h.events.in_order; each = λ n. h.events.each n ∙ events_before n }
+
+  pub events_on : (list : List Event) → IsJoin event_time event_node (told_since mids w.shown) list → AreEvents config longer (told ++ list)
+  events_on list join = events_added config start.0 longer told list (told_since mids w.shown) told_before events_more join
+
+  -- what they tell comes from the window's start on
+  pub told_late : (n : ℕ) → AllByRecursion (λ e. start.0 ≤ event_time e) (told_since mids w.shown n)
+  told_late n =
+      elim (slice_get_cases mids n).1 [
+        | inl in' ↦
+            let d = in'.0 in
+            let l = in'.1 in
+            let site = (get_or mids n d).site in
+            let (rest, f) = further n d l in
+            subst (λ (es : List Event). AllByRecursion (λ e. start.0 ≤ event_time e) es) (sym (told_there n d l rest f))
+            (each_map (event_of site) (λ e. start.0 ≤ event_time e) rest f.late)
+        | inr past ↦ subst (λ (es : List Event). AllByRecursion (λ e. start.0 ≤ event_time e) es) (sym (told_past n past.0)) tt
+      ]
+
+  -- ## what they sent
+
+  posted_at : (n : ℕ) (d : NodeState) → n < length mids → get_or w.posted n 0 ≡ length (sendings (get_or mids n d).site (log_at h.logs n))
+  posted_at n d l =
+      let k : n < length w.nodes = omega (arith, l, mid_count) in
+      let a = h.nodes n d k in
+      let same : (get_or w.nodes n d).site ≡ (get_or mids n d).site = some_same (get_or w.nodes n d).site (get_or mids n d).site (sym a.site ∙ (mid_at n d l).site) in
+      ap (λ (ns : List ℕ). get_or ns n 0) h.posted
+      ∙ (get_or-map (λ (v : NodeState). length v.sendings) w.nodes n d 0 k
+      ∙ (ap length a.stands.sendings ∙ ap (λ (s : Site). length (sendings s (log_at h.logs n))) same))
+
+  sendings_both : (n : ℕ) (d : NodeState) (l : n < length mids) (rest : List Entry) → IsFurther h.logs longer start.0 n rest
+      → (get_or mids n d).sendings ≡ sendings (get_or mids n d).site (log_at h.logs n) ++ sendings (get_or mids n d).site rest
+  sendings_both n d l rest f =
+      let site = (get_or mids n d).site in
+      (mid_at n d l).stands.sendings ∙ (ap (sendings site) f.log ∙ filter_map-append (sending_of site) (log_at h.logs n) rest)
+
+  sent_there : (n : ℕ) (d : NodeState) (l : n < length mids) (rest : List Entry) → IsFurther h.logs longer start.0 n rest
+      → drop (get_or w.posted n 0) (get_or mids n d).sendings ≡ sendings (get_or mids n d).site rest
+  sent_there n d l rest f =
+      let site = (get_or mids n d).site in
+      ap (drop (get_or w.posted n 0)) (sendings_both n d l rest f)
+      ∙ drop_at (sendings site (log_at h.logs n)) (sendings site rest) (get_or w.posted n 0) (sym (posted_at n d l))
+
+  linked : (n : ℕ) (d : NodeState) (l : n < length mids) → AllByRecursion (HasLink (get_or mids n d).site) (log_at longer n)
+  linked n d l =
+      let v = get_or mids n d in
+      let m = mid_at n d l in
+      goes_linked v.site [] (due v.worked_to (in_turn v.inbox)) (log_at longer n) m.stands.whole.steps
+
+  going : (n : ℕ) (d : NodeState) (l : n < length mids) (rest : List Entry) → IsFurther h.logs longer start.0 n rest → AllByRecursion (IsGoing config until) (sendings (get_or mids n d).site rest)
+  going n d l rest f =
+      let site = (get_or mids n d).site in
+      let there = (mid_at n d l).site in
+      let links : AllByRecursion (HasLink site) (log_at h.logs n ++ rest) = subst (λ (es : List Entry). AllByRecursion (HasLink site) es) f.log (linked n d l) in
+      each-weaker (IsSentFrom site start.0) (IsGoing config until)
+      (λ s g.
+      let o = g.0 in
+      let at = out_is config n s.link site o there g.1 in
+      let least = least_delay-least (config.horizon.0 + 1) config.links s.link o.1 at.0 in
+      let lag = g.2 in
+      record { link = o.1; here = at.0; late = omega (arith, least, lag, short) })
+      (sendings site rest)
+      (sent_from site start.0 rest (each_right (HasLink site) (log_at h.logs n) rest links) f.late)
+
+  abbrev pub sent : List Sending
+  sent = since (λ v. v.sendings) mids w.posted
+
+  all_going : AllByRecursion (IsGoing config until) sent
+  all_going = each_since (IsGoing config until) mids w.posted (λ n d l.
+      let (rest, f) = further n d l in
+      subst (λ (ss : List Sending). AllByRecursion (IsGoing config until) ss) (sym (sent_there n d l rest f)) (going n d l rest f))
+
+  can_post : (s : Sending) → IsGoing config until s → IsPostable config.horizon.0 config.links mids s
+  can_post s g =
+      let link = g.link in
+      let plan : IsLinkPlan (length config.nodes) link = all_here (IsLinkPlan (length config.nodes)) config.links s.link link h.valid.links g.here in
+      let to : link.to < length mids = omega (arith, plan.to, config_count) in
+      record {
+        link = slice_get_within config.links s.link link g.here;
+        arrives = λ d in_time. subst (λ (l : LinkPlan). CanDeliver mids l.to (arrival s)) (sym (get_or_from_slice_get config.links s.link link d g.here)) (record {
+          node = to;
+          takes = λ e.
+              let m = mid_at link.to e to in
+              record { late = omega (arith, m.worked_to, g.late); within = omega (arith, m.horizon, in_time); fits = tt };
+        });
+      }
+
+  pub postable : All (IsPostable w.horizon w.links mids) sent
+  postable =
+      let there : AllByRecursion (IsPostable config.horizon.0 config.links mids) sent = each-weaker (IsGoing config until) (IsPostable config.horizon.0 config.links mids) can_post sent all_going in
+      rw (h.horizon, h.links) (All-from_recursion (IsPostable config.horizon.0 config.links mids) sent there)
+
+  pub shown_known : AllZip (λ (v : NodeState) (n : ℕ). n ≤ length v.events) mids w.shown
+  shown_known = zip_from (λ (v : NodeState) (n : ℕ). n ≤ length v.events) mids w.shown 0
+      (mid_count ∙ sym (ap length h.shown ∙ length-map w.nodes (λ (v : NodeState). length v.events)))
+      (λ n d l.
+      let site = (get_or mids n d).site in
+      let (rest, f) = further n d l in
+      let whole_length = ap length (events_both n d l rest f) ∙ length-append (events site (log_at h.logs n)) (events site rest) in
+      omega (arith, whole_length, shown_at n d l))
+
+  pub posted_known : AllZip (λ (v : NodeState) (n : ℕ). n ≤ length v.sendings) mids w.posted
+  posted_known = zip_from (λ (v : NodeState) (n : ℕ). n ≤ length v.sendings) mids w.posted 0
+      (mid_count ∙ sym (ap length h.posted ∙ length-map w.nodes (λ (v : NodeState). length v.sendings)))
+      (λ n d l.
+      let site = (get_or mids n d).site in
+      let (rest, f) = further n d l in
+      let whole_length = ap length (sendings_both n d l rest f) ∙ length-append (sendings site (log_at h.logs n)) (sendings site rest) in
+      omega (arith, whole_length, posted_at n d l))
+
+  pub mids_stand : All Stands mids
+  mids_stand n d l = (log_at longer n, (mid_at n d l).stands)
+
+  pub mids_numbered : (n : ℕ) (d : NodeState) → n < length mids → (get_or mids n d).site.number ≡ n
+  mids_numbered n d l = site_number config n (get_or mids n d).site (mid_at n d l).site
+
+  -- ## what reaches the nodes
+
+  abbrev mail : ℕ → List Input
+  mail n = mail_to config.horizon.0 config.links sent n
+
+  mail_late : (n : ℕ) → AllByRecursion (λ i. until ≤ input_time i) (mail n)
+  mail_late n =
+      each_map arrival (λ i. until ≤ input_time i) (filter (goes_to config.horizon.0 config.links n) sent)
+      (each-filter (λ (s : Sending). until ≤ s.arrive.0) (goes_to config.horizon.0 config.links n) sent
+      (each-weaker (IsGoing config until) (λ s. until ≤ s.arrive.0) (λ s g. g.late) sent all_going))
+
+  sends_alone : (k : ℕ) (link : LinkPlan) → slice_get config.links k ≡ Some link → (i : ℕ) (e : NodeState) → i < length mids → (i ≡ link.from → ⊥) → filter (λ (s : Sending). s.link == k) (get_or mids i e).sendings ≡ []
+  sends_alone k link here i e l apart =
+      let v = get_or mids i e in
+      let m = mid_at i e l in
+      ap (filter (λ (s : Sending). s.link == k)) m.stands.sendings
+      ∙ sends_none v.site 0 k (sendings v.site (log_at longer i))
+      (λ o f.
+      let at = out_is config i k v.site o m.site f in
+      let same : o.1 ≡ link = some_same o.1 link (sym at.0 ∙ here) in
+      apart (sym (ap (λ (x : LinkPlan). x.from) (sym same) ∙ at.1)))
+      (sent_from v.site 0 (log_at longer i) (linked i e l) (each_any (log_at longer i)))
+
+  -- what is sent on a link arrives
+  on_link : (n k : ℕ) (link : LinkPlan) → slice_get config.links k ≡ Some link → (link.to == n) ≡ true
+      → due (config.horizon.0 + 1) (arrivals k link (log_at h.logs link.from)) ++ from_source input_source (suc k) (mail n) ≡ due (config.horizon.0 + 1) (arrivals k link (log_at longer link.from))
+  on_link n k link here there =
+      let m = link.from in
+      let plan : IsLinkPlan (length config.nodes) link = all_here (IsLinkPlan (length config.nodes)) config.links k link h.valid.links here in
+      let l : m < length mids = omega (arith, plan.from, config_count) in
+      elim (slice_get_cases mids m).1 [
+        | inl in' ↦
+            let d = in'.0 in
+            let v = get_or mids m d in
+            let (rest, f) = further m d l in
+            let out : link_out v.site k ≡ Some (k, link) = link_out_is config k link v.site here (mid_at m d l).site in
+            let end : option_map_or (λ (x : LinkPlan). x.to == n) (slice_get config.links k) false ≡ true = ap (λ (o : Option LinkPlan). option_map_or (λ (x : LinkPlan). x.to == n) o false) here ∙ there in
+            let counts : length w.posted ≡ length mids = ap length h.posted ∙ (length-map w.nodes (λ (x : NodeState). length x.sendings) ∙ sym mid_count) in
+            let from_here : filter (λ (s : Sending). s.link == k) sent ≡ filter (λ (s : Sending). s.link == k) (sendings v.site rest) =
+            since_one (λ s. s.link == k) mids w.posted m d counts l (sends_alone k link here) ∙ ap (filter (λ (s : Sending). s.link == k)) (sent_there m d l rest f) in
+            let arrived : from_source input_source (suc k) (mail n) ≡ due (config.horizon.0 + 1) (arrivals k link rest) =
+            mail_on config.horizon.0 config.links n k end sent
+            ∙ ap (due (config.horizon.0 + 1)) (ap (map arrival) from_here ∙ sym (sent_arrives k link v.site out rest)) in
+            ap (λ (is : List Input). due (config.horizon.0 + 1) (arrivals k link (log_at h.logs m)) ++ is) arrived
+            ∙ sym (ap (λ (es : List Entry). due (config.horizon.0 + 1) (arrivals k link es)) f.log
+            ∙ (ap (due (config.horizon.0 + 1)) (filter_map-append (arrival_of k link) (log_at h.logs m) rest)
+            ∙ filter-append (λ i. nat_lt (input_time i) (config.horizon.0 + 1)) (arrivals k link (log_at h.logs m)) (arrivals k link rest)))
+        | inr past ↦ absurd (omega (arith, past.0, l))
+      ]
+
+  by_end : (n k : ℕ) (link : LinkPlan) (b : Bool) → slice_get config.links k ≡ Some link → (link.to == n) ≡ b
+      → due (config.horizon.0 + 1) (cond b (arrivals k link (log_at h.logs link.from)) []) ++ from_source input_source (suc k) (mail n) ≡ due (config.horizon.0 + 1) (cond b (arrivals k link (log_at longer link.from)) [])
+  by_end n k link false here there = mail_none config.horizon.0 config.links n k (ap (λ (o : Option LinkPlan). option_map_or (λ (x : LinkPlan). x.to == n) o false) here ∙ there) sent
+  by_end n k link true here there = on_link n k link here there
+
+  by_link : (n k : ℕ) (o : Option LinkPlan) → slice_get config.links k ≡ o
+      → due (config.horizon.0 + 1) (option_map_or (arrivals_at h.logs n k) o []) ++ from_source input_source (suc k) (mail n) ≡ due (config.horizon.0 + 1) (option_map_or (arrivals_at longer n k) o [])
+  by_link n k None here = mail_none config.horizon.0 config.links n k (ap (λ (o : Option LinkPlan). option_map_or (λ (x : LinkPlan). x.to == n) o false) here) sent
+  by_link n k (Some link) here = by_end n k link (link.to == n) here refl
+
+  reached : (n source : ℕ) → due (config.horizon.0 + 1) (reaches config rows h.logs n source) ++ from_source input_source source (mail n) ≡ due (config.horizon.0 + 1) (reaches config rows longer n source)
+  reached n zero =
+      ap (λ (is : List Input). due (config.horizon.0 + 1) (rows_at rows n) ++ is) (arrive_no_rows (filter (goes_to config.horizon.0 config.links n) sent))
+      ∙ append-nil (due (config.horizon.0 + 1) (rows_at rows n))
+  reached n (suc k) = by_link n k (slice_get config.links k) refl
+
+  -- ## the window that follows
+
+  abbrev pub window : Window
+  window = (start.0, until)
+
+  windows_on : EachBeginsWith config rows (windows ++ window ∷ []) until
+  windows_on far logs l run =
+      let near : w.worked_to ≤ far = omega (arith, later, ordered, l) in
+      let next = window_next config rows w.worked_to start.0 far h.logs logs h.valid h.run run later (omega (arith, ordered, l)) (rest_start config rows windows told w h start first) within (work_starts config rows windows told w h start first) in
+      first_push config rows logs 0 windows w.worked_to window (h.begins far logs near run)
+      (subst (λ (t : ℕ). let x : Window = (start.0, t) in IsNextWindow config rows logs w.worked_to x) (sym ends_is) next)
+
+  list_late : (list : List Event) → IsJoin event_time event_node (told_since mids w.shown) list → AllByRecursion (λ e. start.0 ≤ event_time e) list
+  list_late list join =
+      each_from_sources event_time event_node (λ e. start.0 ≤ event_time e) list
+      (λ n. subst (λ (es : List Event). AllByRecursion (λ e. start.0 ≤ event_time e) es) (sym (join.each n)) (told_late n))
+
+  list_early : (list : List Event) → IsJoin event_time event_node (told_since mids w.shown) list → AllByRecursion (λ e. event_time e < until) list
+  list_early list join =
+      each_right (λ e. event_time e < until) told list
+      (each-weaker (λ e. HappensAt config rows longer until (event_time e)) (λ e. event_time e < until) (λ e k. k.1) (told ++ list)
+      (events_work config rows until longer (told ++ list) run_on (events_on list join)))
+
+  told_early : AllByRecursion (λ e. event_time e < w.worked_to) told
+  told_early = each-weaker (λ e. HappensAt config rows h.logs w.worked_to (event_time e)) (λ e. event_time e < w.worked_to) (λ e k. k.1) told
+      (events_work config rows w.worked_to h.logs told h.run h.events)
+
+  pub given_on : (list : List Event) → IsJoin event_time event_node (told_since mids w.shown) list → given (told ++ list) (windows ++ window ∷ []) ≡ given told windows ++ if_some list
+  given_on list join =
+      given_more w.worked_to start.0 until told list later told_early (list_late list join) (list_early list join) windows
+      (first_ends config rows h.logs 0 windows w.worked_to (h.begins w.worked_to h.logs (omega arith) h.run)).0
+
+  module _ (news : List NodeState) (posting : GotMails (mail_to w.horizon w.links sent) mids news) where
+    got : GotMails mail mids news
+    got =
+        subst (λ (t : ℕ). GotMails (λ n. mail_to t config.links sent n) mids news) h.horizon
+        (subst (λ (ls : List LinkPlan). GotMails (λ n. mail_to w.horizon ls sent n) mids news) h.links posting)
+
+    new_at : (n : ℕ) (d : NodeState) → n < length news → IsNodeAt config rows longer until n (get_or news n d)
+    new_at n d l =
+        let k : n < length mids = omega (arith, l, got.count) in
+        let v = get_or mids n d in
+        let u = get_or news n d in
+        let m = mid_at n d k in
+        let g : GotMail (mail n) v u = got.each n d k in
+        let q = g.keeps in
+        let (other, s) = g.stands (log_at longer n, m.stands) in
+        let inputs : due until (in_turn u.inbox) ≡ due until (in_turn v.inbox) =
+        ap (λ (is : List Input). due until (in_turn is)) g.inbox
+        ∙ (ap (due until) (put_all-append input_time input_source v.inbox (mail n) [])
+        ∙ cut-put_all input_time input_source until (mail n) (in_turn v.inbox) (mail_late n)) in
+        let upto : u.worked_to ≡ until = q.worked_to ∙ m.worked_to in
+        let new_log : IsNodeLog v.site (in_turn u.inbox) until other =
+        subst (λ (t : ℕ). IsNodeLog v.site (in_turn u.inbox) t other) upto (subst (λ (x : Site). IsNodeLog x (in_turn u.inbox) u.worked_to other) q.site s.whole) in
+        let mid_log : IsNodeLog v.site (in_turn v.inbox) until (log_at longer n) = subst (λ (t : ℕ). IsNodeLog v.site (in_turn v.inbox) t (log_at longer n)) m.worked_to m.stands.whole in
+        let same : other ≡ log_at longer n = IsNodeLog-unique v.site until (in_turn u.inbox) (in_turn v.inbox) other (log_at longer n) inputs new_log mid_log in
+        record {
+          site = m.site ∙ ap Some (sym q.site);
+          horizon = q.horizon ∙ m.horizon;
+          worked_to = upto;
+          stands = subst (StandsFor u) same s;
+          mail = λ source.
+              ap (from_source input_source source) g.inbox
+              ∙ (filter-append (λ i. input_source i == source) v.inbox (mail n)
+              ∙ (ap (λ (is : List Input). is ++ from_source input_source source (mail n)) (m.mail source) ∙ reached n source));
+        }
+
+    -- the work stands for the run up to the window's end
+    pub works_on : (list : List Event) (posts shows : List ℕ) → IsJoin event_time event_node (told_since mids w.shown) list → posts ≡ map (λ (v : NodeState). length v.sendings) mids → shows ≡ map (λ (v : NodeState). length v.events) mids
+        → WorksFor config rows (windows ++ window ∷ []) (told ++ list) (record { horizon = w.horizon; links = w.links; span = w.span; nodes = news; posted = posts; shown = shows; worked_to = until })
+    works_on list posts shows join posts_are shows_are = record {
+      valid = h.valid;
+      trace = h.trace;
+      horizon = h.horizon;
+      links = h.links;
+      span = h.span;
+      logs = longer;
+      run = run_on;
+      count = got.count ∙ config_count;
+      nodes = new_at;
+      posted = posts_are ∙ sym (map_same (λ (v : NodeState). length v.sendings) mids news got.count (λ n d l. ap length (got.each n d l).keeps.sendings));
+      shown = shows_are ∙ sym (map_same (λ (v : NodeState). length v.events) mids news got.count (λ n d l. ap length (got.each n d l).keeps.events));
+      events = events_on list join;
+      begins = windows_on;
+      held = held_more told list (given told windows) (given (told ++ list) (windows ++ window ∷ [])) h.held (given_on list join);
+    }

@@ -1,0 +1,19 @@
+use Rattle.std.proofs.Common.{◌≡◌, ℕ, ◌+◌, ◌<◌, ◌++◌, ◌∷◌, [], List, length, get_or, sym, subst, ap, arith}
+use Rattle.std.proofs.lemmas.List.{length_push}
+use Rattle.tva_node.specs.States.{NodeState}
+use Rattle.tva_net.specs.Mail.{IsFirstNode}
+use Rattle.tva_net.proofs.Firsts.{firsts_more}
+use Rattle.tva_net.proofs.building.nodes_of.Goals as goal
+
+pub loop-number-preserved : goal.loop-number-preserved
+loop-number-preserved c =
+    let config = c.args.config.now in
+    let i = c.loop-number.number in
+    let nodes = c.loop-number.nodes.items in
+    let v = c.in_ok-node_of.field-0 in
+    let items : c.push.new.self.items ≡ nodes ++ v ∷ [] = c.in_ok-push.ensures.items in
+    record {
+      count = omega (arith, ap length items, length_push nodes v, c.loop-number.invariant.count);
+      each = subst (λ (vs : List NodeState). (n : ℕ) (d : NodeState) → n < i + 1 → IsFirstNode config [] n (get_or vs n d)) (sym items)
+          (firsts_more config nodes i v c.loop-number.invariant.count c.in_ok-node_of.ensures c.loop-number.invariant.each);
+    }

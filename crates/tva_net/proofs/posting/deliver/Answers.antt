@@ -1,0 +1,35 @@
+use Rattle.std.proofs.Common.{◌∷◌, [], get_or, subst}
+use Rattle.std.proofs.lemmas.List.{get_or_default}
+use Rattle.tva_node.specs.States.{NodeState}
+use Rattle.tva_net.specs.Mail.{GotMail, KeepsWork}
+use Rattle.tva_net.proofs.Mails.{got_at, kept_by, keeps_same, zip_set}
+use Rattle.tva_net.proofs.posting.deliver.Goals as goal
+
+pub returns-in_err-post-clause-keeps : goal.returns-in_err-post-clause-keeps
+returns-in_err-post-clause-keeps c =
+    let xs = c.args.nodes.now in
+    let to = c.args.to in
+    let w = c.post.new.self in
+    let kept : KeepsWork (get_or xs to c.index-nodes-to.result) w = kept_by (get_or xs to c.index-nodes-to.result) w c.in_err-post.ensures.same in
+    zip_set KeepsWork keeps_same xs to w
+    (subst (λ (v : NodeState). KeepsWork v w) (get_or_default xs to c.index-nodes-to.result w c.requires.node) kept)
+
+pub returns-clause-got : goal.returns-clause-got
+returns-clause-got c =
+    let xs = c.args.nodes.now in
+    let to = c.args.to in
+    let w = c.post.new.self in
+    let e = c.in_ok-post.ensures in
+    let got : GotMail (c.args.input ∷ []) (get_or xs to c.index-nodes-to.result) w =
+    record { inbox = e.inbox; stands = e.stands; keeps = kept_by (get_or xs to c.index-nodes-to.result) w e.same } in
+    got_at to (c.args.input ∷ []) xs w c.requires.node
+    (subst (λ (v : NodeState). GotMail (c.args.input ∷ []) v w) (get_or_default xs to c.index-nodes-to.result w c.requires.node) got)
+
+pub returns-clause-keeps : goal.returns-clause-keeps
+returns-clause-keeps c =
+    let xs = c.args.nodes.now in
+    let to = c.args.to in
+    let w = c.post.new.self in
+    let kept : KeepsWork (get_or xs to c.index-nodes-to.result) w = kept_by (get_or xs to c.index-nodes-to.result) w c.in_ok-post.ensures.same in
+    zip_set KeepsWork keeps_same xs to w
+    (subst (λ (v : NodeState). KeepsWork v w) (get_or_default xs to c.index-nodes-to.result w c.requires.node) kept)

@@ -1,0 +1,57 @@
+use Rattle.std.proofs.Common.{◌≡◌, ◌<◌, ◌≤◌, List, length, drop, sym, subst, ◌∙◌, arith}
+use Rattle.tva_log.specs.declared.kinds.Sending.{Sending}
+use Rattle.tva_net.specs.Mail.{KeepsWork, mail_to}
+use Rattle.tva_net.specs.News.{sent_by}
+use Rattle.tva_net.proofs.Mails.{all_keep, going_first, going_last, going_one, keeps_same, left_none, postable_at, read_as, sent_by_at, sent_by_still, zip_same}
+use Rattle.tva_net.proofs.posting.post_from.Goals as goal
+
+pub loop-place-init : goal.loop-place-init
+loop-place-init c = record {
+  going = going_first (mail_to c.args.horizon.0 c.args.links.now (drop c.args.posted (sent_by c.args.nodes.now c.args.from))) c.args.nodes.now;
+  keeps = zip_same KeepsWork keeps_same c.args.nodes.now;
+}
+
+pub post_one-requires : goal.post_one-requires
+post_one-requires c =
+    let nodes = c.args.nodes.now in
+    let now = c.loop-place.nodes in
+    let from = c.args.from in
+    let g = c.loop-place.invariant.going in
+    let there : from < length now = (let k = c.requires.node in omega (arith, g.got.count)) in
+    let all : c.outbox-count.result.now ≡ sent_by nodes from = c.outbox-count.ensures ∙ sym (sent_by_at nodes from c.index-nodes-from.result c.requires.node) in
+    let same : c.outbox.result.now ≡ sent_by nodes from =
+    c.outbox.ensures ∙ (sym (sent_by_at now from c.index-nodes-from-in-loop-place.result there) ∙ sent_by_still g.done nodes now from g.got c.requires.node) in
+    let within : c.loop-place.place < length (sent_by nodes from) = subst (λ (ss : List Sending). c.loop-place.place < length ss) all c.loop-place-test.true in
+    postable_at c.args.horizon.0 c.args.links.now nodes now g.done (sent_by nodes from) c.args.posted c.loop-place.place c.copied-sending.result g.got c.loop-place.auto.place within
+    (read_as c.outbox.result.now (sent_by nodes from) c.loop-place.place c.copied-sending.result c.index-outbox-place.result c.copied-sending.ensures c.index-outbox-place.is same)
+    c.requires.postable
+
+pub returns-in_err-post_one-clause-keeps : goal.returns-in_err-post_one-clause-keeps
+returns-in_err-post_one-clause-keeps c = all_keep c.args.nodes.now c.loop-place.nodes c.post_one.new.nodes c.loop-place.invariant.keeps c.in_err-post_one.ensures.keeps
+
+pub loop-place-preserved : goal.loop-place-preserved
+loop-place-preserved c =
+    let nodes = c.args.nodes.now in
+    let now = c.loop-place.nodes in
+    let from = c.args.from in
+    let g = c.loop-place.invariant.going in
+    let there : from < length now = (let k = c.requires.node in omega (arith, g.got.count)) in
+    let all : c.outbox-count.result.now ≡ sent_by nodes from = c.outbox-count.ensures ∙ sym (sent_by_at nodes from c.index-nodes-from.result c.requires.node) in
+    let same : c.outbox.result.now ≡ sent_by nodes from =
+    c.outbox.ensures ∙ (sym (sent_by_at now from c.index-nodes-from-in-loop-place.result there) ∙ sent_by_still g.done nodes now from g.got c.requires.node) in
+    let within : c.loop-place.place < length (sent_by nodes from) = subst (λ (ss : List Sending). c.loop-place.place < length ss) all c.loop-place-test.true in
+    record {
+      going = going_one c.args.horizon.0 c.args.links.now (sent_by nodes from) c.args.posted c.loop-place.place c.copied-sending.result nodes now c.post_one.new.nodes within
+          (read_as c.outbox.result.now (sent_by nodes from) c.loop-place.place c.copied-sending.result c.index-outbox-place.result c.copied-sending.ensures c.index-outbox-place.is same)
+          g c.in_ok-post_one.ensures.got;
+      keeps = all_keep nodes now c.post_one.new.nodes c.loop-place.invariant.keeps c.in_ok-post_one.ensures.keeps;
+    }
+
+pub returns-clause-got : goal.returns-clause-got
+returns-clause-got c =
+    let nodes = c.args.nodes.now in
+    let from = c.args.from in
+    let all : c.outbox-count.result.now ≡ sent_by nodes from = c.outbox-count.ensures ∙ sym (sent_by_at nodes from c.index-nodes-from.result c.requires.node) in
+    let past : length (sent_by nodes from) ≤ c.loop-place.place = subst (λ (ss : List Sending). length ss ≤ c.loop-place.place) all c.loop-place-test.false in
+    going_last (mail_to c.args.horizon.0 c.args.links.now (drop c.args.posted (sent_by nodes from))) (mail_to c.args.horizon.0 c.args.links.now (drop c.loop-place.place (sent_by nodes from))) nodes c.loop-place.nodes
+    c.loop-place.invariant.going (λ n. left_none c.args.horizon.0 c.args.links.now (sent_by nodes from) c.loop-place.place n past)

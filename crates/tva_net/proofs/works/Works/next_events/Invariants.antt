@@ -1,0 +1,16 @@
+use Rattle.std.proofs.Common.{◌+◌, ◌-◌}
+use Rattle.std.specs.List.{AllZip}
+use Rattle.tva_node.specs.States.{BeginsWith}
+use Rattle.tva_net.specs.Nets.{told_by, work_of}
+use Rattle.tva_net.specs.Work.{AddsNothing, CanWork, OfEachRun}
+use Rattle.tva_net.proofs.works.Works.next_events.Given as goal
+
+abbrev pub invariant-loop-events : goal.invariant-loop-events
+invariant-loop-events g l = record {
+  can : CanWork (work_of l.self);
+  passes : OfEachRun (λ config rows windows told. AddsNothing config rows windows told (work_of l.self)) (work_of l.initial.self);
+  kept : AllZip BeginsWith (told_by l.initial.self.nodes.items) (told_by l.self.nodes.items);
+}
+
+abbrev pub decreases-loop-events : goal.decreases-loop-events
+decreases-loop-events g l = l.self.horizon.0 + 1 - l.self.worked_to

@@ -1,0 +1,82 @@
+-- Kit: what nodes are built with, and what is posted to them.
+use Rattle.std.specs.Prelude.{◌≡◌, ℕ, ◌<◌, ◌≤◌, ◌==◌, ◌&&◌, nat_le, false, Bool, List, [], ◌++◌, length, map, filter}
+use Rattle.std.specs.Prelude.{slice_get, slice_index_or, Some, if◌then◌else◌}
+use Rattle.std.specs.Option.{option_map_or}
+use Rattle.tva_base.specs.declared.plan.LinkPlan.{LinkPlan}
+use Rattle.tva_config.specs.declared.config.Config.{Config}
+use Rattle.tva_trace.specs.declared.rows.Row.{Row}
+use Rattle.tva_log.specs.declared.kinds.Input.{Input}
+use Rattle.tva_log.specs.declared.kinds.Sending.{Sending}
+use Rattle.tva_log.specs.Entries.{input_time}
+use Rattle.tva_node.specs.States.{NodeState, Fits, Stands}
+use Rattle.tva_run.specs.Reaching.{arrival, rows_at, site_at}
+
+-- ## new nodes
+
+-- the node of that number, with its rows of the trace, to which nothing happened yet
+pub record IsFirstNode (config : Config) (rows : List Row) (number : ℕ) (v : NodeState) : Type 0 where
+  pub site : site_at config number ≡ Some v.site
+  pub horizon : v.horizon ≡ config.horizon.0
+  pub inbox : v.inbox ≡ rows_at rows number
+  pub nothing : (v.events ≡ []) × (v.sendings ≡ []) × (v.worked_to ≡ 0)
+  pub stands : Stands v
+
+-- the nodes of a configuration in their order, each such
+pub record AreFirstNodes (config : Config) (rows : List Row) (nodes : List NodeState) : Type 0 where
+  pub count : length nodes ≡ length config.nodes
+  pub each : (number : ℕ) (d : NodeState) → number < length nodes
+      → IsFirstNode config rows number (slice_index_or nodes number d)
+
+-- ## what nodes get
+
+-- an input that a node can be given: at the time up to which it is worked or later, up to the horizon, of its kind
+pub record CanTake (v : NodeState) (input : Input) : Type 0 where
+  pub late : v.worked_to ≤ input_time input
+  pub within : input_time input ≤ v.horizon
+  pub fits : Fits v.site.plan input
+
+-- the node in that place can be given the input
+pub record CanDeliver (nodes : List NodeState) (to : ℕ) (input : Input) : Type 0 where
+  pub node : to < length nodes
+  pub takes : (d : NodeState) → CanTake (slice_index_or nodes to d) input
+
+-- what posting leaves of a node, whatever it answers: all but its inbox
+pub record KeepsWork (old new : NodeState) : Type 0 where
+  pub site : new.site ≡ old.site
+  pub horizon : new.horizon ≡ old.horizon
+  pub events : new.events ≡ old.events
+  pub sendings : new.sendings ≡ old.sendings
+  pub worked_to : new.worked_to ≡ old.worked_to
+
+-- a node got this mail, and nothing else happened to it
+pub record GotMail (mail : List Input) (old new : NodeState) : Type 0 where
+  pub inbox : new.inbox ≡ old.inbox ++ mail
+  pub stands : Stands old → Stands new
+  pub keeps : KeepsWork old new
+
+-- each of the nodes got its mail
+pub record GotMails (mail : ℕ → List Input) (old new : List NodeState) : Type 0 where
+  pub count : length new ≡ length old
+  pub each : (n : ℕ) (d : NodeState) → n < length old
+      → GotMail (mail n) (slice_index_or old n d) (slice_index_or new n d)
+
+-- mail for one place alone
+abbrev pub mail_at : ℕ → List Input → ℕ → List Input
+mail_at to mail n = if to == n then mail else []
+
+-- ## what was sent
+
+-- the link on which a packet was sent ends at that node, and it arrives there by the horizon
+abbrev pub goes_to : ℕ → List LinkPlan → ℕ → Sending → Bool
+goes_to horizon links node sent =
+    option_map_or (λ link. link.to == node) (slice_get links sent.link) false && nat_le sent.arrive.0 horizon
+
+-- what arrives at a node by the horizon of what was sent
+abbrev pub mail_to : ℕ → List LinkPlan → List Sending → ℕ → List Input
+mail_to horizon links sent node = map arrival (filter (goes_to horizon links node) sent)
+
+-- a packet can be posted: its link is one of these, and where it arrives by the horizon, the node there can take it
+pub record IsPostable (horizon : ℕ) (links : List LinkPlan) (nodes : List NodeState) (sent : Sending) : Type 0 where
+  pub link : sent.link < length links
+  pub arrives : (d : LinkPlan) → sent.arrive.0 ≤ horizon
+      → CanDeliver nodes (slice_index_or links sent.link d).to (arrival sent)

@@ -1,0 +1,108 @@
+-- Kit: how the nodes are worked over a window, and over several.
+use Rattle.std.specs.Prelude.{◌≡◌, ℕ, ◌+◌, ◌<◌, ◌≤◌, min, nat_lt, List, [], ◌∷◌, ◌++◌, filter}
+use Rattle.std.specs.Prelude.{length, map, Option, Some, None}
+use Rattle.std.specs.List.{AllZip}
+use Rattle.tva_base.specs.declared.event.Event.{Event}
+use Rattle.tva_base.specs.declared.packet.Time.{Time}
+use Rattle.tva_base.specs.declared.plan.LinkPlan.{LinkPlan}
+use Rattle.tva_config.specs.declared.config.Config.{Config}
+use Rattle.tva_trace.specs.declared.rows.Row.{Row}
+use Rattle.tva_joins.specs.Joins.{IsJoin}
+use Rattle.tva_run.specs.Report.{event_time, event_node}
+use Rattle.tva_run.specs.Windows.{Window, given}
+use Rattle.tva_node.specs.States.{IsAdvanced, Keeps, NodeState}
+use Rattle.tva_net.specs.Mail.{GotMails, mail_to}
+use Rattle.tva_net.specs.News.{IsFirstTime, since, told_since}
+use Rattle.tva_net.specs.Nets.{IsWholeRun, WorksFor, WorkState}
+
+-- ## how the work goes on
+
+-- a list, where there is something in it
+abbrev pub if_some : List Event → List (List Event)
+if_some list = filter (λ events. nat_lt 0 (length events)) (list ∷ [])
+
+-- the work goes on over one more window, in which this happens
+pub record AddsWindow (config : Config) (rows : List Row) (windows : List Window) (told list : List Event)
+    (work : WorkState) : Type 0 where
+  pub window : Window
+  pub works : WorksFor config rows (windows ++ window ∷ []) (told ++ list) work
+  pub given : given (told ++ list) (windows ++ window ∷ []) ≡ given told windows ++ if_some list
+
+-- over several, in the last of which this happens, and nothing in the others
+pub record AddsWindows (config : Config) (rows : List Row) (windows : List Window) (told list : List Event)
+    (work : WorkState) : Type 0 where
+  pub more : List Window
+  pub works : WorksFor config rows (windows ++ more) (told ++ list) work
+  pub given : given (told ++ list) (windows ++ more) ≡ given told windows ++ if_some list
+
+-- over several, in which nothing happens
+pub record AddsNothing (config : Config) (rows : List Row) (windows : List Window) (told : List Event) (work : WorkState)
+    : Type 0 where
+  pub more : List Window
+  pub works : WorksFor config rows (windows ++ more) told work
+  pub given : given told (windows ++ more) ≡ given told windows
+
+-- what holds of the run for which the work stands, whatever that is
+abbrev pub OfEachRun : (Config → List Row → List Window → List Event → Type 0) → WorkState → Type 0
+OfEachRun P work =
+    (config : Config) (rows : List Row) (windows : List Window) (told : List Event)
+    → WorksFor config rows windows told work → P config rows windows told
+
+-- it stands for some run
+abbrev pub CanWork : WorkState → Type 0
+CanWork work =
+    (config : Config) × (rows : List Row) × (windows : List Window) × (told : List Event)
+    × WorksFor config rows windows told work
+
+-- the next window was worked, in which this happens, or there is none
+abbrev pub WorksOn : WorkState → Option (List Event) → WorkState → Type 0
+WorksOn old None new =
+    (new ≡ old) × OfEachRun (λ config rows windows told. IsWholeRun config rows windows told new.nodes) old
+WorksOn old (Some list) new =
+    (old.worked_to < new.worked_to) × (new.worked_to ≤ new.horizon + 1) × (new.horizon ≡ old.horizon)
+    × OfEachRun (λ config rows windows told. AddsWindow config rows windows told list new) old
+
+-- the next windows were worked up to one in which this happens, or all that are left
+abbrev pub WorksUpTo : WorkState → Option (List Event) → WorkState → Type 0
+WorksUpTo old None new =
+    OfEachRun (λ config rows windows told. (passed : AddsNothing config rows windows told new)
+    × IsWholeRun config rows (windows ++ passed.more) told new.nodes) old
+WorksUpTo old (Some list) new =
+    (0 < length list) × OfEachRun (λ config rows windows told. AddsWindows config rows windows told list new) old
+
+-- ## one window
+
+-- a window's end, where the nodes' next time is its start
+pub record EndsWindow (work : WorkState) (until : ℕ) : Type 0 where
+  pub config : Config
+  pub rows : List Row
+  pub windows : List Window
+  pub told : List Event
+  pub works : WorksFor config rows windows told work
+  pub start : Time
+  pub first : IsFirstTime work.nodes (Some start)
+  pub ends : until ≡ min (start.0 + work.span) (work.horizon + 1)
+
+-- the nodes can be worked up to a time as over a window
+abbrev pub CanBeWorked : ℕ → ℕ → List LinkPlan → List ℕ → List ℕ → List NodeState → Type 0
+CanBeWorked until horizon links posted shown nodes =
+    (span worked_to : ℕ) × EndsWindow (record {
+      horizon = horizon;
+      links = links;
+      span = span;
+      nodes = nodes;
+      posted = posted;
+      shown = shown;
+      worked_to = worked_to;
+    }) until
+
+-- the nodes were worked up to a time, what they told is this list, and what they sent was posted
+pub record AreWorked (until horizon : ℕ) (links : List LinkPlan) (posted shown : List ℕ) (olds : List NodeState)
+    (list : List Event) (posts shows : List ℕ) (news : List NodeState) : Type 0 where
+  pub mids : List NodeState
+  pub advanced : AllZip (IsAdvanced until) olds mids
+  pub kept : AllZip Keeps olds mids
+  pub told : IsJoin event_time event_node (told_since mids shown) list
+  pub mail : GotMails (mail_to horizon links (since (λ node. node.sendings) mids posted)) mids news
+  pub posting : posts ≡ map (λ node. length node.sendings) mids
+  pub showing : shows ≡ map (λ node. length node.events) mids

@@ -1,0 +1,21 @@
+//! The run of a network, worked window by window: nodes joined by their links, of which each is worked
+//! over what reaches it. Its contract speaks of one condition on the logs of all nodes, in which no
+//! window occurs: what it gives is the events of each window of the run in which something happens, in
+//! their order; it has ended exactly where nothing more happens up to the horizon; and it refuses
+//! exactly where there are more events than may be.
+#![tactic(auto)]
+
+mod building;
+mod gathering;
+mod kinds;
+mod net;
+mod parts;
+mod posting;
+mod sums;
+mod timing;
+mod works;
+
+pub use kinds::{NetError, Window};
+pub use net::Net;
+pub use tva_log::{Input, Sending};
+pub use tva_node::{Node, advance_all};

@@ -1,0 +1,88 @@
+// A network.
+ghost use Rattle.std.specs.Prelude.{◌≡◌, List, [], Err, IfErr, IfOk, IfSome, Some};
+ghost use Rattle.std.specs.List.{AllZip};
+ghost use Rattle.tva_base.specs.declared.event.Event.{Event};
+ghost use Rattle.tva_config.specs.declared.config.Config.{Config};
+ghost use Rattle.tva_config.specs.Valid.{IsConfig};
+ghost use Rattle.tva_trace.specs.declared.rows.Row.{Row};
+ghost use Rattle.tva_trace.specs.Valid.{AreTraceRows};
+ghost use Rattle.tva_run.specs.Windows.{Window as Span};
+ghost use Rattle.tva_node.specs.States.{BeginsWith};
+ghost use Rattle.tva_net.specs.Nets.{IsSound, StandsFor, told_by};
+ghost use Rattle.tva_net.specs.Steps.{Gives, Refuses};
+
+use crate::kinds::{NetError, Window};
+use crate::parts::Parts;
+use std::alloc::{AllocError, Global};
+use std::marker::Model;
+use std::thread::Threads;
+use tva_base::Totals;
+use tva_config::Config;
+use tva_node::Node;
+use tva_outside::Gate;
+use tva_trace::Row;
+
+/// A network: its nodes, worked up to a time. Contracts see what it keeps, and speak of the run of a
+/// configuration and a trace for which it stands.
+#[derive(Drop)]
+pub struct Net {
+    parts: Parts,
+}
+
+impl Model for Net {
+    ghost use Rattle.tva_net.specs.Nets.{NetState, state_of};
+
+    ghost Value = { NetState };
+
+    ghost view = { λ n. state_of n.parts };
+}
+
+impl Net {
+    /// The network of a configuration with the rows of a trace, both as they are read, in which
+    /// nothing happened yet. The error is want of memory.
+    pub fn build(alloc: Global, config: &Config, rows: Vec<Row>) -> Result<Net, AllocError>
+        requires config { IsConfig config.now }
+        requires rows { AreTraceRows config.now rows.items }
+        ensures { IfOk result (λ net. StandsFor config.now rows.items [] [] net) }
+    {
+        Ok(Net {
+            parts: Parts::build(alloc, config, rows)?,
+        })
+    }
+
+    /// Works the next window of the run in which something happens, and gives that. The gate is told
+    /// of each node before it is worked in a window. After an error each later call answers the same
+    /// error and changes nothing.
+    pub fn step_window<R: Threads + Sync, G: Gate>(
+        &mut self,
+        rt: &R,
+        alloc: Global,
+        gate: &G,
+    ) -> Result<Window, NetError>
+        requires { IsSound self.old }
+        ensures sound { IsSound self.new }
+        ensures again { IfSome self.old.failed (λ error. (result ≡ Err error) × (self.new ≡ self.old)) }
+        ensures failed { IfErr result (λ error. self.new.failed ≡ Some error) }
+        ensures gives { IfOk result (λ window. (config : Config) (rows : List Row) (windows : List Span) (told : List Event)
+            → StandsFor config rows windows told self.old → Gives config rows windows told window self.new) }
+        ensures refuses { IfErr result (λ error. (config : Config) (rows : List Row) (windows : List Span) (told : List Event)
+            → StandsFor config rows windows told self.old → Refuses config rows windows told error self.old self.new) }
+        ensures kept { AllZip BeginsWith (told_by self.old.work.nodes) (told_by self.new.work.nodes) }
+    {
+        self.parts.step(rt, alloc, gate)
+    }
+
+    /// The sums of all that was given so far.
+    pub fn totals(&self) -> Totals
+        ensures { result ≡ self.now.totals }
+    {
+        self.parts.totals
+    }
+
+    /// The nodes in the order of their numbers, with their logs.
+    pub fn into_nodes(self) -> Vec<Node>
+        ensures { result.items ≡ self.work.nodes }
+    {
+        self.parts.works.nodes
+    }
+}

@@ -1,0 +1,114 @@
+// What a network keeps, and its answers.
+ghost use Rattle.std.specs.Prelude.{◌≡◌, ◌+◌, ◌<◌, ◌≤◌, ◌++◌, List, [], Err, IfErr, IfOk, IfSome, None, Some, length};
+ghost use Rattle.std.specs.List.{AllZip};
+ghost use Rattle.tva_base.specs.declared.event.Event.{Event};
+ghost use Rattle.tva_config.specs.declared.config.Config.{Config};
+ghost use Rattle.tva_config.specs.Valid.{IsConfig};
+ghost use Rattle.tva_trace.specs.declared.rows.Row.{Row};
+ghost use Rattle.tva_trace.specs.Valid.{AreTraceRows};
+ghost use Rattle.tva_run.specs.Report.{totals_of};
+ghost use Rattle.tva_run.specs.Windows.{Window as Span};
+ghost use Rattle.tva_node.specs.States.{BeginsWith};
+ghost use Rattle.tva_net.specs.Nets.{IsSound, StandsFor, state_of, told_by};
+ghost use Rattle.tva_net.specs.Steps.{Gives, Refuses};
+ghost use Rattle.tva_net.specs.Sums.{AreWithin};
+
+use crate::kinds::{NetError, Window};
+use crate::sums::add_up;
+use crate::works::Works;
+use std::alloc::{AllocError, Global};
+use std::thread::Threads;
+use tva_base::{Event, Totals};
+use tva_config::Config;
+use tva_outside::Gate;
+use tva_trace::Row;
+
+/// The nodes at work, the greatest number of events, the sums of what was given, and the error that
+/// it has come to.
+#[derive(Drop)]
+pub(crate) struct Parts {
+    pub works: Works,
+    pub limit: u64,
+    pub totals: Totals,
+    pub failed: Option<NetError>,
+}
+
+impl Parts {
+    /// A network in which nothing happened yet.
+    pub fn build(alloc: Global, config: &Config, rows: Vec<Row>) -> Result<Parts, AllocError>
+        requires config { IsConfig config.now }
+        requires rows { AreTraceRows config.now rows.items }
+        ensures { IfOk result (λ parts. StandsFor config.now rows.items [] [] (state_of parts)) }
+    {
+        Ok(Parts {
+            works: Works::build(alloc, config, rows)?,
+            limit: config.max_events,
+            totals: Totals {
+                events: 0,
+                routed: 0,
+                authorised: 0,
+                demoted: 0,
+                dropped: 0,
+                started: 0,
+                received: 0,
+                bytes: 0,
+            },
+            failed: None,
+        })
+    }
+
+    /// Works the next window in which something happens, and gives that.
+    pub fn step<R: Threads + Sync, G: Gate>(
+        &mut self,
+        rt: &R,
+        alloc: Global,
+        gate: &G,
+    ) -> Result<Window, NetError>
+        requires { IsSound (state_of self.old) }
+        ensures sound { IsSound (state_of self.new) }
+        ensures again { IfSome self.old.failed (λ error. (result ≡ Err error) × (self.new ≡ self.old)) }
+        ensures failed { IfErr result (λ error. self.new.failed ≡ Some error) }
+        ensures gives { IfOk result (λ window. (config : Config) (rows : List Row) (windows : List Span) (told : List Event)
+            → StandsFor config rows windows told (state_of self.old) → Gives config rows windows told window (state_of self.new)) }
+        ensures refuses { IfErr result (λ error. (config : Config) (rows : List Row) (windows : List Span) (told : List Event)
+            → StandsFor config rows windows told (state_of self.old)
+            → Refuses config rows windows told error (state_of self.old) (state_of self.new)) }
+        ensures kept { AllZip BeginsWith (told_by self.old.works.nodes.items) (told_by self.new.works.nodes.items) }
+    {
+        if let Some(error) = self.failed {
+            return Err(error);
+        }
+        self.failed = Some(NetError::OutOfMemory);
+        match self.works.next_events(rt, alloc, gate) {
+            Ok(Some(events)) => self.give(events),
+            Ok(None) => {
+                self.failed = None;
+                Ok(Window::Ended)
+            }
+            Err(AllocError) => Err(NetError::OutOfMemory),
+        }
+    }
+
+    // Gives what happens in a window, if it is not more than may be.
+    fn give(&mut self, events: Vec<Event>) -> Result<Window, NetError>
+        requires room { self.old.totals.events ≤ self.old.limit }
+        requires limit { self.old.limit ≤ 4000000 }
+        requires within { AreWithin self.old.totals }
+        ensures works { self.new.works ≡ self.old.works }
+        ensures limit { self.new.limit ≡ self.old.limit }
+        ensures gives { IfOk result (λ window. (window ≡ Window.Events events) × (self.new.failed ≡ None)
+            × (self.old.totals.events + length events.items ≤ self.old.limit) × AreWithin self.new.totals
+            × ((told : List Event) → self.old.totals ≡ totals_of told → self.new.totals ≡ totals_of (told ++ events.items))) }
+        ensures refuses { IfErr result (λ error. (error ≡ NetError.EventLimit self.old.limit) × (self.new.failed ≡ Some error)
+            × (self.old.limit < self.old.totals.events + length events.items) × (self.new.totals ≡ self.old.totals)) }
+    {
+        if events.len() as u64 > self.limit - self.totals.events {
+            let error = NetError::EventLimit(self.limit);
+            self.failed = Some(error);
+            return Err(error);
+        }
+        add_up(&mut self.totals, events.as_slice());
+        self.failed = None;
+        Ok(Window::Events(events))
+    }
+}

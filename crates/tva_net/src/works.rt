@@ -1,0 +1,129 @@
+// The nodes of a network at work.
+ghost use Rattle.std.specs.Prelude.{◌≡◌, ◌+◌, List, [], IfOk, MatchOption};
+ghost use Rattle.std.specs.Option.{option_map};
+ghost use Rattle.std.specs.List.{AllZip};
+ghost use Rattle.tva_config.specs.Valid.{IsConfig};
+ghost use Rattle.tva_trace.specs.Valid.{AreTraceRows};
+ghost use Rattle.tva_node.specs.States.{BeginsWith};
+ghost use Rattle.tva_net.specs.Nets.{WorksFor, told_by, work_of};
+ghost use Rattle.tva_net.specs.Work.{AreWorked, CanBeWorked, CanWork, WorksOn, WorksUpTo};
+
+use crate::building::first_nodes;
+use crate::gathering::gather;
+use crate::posting::post_all;
+use crate::timing::{first_time, window_length};
+use std::alloc::{AllocError, Global};
+use std::cmp;
+use std::thread::Threads;
+use tva_base::{Event, LinkPlan, Time};
+use tva_config::Config;
+use tva_node::{Node, advance_all};
+use tva_outside::Gate;
+use tva_trace::Row;
+
+/// The horizon, the links, the length of a window in nanoseconds, the nodes, how much of what each
+/// one's links sent was posted and how much of what each told was shown, and the time up to which
+/// they are worked.
+#[derive(Drop)]
+pub(crate) struct Works {
+    pub horizon: Time,
+    pub links: Vec<LinkPlan>,
+    pub span: u64,
+    pub nodes: Vec<Node>,
+    pub posted: Vec<usize>,
+    pub shown: Vec<usize>,
+    pub worked_to: u64,
+}
+
+impl Works {
+    /// The nodes of a configuration with the rows of a trace, to which nothing happened yet.
+    pub fn build(alloc: Global, config: &Config, rows: Vec<Row>) -> Result<Works, AllocError>
+        requires config { IsConfig config.now }
+        requires rows { AreTraceRows config.now rows.items }
+        ensures { IfOk result (λ works. WorksFor config.now rows.items [] [] (work_of works)) }
+    {
+        let nodes = first_nodes(alloc, config, rows)?;
+        let links = config.links.as_slice().to_vec(alloc)?;
+        let count = nodes.len();
+        Ok(Works {
+            horizon: config.horizon,
+            span: window_length(config.horizon, links.as_slice()),
+            links,
+            nodes,
+            posted: vec![in alloc; 0; count]?,
+            shown: vec![in alloc; 0; count]?,
+            worked_to: 0,
+        })
+    }
+
+    /// Works windows up to one in which something happens, and gives that, or all that are left.
+    pub fn next_events<R: Threads + Sync, G: Gate>(
+        &mut self,
+        rt: &R,
+        alloc: Global,
+        gate: &G,
+    ) -> Result<Option<Vec<Event>>, AllocError>
+        requires { CanWork (work_of self.old) }
+        ensures works { IfOk result (λ some. WorksUpTo (work_of self.old) (option_map (λ events. events.items) some) (work_of self.new)) }
+        ensures kept { AllZip BeginsWith (told_by self.old.nodes.items) (told_by self.new.nodes.items) }
+    {
+        while let Some(events) = self.work_next(rt, alloc, gate)? {
+            if !events.is_empty() {
+                return Ok(Some(events));
+            }
+        }
+        Ok(None)
+    }
+
+    // Works the next window, if there is one, and gives what happens in it.
+    fn work_next<R: Threads + Sync, G: Gate>(
+        &mut self,
+        rt: &R,
+        alloc: Global,
+        gate: &G,
+    ) -> Result<Option<Vec<Event>>, AllocError>
+        requires { CanWork (work_of self.old) }
+        ensures works { IfOk result (λ some. WorksOn (work_of self.old) (option_map (λ events. events.items) some) (work_of self.new)) }
+        ensures kept { AllZip BeginsWith (told_by self.old.nodes.items) (told_by self.new.nodes.items) }
+    {
+        let Some(start) = first_time(self.nodes.as_slice()) else {
+            return Ok(None);
+        };
+        let until = cmp::min(start.0 + self.span, self.horizon.0 + 1);
+        let events = work_nodes(
+            rt,
+            alloc,
+            gate,
+            Time(until),
+            self.horizon,
+            self.links.as_slice(),
+            self.posted.as_mut_slice(),
+            self.shown.as_mut_slice(),
+            self.nodes.as_mut_slice(),
+        )?;
+        self.worked_to = until;
+        Ok(Some(events))
+    }
+}
+
+// Works the nodes up to the end of a window, gives what they tell, and posts what they sent.
+fn work_nodes<R: Threads + Sync, G: Gate>(
+    rt: &R,
+    alloc: Global,
+    gate: &G,
+    until: Time,
+    horizon: Time,
+    links: &[LinkPlan],
+    posted: &mut [usize],
+    shown: &mut [usize],
+    nodes: &mut [Node],
+) -> Result<Vec<Event>, AllocError>
+    requires { CanBeWorked until.0 horizon.0 links.now posted.old shown.old nodes.old }
+    ensures worked { IfOk result (λ list. AreWorked until.0 horizon.0 links.now posted.old shown.old nodes.old list.items posted.new shown.new nodes.new) }
+    ensures kept { AllZip BeginsWith (told_by nodes.old) (told_by nodes.new) }
+{
+    advance_all(rt, gate, until, nodes)?;
+    let events = gather(alloc, nodes, shown)?;
+    post_all(nodes, horizon, links, posted)?;
+    Ok(events)
+}
