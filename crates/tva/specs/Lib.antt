@@ -2,6 +2,7 @@ pub mod Answer
 pub mod Check
 pub mod Command
 pub mod Expected
+pub mod Network
 pub mod Parts
 pub mod Replayed
 pub mod Status
