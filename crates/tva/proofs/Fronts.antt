@@ -1,14 +1,12 @@
 -- On every status, what is written is the first bytes of a text that is to be written.
-use Rattle.std.proofs.Common.{◌≡◌, ℕ, List, ◌++◌, length, refl, sym, ap, ◌∙◌, IfSome, None, Some, inl, inr}
+use Rattle.std.proofs.Common.{◌≡◌, ℕ, List, ◌++◌, refl, IfSome, None, Some, inl, inr}
 use Rattle.std.specs.declared.option.Option.{Option}
-use Rattle.std.specs.Io.KnownBytes.{append_known}
 use Rattle.tva_base.specs.declared.event.Event.{Event}
-use Rattle.tva_trace.specs.declared.rows.Row.{Row}
-use Rattle.tva_run.specs.Report.{IsReport, lines_of}
+use Rattle.tva_run.specs.Report.{lines_of}
 use Rattle.tva.specs.Expected.{Expected, writes, shows, replays, lacks, exceeds, misconfigured, mistraced, IsText}
 use Rattle.tva.specs.Answer.{Answers, BeginsEach, IsBegunText, WroteAll, WroteEach, WroteLines, WrotePart}
 use Rattle.tva.specs.Network.{ArePromisesKept, HasRead}
-use Rattle.tva.specs.Replayed.{AreLines, HasReport, IsBegun, IsCutShort, all_of}
+use Rattle.tva.specs.Replayed.{AreLines, all_of}
 use Rattle.tva.specs.declared.status.Status as status
 use Rattle.tva.specs.declared.status.Status.TheVariants.{Done, Usage, ReadFault, WriteFault, TooLarge, BadConfig, BadTrace, EventLimit, OutOfMemory}
 use Rattle.tva.proofs.Replays.{cut_of_nothing, cut_of_short, cut_of_whole}

@@ -1,6 +1,6 @@
 -- What a replay answers, from what it found.
 use Rattle.std.proofs.Math.Seq.{take-length}
-use Rattle.std.proofs.Common.{◌≡◌, inl, inr, ℕ, ◌+◌, ◌≤◌, List, [], ◌++◌, length, refl, sym, ap, ◌∙◌, subst, None, Some}
+use Rattle.std.proofs.Common.{◌≡◌, inl, inr, ℕ, ◌+◌, List, ◌++◌, length, sym, ap, ◌∙◌, subst, None, Some}
 use Rattle.std.proofs.lemmas.Grind.{flat_map-append}
 use Rattle.std.specs.declared.option.Option.{Option}
 use Rattle.std.specs.Io.KnownBytes.{append_known}
@@ -19,10 +19,10 @@ use Rattle.tva_run.proofs.Reports.{events_begin, one_list}
 use Rattle.tva_promises.proofs.Runs.{run_keeps}
 use Rattle.tva.specs.Command.{replay}
 use Rattle.tva.specs.Expected.{Expected, followed, lacks, of_plan, plan_at, replays, told, trace_at}
-use Rattle.tva.specs.Answer.{Answers, BeginsEach}
+use Rattle.tva.specs.Answer.{Answers}
 use Rattle.tva.specs.Network.{ArePromisesKept, EachKeepsPromises}
 use Rattle.tva.specs.Parts.{IsCut, IsFound, IsReplayed}
-use Rattle.tva.specs.Replayed.{AreLines, HasReport, IsBegun, IsCutShort, all_of}
+use Rattle.tva.specs.Replayed.{IsBegun, IsCutShort, all_of}
 use Rattle.tva.specs.declared.status.Status as status
 use Rattle.tva.specs.declared.status.Status.TheVariants.{Done, Usage, ReadFault, WriteFault, TooLarge, BadConfig, BadTrace, EventLimit, OutOfMemory}
 use Rattle.tva.proofs.Pieces.{append_known-nil, cut_of_longer}

@@ -1,7 +1,7 @@
 -- The replay of rows, window by window.
-use Rattle.std.proofs.Common.{◌≡◌, ◌≤◌, ◌<◌, ℕ, ◌+◌, ◌-◌, List, [], ◌∷◌, ◌++◌, length, take, All, refl, sym, ap, ◌∙◌, subst, inl, inr, arith, length-append}
+use Rattle.std.proofs.Common.{◌≡◌, ◌≤◌, ◌<◌, ℕ, ◌+◌, ◌-◌, List, [], ◌∷◌, ◌++◌, length, All, refl, sym, ap, ◌∙◌, subst, inl, inr, arith, length-append}
 use Rattle.std.proofs.Math.Seq.{take-length}
-use Rattle.std.specs.List.{AllByRecursion, flat_map}
+use Rattle.std.specs.List.{AllByRecursion}
 use Rattle.std.proofs.lemmas.Grind.{flat_map-append}
 use Rattle.std.proofs.lemmas.List.Elements.{All-from_recursion, recursion_from_All}
 use Rattle.std.specs.declared.option.Option.{Option}
@@ -19,7 +19,7 @@ use Rattle.tva_run.specs.Windows.{Window, given}
 use Rattle.tva_run.proofs.Names.{events_named}
 use Rattle.tva_net.specs.Nets.{NetState, StandsFor}
 use Rattle.tva_net.specs.Steps.{GoesOn, HasEnded, PassesLimit}
-use Rattle.tva.specs.Parts.{IsCut, IsReplayed, IsWritten, WroteCutShort}
+use Rattle.tva.specs.Parts.{IsReplayed, IsWritten, WroteCutShort}
 use Rattle.tva.specs.Replayed.{AreLines, HasReport, IsBegun, IsCutShort, all_of}
 use Rattle.tva.specs.declared.status.Status as status
 use Rattle.tva.specs.declared.status.Status.TheVariants.{Done, Usage, ReadFault, WriteFault, TooLarge, BadConfig, BadTrace, EventLimit, OutOfMemory}

@@ -5,7 +5,7 @@ use Rattle.std.specs.Io.KnownBytes.{append_known}
 use Rattle.tva_trace.specs.declared.rows.Row.{Row}
 use Rattle.tva_trace.specs.Meaning.{AreRows}
 use Rattle.tva_run.specs.Report.{IsReport}
-use Rattle.tva.specs.Expected.{Expected, writes, shows, replays, lacks, exceeds, misconfigured, mistraced, IsText}
+use Rattle.tva.specs.Expected.{Expected, replays, lacks, exceeds, misconfigured, mistraced, IsText}
 use Rattle.tva.specs.Network.{ArePromisesKept}
 use Rattle.tva.specs.Parts.{IsCut, WroteCutShort}
 use Rattle.tva.specs.Replayed.{IsBegun}
