@@ -1,5 +1,5 @@
 -- A text that is written in two pieces.
-use Rattle.std.proofs.Common.{◌≡◌, ◌≤◌, ℕ, ◌+◌, List, ◌++◌, length, take, drop, refl, sym, ap, ◌∙◌, append_assoc, arith}
+use Rattle.std.proofs.Common.{◌≡◌, ◌≤◌, ℕ, ◌+◌, List, [], ◌++◌, length, take, drop, refl, sym, ap, ◌∙◌, append_assoc, append-nil, arith, None, Some}
 use Rattle.std.proofs.Math.Seq.{take-append-add, take-append_seam}
 use Rattle.std.proofs.lemmas.List.{take-append-drop}
 use Rattle.tva_outside.specs.Faults.{Rose}
@@ -8,7 +8,12 @@ use Rattle.std.specs.Io.KnownBytes.{append_known}
 use Rattle.tva_outside.proofs.Written.{append_known-append_known}
 use Rattle.tva.specs.Parts.{IsWritten, IsCut}
 use Rattle.tva.specs.declared.status.Status as status
-use Rattle.tva.specs.declared.status.Status.TheVariants.{Done, Usage, ReadFault, WriteFault, TooLarge, BadConfig, BadTrace, EventLimit, OutOfMemory, Unsupported}
+use Rattle.tva.specs.declared.status.Status.TheVariants.{Done, Usage, ReadFault, WriteFault, TooLarge, BadConfig, BadTrace, EventLimit, OutOfMemory}
+
+-- no bytes
+pub append_known-nil : (known : Option (List ℕ)) → append_known known [] ≡ known
+append_known-nil None = refl
+append_known-nil (Some bytes) = ap Some (append-nil bytes)
 
 -- a cut of the second piece is one of both
 cut_of_both : (old mid new : Option (List ℕ)) (first second : List ℕ) → mid ≡ append_known old first → IsCut mid new second → IsCut old new (first ++ second)
@@ -31,10 +36,9 @@ written_both old mid new before between now first second (TooLarge k) done later
 written_both old mid new before between now first second (BadConfig f) done later w = absurd w
 written_both old mid new before between now first second (BadTrace f) done later w = absurd w
 written_both old mid new before between now first second (EventLimit m) done later w = absurd w
-written_both old mid new before between now first second Unsupported done later w = absurd w
 
 -- the first bytes of a text are the first bytes of a longer one
-cut_of_longer : (old new : Option (List ℕ)) (text rest : List ℕ) → IsCut old new text → IsCut old new (text ++ rest)
+pub cut_of_longer : (old new : Option (List ℕ)) (text rest : List ℕ) → IsCut old new text → IsCut old new (text ++ rest)
 cut_of_longer old new text rest (n, cut) =
     let front = take n text in (
       length front,
@@ -54,4 +58,3 @@ stopped_first old new rose first second (TooLarge k) not_done w = absurd w
 stopped_first old new rose first second (BadConfig f) not_done w = absurd w
 stopped_first old new rose first second (BadTrace f) not_done w = absurd w
 stopped_first old new rose first second (EventLimit m) not_done w = absurd w
-stopped_first old new rose first second Unsupported not_done w = absurd w

@@ -2,34 +2,67 @@
 use Rattle.std.specs.Prelude.{◌≡◌, ◌⊎◌, ℕ, List, IfSome, Some}
 use Rattle.std.specs.declared.option.Option.{Option}
 use Rattle.std.specs.Io.KnownBytes.{append_known}
-use Rattle.tva.specs.Expected.{Expected, lacks, exceeds, misconfigured, mistraced, IsText, Ends}
-use Rattle.tva.specs.Parts.{IsCut}
+use Rattle.tva_trace.specs.declared.rows.Row.{Row}
+use Rattle.tva_trace.specs.Meaning.{AreRows}
+use Rattle.tva_run.specs.Report.{IsReport}
+use Rattle.tva.specs.Expected.{Expected, replays, lacks, exceeds, misconfigured, mistraced, IsText}
+use Rattle.tva.specs.Network.{ArePromisesKept}
+use Rattle.tva.specs.Parts.{IsCut, WroteCutShort}
+use Rattle.tva.specs.Replayed.{IsBegun}
 use Rattle.tva.specs.declared.status.Status as status
 use Rattle.tva.specs.declared.status.Status.TheVariants.{Done, Usage, ReadFault, WriteFault, TooLarge}
-use Rattle.tva.specs.declared.status.Status.TheVariants.{BadConfig, BadTrace, EventLimit, OutOfMemory, Unsupported}
+use Rattle.tva.specs.declared.status.Status.TheVariants.{BadConfig, BadTrace, EventLimit, OutOfMemory}
+
+-- ## what is written
 
 -- the whole of a text that is to be written is written
 abbrev pub WroteAll : Option (List ℕ) → Option (List ℕ) → Expected → Type 0
 WroteAll old new x = (text : List ℕ) × IsText x text × (new ≡ append_known old text)
 
--- the first bytes of a text that is to be written, some or all, are written
-abbrev pub WroteCut : Option (List ℕ) → Option (List ℕ) → Expected → Type 0
-WroteCut old new x = (text : List ℕ) × IsText x text × IsCut old new text
+-- a text that is to be written, or that a replay has begun
+abbrev pub IsBegunText : Expected → List ℕ → Type 0
+IsBegunText (replays plan trace) text = (rows : List Row) × AreRows plan trace rows × IsBegun plan rows text
+IsBegunText x text = IsText x text
 
--- nothing is written, or the first bytes of a text that is to be
+-- the first bytes of such a text, some or all, are written
+abbrev pub WroteCut : Option (List ℕ) → Option (List ℕ) → Expected → Type 0
+WroteCut old new x = (text : List ℕ) × IsBegunText x text × IsCut old new text
+
+-- nothing is written, or the first bytes of such a text
 abbrev pub WrotePart : Option (List ℕ) → Option (List ℕ) → Expected → Type 0
 WrotePart old new x = (new ≡ old) ⊎ WroteCut old new x
+
+-- the lines of all windows before the one in which the run passes its number of events are written
+abbrev pub WroteLines : ℕ → Option (List ℕ) → Option (List ℕ) → Expected → Type 0
+WroteLines most old new (replays plan trace) =
+    (rows : List Row) × AreRows plan trace rows × WroteCutShort plan rows most old new
+WroteLines most old new x = ⊥
+
+-- ## every run
+
+-- whatever run of the trace there is, its report is what is written
+abbrev pub WroteEach : Option (List ℕ) → Option (List ℕ) → Expected → Type 0
+WroteEach old new (replays plan trace) =
+    (rows : List Row) (text : List ℕ) → AreRows plan trace rows → IsReport plan rows text → new ≡ append_known old text
+WroteEach old new x = Unit {0}
+
+-- whatever run of the trace there is, its report begins with what is written
+abbrev pub BeginsEach : Option (List ℕ) → Option (List ℕ) → Expected → Type 0
+BeginsEach old new (replays plan trace) =
+    (rows : List Row) (text : List ℕ) → AreRows plan trace rows → IsReport plan rows text → IsCut old new text
+BeginsEach old new x = Unit {0}
+
+-- ## answers
 
 -- what a command answers: what is expected where it is told, whether each count rose, and the bytes
 -- written before and after
 abbrev pub Answers : Option Expected → Type 0 → Type 0 → Option (List ℕ) → Option (List ℕ) → status.Status → Type 0
-Answers e read_rose write_rose old new Done = IfSome e (WroteAll old new)
+Answers e read_rose write_rose old new Done = IfSome e (λ x. WroteAll old new x × WroteEach old new x × ArePromisesKept x)
 Answers e read_rose write_rose old new Usage = ⊥
 Answers e read_rose write_rose old new ReadFault = (read_rose ⊎ (e ≡ Some lacks)) × (new ≡ old)
-Answers e read_rose write_rose old new WriteFault = write_rose × IfSome e (WroteCut old new)
+Answers e read_rose write_rose old new WriteFault = write_rose × IfSome e (λ x. WroteCut old new x × BeginsEach old new x × ArePromisesKept x)
 Answers e read_rose write_rose old new (TooLarge k) = IfSome e (λ x. x ≡ exceeds k) × (new ≡ old)
 Answers e read_rose write_rose old new (BadConfig fault) = IfSome e (λ x. x ≡ misconfigured fault) × (new ≡ old)
 Answers e read_rose write_rose old new (BadTrace fault) = IfSome e (λ x. x ≡ mistraced fault) × (new ≡ old)
-Answers e read_rose write_rose old new (EventLimit m) = IfSome e (Ends (EventLimit m)) × (new ≡ old)
-Answers e read_rose write_rose old new Unsupported = IfSome e (Ends Unsupported) × (new ≡ old)
-Answers e read_rose write_rose old new OutOfMemory = IfSome e (WrotePart old new)
+Answers e read_rose write_rose old new (EventLimit m) = IfSome e (λ x. WroteLines m old new x × BeginsEach old new x × ArePromisesKept x)
+Answers e read_rose write_rose old new OutOfMemory = IfSome e (λ x. WrotePart old new x × BeginsEach old new x)

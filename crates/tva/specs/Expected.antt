@@ -1,5 +1,5 @@
 -- What a command comes to, where the shelf tells what it holds.
-use Rattle.std.specs.Prelude.{◌≡◌, ◌≤◌, ℕ, ◌+◌, true, List, ◌++◌, length, nat_lt, not, if◌then◌else◌}
+use Rattle.std.specs.Prelude.{◌≡◌, ℕ, ◌+◌, List, ◌++◌, length, nat_lt, if◌then◌else◌}
 use Rattle.std.specs.Prelude.{Result, Ok, Err, None, Some, codes}
 use Rattle.std.specs.declared.option.Option.{Option}
 use Rattle.std.specs.Option.{option_map}
@@ -13,19 +13,17 @@ use Rattle.tva_trace.specs.declared.said.SaidRow.{SaidRow}
 use Rattle.tva_trace.specs.Rows.{rows_of}
 use Rattle.tva_trace.specs.Meaning.{AreRows}
 use Rattle.tva_trace.specs.ShimText.{IsTextOf}
-use Rattle.tva_config.specs.Counts.{has_host_or_link}
 use Rattle.tva_gen.specs.Text.{generated}
-use Rattle.tva.specs.Arrivals.{are_judged}
 use Rattle.tva.specs.Check.{check_line}
 use Rattle.tva.specs.Command.{Command, replay, check, shim, gen}
-use Rattle.tva.specs.Report.{IsReport}
+use Rattle.tva.specs.Replayed.{HasReport, IsWithinLimit, IsPastLimit}
 use Rattle.tva.specs.declared.status.Status as status
 use Rattle.tva.specs.declared.status.Status.TheVariants.{Done, ReadFault, TooLarge, BadConfig, BadTrace}
-use Rattle.tva.specs.declared.status.Status.TheVariants.{EventLimit, Unsupported}
+use Rattle.tva.specs.declared.status.Status.TheVariants.{EventLimit}
 
 -- a text to write, the text of a shim's bytes, the report of a trace under a plan, or a refusal: nothing
--- is held under a name, a file passes its limit (with one more than that), a fault of the configuration
--- or of the trace, or a configuration whose replay isn't built
+-- is held under a name, a file passes its limit (with one more than that), or a fault of the
+-- configuration or of the trace
 pub data Expected : Type 0 where
   writes : List ℕ → Expected
   shows : List ℕ → Expected
@@ -34,7 +32,6 @@ pub data Expected : Type 0 where
   exceeds : ℕ → Expected
   misconfigured : ConfigFault → Expected
   mistraced : TraceFault → Expected
-  refuses : Expected
 
 -- what is found, or the refusal that comes instead
 abbrev pub Found : Type 0 → Type 0
@@ -74,12 +71,10 @@ trace_or_fault text (Err fault) = Err (mistraced fault)
 abbrev pub trace_at : Config → List ℕ → Held → Found (List ℕ)
 trace_at plan name files = file_at 67108864 name files >>= λ text. trace_or_fault text (rows_of plan text)
 
--- what comes of a plan, and of the trace behind it
-abbrev pub of_plan : List ℕ → Held → Config → Expected
-of_plan trace files plan =
-    if has_host_or_link plan then refuses else followed (trace_at plan trace files) (replays plan)
-
 -- what comes of a command that reads files, file by file: each is judged before the next one is loaded
+abbrev pub of_plan : List ℕ → Held → Config → Expected
+of_plan trace files plan = followed (trace_at plan trace files) (replays plan)
+
 abbrev pub of_replay : List ℕ → List ℕ → Held → Expected
 of_replay config trace files = followed (plan_at config files) (of_plan trace files)
 
@@ -96,37 +91,28 @@ told held (check config) = option_map (of_check config) held
 told held (shim bytes) = Some (shows bytes)
 told held (gen seed count config) = option_map (of_gen seed count config) held
 
--- the fate of each row is built, and they are no more than the configuration allows
-pub record AreFew (plan : Config) (rows : List Row) : Type 0 where
-  pub judged : are_judged rows ≡ true
-  pub few : length rows ≤ plan.max_events
-
 -- the text is what is to be written
 abbrev pub IsText : Expected → List ℕ → Type 0
 IsText (writes whole) text = text ≡ whole
 IsText (shows bytes) text = (line : List ℕ) × IsTextOf bytes line × (text ≡ line ++ codes "\n")
-IsText (replays plan trace) text =
-    (rows : List Row) × AreRows plan trace rows × AreFew plan rows × IsReport plan rows text
+IsText (replays plan trace) text = (rows : List Row) × AreRows plan trace rows × HasReport plan rows text
 IsText lacks text = ⊥
 IsText (exceeds k) text = ⊥
 IsText (misconfigured fault) text = ⊥
 IsText (mistraced fault) text = ⊥
-IsText refuses text = ⊥
 
 -- how the replay of rows ends where nothing fails
-abbrev pub status_of_rows : Config → List Row → status.Status
-status_of_rows plan rows =
-    if not (are_judged rows) then Unsupported
-    else if nat_lt plan.max_events (length rows) then EventLimit plan.max_events
-    else Done
+abbrev pub EndsReplay : Config → List Row → status.Status → Type 0
+EndsReplay plan rows Done = IsWithinLimit plan rows
+EndsReplay plan rows (EventLimit most) = (most ≡ plan.max_events) × IsPastLimit plan rows
+EndsReplay plan rows _ = ⊥
 
 -- how a run ends where nothing fails
 abbrev pub Ends : status.Status → Expected → Type 0
 Ends s (writes text) = s ≡ Done
 Ends s (shows bytes) = s ≡ Done
-Ends s (replays plan trace) = (rows : List Row) × AreRows plan trace rows × (s ≡ status_of_rows plan rows)
+Ends s (replays plan trace) = (rows : List Row) × AreRows plan trace rows × EndsReplay plan rows s
 Ends s lacks = s ≡ ReadFault
 Ends s (exceeds k) = s ≡ TooLarge k
 Ends s (misconfigured fault) = s ≡ BadConfig fault
 Ends s (mistraced fault) = s ≡ BadTrace fault
-Ends s refuses = s ≡ Unsupported

@@ -1,12 +1,10 @@
 pub mod Answer
-pub mod Arrivals
 pub mod Check
 pub mod Command
 pub mod Expected
-pub mod Order
+pub mod Network
 pub mod Parts
-pub mod Report
+pub mod Replayed
 pub mod Status
 pub mod Wanted
 pub mod Asked
-pub mod Judges

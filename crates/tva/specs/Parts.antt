@@ -7,9 +7,10 @@ use Rattle.tva_config.specs.declared.config.Config.{Config}
 use Rattle.tva_trace.specs.declared.rows.Row.{Row}
 use Rattle.tva_trace.specs.Meaning.{AreRows}
 use Rattle.tva.specs.Expected.{Found, lacks, exceeds, misconfigured, mistraced}
+use Rattle.tva.specs.Replayed.{HasReport, IsBegun, IsCutShort}
 use Rattle.tva.specs.declared.status.Status as status
 use Rattle.tva.specs.declared.status.Status.TheVariants.{Done, ReadFault, WriteFault, TooLarge}
-use Rattle.tva.specs.declared.status.Status.TheVariants.{BadConfig, BadTrace, OutOfMemory}
+use Rattle.tva.specs.declared.status.Status.TheVariants.{BadConfig, BadTrace, EventLimit, OutOfMemory}
 
 -- that is what is found, where it is told what is held
 abbrev pub IsFound : {A : Type 0} → Option Held → (Held → Found A) → A → Type 0
@@ -38,3 +39,20 @@ IsWritten old new rose text Done = new ≡ append_known old text
 IsWritten old new rose text WriteFault = rose × IsCut old new text
 IsWritten old new rose text OutOfMemory = IsCut old new text
 IsWritten old new rose text _ = ⊥
+
+-- the first bytes of what a replay begins, some or all, are written
+abbrev pub WroteBegun : Config → List Row → Option (List ℕ) → Option (List ℕ) → Type 0
+WroteBegun plan rows old new = (text : List ℕ) × IsBegun plan rows text × IsCut old new text
+
+-- the lines of the windows before the one in which a replay passes its number of events are written
+abbrev pub WroteCutShort : Config → List Row → ℕ → Option (List ℕ) → Option (List ℕ) → Type 0
+WroteCutShort plan rows most old new =
+    (most ≡ plan.max_events) × ((text : List ℕ) × IsCutShort plan rows text × (new ≡ append_known old text))
+
+-- how the replay of rows under a plan ends
+abbrev pub IsReplayed : Config → List Row → Option (List ℕ) → Option (List ℕ) → Type 0 → status.Status → Type 0
+IsReplayed plan rows old new rose Done = (text : List ℕ) × HasReport plan rows text × (new ≡ append_known old text)
+IsReplayed plan rows old new rose WriteFault = rose × WroteBegun plan rows old new
+IsReplayed plan rows old new rose (EventLimit most) = WroteCutShort plan rows most old new
+IsReplayed plan rows old new rose OutOfMemory = (new ≡ old) ⊎ WroteBegun plan rows old new
+IsReplayed plan rows old new rose _ = ⊥

@@ -6,7 +6,7 @@ use Rattle.tva_config.specs.Words.{rule_word, table_word}
 use Rattle.tva_trace.specs.Words as trace
 use Rattle.tva.specs.declared.status.Status as status
 use Rattle.tva.specs.declared.status.Status.TheVariants.{Done, Usage, ReadFault, WriteFault, TooLarge}
-use Rattle.tva.specs.declared.status.Status.TheVariants.{BadConfig, BadTrace, EventLimit, OutOfMemory, Unsupported}
+use Rattle.tva.specs.declared.status.Status.TheVariants.{BadConfig, BadTrace, EventLimit, OutOfMemory}
 
 abbrev pub number_of : status.Status → ℕ
 number_of Done = 0
@@ -18,7 +18,6 @@ number_of (BadConfig fault) = 6
 number_of (BadTrace fault) = 7
 number_of (EventLimit m) = 8
 number_of OutOfMemory = 9
-number_of Unsupported = 11
 
 -- the words of a fault, joined by blanks
 abbrev pub config_fault_words : ConfigFault → List ℕ
@@ -35,4 +34,3 @@ text_of_status (BadTrace fault) =
     codes "bad trace: record " ++ decimal fault.row ++ codes ": " ++ trace.rule_word fault.rule
 text_of_status (EventLimit m) = codes "more than " ++ decimal m ++ codes " events"
 text_of_status OutOfMemory = codes "out of memory"
-text_of_status Unsupported = codes "unsupported input"

@@ -3,12 +3,9 @@ use Rattle.std.specs.Prelude.{◌≡◌, ◌⊎◌, ℕ, List, option_and_then}
 use Rattle.std.specs.declared.option.Option.{Option}
 use Rattle.tva_outside.specs.Held.{Held}
 use Rattle.tva.specs.Command.{command_of}
-use Rattle.tva_trace.specs.declared.rows.Row.{Row}
-use Rattle.tva_trace.specs.Meaning.{AreRows}
-use Rattle.tva.specs.Expected.{Expected, writes, shows, replays, lacks, exceeds, misconfigured, mistraced, refuses}
-use Rattle.tva.specs.Expected.{told, Ends, status_of_rows}
+use Rattle.tva.specs.Expected.{Expected, writes, shows, replays, lacks, exceeds, misconfigured, mistraced, told, Ends}
 use Rattle.tva.specs.declared.status.Status as status
-use Rattle.tva.specs.declared.status.Status.TheVariants.{Done, WriteFault, OutOfMemory}
+use Rattle.tva.specs.declared.status.Status.TheVariants.{Done, WriteFault, EventLimit, OutOfMemory}
 
 -- what is to come of the words, where they are a command and the shelf tells
 abbrev pub wanted : Option Held → List (List ℕ) → Option Expected
@@ -18,6 +15,7 @@ wanted held words = option_and_then (told held) (command_of words)
 abbrev pub IsRefusal : status.Status → Type 0
 IsRefusal Done = ⊥
 IsRefusal WriteFault = ⊥
+IsRefusal (EventLimit most) = ⊥
 IsRefusal OutOfMemory = ⊥
 IsRefusal _ = Unit {0}
 
@@ -25,15 +23,12 @@ IsRefusal _ = Unit {0}
 abbrev pub Settles : status.Status → Expected → Type 0
 Settles s x = Ends s x ⊎ (s ≡ OutOfMemory)
 
--- the same where it is to end with a refusal
+-- the same where it is to end with a refusal of what is read
 abbrev pub SettlesRefusal : status.Status → Expected → Type 0
 SettlesRefusal s (writes text) = Unit {0}
 SettlesRefusal s (shows bytes) = Unit {0}
-SettlesRefusal s (replays plan trace) =
-    ((rows : List Row) × AreRows plan trace rows ×
-    (IsRefusal (status_of_rows plan rows) → s ≡ status_of_rows plan rows)) ⊎ (s ≡ OutOfMemory)
+SettlesRefusal s (replays plan trace) = Unit {0}
 SettlesRefusal s lacks = Settles s lacks
 SettlesRefusal s (exceeds k) = Settles s (exceeds k)
 SettlesRefusal s (misconfigured fault) = Settles s (misconfigured fault)
 SettlesRefusal s (mistraced fault) = Settles s (mistraced fault)
-SettlesRefusal s refuses = Settles s refuses

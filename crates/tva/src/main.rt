@@ -4,16 +4,12 @@
 //! prefix of it, and exactly when each refusal comes.
 #![tactic(auto)]
 
-mod arrivals;
 mod check;
 mod command;
-mod judge;
 mod lines;
 mod parts;
-mod report;
-mod showing;
+mod replay;
 mod status;
-mod sums;
 #[cfg(test)]
 mod tests;
 mod top;

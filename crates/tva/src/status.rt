@@ -8,8 +8,7 @@ use tva_config::ConfigFault;
 use tva_trace::TraceFault;
 
 /// How a run ends: with the whole text written, or with the reason why it isn't. `TooLarge` has the
-/// limit of the file and one, and `EventLimit` the greatest number of events. `Unsupported` stands
-/// for input whose replay isn't built yet.
+/// limit of the file and one, and `EventLimit` the greatest number of events.
 #[derive(Debug, Drop)]
 pub enum Status {
     Done,
@@ -21,7 +20,6 @@ pub enum Status {
     BadTrace(TraceFault),
     EventLimit(u64),
     OutOfMemory,
-    Unsupported,
 }
 
 impl Status {
@@ -39,7 +37,6 @@ impl Status {
             Status::BadTrace(_) => 7,
             Status::EventLimit(_) => 8,
             Status::OutOfMemory => 9,
-            Status::Unsupported => 11,
         }
     }
 }
@@ -73,7 +70,6 @@ pub fn status_text(status: &Status, text: &mut ArrayString<128>)
             text.push_str(" events");
         }
         Status::OutOfMemory => text.push_str("out of memory"),
-        Status::Unsupported => text.push_str("unsupported input"),
     }
 }
 

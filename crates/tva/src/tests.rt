@@ -6,9 +6,15 @@ use std::sync::atomic::{AtomicU64, Ordering};
 use std::test::Fail;
 use tva_outside::{Gate, MemoryShelf, MemorySink, OpenGate, Shelf};
 
+mod hosts;
+mod limits;
+mod links;
+mod replaying;
+mod routers;
+mod rows;
 mod texts;
 
-use texts::{files, replays, report, runs};
+use texts::{files, report, runs};
 
 // The words of a line, parted by single blanks.
 fn words(rt: &impl AllocGlobal, line: &str) -> Result<Vec<String>, Fail> {
@@ -104,14 +110,14 @@ impl Gate for Starts {
     }
 }
 
-// Each node is told once where there are events, and no node where there are none to come.
+// Each node is told once a window, and no node where nothing is to come.
 #[test]
 fn each_node_is_told_to_the_gate(rt: HostRuntime) -> Result<(), Fail> {
     let replays = [
         ("replay pair both", 1, 1),
         ("replay edge trace", 1, 0),
         ("replay pair header", 0, 0),
-        ("replay two trace", 0, 0),
+        ("replay two trace", 1, 0),
         ("replay edge falling", 0, 0),
         ("check pair", 0, 0),
     ];
@@ -127,39 +133,6 @@ fn each_node_is_told_to_the_gate(rt: HostRuntime) -> Result<(), Fail> {
         assert_eq!(rt; gate.first.load(Ordering::SeqCst), first, "{line}");
         assert_eq!(rt; gate.second.load(Ordering::SeqCst), second, "{line}");
         assert_eq!(rt; gate.others.load(Ordering::SeqCst), 0, "{line}");
-    }
-    Ok(())
-}
-
-// Where there is memory a run ends with its text, and not with want of memory.
-#[test]
-fn answers_with_memory(rt: HostRuntime) -> Result<(), Fail> {
-    let mut out = MemorySink::new(rt.alloc(), 4096);
-    let status = run(
-        &rt,
-        rt.alloc(),
-        &words(&rt, "replay edge trace")?,
-        &mut shelf(&rt)?,
-        &mut out,
-        &OpenGate,
-    );
-    assert!(rt; matches!(status, Status::Done));
-    assert_eq!(rt; out.bytes(), report().as_bytes());
-    Ok(())
-}
-
-// Replays whose reports come from outside.
-#[test]
-fn replays_of_one_router(rt: HostRuntime) -> Result<(), Fail> {
-    let words = words(&rt, "replay config trace")?;
-    for (config, trace, report) in replays() {
-        let mut shelf = MemoryShelf::new(rt.alloc());
-        shelf.put("config", config.as_bytes())?;
-        shelf.put("trace", trace.as_bytes())?;
-        let mut out = MemorySink::new(rt.alloc(), 7);
-        let status = run(&rt, rt.alloc(), &words, &mut shelf, &mut out, &OpenGate);
-        assert_eq!(rt; status.number(), 0);
-        assert_eq!(rt; out.bytes(), report.as_bytes());
     }
     Ok(())
 }

@@ -1,37 +1,32 @@
 // The top call.
-ghost use Rattle.std.specs.Prelude.{◌≡◌, ◌≤◌, ◌⊎◌, ◌↔◌, ℕ, List, false, IfSome, length, None, Some};
+ghost use Rattle.std.specs.Prelude.{◌≡◌, ◌≤◌, ◌⊎◌, ◌↔◌, ℕ, IfSome, length, None, Some};
 ghost use Rattle.tva_outside.specs.Faults.{Rose};
-ghost use Rattle.tva_config.specs.Counts.{has_host_or_link};
-ghost use Rattle.tva_config.specs.Valid.{IsConfig};
 ghost use Rattle.tva_config.specs.declared.fault.ConfigFault.{ConfigFault};
-ghost use Rattle.tva_trace.specs.Meaning.{AreRows};
-ghost use Rattle.tva_trace.specs.Valid.{AreTraceRows};
 ghost use Rattle.tva_trace.specs.declared.rows.TraceFault.{TraceFault};
 ghost use Rattle.tva.specs.Asked.{asked};
 ghost use Rattle.tva.specs.Command.{command_of, texts, replay, check, shim, gen};
-ghost use Rattle.tva.specs.Expected.{told, shows, replays, lacks, exceeds, misconfigured, mistraced, Ends};
-ghost use Rattle.tva.specs.Answer.{Answers, WroteAll, WrotePart};
+ghost use Rattle.tva.specs.Expected.{told, shows, lacks, exceeds, misconfigured, mistraced};
+ghost use Rattle.tva.specs.Answer.{Answers, BeginsEach, WroteAll, WroteEach, WroteLines, WrotePart};
+ghost use Rattle.tva.specs.Network.{ArePromisesKept, HasRead};
 ghost use Rattle.tva.specs.Wanted.{wanted, IsRefusal, Settles, SettlesRefusal};
 
 use crate::check::put_check_line;
 use crate::command::{Command, parse};
 use crate::parts::{load_plan, load_rows, send, send_both};
-use crate::report::report_of_rows;
-use crate::showing::are_judged;
+use crate::replay::replay_rows;
 use crate::status::Status;
 use arrayvec::ArrayString;
 use std::alloc::Global;
 use std::thread::Threads;
-use tva_config::{Config, has_host_or_link};
 use tva_gen::generate;
 use tva_outside::{Gate, Shelf, Sink};
-use tva_trace::{Row, shim_text};
+use tva_trace::shim_text;
 
 /// Does what the words ask for, over the files of the shelf, and writes to the sink. Refusals come
 /// in this order: words that are no command; then, file by file, a file that can't be loaded or is
-/// too large, and a fault of the configuration or of the trace; then more events than the
-/// configuration allows, and failing writes.
-#[tactic(auto, using(crate::proofs::Fronts::part_of_answer, crate::proofs::Settled::settles_of_answer, crate::proofs::Settled::refusal_of_answer))]
+/// too large, and a fault of the configuration or of the trace; then, window by window, more events
+/// than the configuration allows, and failing writes.
+#[tactic(auto, using(crate::proofs::Fronts::part_of_answer, crate::proofs::Fronts::begins_of_answer, crate::proofs::Fronts::promises_of_answer, crate::proofs::Settled::settles_of_answer, crate::proofs::Settled::refusal_of_answer))]
 pub fn run<R: Threads + Sync, S: Shelf, W: Sink, G: Gate>(
     rt: &R,
     alloc: Global,
@@ -51,23 +46,30 @@ pub fn run<R: Threads + Sync, S: Shelf, W: Sink, G: Gate>(
         IfSome (wanted (S.held shelf.old) (texts words.now)) (λ x. x ≡ misconfigured fault) }
     ensures bad_trace { (fault : TraceFault) → result ≡ Status.BadTrace fault →
         IfSome (wanted (S.held shelf.old) (texts words.now)) (λ x. x ≡ mistraced fault) }
-    ensures event_limit { (most : ℕ) → result ≡ Status.EventLimit most →
-        IfSome (wanted (S.held shelf.old) (texts words.now)) (Ends (Status.EventLimit most)) }
-    ensures unsupported { result ≡ Status.Unsupported →
-        IfSome (wanted (S.held shelf.old) (texts words.now)) (Ends Status.Unsupported) }
 
-    // What is written.
+    // What is written: the whole text, and of a replay the report of the run, which is the only one;
+    // with the event limit the lines of all windows before the one that passes it; and always the
+    // first bytes of a text that is to be written, with which the report of each run begins.
     ensures done { result ≡ Status.Done →
         IfSome (wanted (S.held shelf.old) (texts words.now)) (WroteAll (W.written out.old) (W.written out.new)) }
+    ensures one { result ≡ Status.Done →
+        IfSome (wanted (S.held shelf.old) (texts words.now)) (WroteEach (W.written out.old) (W.written out.new)) }
+    ensures event_limit { (most : ℕ) → result ≡ Status.EventLimit most →
+        IfSome (wanted (S.held shelf.old) (texts words.now)) (WroteLines most (W.written out.old) (W.written out.new)) }
     ensures front { IfSome (wanted (S.held shelf.old) (texts words.now)) (WrotePart (W.written out.old) (W.written out.new)) }
+    ensures each { IfSome (wanted (S.held shelf.old) (texts words.now)) (BeginsEach (W.written out.old) (W.written out.new)) }
     ensures nothing { IsRefusal result → W.written out.new ≡ W.written out.old }
 
     // Where no count rises it comes to what is wanted, unless memory runs out; and to each refusal
-    // where no load fails.
+    // of what is read where no load fails.
     ensures complete { ¬ Rose (S.faults shelf.old) (S.faults shelf.new) → ¬ Rose (W.faults out.old) (W.faults out.new) →
         IfSome (wanted (S.held shelf.old) (texts words.now)) (Settles result) }
     ensures refused { ¬ Rose (S.faults shelf.old) (S.faults shelf.new) →
         IfSome (wanted (S.held shelf.old) (texts words.now)) (SettlesRefusal result) }
+
+    // The network: in every run of a trace that was read, the log of each node keeps its promises at
+    // each of its places.
+    ensures network { HasRead result → IfSome (wanted (S.held shelf.old) (texts words.now)) ArePromisesKept }
 
     // What stays. Usage leaves the shelf and the sink as they were, whatever they are.
     ensures held { S.held shelf.new ≡ S.held shelf.old }
@@ -83,7 +85,7 @@ pub fn run<R: Threads + Sync, S: Shelf, W: Sink, G: Gate>(
 }
 
 fn run_command<R: Threads + Sync, S: Shelf, W: Sink, G: Gate>(
-    _rt: &R,
+    rt: &R,
     alloc: Global,
     command: &Command,
     shelf: &mut S,
@@ -98,7 +100,7 @@ fn run_command<R: Threads + Sync, S: Shelf, W: Sink, G: Gate>(
         (W.written out.old) (W.written out.new) result }
 {
     match command {
-        Command::Replay { config, trace } => run_replay(alloc, config, trace, shelf, out, gate),
+        Command::Replay { config, trace } => run_replay(rt, alloc, config, trace, shelf, out, gate),
         Command::Check { config } => run_check(alloc, config, shelf, out),
         Command::Shim { bytes } => run_shim(alloc, bytes.as_slice(), out),
         Command::Gen {
@@ -109,7 +111,8 @@ fn run_command<R: Threads + Sync, S: Shelf, W: Sink, G: Gate>(
     }
 }
 
-fn run_replay<S: Shelf, W: Sink, G: Gate>(
+fn run_replay<R: Threads + Sync, S: Shelf, W: Sink, G: Gate>(
+    rt: &R,
     alloc: Global,
     config: &str,
     trace: &str,
@@ -128,52 +131,11 @@ fn run_replay<S: Shelf, W: Sink, G: Gate>(
         Ok(plan) => plan,
         Err(status) => return status,
     };
-    if has_host_or_link(&plan) {
-        return Status::Unsupported;
-    }
     let rows = match load_rows(alloc, shelf, trace, &plan) {
         Ok(rows) => rows,
         Err(status) => return status,
     };
-    replay_rows(alloc, &plan, &rows, out, gate)
-}
-
-// Writes the report of the rows under the plan.
-fn replay_rows<W: Sink, G: Gate>(
-    alloc: Global,
-    plan: &Config,
-    rows: &[Row],
-    out: &mut W,
-    gate: &G,
-) -> Status
-    requires config { IsConfig plan.now }
-    requires routers { has_host_or_link plan.now ≡ false }
-    requires rows { AreTraceRows plan.now rows.now }
-    ensures writes { W.faults out.old ≤ W.faults out.new }
-    ensures answer { (trace : List ℕ) → AreRows plan.now trace rows.now →
-        Answers (Some (replays plan.now trace)) ⊥ (Rose (W.faults out.old) (W.faults out.new)) (W.written out.old) (W.written out.new) result }
-{
-    if !are_judged(rows) {
-        return Status::Unsupported;
-    }
-    if rows.len() as u64 > plan.max_events {
-        return Status::EventLimit(plan.max_events);
-    }
-    start_nodes(plan, rows, gate);
-    match report_of_rows(alloc, plan, rows) {
-        Ok(report) => send_both(out, &report.lines, report.total.as_bytes()),
-        Err(_) => Status::OutOfMemory,
-    }
-}
-
-// Tells the gate of each node, where there is an event.
-fn start_nodes<G: Gate>(plan: &Config, rows: &[Row], gate: &G) {
-    if rows.is_empty() {
-        return;
-    }
-    for node in 0..plan.nodes.len().min(1024) {
-        gate.at_start(node as u16);
-    }
+    replay_rows(rt, alloc, &plan, rows, out, gate)
 }
 
 fn run_check<S: Shelf, W: Sink>(alloc: Global, config: &str, shelf: &mut S, out: &mut W) -> Status

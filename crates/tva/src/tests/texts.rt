@@ -74,9 +74,17 @@ static RUNS: [(&str, u8, &str); 51] = [
         0,
         "5000000000 R1 in R1#1 512 trace regular - dropped:no-route\n5000000000 R2 in R2#1 512 trace regular - dropped:no-route\n5000000001 R2 in R2#2 512 trace regular - dropped:no-route\ntotal events=3 routed=3 authorised=3 demoted=0 dropped=3 started=0 received=0 bytes=0\n",
     ),
-    ("replay walk trace", 11, "unsupported input"),
-    ("replay edge nonce", 11, "unsupported input"),
-    ("replay edge renew", 11, "unsupported input"),
+    ("replay walk trace", 7, "bad trace: record 2: time"),
+    (
+        "replay edge nonce",
+        0,
+        "5000000000 R1 in R1#1 28 trace legacy unknown-nonce dropped:no-route\ntotal events=1 routed=1 authorised=0 demoted=1 dropped=1 started=0 received=0 bytes=0\n",
+    ),
+    (
+        "replay edge renew",
+        0,
+        "5000000000 R1 in R1#1 40 trace regular - dropped:no-route\ntotal events=1 routed=1 authorised=1 demoted=0 dropped=1 started=0 received=0 bytes=0\n",
+    ),
     ("replay edge falling", 7, "bad trace: record 4: order"),
     ("replay edge time", 7, "bad trace: record 1: header"),
     ("replay edge empty", 7, "bad trace: record 1: header"),
@@ -221,35 +229,6 @@ static RUNS: [(&str, u8, &str); 51] = [
 static REPORT: &str =
     "5000000000 R1 in R1#1 512 trace regular - dropped:no-route\n5000000000 R1 in R1#2 512 trace legacy bad-hash dropped:no-route\n7000000000 R1 in R1#3 512 trace legacy expired dropped:no-route\ntotal events=3 routed=3 authorised=1 demoted=2 dropped=3 started=0 received=0 bytes=0\n";
 
-// Configurations, traces and reports from outside.
-static REPLAYS: [(&str, &str, &str); 5] = [
-    (
-        "# Minted in second 127, shown before and after the secret changes at 128.\nhorizon_ns = 1000000000000\nmax_events = 1000\n[[router]]\nname = \"R1\"\nmaster = \"000102030405060708090a0b0c0d0e0f101112131415161718191a1b1c1d1e1f\"\nslots = 8\n",
-        "time,node,kind,src,dst,payload,shim\n127000000000,R1,list,10.0.0.1,10.0.1.1,100,00000000000a/4/10/0/R1@127\n130000000000,R1,list,10.0.0.1,10.0.1.1,100,00000000000a/4/10/0/R1@127\n136999999999,R1,list,10.0.0.1,10.0.1.1,100,00000000000a/4/10/0/R1@127\n137000000000,R1,list,10.0.0.1,10.0.1.1,100,00000000000a/4/10/0/R1@127\n137000000000,R1,list,10.0.0.1,10.0.1.1,100,00000000000a/4/10/0/R1@128\n",
-        "127000000000 R1 in R1#1 140 trace regular - dropped:no-route\n130000000000 R1 in R1#2 140 trace regular - dropped:no-route\n136999999999 R1 in R1#3 140 trace regular - dropped:no-route\n137000000000 R1 in R1#4 140 trace legacy expired dropped:no-route\n137000000000 R1 in R1#5 140 trace regular - dropped:no-route\ntotal events=5 routed=5 authorised=4 demoted=1 dropped=5 started=0 received=0 bytes=0\n",
-    ),
-    (
-        "# T is 3 and the mint second 5: second 4 is too early, 5, 6 and 7 are good, 8 is too late. One flow each.\nhorizon_ns = 1000000000000\nmax_events = 1000\n[[router]]\nname = \"R1\"\nmaster = \"000102030405060708090a0b0c0d0e0f101112131415161718191a1b1c1d1e1f\"\nslots = 8\n",
-        "time,node,kind,src,dst,payload,shim\n4999999999,R1,list,10.0.0.1,10.0.1.1,100,00000000000a/1/3/0/R1@5\n5000000000,R1,list,10.0.0.2,10.0.1.1,100,00000000000a/1/3/0/R1@5\n6000000000,R1,list,10.0.0.3,10.0.1.1,100,00000000000a/1/3/0/R1@5\n7999999999,R1,list,10.0.0.4,10.0.1.1,100,00000000000a/1/3/0/R1@5\n8000000000,R1,list,10.0.0.5,10.0.1.1,100,00000000000a/1/3/0/R1@5\n",
-        "4999999999 R1 in R1#1 140 trace legacy expired dropped:no-route\n5000000000 R1 in R1#2 140 trace regular - dropped:no-route\n6000000000 R1 in R1#3 140 trace regular - dropped:no-route\n7999999999 R1 in R1#4 140 trace regular - dropped:no-route\n8000000000 R1 in R1#5 140 trace legacy expired dropped:no-route\ntotal events=5 routed=5 authorised=3 demoted=2 dropped=5 started=0 received=0 bytes=0\n",
-    ),
-    (
-        "# The clock of the router runs 2.5 seconds ahead.\nhorizon_ns = 1000000000000\nmax_events = 1000\n[[router]]\nname = \"R1\"\nmaster = \"000102030405060708090a0b0c0d0e0f101112131415161718191a1b1c1d1e1f\"\nslots = 8\nclock_offset_ns = 2500000000\n",
-        "time,node,kind,src,dst,payload,shim\n2499999999,R1,list,10.0.0.1,10.0.1.1,100,00000000000a/1/2/0/R1@5\n2500000000,R1,list,10.0.0.1,10.0.1.1,100,00000000000a/1/2/0/R1@5\n4499999999,R1,list,10.0.0.1,10.0.1.1,100,00000000000a/1/2/0/R1@5\n4500000000,R1,list,10.0.0.1,10.0.1.1,100,00000000000a/1/2/0/R1@5\n4500000000,R1,list,10.0.0.1,10.0.1.1,100,00000000000a/1/2/0/R1@7\n",
-        "2499999999 R1 in R1#1 140 trace legacy expired dropped:no-route\n2500000000 R1 in R1#2 140 trace regular - dropped:no-route\n4499999999 R1 in R1#3 140 trace regular - dropped:no-route\n4500000000 R1 in R1#4 140 trace legacy expired dropped:no-route\n4500000000 R1 in R1#5 140 trace regular - dropped:no-route\ntotal events=5 routed=5 authorised=3 demoted=2 dropped=5 started=0 received=0 bytes=0\n",
-    ),
-    (
-        "# The second byte is the same 256 seconds later, and the check is against the later second.\nhorizon_ns = 1000000000000\nmax_events = 1000\n[[router]]\nname = \"R1\"\nmaster = \"000102030405060708090a0b0c0d0e0f101112131415161718191a1b1c1d1e1f\"\nslots = 8\n",
-        "time,node,kind,src,dst,payload,shim\n5000000000,R1,list,10.0.0.1,10.0.1.1,472,00000000000a/1/10/0/R1@5\n261000000000,R1,list,10.0.0.1,10.0.1.1,472,00000000000a/1/10/0/R1@5\n261000000000,R1,list,10.0.0.1,10.0.1.1,472,00000000000a/1/10/0/R1@261\n",
-        "5000000000 R1 in R1#1 512 trace regular - dropped:no-route\n261000000000 R1 in R1#2 512 trace legacy bad-hash dropped:no-route\n261000000000 R1 in R1#3 512 trace regular - dropped:no-route\ntotal events=3 routed=3 authorised=2 demoted=1 dropped=3 started=0 received=0 bytes=0\n",
-    ),
-    (
-        "# One capability of the router itself, one of arbitrary digits, one whose seconds are over.\nhorizon_ns = 1000000000000\nmax_events = 1000\n[[router]]\nname = \"R1\"\nmaster = \"000102030405060708090a0b0c0d0e0f101112131415161718191a1b1c1d1e1f\"\nslots = 8\n",
-        "time,node,kind,src,dst,payload,shim\n5000000000,R1,list,10.0.0.1,10.0.1.1,472,00000000000a/1/10/0/R1@5\n5000000000,R1,list,10.0.0.1,10.0.1.1,472,00000000000a/1/10/0/0500112233445566\n7000000000,R1,list,10.0.0.1,10.0.1.1,472,00000000000a/1/2/0/R1@5\n7000000000,R1,list,10.0.0.2,10.0.1.1,472,00000000000a/1/3/0/R1@5\n7000000000,R1,list,10.0.0.1,10.0.1.2,472,00000000000a/1/3/0/R1@5\n",
-        "5000000000 R1 in R1#1 512 trace regular - dropped:no-route\n5000000000 R1 in R1#2 512 trace legacy bad-hash dropped:no-route\n7000000000 R1 in R1#3 512 trace legacy expired dropped:no-route\n7000000000 R1 in R1#4 512 trace regular - dropped:no-route\n7000000000 R1 in R1#5 512 trace regular - dropped:no-route\ntotal events=5 routed=5 authorised=3 demoted=2 dropped=5 started=0 received=0 bytes=0\n",
-    ),
-];
-
 pub fn files() -> &'static [(&'static str, &'static str)] {
     &FILES
 }
@@ -260,8 +239,4 @@ pub fn runs() -> &'static [(&'static str, u8, &'static str)] {
 
 pub fn report() -> &'static str {
     REPORT
-}
-
-pub fn replays() -> &'static [(&'static str, &'static str, &'static str)] {
-    &REPLAYS
 }

@@ -1,0 +1,148 @@
+// Whole replays from outside: name, configuration, trace, status and what is written.
+
+static ROUTERS: [(&str, &str, &str, u8, &str); 20] = [
+    (
+        "cache full then room",
+        "# Two slots and three flows. The first life ends exactly at 6.0.\nhorizon_ns = 1000000000000\nmax_events = 1000\n[[router]]\nname = \"R1\"\nmaster = \"000102030405060708090a0b0c0d0e0f101112131415161718191a1b1c1d1e1f\"\nslots = 2\n",
+        "time,node,kind,src,dst,payload,shim\n5000000000,R1,list,10.0.0.1,10.0.1.1,472,00000000000a/1/2/0/R1@5\n5500000000,R1,list,10.0.0.2,10.0.1.1,472,00000000000a/1/2/0/R1@5\n5900000000,R1,list,10.0.0.3,10.0.1.1,472,00000000000a/1/2/0/R1@5\n5999999999,R1,list,10.0.0.3,10.0.1.1,472,00000000000a/1/2/0/R1@5\n6000000000,R1,list,10.0.0.3,10.0.1.1,472,00000000000a/1/2/0/R1@5\n6000000000,R1,list,10.0.0.1,10.0.1.1,472,00000000000a/1/2/0/R1@5\n",
+        0,
+        "5000000000 R1 in R1#1 512 trace regular - dropped:no-route\n5500000000 R1 in R1#2 512 trace regular - dropped:no-route\n5900000000 R1 in R1#3 512 trace legacy cache-full dropped:no-route\n5999999999 R1 in R1#4 512 trace legacy cache-full dropped:no-route\n6000000000 R1 in R1#5 512 trace regular - dropped:no-route\n6000000000 R1 in R1#6 512 trace legacy cache-full dropped:no-route\ntotal events=6 routed=6 authorised=3 demoted=3 dropped=6 started=0 received=0 bytes=0\n",
+    ),
+    (
+        "clock offset",
+        "# The clock of the router runs 2.5 seconds ahead.\nhorizon_ns = 1000000000000\nmax_events = 1000\n[[router]]\nname = \"R1\"\nmaster = \"000102030405060708090a0b0c0d0e0f101112131415161718191a1b1c1d1e1f\"\nslots = 8\nclock_offset_ns = 2500000000\n",
+        "time,node,kind,src,dst,payload,shim\n2499999999,R1,list,10.0.0.1,10.0.1.1,100,00000000000a/1/2/0/R1@5\n2500000000,R1,list,10.0.0.1,10.0.1.1,100,00000000000a/1/2/0/R1@5\n4499999999,R1,list,10.0.0.1,10.0.1.1,100,00000000000a/1/2/0/R1@5\n4500000000,R1,list,10.0.0.1,10.0.1.1,100,00000000000a/1/2/0/R1@5\n4500000000,R1,list,10.0.0.1,10.0.1.1,100,00000000000a/1/2/0/R1@7\n",
+        0,
+        "2499999999 R1 in R1#1 140 trace legacy expired dropped:no-route\n2500000000 R1 in R1#2 140 trace regular - dropped:no-route\n4499999999 R1 in R1#3 140 trace regular - dropped:no-route\n4500000000 R1 in R1#4 140 trace legacy expired dropped:no-route\n4500000000 R1 in R1#5 140 trace regular - dropped:no-route\ntotal events=5 routed=5 authorised=3 demoted=2 dropped=5 started=0 received=0 bytes=0\n",
+    ),
+    (
+        "every kind of shim",
+        "# No shim, malformed ones, marked ones, requests with 0, 15 and 16 entries, a nonce, lists with and without a capability at the pointer.\nhorizon_ns = 1000000000000\nmax_events = 1000\n[[router]]\nname = \"R1\"\nmaster = \"000102030405060708090a0b0c0d0e0f101112131415161718191a1b1c1d1e1f\"\nslots = 8\nedge_tag = 9\n",
+        "time,node,kind,src,dst,payload,shim\n1000000000,R1,raw,10.0.0.1,10.0.1.1,0,\n1000000000,R1,raw,10.0.0.1,10.0.1.1,0,10060000\n1000000000,R1,raw,10.0.0.1,10.0.1.1,0,ff\n1000000000,R1,raw,10.0.0.1,10.0.1.1,1600,00000000000000000000000000000000000000000000000000000000000000000000000000000000000000000000000000000000000000000000000000000000000000000000000000000000000000000000000000000000000000000000000000000000000000000000000000000000000000000000000000000000000000000000000000000000000000000000000000000000000000000000000000000000000000000000000000000000000000000000000000000000000000000000000000000000000000000000000000000000000000000000000000000000000000000000000000000000000000000000000000000000000000000000000000000000000000000000000000000000000000000000000000000000000000000000000000000000000000000000000000000000000000000000000000000000000000000000000000000000000000000000000000000000000000000000000000000000000000000000000000000000000000000000000000000000000000000000000000000000000000000000000000000000\n1000000000,R1,raw,10.0.0.1,10.0.1.1,0,180600\n1000000000,R1,raw,10.0.0.1,10.0.1.1,0,1a06000000000000\n1000000000,R1,raw,10.0.0.1,10.0.1.1,0,190600000000000a0000080a\n1000000000,R1,raw,10.0.0.1,10.0.1.1,77,100600\n1000000000,R1,raw,10.0.0.1,10.0.1.1,0,14060001\n1000000000,R1,raw,10.0.0.1,10.0.1.1,0,10060f000000000000000000000000000000000000000000000000000000000000000000000000000000000000000000000000000000000000000000000000000000000000000000000000000000000000000000000000000000000000000000000000000000000000000000000000000000000000000000000000000000000000000000000000000000000000000000000000000000000000\n1000000000,R1,raw,10.0.0.1,10.0.1.1,0,10061000000000000000000000000000000000000000000000000000000000000000000000000000000000000000000000000000000000000000000000000000000000000000000000000000000000000000000000000000000000000000000000000000000000000000000000000000000000000000000000000000000000000000000000000000000000000000000000000000000000000000000000000000000000\n1000000000,R1,raw,10.0.0.1,10.0.1.1,0,1c06100000000000000000000000000000000000000000000000000000000000000000000000000000000000000000000000000000000000000000000000000000000000000000000000000000000000000000000000000000000000000000000000000000000000000000000000000000000000000000000000000000000000000000000000000000000000000000000000000000000000000000000000000000000001\n1000000000,R1,raw,10.0.0.1,10.0.1.1,0,120600000000000a\n1000000000,R1,list,10.0.0.1,10.0.1.1,0,00000000000a/1/10/0/\n1000000000,R1,list,10.0.0.1,10.0.1.1,0,00000000000a/1/10/1/R1@1\n1000000000,R1,renew,10.0.0.1,10.0.1.1,0,00000000000a/1/10/1/R1@1\n",
+        0,
+        "1000000000 R1 in R1#1 20 trace legacy - dropped:no-route\n1000000000 R1 in R1#2 24 trace legacy malformed dropped:no-route\n1000000000 R1 in R1#3 21 trace legacy malformed dropped:no-route\n1000000000 R1 in R1#4 2020 trace legacy malformed dropped:no-route\n1000000000 R1 in R1#5 23 trace legacy - dropped:no-route\n1000000000 R1 in R1#6 28 trace legacy - dropped:no-route\n1000000000 R1 in R1#7 32 trace legacy - dropped:no-route\n1000000000 R1 in R1#8 100 trace request - dropped:no-route\n1000000000 R1 in R1#9 24 trace request - dropped:no-route\n1000000000 R1 in R1#10 173 trace request - dropped:no-route\n1000000000 R1 in R1#11 183 trace legacy path-full dropped:no-route\n1000000000 R1 in R1#12 184 trace legacy - dropped:no-route\n1000000000 R1 in R1#13 28 trace legacy unknown-nonce dropped:no-route\n1000000000 R1 in R1#14 32 trace legacy no-capability dropped:no-route\n1000000000 R1 in R1#15 40 trace legacy no-capability dropped:no-route\n1000000000 R1 in R1#16 40 trace legacy no-capability dropped:no-route\ntotal events=16 routed=16 authorised=0 demoted=5 dropped=16 started=0 received=0 bytes=0\n",
+    ),
+    (
+        "header alone",
+        "# No row, no event: the total line alone.\nhorizon_ns = 1000000000000\nmax_events = 1000\n[[router]]\nname = \"R1\"\nmaster = \"000102030405060708090a0b0c0d0e0f101112131415161718191a1b1c1d1e1f\"\nslots = 8\n",
+        "time,node,kind,src,dst,payload,shim\n",
+        0,
+        "total events=0 routed=0 authorised=0 demoted=0 dropped=0 started=0 received=0 bytes=0\n",
+    ),
+    (
+        "just below twice the budget",
+        "# N is one unit, and 2,047 bytes of one capability are authorised.\nhorizon_ns = 1000000000000\nmax_events = 1000\n[[router]]\nname = \"R1\"\nmaster = \"000102030405060708090a0b0c0d0e0f101112131415161718191a1b1c1d1e1f\"\nslots = 8\n",
+        "time,node,kind,src,dst,payload,shim\n5000000000,R1,list,10.0.0.1,10.0.1.1,983,00000000000a/1/2/0/R1@5\n6998046874,R1,list,10.0.0.1,10.0.1.1,984,00000000000a/1/2/0/R1@5\n6998046875,R1,list,10.0.0.1,10.0.1.1,984,00000000000a/1/2/0/R1@5\n",
+        0,
+        "5000000000 R1 in R1#1 1023 trace regular - dropped:no-route\n6998046874 R1 in R1#2 1024 trace legacy over-n dropped:no-route\n6998046875 R1 in R1#3 1024 trace regular - dropped:no-route\ntotal events=3 routed=3 authorised=2 demoted=1 dropped=3 started=0 received=0 bytes=0\n",
+    ),
+    (
+        "life ends exactly",
+        "# Each packet has a credit of one second. At 6.0 the life is over and a new count begins; 7.0 is past the seconds of the capability.\nhorizon_ns = 1000000000000\nmax_events = 1000\n[[router]]\nname = \"R1\"\nmaster = \"000102030405060708090a0b0c0d0e0f101112131415161718191a1b1c1d1e1f\"\nslots = 8\n",
+        "time,node,kind,src,dst,payload,shim\n5000000000,R1,list,10.0.0.1,10.0.1.1,472,00000000000a/1/2/0/R1@5\n6000000000,R1,list,10.0.0.1,10.0.1.1,472,00000000000a/1/2/0/R1@5\n6100000000,R1,list,10.0.0.1,10.0.1.1,472,00000000000a/1/2/0/R1@5\n6200000000,R1,list,10.0.0.1,10.0.1.1,472,00000000000a/1/2/0/R1@5\n7000000000,R1,list,10.0.0.1,10.0.1.1,472,00000000000a/1/2/0/R1@5\n",
+        0,
+        "5000000000 R1 in R1#1 512 trace regular - dropped:no-route\n6000000000 R1 in R1#2 512 trace regular - dropped:no-route\n6100000000 R1 in R1#3 512 trace regular - dropped:no-route\n6200000000 R1 in R1#4 512 trace legacy over-n dropped:no-route\n7000000000 R1 in R1#5 512 trace legacy expired dropped:no-route\ntotal events=5 routed=5 authorised=3 demoted=2 dropped=5 started=0 received=0 bytes=0\n",
+    ),
+    (
+        "life not yet over",
+        "# As before, but the second packet comes one nanosecond earlier: the bytes of the first still count.\nhorizon_ns = 1000000000000\nmax_events = 1000\n[[router]]\nname = \"R1\"\nmaster = \"000102030405060708090a0b0c0d0e0f101112131415161718191a1b1c1d1e1f\"\nslots = 8\n",
+        "time,node,kind,src,dst,payload,shim\n5000000000,R1,list,10.0.0.1,10.0.1.1,472,00000000000a/1/2/0/R1@5\n5999999999,R1,list,10.0.0.1,10.0.1.1,472,00000000000a/1/2/0/R1@5\n6100000000,R1,list,10.0.0.1,10.0.1.1,472,00000000000a/1/2/0/R1@5\n6200000000,R1,list,10.0.0.1,10.0.1.1,472,00000000000a/1/2/0/R1@5\n7000000000,R1,list,10.0.0.1,10.0.1.1,472,00000000000a/1/2/0/R1@5\n",
+        0,
+        "5000000000 R1 in R1#1 512 trace regular - dropped:no-route\n5999999999 R1 in R1#2 512 trace regular - dropped:no-route\n6100000000 R1 in R1#3 512 trace legacy over-n dropped:no-route\n6200000000 R1 in R1#4 512 trace legacy over-n dropped:no-route\n7000000000 R1 in R1#5 512 trace legacy expired dropped:no-route\ntotal events=5 routed=5 authorised=2 demoted=3 dropped=5 started=0 received=0 bytes=0\n",
+    ),
+    (
+        "newer second replaces",
+        "# A capability of a later second replaces a living one; the older one is superseded until the life is over.\nhorizon_ns = 1000000000000\nmax_events = 1000\n[[router]]\nname = \"R1\"\nmaster = \"000102030405060708090a0b0c0d0e0f101112131415161718191a1b1c1d1e1f\"\nslots = 8\n",
+        "time,node,kind,src,dst,payload,shim\n6000000000,R1,list,10.0.0.1,10.0.1.1,24,00000000000a/1/16/0/R1@5\n6500000000,R1,list,10.0.0.1,10.0.1.1,24,00000000000b/1/16/0/R1@6\n6600000000,R1,nonce,10.0.0.1,10.0.1.1,0,00000000000a\n6700000000,R1,nonce,10.0.0.1,10.0.1.1,0,00000000000b\n7500000000,R1,list,10.0.0.1,10.0.1.1,24,00000000000a/1/16/0/R1@5\n8900000000,R1,list,10.0.0.1,10.0.1.1,24,00000000000a/1/16/0/R1@5\n9000000000,R1,list,10.0.0.1,10.0.1.1,24,00000000000b/1/16/0/R1@6\n",
+        0,
+        "6000000000 R1 in R1#1 64 trace regular - dropped:no-route\n6500000000 R1 in R1#2 64 trace regular - dropped:no-route\n6600000000 R1 in R1#3 28 trace legacy unknown-nonce dropped:no-route\n6700000000 R1 in R1#4 28 trace regular - dropped:no-route\n7500000000 R1 in R1#5 64 trace legacy superseded dropped:no-route\n8900000000 R1 in R1#6 64 trace regular - dropped:no-route\n9000000000 R1 in R1#7 64 trace regular - dropped:no-route\ntotal events=7 routed=7 authorised=5 demoted=2 dropped=7 started=0 received=0 bytes=0\n",
+    ),
+    (
+        "no slots",
+        "# A router without slots authorises nothing; a bad capability keeps its own cause.\nhorizon_ns = 1000000000000\nmax_events = 1000\n[[router]]\nname = \"R1\"\nmaster = \"000102030405060708090a0b0c0d0e0f101112131415161718191a1b1c1d1e1f\"\nslots = 0\n",
+        "time,node,kind,src,dst,payload,shim\n5000000000,R1,list,10.0.0.1,10.0.1.1,472,00000000000a/1/2/0/R1@5\n5000000000,R1,list,10.0.0.1,10.0.1.1,472,00000000000a/0/2/0/R1@5\n5000000000,R1,nonce,10.0.0.1,10.0.1.1,0,00000000000a\n5000000000,R1,list,10.0.0.1,10.0.1.1,472,00000000000a/1/2/0/0500112233445566\n5000000000,R1,raw,10.0.0.1,10.0.1.1,0,100600\n",
+        0,
+        "5000000000 R1 in R1#1 512 trace legacy cache-full dropped:no-route\n5000000000 R1 in R1#2 512 trace legacy over-n dropped:no-route\n5000000000 R1 in R1#3 28 trace legacy unknown-nonce dropped:no-route\n5000000000 R1 in R1#4 512 trace legacy bad-hash dropped:no-route\n5000000000 R1 in R1#5 23 trace request - dropped:no-route\ntotal events=5 routed=5 authorised=0 demoted=4 dropped=5 started=0 received=0 bytes=0\n",
+    ),
+    (
+        "nonce expired",
+        "# The life is longer than the seconds of the capability.\nhorizon_ns = 1000000000000\nmax_events = 1000\n[[router]]\nname = \"R1\"\nmaster = \"000102030405060708090a0b0c0d0e0f101112131415161718191a1b1c1d1e1f\"\nslots = 8\n",
+        "time,node,kind,src,dst,payload,shim\n6000000000,R1,list,10.0.0.1,10.0.1.1,1600,00000000000a/4/2/0/R1@5\n6000000000,R1,list,10.0.0.1,10.0.1.1,1600,00000000000a/4/2/0/R1@5\n6999999999,R1,nonce,10.0.0.1,10.0.1.1,0,00000000000a\n7000000000,R1,nonce,10.0.0.1,10.0.1.1,0,00000000000a\n",
+        0,
+        "6000000000 R1 in R1#1 1640 trace regular - dropped:no-route\n6000000000 R1 in R1#2 1640 trace regular - dropped:no-route\n6999999999 R1 in R1#3 28 trace regular - dropped:no-route\n7000000000 R1 in R1#4 28 trace legacy expired dropped:no-route\ntotal events=4 routed=4 authorised=3 demoted=1 dropped=4 started=0 received=0 bytes=0\n",
+    ),
+    (
+        "nonces",
+        "# A nonce stands for the list of its own flow, while the flow lives, within T and N.\nhorizon_ns = 1000000000000\nmax_events = 1000\n[[router]]\nname = \"R1\"\nmaster = \"000102030405060708090a0b0c0d0e0f101112131415161718191a1b1c1d1e1f\"\nslots = 8\n",
+        "time,node,kind,src,dst,payload,shim\n5000000000,R1,nonce,10.0.0.1,10.0.1.1,0,00000000000a\n5000000000,R1,list,10.0.0.1,10.0.1.1,1600,00000000000a/2/2/0/R1@5\n5100000000,R1,nonce,10.0.0.1,10.0.1.1,0,00000000000b\n5100000000,R1,nonce,10.0.0.9,10.0.1.1,0,00000000000a\n5100000000,R1,nonce,10.0.0.1,10.0.1.1,100,00000000000a\n5200000000,R1,nonce,10.0.0.1,10.0.1.1,300,00000000000a\n5200000000,R1,nonce,10.0.0.1,10.0.1.1,252,00000000000a\n6999999999,R1,nonce,10.0.0.1,10.0.1.1,0,00000000000a\n7000000000,R1,nonce,10.0.0.1,10.0.1.1,0,00000000000a\n9000000000,R1,nonce,10.0.0.1,10.0.1.1,0,00000000000a\n",
+        0,
+        "5000000000 R1 in R1#1 28 trace legacy unknown-nonce dropped:no-route\n5000000000 R1 in R1#2 1640 trace regular - dropped:no-route\n5100000000 R1 in R1#3 28 trace legacy unknown-nonce dropped:no-route\n5100000000 R1 in R1#4 28 trace legacy unknown-nonce dropped:no-route\n5100000000 R1 in R1#5 128 trace regular - dropped:no-route\n5200000000 R1 in R1#6 328 trace legacy over-n dropped:no-route\n5200000000 R1 in R1#7 280 trace regular - dropped:no-route\n6999999999 R1 in R1#8 28 trace legacy over-n dropped:no-route\n7000000000 R1 in R1#9 28 trace legacy unknown-nonce dropped:no-route\n9000000000 R1 in R1#10 28 trace legacy unknown-nonce dropped:no-route\ntotal events=10 routed=10 authorised=3 demoted=7 dropped=10 started=0 received=0 bytes=0\n",
+    ),
+    (
+        "pointer into a list",
+        "# Only the capability at the pointer counts.\nhorizon_ns = 1000000000000\nmax_events = 1000\n[[router]]\nname = \"R1\"\nmaster = \"000102030405060708090a0b0c0d0e0f101112131415161718191a1b1c1d1e1f\"\nslots = 8\n",
+        "time,node,kind,src,dst,payload,shim\n5000000000,R1,list,10.0.0.1,10.0.1.1,100,00000000000a/4/10/0/0500112233445566;R1@5;R1@4;0700000000000000\n5000000000,R1,list,10.0.0.1,10.0.1.1,100,00000000000a/4/10/1/0500112233445566;R1@5;R1@4;0700000000000000\n5000000000,R1,list,10.0.0.1,10.0.1.1,100,00000000000a/4/10/2/0500112233445566;R1@5;R1@4;0700000000000000\n5000000000,R1,list,10.0.0.1,10.0.1.1,100,00000000000a/4/10/3/0500112233445566;R1@5;R1@4;0700000000000000\n5000000000,R1,list,10.0.0.1,10.0.1.1,100,00000000000a/4/10/4/0500112233445566;R1@5;R1@4;0700000000000000\n",
+        0,
+        "5000000000 R1 in R1#1 164 trace legacy bad-hash dropped:no-route\n5000000000 R1 in R1#2 164 trace regular - dropped:no-route\n5000000000 R1 in R1#3 164 trace legacy superseded dropped:no-route\n5000000000 R1 in R1#4 164 trace legacy expired dropped:no-route\n5000000000 R1 in R1#5 164 trace legacy no-capability dropped:no-route\ntotal events=5 routed=5 authorised=1 demoted=4 dropped=5 started=0 received=0 bytes=0\n",
+    ),
+    (
+        "renewals",
+        "# A renewal is judged like a list. The last one shows the capability after the pointer.\nhorizon_ns = 1000000000000\nmax_events = 1000\n[[router]]\nname = \"R1\"\nmaster = \"000102030405060708090a0b0c0d0e0f101112131415161718191a1b1c1d1e1f\"\nslots = 8\n",
+        "time,node,kind,src,dst,payload,shim\n5000000000,R1,renew,10.0.0.1,10.0.1.1,100,00000000000a/4/10/0/R1@5\n5100000000,R1,list,10.0.0.1,10.0.1.1,100,00000000000a/4/10/0/R1@5\n5100000000,R1,renew,10.0.0.1,10.0.1.1,100,00000000000a/4/2/0/R1@3\n5200000000,R1,renew,10.0.0.1,10.0.1.1,100,00000000000a/4/10/1/R1@5\n5300000000,R1,renew,10.0.0.1,10.0.1.1,100,00000000000a/4/10/1/0000000000000000;R1@5\n",
+        0,
+        "5000000000 R1 in R1#1 140 trace regular - dropped:no-route\n5100000000 R1 in R1#2 140 trace regular - dropped:no-route\n5100000000 R1 in R1#3 140 trace legacy expired dropped:no-route\n5200000000 R1 in R1#4 140 trace legacy no-capability dropped:no-route\n5300000000 R1 in R1#5 148 trace regular - dropped:no-route\ntotal events=5 routed=5 authorised=3 demoted=2 dropped=5 started=0 received=0 bytes=0\n",
+    ),
+    (
+        "rights of zero",
+        "# T of 0 is expired at once, N of 0 is over at once.\nhorizon_ns = 1000000000000\nmax_events = 1000\n[[router]]\nname = \"R1\"\nmaster = \"000102030405060708090a0b0c0d0e0f101112131415161718191a1b1c1d1e1f\"\nslots = 8\n",
+        "time,node,kind,src,dst,payload,shim\n5000000000,R1,list,10.0.0.1,10.0.1.1,472,00000000000a/1/0/0/R1@5\n5000000000,R1,list,10.0.0.1,10.0.1.1,472,00000000000a/0/10/0/R1@5\n5000000000,R1,list,10.0.0.1,10.0.1.1,472,00000000000a/0/0/0/R1@5\n",
+        0,
+        "5000000000 R1 in R1#1 512 trace legacy expired dropped:no-route\n5000000000 R1 in R1#2 512 trace legacy over-n dropped:no-route\n5000000000 R1 in R1#3 512 trace legacy expired dropped:no-route\ntotal events=3 routed=3 authorised=0 demoted=3 dropped=3 started=0 received=0 bytes=0\n",
+    ),
+    (
+        "same second other rights",
+        "# Rights of the same second do not replace one another.\nhorizon_ns = 1000000000000\nmax_events = 1000\n[[router]]\nname = \"R1\"\nmaster = \"000102030405060708090a0b0c0d0e0f101112131415161718191a1b1c1d1e1f\"\nslots = 8\n",
+        "time,node,kind,src,dst,payload,shim\n5000000000,R1,list,10.0.0.1,10.0.1.1,984,00000000000a/32/10/0/R1@5\n5000000000,R1,list,10.0.0.1,10.0.1.1,984,00000000000a/64/10/0/R1@5\n5000000000,R1,list,10.0.0.1,10.0.1.1,984,00000000000a/32/20/0/R1@5\n5000000000,R1,list,10.0.0.1,10.0.1.1,984,00000000000a/32/10/0/R1@5\n",
+        0,
+        "5000000000 R1 in R1#1 1024 trace regular - dropped:no-route\n5000000000 R1 in R1#2 1024 trace legacy superseded dropped:no-route\n5000000000 R1 in R1#3 1024 trace legacy superseded dropped:no-route\n5000000000 R1 in R1#4 1024 trace regular - dropped:no-route\ntotal events=4 routed=4 authorised=2 demoted=2 dropped=4 started=0 received=0 bytes=0\n",
+    ),
+    (
+        "second comes again",
+        "# The second byte is the same 256 seconds later, and the check is against the later second.\nhorizon_ns = 1000000000000\nmax_events = 1000\n[[router]]\nname = \"R1\"\nmaster = \"000102030405060708090a0b0c0d0e0f101112131415161718191a1b1c1d1e1f\"\nslots = 8\n",
+        "time,node,kind,src,dst,payload,shim\n5000000000,R1,list,10.0.0.1,10.0.1.1,472,00000000000a/1/10/0/R1@5\n261000000000,R1,list,10.0.0.1,10.0.1.1,472,00000000000a/1/10/0/R1@5\n261000000000,R1,list,10.0.0.1,10.0.1.1,472,00000000000a/1/10/0/R1@261\n",
+        0,
+        "5000000000 R1 in R1#1 512 trace regular - dropped:no-route\n261000000000 R1 in R1#2 512 trace legacy bad-hash dropped:no-route\n261000000000 R1 in R1#3 512 trace regular - dropped:no-route\ntotal events=3 routed=3 authorised=2 demoted=1 dropped=3 started=0 received=0 bytes=0\n",
+    ),
+    (
+        "seconds of a capability",
+        "# T is 3 and the mint second 5: second 4 is too early, 5, 6 and 7 are good, 8 is too late. One flow each.\nhorizon_ns = 1000000000000\nmax_events = 1000\n[[router]]\nname = \"R1\"\nmaster = \"000102030405060708090a0b0c0d0e0f101112131415161718191a1b1c1d1e1f\"\nslots = 8\n",
+        "time,node,kind,src,dst,payload,shim\n4999999999,R1,list,10.0.0.1,10.0.1.1,100,00000000000a/1/3/0/R1@5\n5000000000,R1,list,10.0.0.2,10.0.1.1,100,00000000000a/1/3/0/R1@5\n6000000000,R1,list,10.0.0.3,10.0.1.1,100,00000000000a/1/3/0/R1@5\n7999999999,R1,list,10.0.0.4,10.0.1.1,100,00000000000a/1/3/0/R1@5\n8000000000,R1,list,10.0.0.5,10.0.1.1,100,00000000000a/1/3/0/R1@5\n",
+        0,
+        "4999999999 R1 in R1#1 140 trace legacy expired dropped:no-route\n5000000000 R1 in R1#2 140 trace regular - dropped:no-route\n6000000000 R1 in R1#3 140 trace regular - dropped:no-route\n7999999999 R1 in R1#4 140 trace regular - dropped:no-route\n8000000000 R1 in R1#5 140 trace legacy expired dropped:no-route\ntotal events=5 routed=5 authorised=3 demoted=2 dropped=5 started=0 received=0 bytes=0\n",
+    ),
+    (
+        "secrets change",
+        "# Minted in second 127, shown before and after the secret changes at 128.\nhorizon_ns = 1000000000000\nmax_events = 1000\n[[router]]\nname = \"R1\"\nmaster = \"000102030405060708090a0b0c0d0e0f101112131415161718191a1b1c1d1e1f\"\nslots = 8\n",
+        "time,node,kind,src,dst,payload,shim\n127000000000,R1,list,10.0.0.1,10.0.1.1,100,00000000000a/4/10/0/R1@127\n130000000000,R1,list,10.0.0.1,10.0.1.1,100,00000000000a/4/10/0/R1@127\n136999999999,R1,list,10.0.0.1,10.0.1.1,100,00000000000a/4/10/0/R1@127\n137000000000,R1,list,10.0.0.1,10.0.1.1,100,00000000000a/4/10/0/R1@127\n137000000000,R1,list,10.0.0.1,10.0.1.1,100,00000000000a/4/10/0/R1@128\n",
+        0,
+        "127000000000 R1 in R1#1 140 trace regular - dropped:no-route\n130000000000 R1 in R1#2 140 trace regular - dropped:no-route\n136999999999 R1 in R1#3 140 trace regular - dropped:no-route\n137000000000 R1 in R1#4 140 trace legacy expired dropped:no-route\n137000000000 R1 in R1#5 140 trace regular - dropped:no-route\ntotal events=5 routed=5 authorised=4 demoted=1 dropped=5 started=0 received=0 bytes=0\n",
+    ),
+    (
+        "thirty third over n",
+        "# Thirty-two packets of one unit each at N of 32, then one that is too much, then one of another flow.\nhorizon_ns = 1000000000000\nmax_events = 1000\n[[router]]\nname = \"R1\"\nmaster = \"000102030405060708090a0b0c0d0e0f101112131415161718191a1b1c1d1e1f\"\nslots = 8\n",
+        "time,node,kind,src,dst,payload,shim\n5000000000,R1,list,10.0.0.1,10.0.1.1,984,00000000000a/32/10/0/R1@5\n5000000000,R1,list,10.0.0.1,10.0.1.1,984,00000000000a/32/10/0/R1@5\n5000000000,R1,list,10.0.0.1,10.0.1.1,984,00000000000a/32/10/0/R1@5\n5000000000,R1,list,10.0.0.1,10.0.1.1,984,00000000000a/32/10/0/R1@5\n5000000000,R1,list,10.0.0.1,10.0.1.1,984,00000000000a/32/10/0/R1@5\n5000000000,R1,list,10.0.0.1,10.0.1.1,984,00000000000a/32/10/0/R1@5\n5000000000,R1,list,10.0.0.1,10.0.1.1,984,00000000000a/32/10/0/R1@5\n5000000000,R1,list,10.0.0.1,10.0.1.1,984,00000000000a/32/10/0/R1@5\n5000000000,R1,list,10.0.0.1,10.0.1.1,984,00000000000a/32/10/0/R1@5\n5000000000,R1,list,10.0.0.1,10.0.1.1,984,00000000000a/32/10/0/R1@5\n5000000000,R1,list,10.0.0.1,10.0.1.1,984,00000000000a/32/10/0/R1@5\n5000000000,R1,list,10.0.0.1,10.0.1.1,984,00000000000a/32/10/0/R1@5\n5000000000,R1,list,10.0.0.1,10.0.1.1,984,00000000000a/32/10/0/R1@5\n5000000000,R1,list,10.0.0.1,10.0.1.1,984,00000000000a/32/10/0/R1@5\n5000000000,R1,list,10.0.0.1,10.0.1.1,984,00000000000a/32/10/0/R1@5\n5000000000,R1,list,10.0.0.1,10.0.1.1,984,00000000000a/32/10/0/R1@5\n5000000000,R1,list,10.0.0.1,10.0.1.1,984,00000000000a/32/10/0/R1@5\n5000000000,R1,list,10.0.0.1,10.0.1.1,984,00000000000a/32/10/0/R1@5\n5000000000,R1,list,10.0.0.1,10.0.1.1,984,00000000000a/32/10/0/R1@5\n5000000000,R1,list,10.0.0.1,10.0.1.1,984,00000000000a/32/10/0/R1@5\n5000000000,R1,list,10.0.0.1,10.0.1.1,984,00000000000a/32/10/0/R1@5\n5000000000,R1,list,10.0.0.1,10.0.1.1,984,00000000000a/32/10/0/R1@5\n5000000000,R1,list,10.0.0.1,10.0.1.1,984,00000000000a/32/10/0/R1@5\n5000000000,R1,list,10.0.0.1,10.0.1.1,984,00000000000a/32/10/0/R1@5\n5000000000,R1,list,10.0.0.1,10.0.1.1,984,00000000000a/32/10/0/R1@5\n5000000000,R1,list,10.0.0.1,10.0.1.1,984,00000000000a/32/10/0/R1@5\n5000000000,R1,list,10.0.0.1,10.0.1.1,984,00000000000a/32/10/0/R1@5\n5000000000,R1,list,10.0.0.1,10.0.1.1,984,00000000000a/32/10/0/R1@5\n5000000000,R1,list,10.0.0.1,10.0.1.1,984,00000000000a/32/10/0/R1@5\n5000000000,R1,list,10.0.0.1,10.0.1.1,984,00000000000a/32/10/0/R1@5\n5000000000,R1,list,10.0.0.1,10.0.1.1,984,00000000000a/32/10/0/R1@5\n5000000000,R1,list,10.0.0.1,10.0.1.1,984,00000000000a/32/10/0/R1@5\n5000000000,R1,list,10.0.0.1,10.0.1.1,984,00000000000a/32/10/0/R1@5\n5000000000,R1,list,10.0.0.2,10.0.1.1,984,00000000000a/32/10/0/R1@5\n",
+        0,
+        "5000000000 R1 in R1#1 1024 trace regular - dropped:no-route\n5000000000 R1 in R1#2 1024 trace regular - dropped:no-route\n5000000000 R1 in R1#3 1024 trace regular - dropped:no-route\n5000000000 R1 in R1#4 1024 trace regular - dropped:no-route\n5000000000 R1 in R1#5 1024 trace regular - dropped:no-route\n5000000000 R1 in R1#6 1024 trace regular - dropped:no-route\n5000000000 R1 in R1#7 1024 trace regular - dropped:no-route\n5000000000 R1 in R1#8 1024 trace regular - dropped:no-route\n5000000000 R1 in R1#9 1024 trace regular - dropped:no-route\n5000000000 R1 in R1#10 1024 trace regular - dropped:no-route\n5000000000 R1 in R1#11 1024 trace regular - dropped:no-route\n5000000000 R1 in R1#12 1024 trace regular - dropped:no-route\n5000000000 R1 in R1#13 1024 trace regular - dropped:no-route\n5000000000 R1 in R1#14 1024 trace regular - dropped:no-route\n5000000000 R1 in R1#15 1024 trace regular - dropped:no-route\n5000000000 R1 in R1#16 1024 trace regular - dropped:no-route\n5000000000 R1 in R1#17 1024 trace regular - dropped:no-route\n5000000000 R1 in R1#18 1024 trace regular - dropped:no-route\n5000000000 R1 in R1#19 1024 trace regular - dropped:no-route\n5000000000 R1 in R1#20 1024 trace regular - dropped:no-route\n5000000000 R1 in R1#21 1024 trace regular - dropped:no-route\n5000000000 R1 in R1#22 1024 trace regular - dropped:no-route\n5000000000 R1 in R1#23 1024 trace regular - dropped:no-route\n5000000000 R1 in R1#24 1024 trace regular - dropped:no-route\n5000000000 R1 in R1#25 1024 trace regular - dropped:no-route\n5000000000 R1 in R1#26 1024 trace regular - dropped:no-route\n5000000000 R1 in R1#27 1024 trace regular - dropped:no-route\n5000000000 R1 in R1#28 1024 trace regular - dropped:no-route\n5000000000 R1 in R1#29 1024 trace regular - dropped:no-route\n5000000000 R1 in R1#30 1024 trace regular - dropped:no-route\n5000000000 R1 in R1#31 1024 trace regular - dropped:no-route\n5000000000 R1 in R1#32 1024 trace regular - dropped:no-route\n5000000000 R1 in R1#33 1024 trace legacy over-n dropped:no-route\n5000000000 R1 in R1#34 1024 trace regular - dropped:no-route\ntotal events=34 routed=34 authorised=33 demoted=1 dropped=34 started=0 received=0 bytes=0\n",
+    ),
+    (
+        "valid bad hash expired",
+        "# One capability of the router itself, one of arbitrary digits, one whose seconds are over.\nhorizon_ns = 1000000000000\nmax_events = 1000\n[[router]]\nname = \"R1\"\nmaster = \"000102030405060708090a0b0c0d0e0f101112131415161718191a1b1c1d1e1f\"\nslots = 8\n",
+        "time,node,kind,src,dst,payload,shim\n5000000000,R1,list,10.0.0.1,10.0.1.1,472,00000000000a/1/10/0/R1@5\n5000000000,R1,list,10.0.0.1,10.0.1.1,472,00000000000a/1/10/0/0500112233445566\n7000000000,R1,list,10.0.0.1,10.0.1.1,472,00000000000a/1/2/0/R1@5\n7000000000,R1,list,10.0.0.2,10.0.1.1,472,00000000000a/1/3/0/R1@5\n7000000000,R1,list,10.0.0.1,10.0.1.2,472,00000000000a/1/3/0/R1@5\n",
+        0,
+        "5000000000 R1 in R1#1 512 trace regular - dropped:no-route\n5000000000 R1 in R1#2 512 trace legacy bad-hash dropped:no-route\n7000000000 R1 in R1#3 512 trace legacy expired dropped:no-route\n7000000000 R1 in R1#4 512 trace regular - dropped:no-route\n7000000000 R1 in R1#5 512 trace regular - dropped:no-route\ntotal events=5 routed=5 authorised=3 demoted=2 dropped=5 started=0 received=0 bytes=0\n",
+    ),
+];
+
+pub fn routers() -> &'static [(&'static str, &'static str, &'static str, u8, &'static str)] {
+    &ROUTERS
+}
