@@ -3,8 +3,6 @@
 //! though it keeps none of these; and that it then stands for them with what the arrival added.
 #![tactic(auto)]
 
-#[cfg(test)]
-mod cases;
 mod guard;
 mod judged;
 mod laws;

@@ -21,10 +21,7 @@ use tva_base::{Class, DropCause, Fate, LinkLimits, Listed, Name, Outcome, Router
 use tva_caps::Minter;
 use tva_flow::FlowCache;
 use tva_port::{Decision, Port};
-use tva_shim::{Packet, class_of, length};
-
-#[cfg(test)]
-mod tests;
+use tva_shim::{HOPS_MAX, Packet, class_of, length};
 
 /// What a router keeps: its plan, its last time, what it judges packets with, and a port for each
 /// outgoing link. Contracts speak of all its charges and of the logs of its links' ports, for which
@@ -251,7 +248,7 @@ fn arrival_of(now: Time, from: Option<u16>, packet: &Packet) -> Arrival
 fn at_hop_limit(packet: &Packet) -> bool
     ensures { result ≡ nat_le 32 packet.now.hops }
 {
-    packet.hops >= 32
+    packet.hops >= HOPS_MAX
 }
 
 // What becomes of a packet at the hop limit.

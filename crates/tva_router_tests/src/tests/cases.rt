@@ -7,7 +7,11 @@
 // RING/BYTES. Then come its calls, each with its answer: `in TIME SOURCE DESTINATION PAYLOAD SHIM`, whose
 // packets are numbered from 1, with class, cause and outcome; and `start TIME LINK`, with class, number,
 // length and the time at which the link is free again.
-pub(crate) const CASES: &str = "\
+pub fn cases() -> &'static str {
+    CASES
+}
+
+const CASES: &str = "\
 case free exactly at an arrival
 links 8 0 0 ns_per_byte=10 share=20 burst=8192 quantum=2048 request=64/32/65536/1048576 regular=64/32/65536/1048576 legacy=256/262144
 in 0 10.0.0.1 10.0.1.1 80 - -> legacy - queued:1

@@ -5,7 +5,7 @@ use Rattle.tva_base.specs.declared.limits.LinkLimits.{LinkLimits}
 use Rattle.tva_base.specs.declared.addresses.Prefix.{Prefix}
 use Rattle.tva_base.specs.declared.plan.Route.{Route}
 use Rattle.tva_base.specs.declared.plan.RouterPlan.{RouterPlan}
-use Rattle.tva_router.proofs.router.tests.linked.Goals as goal
+use Rattle.tva_router_tests.proofs.tests.linked.Goals as goal
 
 module _ {X : Type 0} where
   absent_at : (x y : X) (ys : List X) → (y ≡ x → ⊥) → (Contains ys x → ⊥) → (k : ℕ) → k < length (y ∷ ys) → get_or (y ∷ ys) k x ≡ x → ⊥
