@@ -6,11 +6,7 @@ use std::sync::atomic::{AtomicU64, Ordering};
 use std::test::Fail;
 use tva_outside::{Gate, MemoryShelf, MemorySink, OpenGate, Shelf};
 
-mod hosts;
-mod limits;
-mod links;
 mod replaying;
-mod routers;
 mod rows;
 mod texts;
 

@@ -1,10 +1,6 @@
 // Whole replays, each compared with what must be written.
 use crate::status::Status;
-use crate::tests::hosts::hosts;
-use crate::tests::limits::limits;
-use crate::tests::links::links;
-use crate::tests::routers::routers;
-use crate::tests::rows::{long_walk, rows, walk, walk_report, walk_trace};
+use crate::tests::rows::{configs, rows};
 use crate::tests::words;
 use crate::top::run;
 use std::sync::atomic::{AtomicU64, Ordering};
@@ -13,7 +9,11 @@ use std::thread::Threads;
 use tva_base::decimal;
 use tva_outside::{Gate, MemoryShelf, MemorySink, OpenGate};
 
-// How a replay of the trace ends, whose writes go to `out`.
+// The first trace of the worked replays.
+static WALK: &str =
+    "time,node,kind,src,dst,payload,shim\n0,A,send,,10.0.1.1,77,\n10000000,A,send,,10.0.1.1,1000,\n";
+
+// How a replay of the trace under the configuration of that name ends, whose writes go to `out`.
 fn replay<R: Threads + Sync + AllocGlobal, G: Gate>(
     rt: &R,
     config: &str,
@@ -22,66 +22,24 @@ fn replay<R: Threads + Sync + AllocGlobal, G: Gate>(
     gate: &G,
 ) -> Result<Status, Fail> {
     let mut shelf = MemoryShelf::new(rt.alloc());
-    shelf.put("config", config.as_bytes())?;
+    for (name, text) in configs() {
+        if *name == config {
+            shelf.put("config", text.as_bytes())?;
+        }
+    }
     shelf.put("trace", trace)?;
     let words = words(rt, "replay config trace")?;
     Ok(run(rt, rt.alloc(), &words, &mut shelf, out, gate))
 }
 
-// The replay ends with that status and writes just that.
-fn is_replayed<R: Threads + Sync + AllocGlobal>(
-    rt: &R,
-    config: &str,
-    trace: &str,
-    number: u8,
-    written: &str,
-) -> Result<bool, Fail> {
-    let mut out = MemorySink::new(rt.alloc(), 4096);
-    let status = replay(rt, config, trace.as_bytes(), &mut out, &OpenGate)?;
-    Ok(status.number() == number && out.bytes() == written.as_bytes())
-}
-
+// Where there is memory a replay ends with its report, and not with want of memory.
 #[test]
-fn worked_replays(rt: HostRuntime) -> Result<(), Fail> {
+fn answers_with_memory(rt: HostRuntime) -> Result<(), Fail> {
     for (name, config, trace, number, written) in rows() {
-        let is_so = is_replayed(&rt, config, trace, *number, written)?;
-        assert!(rt; is_so, "{name}");
-    }
-    Ok(())
-}
-
-#[test]
-fn replays_of_one_router(rt: HostRuntime) -> Result<(), Fail> {
-    for (name, config, trace, number, written) in routers() {
-        let is_so = is_replayed(&rt, config, trace, *number, written)?;
-        assert!(rt; is_so, "{name}");
-    }
-    Ok(())
-}
-
-#[test]
-fn replays_of_links(rt: HostRuntime) -> Result<(), Fail> {
-    for (name, config, trace, number, written) in links() {
-        let is_so = is_replayed(&rt, config, trace, *number, written)?;
-        assert!(rt; is_so, "{name}");
-    }
-    Ok(())
-}
-
-#[test]
-fn replays_of_hosts(rt: HostRuntime) -> Result<(), Fail> {
-    for (name, config, trace, number, written) in hosts() {
-        let is_so = is_replayed(&rt, config, trace, *number, written)?;
-        assert!(rt; is_so, "{name}");
-    }
-    Ok(())
-}
-
-#[test]
-fn replays_to_their_limits(rt: HostRuntime) -> Result<(), Fail> {
-    for (name, config, trace, number, written) in limits() {
-        let is_so = is_replayed(&rt, config, trace, *number, written)?;
-        assert!(rt; is_so, "{name}");
+        let mut out = MemorySink::new(rt.alloc(), 4096);
+        let status = replay(&rt, config, trace.as_bytes(), &mut out, &OpenGate)?;
+        assert_eq!(rt; status.number(), *number, "{name}");
+        assert_eq!(rt; out.bytes(), written.as_bytes(), "{name}");
     }
     Ok(())
 }
@@ -91,18 +49,10 @@ fn replays_to_their_limits(rt: HostRuntime) -> Result<(), Fail> {
 fn the_second_write_fails(rt: HostRuntime) -> Result<(), Fail> {
     let mut out = MemorySink::new(rt.alloc(), 4096);
     out.fail_at(2)?;
-    let status = replay(&rt, walk(), walk_trace().as_bytes(), &mut out, &OpenGate)?;
+    let status = replay(&rt, "walk", WALK.as_bytes(), &mut out, &OpenGate)?;
     assert_eq!(rt; status.number(), 4);
     let first = "0 A send A#1 100 request queued:R1\n0 A start A#1 100 R1 request 1000\n";
     assert_eq!(rt; out.bytes(), first.as_bytes());
-    Ok(())
-}
-
-// Where there is memory a replay ends with its report, and not with want of memory.
-#[test]
-fn answers_with_memory(rt: HostRuntime) -> Result<(), Fail> {
-    let is_so = is_replayed(&rt, walk(), walk_trace(), 0, walk_report())?;
-    assert!(rt; is_so);
     Ok(())
 }
 
@@ -110,16 +60,18 @@ fn answers_with_memory(rt: HostRuntime) -> Result<(), Fail> {
 #[test]
 fn generated_rows_replay_alike(rt: HostRuntime) -> Result<(), Fail> {
     let mut shelf = MemoryShelf::new(rt.alloc());
-    shelf.put("walk", long_walk().as_bytes())?;
+    for (name, text) in configs() {
+        shelf.put(*name, text.as_bytes())?;
+    }
     let mut trace = MemorySink::new(rt.alloc(), 1 << 20);
-    let words = words(&rt, "gen 7 10000 walk")?;
+    let words = words(&rt, "gen 7 10000 long")?;
     let status = run(&rt, rt.alloc(), &words, &mut shelf, &mut trace, &OpenGate);
     assert_eq!(rt; status.number(), 0);
     let mut first = MemorySink::new(rt.alloc(), 1 << 20);
-    let status = replay(&rt, long_walk(), trace.bytes(), &mut first, &OpenGate)?;
+    let status = replay(&rt, "long", trace.bytes(), &mut first, &OpenGate)?;
     assert_eq!(rt; status.number(), 0);
     let mut second = MemorySink::new(rt.alloc(), 1 << 20);
-    let status = replay(&rt, long_walk(), trace.bytes(), &mut second, &OpenGate)?;
+    let status = replay(&rt, "long", trace.bytes(), &mut second, &OpenGate)?;
     assert_eq!(rt; status.number(), 0);
     assert!(rt; first.bytes() == second.bytes());
     Ok(())
@@ -222,7 +174,7 @@ fn halves_run_at_once(rt: HostRuntime) -> Result<(), Fail> {
         late: AtomicU64::new(0),
     };
     let mut out = MemorySink::new(rt.alloc(), 4096);
-    let status = replay(&rt, walk(), walk_trace().as_bytes(), &mut out, &gate)?;
+    let status = replay(&rt, "walk", WALK.as_bytes(), &mut out, &gate)?;
     assert_eq!(rt; status.number(), 0);
     assert_eq!(rt; gate.late.load(Ordering::SeqCst), 0);
     assert_eq!(rt; gate.first.load(Ordering::SeqCst), 10);

@@ -1,174 +1,260 @@
-// Worked replays, by what they show: name, configuration, trace, status and what is written.
+// Worked replays, by what they show. The last eight come from outside.
 
-static ROWS: [(&str, &str, &str, u8, &str); 20] = [
+// Configurations by their names.
+static CONFIGS: [(&str, &str); 14] = [
+    (
+        "edge",
+        "horizon_ns = 1000000000000\nmax_events = 1000\n[[router]]\nname = \"R1\"\nmaster = \"000102030405060708090a0b0c0d0e0f101112131415161718191a1b1c1d1e1f\"\nslots = 8\n",
+    ),
+    (
+        "slots",
+        "horizon_ns = 1000000000000\nmax_events = 1000\n[[router]]\nname = \"R1\"\nmaster = \"000102030405060708090a0b0c0d0e0f101112131415161718191a1b1c1d1e1f\"\nslots = 2\n",
+    ),
+    (
+        "walk",
+        "horizon_ns = 1000000000\nmax_events = 1000\n[[router]]\nname = \"R1\"\nmaster = \"000102030405060708090a0b0c0d0e0f101112131415161718191a1b1c1d1e1f\"\nslots = 8\n[[host]]\nname = \"A\"\naddress = \"10.0.0.1\"\npolicy = \"client\"\n[[host]]\nname = \"B\"\naddress = \"10.0.1.1\"\npolicy = \"server\"\n[[link]]\nfrom = \"A\"\nto = \"R1\"\nns_per_byte = 10\ndelay_ns = 1000000\ntag = 1\n[[link]]\nfrom = \"R1\"\nto = \"A\"\nns_per_byte = 10\ndelay_ns = 1000000\n[[link]]\nfrom = \"R1\"\nto = \"B\"\nns_per_byte = 10\ndelay_ns = 1000000\n[[link]]\nfrom = \"B\"\nto = \"R1\"\nns_per_byte = 10\ndelay_ns = 1000000\ntag = 2\n[[route]]\nrouter = \"R1\"\nprefix = \"10.0.0.0/24\"\nvia = \"A\"\n[[route]]\nrouter = \"R1\"\nprefix = \"10.0.1.0/24\"\nvia = \"B\"\n",
+    ),
+    (
+        "long",
+        "horizon_ns = 10000000000\nmax_events = 1000000\n[[router]]\nname = \"R1\"\nmaster = \"000102030405060708090a0b0c0d0e0f101112131415161718191a1b1c1d1e1f\"\nslots = 8\n[[host]]\nname = \"A\"\naddress = \"10.0.0.1\"\npolicy = \"client\"\n[[host]]\nname = \"B\"\naddress = \"10.0.1.1\"\npolicy = \"server\"\n[[link]]\nfrom = \"A\"\nto = \"R1\"\nns_per_byte = 10\ndelay_ns = 1000000\ntag = 1\n[[link]]\nfrom = \"R1\"\nto = \"A\"\nns_per_byte = 10\ndelay_ns = 1000000\n[[link]]\nfrom = \"R1\"\nto = \"B\"\nns_per_byte = 10\ndelay_ns = 1000000\n[[link]]\nfrom = \"B\"\nto = \"R1\"\nns_per_byte = 10\ndelay_ns = 1000000\ntag = 2\n[[route]]\nrouter = \"R1\"\nprefix = \"10.0.0.0/24\"\nvia = \"A\"\n[[route]]\nrouter = \"R1\"\nprefix = \"10.0.1.0/24\"\nvia = \"B\"\n",
+    ),
+    (
+        "just",
+        "horizon_ns = 1000000000\nmax_events = 18\n[[router]]\nname = \"R1\"\nmaster = \"000102030405060708090a0b0c0d0e0f101112131415161718191a1b1c1d1e1f\"\nslots = 8\n[[host]]\nname = \"A\"\naddress = \"10.0.0.1\"\npolicy = \"client\"\n[[host]]\nname = \"B\"\naddress = \"10.0.1.1\"\npolicy = \"server\"\n[[link]]\nfrom = \"A\"\nto = \"R1\"\nns_per_byte = 10\ndelay_ns = 1000000\ntag = 1\n[[link]]\nfrom = \"R1\"\nto = \"A\"\nns_per_byte = 10\ndelay_ns = 1000000\n[[link]]\nfrom = \"R1\"\nto = \"B\"\nns_per_byte = 10\ndelay_ns = 1000000\n[[link]]\nfrom = \"B\"\nto = \"R1\"\nns_per_byte = 10\ndelay_ns = 1000000\ntag = 2\n[[route]]\nrouter = \"R1\"\nprefix = \"10.0.0.0/24\"\nvia = \"A\"\n[[route]]\nrouter = \"R1\"\nprefix = \"10.0.1.0/24\"\nvia = \"B\"\n",
+    ),
+    (
+        "less",
+        "horizon_ns = 1000000000\nmax_events = 17\n[[router]]\nname = \"R1\"\nmaster = \"000102030405060708090a0b0c0d0e0f101112131415161718191a1b1c1d1e1f\"\nslots = 8\n[[host]]\nname = \"A\"\naddress = \"10.0.0.1\"\npolicy = \"client\"\n[[host]]\nname = \"B\"\naddress = \"10.0.1.1\"\npolicy = \"server\"\n[[link]]\nfrom = \"A\"\nto = \"R1\"\nns_per_byte = 10\ndelay_ns = 1000000\ntag = 1\n[[link]]\nfrom = \"R1\"\nto = \"A\"\nns_per_byte = 10\ndelay_ns = 1000000\n[[link]]\nfrom = \"R1\"\nto = \"B\"\nns_per_byte = 10\ndelay_ns = 1000000\n[[link]]\nfrom = \"B\"\nto = \"R1\"\nns_per_byte = 10\ndelay_ns = 1000000\ntag = 2\n[[route]]\nrouter = \"R1\"\nprefix = \"10.0.0.0/24\"\nvia = \"A\"\n[[route]]\nrouter = \"R1\"\nprefix = \"10.0.1.0/24\"\nvia = \"B\"\n",
+    ),
+    (
+        "c6",
+        "horizon_ns = 1000000000000\nmax_events = 2\n[[router]]\nname = \"R1\"\nmaster = \"000102030405060708090a0b0c0d0e0f101112131415161718191a1b1c1d1e1f\"\nslots = 8\n",
+    ),
+    (
+        "c7",
+        "horizon_ns = 1000000000\nmax_events = 7\n[[router]]\nname = \"R1\"\nmaster = \"000102030405060708090a0b0c0d0e0f101112131415161718191a1b1c1d1e1f\"\nslots = 8\n[[host]]\nname = \"A\"\naddress = \"10.0.0.1\"\npolicy = \"client\"\n[[host]]\nname = \"B\"\naddress = \"10.0.1.1\"\npolicy = \"server\"\n[[link]]\nfrom = \"A\"\nto = \"R1\"\nns_per_byte = 10\ndelay_ns = 1000000\ntag = 1\n[[link]]\nfrom = \"R1\"\nto = \"A\"\nns_per_byte = 10\ndelay_ns = 1000000\n[[link]]\nfrom = \"R1\"\nto = \"B\"\nns_per_byte = 10\ndelay_ns = 1000000\n[[link]]\nfrom = \"B\"\nto = \"R1\"\nns_per_byte = 10\ndelay_ns = 1000000\ntag = 2\n[[route]]\nrouter = \"R1\"\nprefix = \"10.0.0.0/24\"\nvia = \"A\"\n[[route]]\nrouter = \"R1\"\nprefix = \"10.0.1.0/24\"\nvia = \"B\"\n",
+    ),
+    (
+        "c8",
+        "horizon_ns = 1000000000000\nmax_events = 4\n[[router]]\nname = \"R1\"\nmaster = \"000102030405060708090a0b0c0d0e0f101112131415161718191a1b1c1d1e1f\"\nslots = 8\n[[router]]\nname = \"R2\"\nmaster = \"000102030405060708090a0b0c0d0e0f101112131415161718191a1b1c1d1e1f\"\nslots = 8\n[[link]]\nfrom = \"R1\"\nto = \"R2\"\nns_per_byte = 10000\ndelay_ns = 1000000\ntag = 1\n[[link]]\nfrom = \"R2\"\nto = \"R1\"\nns_per_byte = 10\ndelay_ns = 1000000\ntag = 1\n[[route]]\nrouter = \"R1\"\nprefix = \"10.0.1.0/24\"\nvia = \"R2\"\n",
+    ),
+    (
+        "c9",
+        "horizon_ns = 1000000000000\nmax_events = 1000\n[[router]]\nname = \"R1\"\nmaster = \"000102030405060708090a0b0c0d0e0f101112131415161718191a1b1c1d1e1f\"\nslots = 8\n[[router]]\nname = \"R2\"\nmaster = \"000102030405060708090a0b0c0d0e0f101112131415161718191a1b1c1d1e1f\"\nslots = 8\n[[link]]\nfrom = \"R1\"\nto = \"R2\"\nns_per_byte = 10\ndelay_ns = 1000000\ntag = 1\n[[link]]\nfrom = \"R2\"\nto = \"R1\"\nns_per_byte = 10\ndelay_ns = 1000000\ntag = 1\n[[route]]\nrouter = \"R1\"\nprefix = \"10.0.1.0/24\"\nvia = \"R2\"\n",
+    ),
+    (
+        "c10",
+        "horizon_ns = 1000000000000\nmax_events = 1000\n[[router]]\nname = \"R1\"\nmaster = \"000102030405060708090a0b0c0d0e0f101112131415161718191a1b1c1d1e1f\"\nslots = 8\n[[router]]\nname = \"R2\"\nmaster = \"000102030405060708090a0b0c0d0e0f101112131415161718191a1b1c1d1e1f\"\nslots = 8\n[[link]]\nfrom = \"R1\"\nto = \"R2\"\nns_per_byte = 10\ndelay_ns = 1000000\ntag = 1\n[[link]]\nfrom = \"R2\"\nto = \"R1\"\nns_per_byte = 10\ndelay_ns = 1000000\ntag = 1\n[[route]]\nrouter = \"R1\"\nprefix = \"10.0.1.0/24\"\nvia = \"R2\"\n",
+    ),
+    (
+        "c11",
+        "horizon_ns = 1000000000\nmax_events = 1000\n[[router]]\nname = \"R1\"\nmaster = \"000102030405060708090a0b0c0d0e0f101112131415161718191a1b1c1d1e1f\"\nslots = 8\n[[host]]\nname = \"A\"\naddress = \"10.0.0.1\"\npolicy = \"client\"\n[[host]]\nname = \"B\"\naddress = \"10.0.1.1\"\n[[link]]\nfrom = \"A\"\nto = \"R1\"\nns_per_byte = 10\ndelay_ns = 1000000\ntag = 1\n[[link]]\nfrom = \"R1\"\nto = \"A\"\nns_per_byte = 10\ndelay_ns = 1000000\n[[link]]\nfrom = \"R1\"\nto = \"B\"\nns_per_byte = 10\ndelay_ns = 1000000\n[[link]]\nfrom = \"B\"\nto = \"R1\"\nns_per_byte = 10\ndelay_ns = 1000000\ntag = 2\n[[route]]\nrouter = \"R1\"\nprefix = \"10.0.0.0/24\"\nvia = \"A\"\n[[route]]\nrouter = \"R1\"\nprefix = \"10.0.1.0/24\"\nvia = \"B\"\n",
+    ),
+    (
+        "c12",
+        "horizon_ns = 10000000000\nmax_events = 1000\n[[host]]\nname = \"A\"\naddress = \"10.0.0.1\"\npolicy = \"server\"\n[[host]]\nname = \"B\"\naddress = \"10.0.1.1\"\npolicy = \"server\"\n[[link]]\nfrom = \"A\"\nto = \"B\"\nns_per_byte = 10\ndelay_ns = 1000000\n[[link]]\nfrom = \"B\"\nto = \"A\"\nns_per_byte = 10\ndelay_ns = 1000000\n",
+    ),
+    (
+        "c13",
+        "horizon_ns = 1000000000000\nmax_events = 1000\n[[router]]\nname = \"R1\"\nmaster = \"000102030405060708090a0b0c0d0e0f101112131415161718191a1b1c1d1e1f\"\nslots = 8\nclock_offset_ns = 2500000000\n",
+    ),
+];
+
+// What it shows, the name of the configuration, the trace, the status and what is written.
+static ROWS: [(&str, &str, &str, u8, &str); 27] = [
     (
         "a walk from a request to nonce packets",
-        "horizon_ns = 1000000000\nmax_events = 1000\n[[router]]\nname = \"R1\"\nmaster = \"000102030405060708090a0b0c0d0e0f101112131415161718191a1b1c1d1e1f\"\nslots = 8\n[[host]]\nname = \"A\"\naddress = \"10.0.0.1\"\npolicy = \"client\"\n[[host]]\nname = \"B\"\naddress = \"10.0.1.1\"\npolicy = \"server\"\n[[link]]\nfrom = \"A\"\nto = \"R1\"\nns_per_byte = 10\ndelay_ns = 1000000\ntag = 1\n[[link]]\nfrom = \"R1\"\nto = \"A\"\nns_per_byte = 10\ndelay_ns = 1000000\n[[link]]\nfrom = \"R1\"\nto = \"B\"\nns_per_byte = 10\ndelay_ns = 1000000\n[[link]]\nfrom = \"B\"\nto = \"R1\"\nns_per_byte = 10\ndelay_ns = 1000000\ntag = 2\n[[route]]\nrouter = \"R1\"\nprefix = \"10.0.0.0/24\"\nvia = \"A\"\n[[route]]\nrouter = \"R1\"\nprefix = \"10.0.1.0/24\"\nvia = \"B\"\n",
+        "walk",
         "time,node,kind,src,dst,payload,shim\n0,A,send,,10.0.1.1,77,\n10000000,A,send,,10.0.1.1,1000,\n",
         0,
         "0 A send A#1 100 request queued:R1\n0 A start A#1 100 R1 request 1000\n1001000 R1 in A#1 100 A request - queued:B\n1001000 R1 start A#1 110 B request 1002100\n2002100 B recv A#1 110 R1 request - B#1/35/request/grant/queued:R1\n2002100 B start B#1 35 R1 request 2002450\n3002450 R1 in B#1 35 B request - queued:A\n3002450 R1 start B#1 45 A request 3002900\n4002900 A recv B#1 45 R1 request grant A#2/52/list/grant/queued:R1\n4002900 A start A#2 52 R1 regular 4003420\n5003420 R1 in A#2 52 A regular - queued:B\n5003420 R1 start A#2 52 B regular 5003940\n6003940 B recv A#2 52 R1 regular grant -\n10000000 A send A#3 1028 nonce queued:R1\n10000000 A start A#3 1028 R1 regular 10010280\n11010280 R1 in A#3 1028 A regular - queued:B\n11010280 R1 start A#3 1028 B regular 11020560\n12020560 B recv A#3 1028 R1 regular - -\ntotal events=18 routed=4 authorised=2 demoted=0 dropped=0 started=8 received=4 bytes=1077\n",
     ),
     (
         "a renewal",
-        "horizon_ns = 10000000000\nmax_events = 1000\n[[router]]\nname = \"R1\"\nmaster = \"000102030405060708090a0b0c0d0e0f101112131415161718191a1b1c1d1e1f\"\nslots = 8\n[[host]]\nname = \"A\"\naddress = \"10.0.0.1\"\npolicy = \"client\"\n[[host]]\nname = \"B\"\naddress = \"10.0.1.1\"\npolicy = \"server\"\n[[link]]\nfrom = \"A\"\nto = \"R1\"\nns_per_byte = 10\ndelay_ns = 1000000\ntag = 1\n[[link]]\nfrom = \"R1\"\nto = \"A\"\nns_per_byte = 10\ndelay_ns = 1000000\n[[link]]\nfrom = \"R1\"\nto = \"B\"\nns_per_byte = 10\ndelay_ns = 1000000\n[[link]]\nfrom = \"B\"\nto = \"R1\"\nns_per_byte = 10\ndelay_ns = 1000000\ntag = 2\n[[route]]\nrouter = \"R1\"\nprefix = \"10.0.0.0/24\"\nvia = \"A\"\n[[route]]\nrouter = \"R1\"\nprefix = \"10.0.1.0/24\"\nvia = \"B\"\n",
+        "long",
         "time,node,kind,src,dst,payload,shim\n0,A,send,,10.0.1.1,77,\n10000000,A,send,,10.0.1.1,1000,\n6000000000,A,send,,10.0.1.1,1000,\n",
         0,
         "0 A send A#1 100 request queued:R1\n0 A start A#1 100 R1 request 1000\n1001000 R1 in A#1 100 A request - queued:B\n1001000 R1 start A#1 110 B request 1002100\n2002100 B recv A#1 110 R1 request - B#1/35/request/grant/queued:R1\n2002100 B start B#1 35 R1 request 2002450\n3002450 R1 in B#1 35 B request - queued:A\n3002450 R1 start B#1 45 A request 3002900\n4002900 A recv B#1 45 R1 request grant A#2/52/list/grant/queued:R1\n4002900 A start A#2 52 R1 regular 4003420\n5003420 R1 in A#2 52 A regular - queued:B\n5003420 R1 start A#2 52 B regular 5003940\n6003940 B recv A#2 52 R1 regular grant -\n10000000 A send A#3 1028 nonce queued:R1\n10000000 A start A#3 1028 R1 regular 10010280\n11010280 R1 in A#3 1028 A regular - queued:B\n11010280 R1 start A#3 1028 B regular 11020560\n12020560 B recv A#3 1028 R1 regular - -\n6000000000 A send A#4 1040 renewal queued:R1\n6000000000 A start A#4 1040 R1 regular 6000010400\n6001010400 R1 in A#4 1040 A regular - queued:B\n6001010400 R1 start A#4 1040 B regular 6001020800\n6002020800 B recv A#4 1040 R1 renewal - B#2/52/renewal/grant/queued:R1\n6002020800 B start B#2 52 R1 regular 6002021320\n6003021320 R1 in B#2 52 B regular - queued:A\n6003021320 R1 start B#2 52 A regular 6003021840\n6004021840 A recv B#2 52 R1 renewal grant A#5/52/list/grant/queued:R1\n6004021840 A start A#5 52 R1 regular 6004022360\n6005022360 R1 in A#5 52 A regular - queued:B\n6005022360 R1 start A#5 52 B regular 6005022880\n6006022880 B recv A#5 52 R1 regular grant -\ntotal events=31 routed=7 authorised=5 demoted=0 dropped=0 started=14 received=7 bytes=2077\n",
     ),
     (
         "a wrong nonce",
-        "horizon_ns = 1000000000\nmax_events = 1000\n[[router]]\nname = \"R1\"\nmaster = \"000102030405060708090a0b0c0d0e0f101112131415161718191a1b1c1d1e1f\"\nslots = 8\n[[host]]\nname = \"A\"\naddress = \"10.0.0.1\"\npolicy = \"client\"\n[[host]]\nname = \"B\"\naddress = \"10.0.1.1\"\npolicy = \"server\"\n[[link]]\nfrom = \"A\"\nto = \"R1\"\nns_per_byte = 10\ndelay_ns = 1000000\ntag = 1\n[[link]]\nfrom = \"R1\"\nto = \"A\"\nns_per_byte = 10\ndelay_ns = 1000000\n[[link]]\nfrom = \"R1\"\nto = \"B\"\nns_per_byte = 10\ndelay_ns = 1000000\n[[link]]\nfrom = \"B\"\nto = \"R1\"\nns_per_byte = 10\ndelay_ns = 1000000\ntag = 2\n[[route]]\nrouter = \"R1\"\nprefix = \"10.0.0.0/24\"\nvia = \"A\"\n[[route]]\nrouter = \"R1\"\nprefix = \"10.0.1.0/24\"\nvia = \"B\"\n",
+        "walk",
         "time,node,kind,src,dst,payload,shim\n0,A,send,,10.0.1.1,77,\n10000000,A,send,,10.0.1.1,1000,\n20000000,A,nonce,10.0.0.1,10.0.1.1,0,ffffffffffff\n",
         0,
         "0 A send A#1 100 request queued:R1\n0 A start A#1 100 R1 request 1000\n1001000 R1 in A#1 100 A request - queued:B\n1001000 R1 start A#1 110 B request 1002100\n2002100 B recv A#1 110 R1 request - B#1/35/request/grant/queued:R1\n2002100 B start B#1 35 R1 request 2002450\n3002450 R1 in B#1 35 B request - queued:A\n3002450 R1 start B#1 45 A request 3002900\n4002900 A recv B#1 45 R1 request grant A#2/52/list/grant/queued:R1\n4002900 A start A#2 52 R1 regular 4003420\n5003420 R1 in A#2 52 A regular - queued:B\n5003420 R1 start A#2 52 B regular 5003940\n6003940 B recv A#2 52 R1 regular grant -\n10000000 A send A#3 1028 nonce queued:R1\n10000000 A start A#3 1028 R1 regular 10010280\n11010280 R1 in A#3 1028 A regular - queued:B\n11010280 R1 start A#3 1028 B regular 11020560\n12020560 B recv A#3 1028 R1 regular - -\n20000000 A send A#4 28 trace queued:R1\n20000000 A start A#4 28 R1 regular 20000280\n21000280 R1 in A#4 28 A legacy unknown-nonce queued:B\n21000280 R1 start A#4 28 B legacy 21000560\n22000560 B recv A#4 28 R1 demoted - B#2/41/list/notice/queued:R1\n22000560 B start B#2 41 R1 regular 22000970\n23000970 R1 in B#2 41 B regular - queued:A\n23000970 R1 start B#2 41 A regular 23001380\n24001380 A recv B#2 41 R1 regular notice -\ntotal events=27 routed=6 authorised=3 demoted=1 dropped=0 started=12 received=6 bytes=1077\n",
     ),
     (
         "no rows",
-        "horizon_ns = 1000000000000\nmax_events = 1000\n[[router]]\nname = \"R1\"\nmaster = \"000102030405060708090a0b0c0d0e0f101112131415161718191a1b1c1d1e1f\"\nslots = 8\n",
+        "edge",
         "time,node,kind,src,dst,payload,shim\n",
         0,
         "total events=0 routed=0 authorised=0 demoted=0 dropped=0 started=0 received=0 bytes=0\n",
     ),
     (
-        "thirty-two units and one more",
-        "horizon_ns = 1000000000000\nmax_events = 1000\n[[router]]\nname = \"R1\"\nmaster = \"000102030405060708090a0b0c0d0e0f101112131415161718191a1b1c1d1e1f\"\nslots = 8\n",
-        "time,node,kind,src,dst,payload,shim\n5000000000,R1,list,10.0.0.1,10.0.1.1,984,00000000000a/32/10/0/R1@5\n5000000000,R1,list,10.0.0.1,10.0.1.1,984,00000000000a/32/10/0/R1@5\n5000000000,R1,list,10.0.0.1,10.0.1.1,984,00000000000a/32/10/0/R1@5\n5000000000,R1,list,10.0.0.1,10.0.1.1,984,00000000000a/32/10/0/R1@5\n5000000000,R1,list,10.0.0.1,10.0.1.1,984,00000000000a/32/10/0/R1@5\n5000000000,R1,list,10.0.0.1,10.0.1.1,984,00000000000a/32/10/0/R1@5\n5000000000,R1,list,10.0.0.1,10.0.1.1,984,00000000000a/32/10/0/R1@5\n5000000000,R1,list,10.0.0.1,10.0.1.1,984,00000000000a/32/10/0/R1@5\n5000000000,R1,list,10.0.0.1,10.0.1.1,984,00000000000a/32/10/0/R1@5\n5000000000,R1,list,10.0.0.1,10.0.1.1,984,00000000000a/32/10/0/R1@5\n5000000000,R1,list,10.0.0.1,10.0.1.1,984,00000000000a/32/10/0/R1@5\n5000000000,R1,list,10.0.0.1,10.0.1.1,984,00000000000a/32/10/0/R1@5\n5000000000,R1,list,10.0.0.1,10.0.1.1,984,00000000000a/32/10/0/R1@5\n5000000000,R1,list,10.0.0.1,10.0.1.1,984,00000000000a/32/10/0/R1@5\n5000000000,R1,list,10.0.0.1,10.0.1.1,984,00000000000a/32/10/0/R1@5\n5000000000,R1,list,10.0.0.1,10.0.1.1,984,00000000000a/32/10/0/R1@5\n5000000000,R1,list,10.0.0.1,10.0.1.1,984,00000000000a/32/10/0/R1@5\n5000000000,R1,list,10.0.0.1,10.0.1.1,984,00000000000a/32/10/0/R1@5\n5000000000,R1,list,10.0.0.1,10.0.1.1,984,00000000000a/32/10/0/R1@5\n5000000000,R1,list,10.0.0.1,10.0.1.1,984,00000000000a/32/10/0/R1@5\n5000000000,R1,list,10.0.0.1,10.0.1.1,984,00000000000a/32/10/0/R1@5\n5000000000,R1,list,10.0.0.1,10.0.1.1,984,00000000000a/32/10/0/R1@5\n5000000000,R1,list,10.0.0.1,10.0.1.1,984,00000000000a/32/10/0/R1@5\n5000000000,R1,list,10.0.0.1,10.0.1.1,984,00000000000a/32/10/0/R1@5\n5000000000,R1,list,10.0.0.1,10.0.1.1,984,00000000000a/32/10/0/R1@5\n5000000000,R1,list,10.0.0.1,10.0.1.1,984,00000000000a/32/10/0/R1@5\n5000000000,R1,list,10.0.0.1,10.0.1.1,984,00000000000a/32/10/0/R1@5\n5000000000,R1,list,10.0.0.1,10.0.1.1,984,00000000000a/32/10/0/R1@5\n5000000000,R1,list,10.0.0.1,10.0.1.1,984,00000000000a/32/10/0/R1@5\n5000000000,R1,list,10.0.0.1,10.0.1.1,984,00000000000a/32/10/0/R1@5\n5000000000,R1,list,10.0.0.1,10.0.1.1,984,00000000000a/32/10/0/R1@5\n5000000000,R1,list,10.0.0.1,10.0.1.1,984,00000000000a/32/10/0/R1@5\n5000000000,R1,list,10.0.0.1,10.0.1.1,984,00000000000a/32/10/0/R1@5\n",
-        0,
-        "5000000000 R1 in R1#1 1024 trace regular - dropped:no-route\n5000000000 R1 in R1#2 1024 trace regular - dropped:no-route\n5000000000 R1 in R1#3 1024 trace regular - dropped:no-route\n5000000000 R1 in R1#4 1024 trace regular - dropped:no-route\n5000000000 R1 in R1#5 1024 trace regular - dropped:no-route\n5000000000 R1 in R1#6 1024 trace regular - dropped:no-route\n5000000000 R1 in R1#7 1024 trace regular - dropped:no-route\n5000000000 R1 in R1#8 1024 trace regular - dropped:no-route\n5000000000 R1 in R1#9 1024 trace regular - dropped:no-route\n5000000000 R1 in R1#10 1024 trace regular - dropped:no-route\n5000000000 R1 in R1#11 1024 trace regular - dropped:no-route\n5000000000 R1 in R1#12 1024 trace regular - dropped:no-route\n5000000000 R1 in R1#13 1024 trace regular - dropped:no-route\n5000000000 R1 in R1#14 1024 trace regular - dropped:no-route\n5000000000 R1 in R1#15 1024 trace regular - dropped:no-route\n5000000000 R1 in R1#16 1024 trace regular - dropped:no-route\n5000000000 R1 in R1#17 1024 trace regular - dropped:no-route\n5000000000 R1 in R1#18 1024 trace regular - dropped:no-route\n5000000000 R1 in R1#19 1024 trace regular - dropped:no-route\n5000000000 R1 in R1#20 1024 trace regular - dropped:no-route\n5000000000 R1 in R1#21 1024 trace regular - dropped:no-route\n5000000000 R1 in R1#22 1024 trace regular - dropped:no-route\n5000000000 R1 in R1#23 1024 trace regular - dropped:no-route\n5000000000 R1 in R1#24 1024 trace regular - dropped:no-route\n5000000000 R1 in R1#25 1024 trace regular - dropped:no-route\n5000000000 R1 in R1#26 1024 trace regular - dropped:no-route\n5000000000 R1 in R1#27 1024 trace regular - dropped:no-route\n5000000000 R1 in R1#28 1024 trace regular - dropped:no-route\n5000000000 R1 in R1#29 1024 trace regular - dropped:no-route\n5000000000 R1 in R1#30 1024 trace regular - dropped:no-route\n5000000000 R1 in R1#31 1024 trace regular - dropped:no-route\n5000000000 R1 in R1#32 1024 trace regular - dropped:no-route\n5000000000 R1 in R1#33 1024 trace legacy over-n dropped:no-route\ntotal events=33 routed=33 authorised=32 demoted=1 dropped=33 started=0 received=0 bytes=0\n",
-    ),
-    (
         "a life ends and a new run begins",
-        "horizon_ns = 1000000000000\nmax_events = 1000\n[[router]]\nname = \"R1\"\nmaster = \"000102030405060708090a0b0c0d0e0f101112131415161718191a1b1c1d1e1f\"\nslots = 8\n",
+        "edge",
         "time,node,kind,src,dst,payload,shim\n5000000000,R1,list,10.0.0.1,10.0.1.1,472,00000000000a/1/2/0/R1@5\n6000000000,R1,list,10.0.0.1,10.0.1.1,472,00000000000a/1/2/0/R1@5\n6100000000,R1,list,10.0.0.1,10.0.1.1,472,00000000000a/1/2/0/R1@5\n6200000000,R1,list,10.0.0.1,10.0.1.1,472,00000000000a/1/2/0/R1@5\n7000000000,R1,list,10.0.0.1,10.0.1.1,472,00000000000a/1/2/0/R1@5\n",
         0,
         "5000000000 R1 in R1#1 512 trace regular - dropped:no-route\n6000000000 R1 in R1#2 512 trace regular - dropped:no-route\n6100000000 R1 in R1#3 512 trace regular - dropped:no-route\n6200000000 R1 in R1#4 512 trace legacy over-n dropped:no-route\n7000000000 R1 in R1#5 512 trace legacy expired dropped:no-route\ntotal events=5 routed=5 authorised=3 demoted=2 dropped=5 started=0 received=0 bytes=0\n",
     ),
     (
         "a life that has not ended",
-        "horizon_ns = 1000000000000\nmax_events = 1000\n[[router]]\nname = \"R1\"\nmaster = \"000102030405060708090a0b0c0d0e0f101112131415161718191a1b1c1d1e1f\"\nslots = 8\n",
+        "edge",
         "time,node,kind,src,dst,payload,shim\n5000000000,R1,list,10.0.0.1,10.0.1.1,472,00000000000a/1/2/0/R1@5\n5999999999,R1,list,10.0.0.1,10.0.1.1,472,00000000000a/1/2/0/R1@5\n6100000000,R1,list,10.0.0.1,10.0.1.1,472,00000000000a/1/2/0/R1@5\n6200000000,R1,list,10.0.0.1,10.0.1.1,472,00000000000a/1/2/0/R1@5\n7000000000,R1,list,10.0.0.1,10.0.1.1,472,00000000000a/1/2/0/R1@5\n",
         0,
         "5000000000 R1 in R1#1 512 trace regular - dropped:no-route\n5999999999 R1 in R1#2 512 trace regular - dropped:no-route\n6100000000 R1 in R1#3 512 trace legacy over-n dropped:no-route\n6200000000 R1 in R1#4 512 trace legacy over-n dropped:no-route\n7000000000 R1 in R1#5 512 trace legacy expired dropped:no-route\ntotal events=5 routed=5 authorised=2 demoted=3 dropped=5 started=0 received=0 bytes=0\n",
     ),
     (
         "just below twice the budget",
-        "horizon_ns = 1000000000000\nmax_events = 1000\n[[router]]\nname = \"R1\"\nmaster = \"000102030405060708090a0b0c0d0e0f101112131415161718191a1b1c1d1e1f\"\nslots = 8\n",
+        "edge",
         "time,node,kind,src,dst,payload,shim\n5000000000,R1,list,10.0.0.1,10.0.1.1,983,00000000000a/1/2/0/R1@5\n6999000000,R1,list,10.0.0.1,10.0.1.1,984,00000000000a/1/2/0/R1@5\n",
         0,
         "5000000000 R1 in R1#1 1023 trace regular - dropped:no-route\n6999000000 R1 in R1#2 1024 trace regular - dropped:no-route\ntotal events=2 routed=2 authorised=2 demoted=0 dropped=2 started=0 received=0 bytes=0\n",
     ),
     (
         "credit is rounded up",
-        "horizon_ns = 1000000000000\nmax_events = 1000\n[[router]]\nname = \"R1\"\nmaster = \"000102030405060708090a0b0c0d0e0f101112131415161718191a1b1c1d1e1f\"\nslots = 8\n",
+        "edge",
         "time,node,kind,src,dst,payload,shim\n5000000000,R1,list,10.0.0.1,10.0.1.1,0,00000000000a/3/1/0/R1@5\n5013020833,R1,nonce,10.0.0.1,10.0.1.1,0,00000000000a\n5022135417,R1,nonce,10.0.0.1,10.0.1.1,0,00000000000a\n5031250002,R1,nonce,10.0.0.1,10.0.1.1,0,00000000000a\n",
         0,
         "5000000000 R1 in R1#1 40 trace regular - dropped:no-route\n5013020833 R1 in R1#2 28 trace regular - dropped:no-route\n5022135417 R1 in R1#3 28 trace regular - dropped:no-route\n5031250002 R1 in R1#4 28 trace legacy unknown-nonce dropped:no-route\ntotal events=4 routed=4 authorised=3 demoted=1 dropped=4 started=0 received=0 bytes=0\n",
     ),
     (
         "a newer second replaces",
-        "horizon_ns = 1000000000000\nmax_events = 1000\n[[router]]\nname = \"R1\"\nmaster = \"000102030405060708090a0b0c0d0e0f101112131415161718191a1b1c1d1e1f\"\nslots = 8\n",
+        "edge",
         "time,node,kind,src,dst,payload,shim\n6000000000,R1,list,10.0.0.1,10.0.1.1,24,00000000000a/1/16/0/R1@5\n6500000000,R1,list,10.0.0.1,10.0.1.1,24,00000000000a/1/16/0/R1@6\n7500000000,R1,list,10.0.0.1,10.0.1.1,24,00000000000a/1/16/0/R1@5\n8000000000,R1,list,10.0.0.1,10.0.1.1,24,00000000000a/1/16/0/R1@5\n8500000000,R1,list,10.0.0.1,10.0.1.1,24,00000000000a/1/16/0/R1@6\n",
         0,
         "6000000000 R1 in R1#1 64 trace regular - dropped:no-route\n6500000000 R1 in R1#2 64 trace regular - dropped:no-route\n7500000000 R1 in R1#3 64 trace legacy superseded dropped:no-route\n8000000000 R1 in R1#4 64 trace regular - dropped:no-route\n8500000000 R1 in R1#5 64 trace regular - dropped:no-route\ntotal events=5 routed=5 authorised=4 demoted=1 dropped=5 started=0 received=0 bytes=0\n",
     ),
     (
         "the secret before",
-        "horizon_ns = 1000000000000\nmax_events = 1000\n[[router]]\nname = \"R1\"\nmaster = \"000102030405060708090a0b0c0d0e0f101112131415161718191a1b1c1d1e1f\"\nslots = 8\n",
+        "edge",
         "time,node,kind,src,dst,payload,shim\n130000000000,R1,list,10.0.0.1,10.0.1.1,472,00000000000a/1/10/0/R1@127\n",
         0,
         "130000000000 R1 in R1#1 512 trace regular - dropped:no-route\ntotal events=1 routed=1 authorised=1 demoted=0 dropped=1 started=0 received=0 bytes=0\n",
     ),
     (
         "the second byte again",
-        "horizon_ns = 1000000000000\nmax_events = 1000\n[[router]]\nname = \"R1\"\nmaster = \"000102030405060708090a0b0c0d0e0f101112131415161718191a1b1c1d1e1f\"\nslots = 8\n",
+        "edge",
         "time,node,kind,src,dst,payload,shim\n5000000000,R1,list,10.0.0.1,10.0.1.1,472,00000000000a/1/10/0/R1@5\n261000000000,R1,list,10.0.0.1,10.0.1.1,472,00000000000a/1/10/0/R1@5\n",
         0,
         "5000000000 R1 in R1#1 512 trace regular - dropped:no-route\n261000000000 R1 in R1#2 512 trace legacy bad-hash dropped:no-route\ntotal events=2 routed=2 authorised=1 demoted=1 dropped=2 started=0 received=0 bytes=0\n",
     ),
     (
         "other rights of the same second",
-        "horizon_ns = 1000000000000\nmax_events = 1000\n[[router]]\nname = \"R1\"\nmaster = \"000102030405060708090a0b0c0d0e0f101112131415161718191a1b1c1d1e1f\"\nslots = 8\n",
+        "edge",
         "time,node,kind,src,dst,payload,shim\n5000000000,R1,list,10.0.0.1,10.0.1.1,984,00000000000a/32/10/0/R1@5\n5000000000,R1,list,10.0.0.1,10.0.1.1,984,00000000000a/64/10/0/R1@5\n",
         0,
         "5000000000 R1 in R1#1 1024 trace regular - dropped:no-route\n5000000000 R1 in R1#2 1024 trace legacy superseded dropped:no-route\ntotal events=2 routed=2 authorised=1 demoted=1 dropped=2 started=0 received=0 bytes=0\n",
     ),
     (
         "two slots",
-        "horizon_ns = 1000000000000\nmax_events = 1000\n[[router]]\nname = \"R1\"\nmaster = \"000102030405060708090a0b0c0d0e0f101112131415161718191a1b1c1d1e1f\"\nslots = 2\n",
+        "slots",
         "time,node,kind,src,dst,payload,shim\n5000000000,R1,list,10.0.0.1,10.0.1.1,472,00000000000a/1/2/0/R1@5\n5500000000,R1,list,10.0.0.2,10.0.1.1,472,00000000000a/1/2/0/R1@5\n5900000000,R1,list,10.0.0.3,10.0.1.1,472,00000000000a/1/2/0/R1@5\n6000000000,R1,list,10.0.0.3,10.0.1.1,472,00000000000a/1/2/0/R1@5\n",
         0,
         "5000000000 R1 in R1#1 512 trace regular - dropped:no-route\n5500000000 R1 in R1#2 512 trace regular - dropped:no-route\n5900000000 R1 in R1#3 512 trace legacy cache-full dropped:no-route\n6000000000 R1 in R1#4 512 trace regular - dropped:no-route\ntotal events=4 routed=4 authorised=3 demoted=1 dropped=4 started=0 received=0 bytes=0\n",
     ),
     (
         "nonces of others",
-        "horizon_ns = 1000000000000\nmax_events = 1000\n[[router]]\nname = \"R1\"\nmaster = \"000102030405060708090a0b0c0d0e0f101112131415161718191a1b1c1d1e1f\"\nslots = 8\n",
+        "edge",
         "time,node,kind,src,dst,payload,shim\n5000000000,R1,list,10.0.0.1,10.0.1.1,984,00000000000a/32/10/0/R1@5\n5100000000,R1,nonce,10.0.0.1,10.0.1.1,0,00000000000b\n5100000000,R1,nonce,10.0.0.9,10.0.1.1,0,00000000000a\n",
         0,
         "5000000000 R1 in R1#1 1024 trace regular - dropped:no-route\n5100000000 R1 in R1#2 28 trace legacy unknown-nonce dropped:no-route\n5100000000 R1 in R1#3 28 trace legacy unknown-nonce dropped:no-route\ntotal events=3 routed=3 authorised=1 demoted=2 dropped=3 started=0 received=0 bytes=0\n",
     ),
     (
         "no seconds and no units",
-        "horizon_ns = 1000000000000\nmax_events = 1000\n[[router]]\nname = \"R1\"\nmaster = \"000102030405060708090a0b0c0d0e0f101112131415161718191a1b1c1d1e1f\"\nslots = 8\n",
+        "edge",
         "time,node,kind,src,dst,payload,shim\n5000000000,R1,list,10.0.0.1,10.0.1.1,472,00000000000a/1/0/0/R1@5\n5000000000,R1,list,10.0.0.1,10.0.1.1,472,00000000000a/0/10/0/R1@5\n",
         0,
         "5000000000 R1 in R1#1 512 trace legacy expired dropped:no-route\n5000000000 R1 in R1#2 512 trace legacy over-n dropped:no-route\ntotal events=2 routed=2 authorised=0 demoted=2 dropped=2 started=0 received=0 bytes=0\n",
     ),
     (
         "no capability and a full path",
-        "horizon_ns = 1000000000000\nmax_events = 1000\n[[router]]\nname = \"R1\"\nmaster = \"000102030405060708090a0b0c0d0e0f101112131415161718191a1b1c1d1e1f\"\nslots = 8\n",
+        "edge",
         "time,node,kind,src,dst,payload,shim\n5000000000,R1,list,10.0.0.1,10.0.1.1,0,00000000000a/1/10/1/R1@5\n5000000000,R1,raw,10.0.0.1,10.0.1.1,0,10061000000000000000000000000000000000000000000000000000000000000000000000000000000000000000000000000000000000000000000000000000000000000000000000000000000000000000000000000000000000000000000000000000000000000000000000000000000000000000000000000000000000000000000000000000000000000000000000000000000000000000000000000000000000\n",
         0,
         "5000000000 R1 in R1#1 40 trace legacy no-capability dropped:no-route\n5000000000 R1 in R1#2 183 trace legacy path-full dropped:no-route\ntotal events=2 routed=2 authorised=0 demoted=2 dropped=2 started=0 received=0 bytes=0\n",
     ),
     (
         "a spare byte",
-        "horizon_ns = 1000000000000\nmax_events = 1000\n[[router]]\nname = \"R1\"\nmaster = \"000102030405060708090a0b0c0d0e0f101112131415161718191a1b1c1d1e1f\"\nslots = 8\n",
+        "edge",
         "time,node,kind,src,dst,payload,shim\n5000000000,R1,raw,10.0.0.1,10.0.1.1,0,10060000\n",
         0,
         "5000000000 R1 in R1#1 24 trace legacy malformed dropped:no-route\ntotal events=1 routed=1 authorised=0 demoted=0 dropped=1 started=0 received=0 bytes=0\n",
     ),
     (
         "as many events as may be",
-        "horizon_ns = 1000000000\nmax_events = 18\n[[router]]\nname = \"R1\"\nmaster = \"000102030405060708090a0b0c0d0e0f101112131415161718191a1b1c1d1e1f\"\nslots = 8\n[[host]]\nname = \"A\"\naddress = \"10.0.0.1\"\npolicy = \"client\"\n[[host]]\nname = \"B\"\naddress = \"10.0.1.1\"\npolicy = \"server\"\n[[link]]\nfrom = \"A\"\nto = \"R1\"\nns_per_byte = 10\ndelay_ns = 1000000\ntag = 1\n[[link]]\nfrom = \"R1\"\nto = \"A\"\nns_per_byte = 10\ndelay_ns = 1000000\n[[link]]\nfrom = \"R1\"\nto = \"B\"\nns_per_byte = 10\ndelay_ns = 1000000\n[[link]]\nfrom = \"B\"\nto = \"R1\"\nns_per_byte = 10\ndelay_ns = 1000000\ntag = 2\n[[route]]\nrouter = \"R1\"\nprefix = \"10.0.0.0/24\"\nvia = \"A\"\n[[route]]\nrouter = \"R1\"\nprefix = \"10.0.1.0/24\"\nvia = \"B\"\n",
+        "just",
         "time,node,kind,src,dst,payload,shim\n0,A,send,,10.0.1.1,77,\n10000000,A,send,,10.0.1.1,1000,\n",
         0,
         "0 A send A#1 100 request queued:R1\n0 A start A#1 100 R1 request 1000\n1001000 R1 in A#1 100 A request - queued:B\n1001000 R1 start A#1 110 B request 1002100\n2002100 B recv A#1 110 R1 request - B#1/35/request/grant/queued:R1\n2002100 B start B#1 35 R1 request 2002450\n3002450 R1 in B#1 35 B request - queued:A\n3002450 R1 start B#1 45 A request 3002900\n4002900 A recv B#1 45 R1 request grant A#2/52/list/grant/queued:R1\n4002900 A start A#2 52 R1 regular 4003420\n5003420 R1 in A#2 52 A regular - queued:B\n5003420 R1 start A#2 52 B regular 5003940\n6003940 B recv A#2 52 R1 regular grant -\n10000000 A send A#3 1028 nonce queued:R1\n10000000 A start A#3 1028 R1 regular 10010280\n11010280 R1 in A#3 1028 A regular - queued:B\n11010280 R1 start A#3 1028 B regular 11020560\n12020560 B recv A#3 1028 R1 regular - -\ntotal events=18 routed=4 authorised=2 demoted=0 dropped=0 started=8 received=4 bytes=1077\n",
     ),
     (
         "one event more than may be",
-        "horizon_ns = 1000000000\nmax_events = 17\n[[router]]\nname = \"R1\"\nmaster = \"000102030405060708090a0b0c0d0e0f101112131415161718191a1b1c1d1e1f\"\nslots = 8\n[[host]]\nname = \"A\"\naddress = \"10.0.0.1\"\npolicy = \"client\"\n[[host]]\nname = \"B\"\naddress = \"10.0.1.1\"\npolicy = \"server\"\n[[link]]\nfrom = \"A\"\nto = \"R1\"\nns_per_byte = 10\ndelay_ns = 1000000\ntag = 1\n[[link]]\nfrom = \"R1\"\nto = \"A\"\nns_per_byte = 10\ndelay_ns = 1000000\n[[link]]\nfrom = \"R1\"\nto = \"B\"\nns_per_byte = 10\ndelay_ns = 1000000\n[[link]]\nfrom = \"B\"\nto = \"R1\"\nns_per_byte = 10\ndelay_ns = 1000000\ntag = 2\n[[route]]\nrouter = \"R1\"\nprefix = \"10.0.0.0/24\"\nvia = \"A\"\n[[route]]\nrouter = \"R1\"\nprefix = \"10.0.1.0/24\"\nvia = \"B\"\n",
+        "less",
         "time,node,kind,src,dst,payload,shim\n0,A,send,,10.0.1.1,77,\n10000000,A,send,,10.0.1.1,1000,\n",
         8,
         "0 A send A#1 100 request queued:R1\n0 A start A#1 100 R1 request 1000\n1001000 R1 in A#1 100 A request - queued:B\n1001000 R1 start A#1 110 B request 1002100\n2002100 B recv A#1 110 R1 request - B#1/35/request/grant/queued:R1\n2002100 B start B#1 35 R1 request 2002450\n3002450 R1 in B#1 35 B request - queued:A\n3002450 R1 start B#1 45 A request 3002900\n4002900 A recv B#1 45 R1 request grant A#2/52/list/grant/queued:R1\n4002900 A start A#2 52 R1 regular 4003420\n5003420 R1 in A#2 52 A regular - queued:B\n5003420 R1 start A#2 52 B regular 5003940\n6003940 B recv A#2 52 R1 regular grant -\n10000000 A send A#3 1028 nonce queued:R1\n10000000 A start A#3 1028 R1 regular 10010280\n11010280 R1 in A#3 1028 A regular - queued:B\n11010280 R1 start A#3 1028 B regular 11020560\n",
     ),
+    (
+        "limits events in one window",
+        "c6",
+        "time,node,kind,src,dst,payload,shim\n5000000000,R1,list,10.0.0.1,10.0.1.1,472,00000000000a/1/10/0/R1@5\n5000000000,R1,list,10.0.0.1,10.0.1.1,472,00000000000a/1/10/0/R1@5\n5000000000,R1,list,10.0.0.1,10.0.1.1,472,00000000000a/1/10/0/R1@5\n",
+        8,
+        "",
+    ),
+    (
+        "limits events in the middle",
+        "c7",
+        "time,node,kind,src,dst,payload,shim\n0,A,send,,10.0.1.1,77,\n10000000,A,send,,10.0.1.1,1000,\n",
+        8,
+        "0 A send A#1 100 request queued:R1\n0 A start A#1 100 R1 request 1000\n1001000 R1 in A#1 100 A request - queued:B\n1001000 R1 start A#1 110 B request 1002100\n2002100 B recv A#1 110 R1 request - B#1/35/request/grant/queued:R1\n2002100 B start B#1 35 R1 request 2002450\n",
+    ),
+    (
+        "limits events after an idle window",
+        "c8",
+        "time,node,kind,src,dst,payload,shim\n1000000000,R1,raw,10.0.0.1,10.0.1.1,100,\n1001900000,R2,raw,10.0.0.1,10.0.1.1,100,\n1002250000,R2,raw,10.0.0.1,10.0.1.1,100,\n",
+        8,
+        "1000000000 R1 in R1#1 120 trace legacy - queued:R2\n1000000000 R1 start R1#1 120 R2 legacy 1001200000\n1001900000 R2 in R2#1 120 trace legacy - dropped:no-route\n",
+    ),
+    (
+        "links request gets an entry",
+        "c9",
+        "time,node,kind,src,dst,payload,shim\n0,R1,raw,10.0.0.1,10.0.1.1,77,100600\n",
+        0,
+        "0 R1 in R1#1 100 trace request - queued:R2\n0 R1 start R1#1 110 R2 request 1100\n1001100 R2 in R1#1 110 R1 request - dropped:no-route\ntotal events=3 routed=2 authorised=0 demoted=0 dropped=1 started=1 received=0 bytes=0\n",
+    ),
+    (
+        "links free exactly at an arrival",
+        "c10",
+        "time,node,kind,src,dst,payload,shim\n0,R1,raw,10.0.0.1,10.0.1.1,80,\n0,R1,raw,10.0.0.1,10.0.1.1,80,\n1000,R1,raw,10.0.0.1,10.0.1.1,0,100600\n1330,R1,raw,10.0.0.1,10.0.1.1,0,\n",
+        0,
+        "0 R1 in R1#1 100 trace legacy - queued:R2\n0 R1 in R1#2 100 trace legacy - queued:R2\n0 R1 start R1#1 100 R2 legacy 1000\n1000 R1 in R1#3 23 trace request - queued:R2\n1000 R1 start R1#3 33 R2 request 1330\n1330 R1 in R1#4 20 trace legacy - queued:R2\n1330 R1 start R1#2 100 R2 legacy 2330\n2330 R1 start R1#4 20 R2 legacy 2530\n1001000 R2 in R1#1 100 R1 legacy - dropped:no-route\n1001330 R2 in R1#3 33 R1 request - dropped:no-route\n1002330 R2 in R1#2 100 R1 legacy - dropped:no-route\n1002530 R2 in R1#4 20 R1 legacy - dropped:no-route\ntotal events=12 routed=8 authorised=0 demoted=0 dropped=4 started=4 received=0 bytes=0\n",
+    ),
+    (
+        "hosts policy by default",
+        "c11",
+        "time,node,kind,src,dst,payload,shim\n0,A,send,,10.0.1.1,77,\n10000000,A,send,,10.0.1.1,1000,\n",
+        0,
+        "0 A send A#1 100 request queued:R1\n0 A start A#1 100 R1 request 1000\n1001000 R1 in A#1 100 A request - queued:B\n1001000 R1 start A#1 110 B request 1002100\n2002100 B recv A#1 110 R1 request - -\n10000000 A send A#2 1020 legacy queued:R1\n10000000 A start A#2 1020 R1 legacy 10010200\n11010200 R1 in A#2 1020 A legacy - queued:B\n11010200 R1 start A#2 1020 B legacy 11020400\n12020400 B recv A#2 1020 R1 legacy - -\ntotal events=10 routed=2 authorised=0 demoted=0 dropped=0 started=4 received=2 bytes=1077\n",
+    ),
+    (
+        "hosts without a router",
+        "c12",
+        "time,node,kind,src,dst,payload,shim\n0,A,send,,10.0.1.1,77,\n10000000,A,send,,10.0.1.1,100,\n20000000,B,send,,10.0.0.1,100,\n6000000000,A,send,,10.0.1.1,100,\n",
+        0,
+        "0 A send A#1 100 request queued:B\n0 A start A#1 100 B request 1000\n1001000 B recv A#1 100 A request - B#1/27/request/grant/queued:A\n1001000 B start B#1 27 A request 1001270\n2001270 A recv B#1 27 B request grant A#2/36/list/grant/queued:B\n2001270 A start A#2 36 B regular 2001630\n3001630 B recv A#2 36 A regular grant -\n10000000 A send A#3 128 nonce queued:B\n10000000 A start A#3 128 B regular 10001280\n11001280 B recv A#3 128 A regular - -\n20000000 B send B#2 132 list queued:A\n20000000 B start B#2 132 A regular 20001320\n21001320 A recv B#2 132 B regular - -\n6000000000 A send A#4 132 renewal queued:B\n6000000000 A start A#4 132 B regular 6000001320\n6001001320 B recv A#4 132 A renewal - B#3/36/renewal/grant/queued:A\n6001001320 B start B#3 36 A regular 6001001680\n6002001680 A recv B#3 36 B renewal grant A#5/36/list/grant/queued:B\n6002001680 A start A#5 36 B regular 6002002040\n6003002040 B recv A#5 36 A regular grant -\ntotal events=20 routed=0 authorised=0 demoted=0 dropped=0 started=8 received=8 bytes=377\n",
+    ),
+    (
+        "clock offset",
+        "c13",
+        "time,node,kind,src,dst,payload,shim\n2499999999,R1,list,10.0.0.1,10.0.1.1,100,00000000000a/1/2/0/R1@5\n2500000000,R1,list,10.0.0.1,10.0.1.1,100,00000000000a/1/2/0/R1@5\n4499999999,R1,list,10.0.0.1,10.0.1.1,100,00000000000a/1/2/0/R1@5\n4500000000,R1,list,10.0.0.1,10.0.1.1,100,00000000000a/1/2/0/R1@5\n4500000000,R1,list,10.0.0.1,10.0.1.1,100,00000000000a/1/2/0/R1@7\n",
+        0,
+        "2499999999 R1 in R1#1 140 trace legacy expired dropped:no-route\n2500000000 R1 in R1#2 140 trace regular - dropped:no-route\n4499999999 R1 in R1#3 140 trace regular - dropped:no-route\n4500000000 R1 in R1#4 140 trace legacy expired dropped:no-route\n4500000000 R1 in R1#5 140 trace regular - dropped:no-route\ntotal events=5 routed=5 authorised=3 demoted=2 dropped=5 started=0 received=0 bytes=0\n",
+    ),
 ];
 
-static WALK: &str =
-    "horizon_ns = 1000000000\nmax_events = 1000\n[[router]]\nname = \"R1\"\nmaster = \"000102030405060708090a0b0c0d0e0f101112131415161718191a1b1c1d1e1f\"\nslots = 8\n[[host]]\nname = \"A\"\naddress = \"10.0.0.1\"\npolicy = \"client\"\n[[host]]\nname = \"B\"\naddress = \"10.0.1.1\"\npolicy = \"server\"\n[[link]]\nfrom = \"A\"\nto = \"R1\"\nns_per_byte = 10\ndelay_ns = 1000000\ntag = 1\n[[link]]\nfrom = \"R1\"\nto = \"A\"\nns_per_byte = 10\ndelay_ns = 1000000\n[[link]]\nfrom = \"R1\"\nto = \"B\"\nns_per_byte = 10\ndelay_ns = 1000000\n[[link]]\nfrom = \"B\"\nto = \"R1\"\nns_per_byte = 10\ndelay_ns = 1000000\ntag = 2\n[[route]]\nrouter = \"R1\"\nprefix = \"10.0.0.0/24\"\nvia = \"A\"\n[[route]]\nrouter = \"R1\"\nprefix = \"10.0.1.0/24\"\nvia = \"B\"\n";
-
-pub fn walk() -> &'static str {
-    WALK
-}
-
-static LONG_WALK: &str =
-    "horizon_ns = 10000000000\nmax_events = 1000000\n[[router]]\nname = \"R1\"\nmaster = \"000102030405060708090a0b0c0d0e0f101112131415161718191a1b1c1d1e1f\"\nslots = 8\n[[host]]\nname = \"A\"\naddress = \"10.0.0.1\"\npolicy = \"client\"\n[[host]]\nname = \"B\"\naddress = \"10.0.1.1\"\npolicy = \"server\"\n[[link]]\nfrom = \"A\"\nto = \"R1\"\nns_per_byte = 10\ndelay_ns = 1000000\ntag = 1\n[[link]]\nfrom = \"R1\"\nto = \"A\"\nns_per_byte = 10\ndelay_ns = 1000000\n[[link]]\nfrom = \"R1\"\nto = \"B\"\nns_per_byte = 10\ndelay_ns = 1000000\n[[link]]\nfrom = \"B\"\nto = \"R1\"\nns_per_byte = 10\ndelay_ns = 1000000\ntag = 2\n[[route]]\nrouter = \"R1\"\nprefix = \"10.0.0.0/24\"\nvia = \"A\"\n[[route]]\nrouter = \"R1\"\nprefix = \"10.0.1.0/24\"\nvia = \"B\"\n";
-
-pub fn long_walk() -> &'static str {
-    LONG_WALK
-}
-
-static WALK_TRACE: &str =
-    "time,node,kind,src,dst,payload,shim\n0,A,send,,10.0.1.1,77,\n10000000,A,send,,10.0.1.1,1000,\n";
-
-pub fn walk_trace() -> &'static str {
-    WALK_TRACE
-}
-
-static WALK_REPORT: &str =
-    "0 A send A#1 100 request queued:R1\n0 A start A#1 100 R1 request 1000\n1001000 R1 in A#1 100 A request - queued:B\n1001000 R1 start A#1 110 B request 1002100\n2002100 B recv A#1 110 R1 request - B#1/35/request/grant/queued:R1\n2002100 B start B#1 35 R1 request 2002450\n3002450 R1 in B#1 35 B request - queued:A\n3002450 R1 start B#1 45 A request 3002900\n4002900 A recv B#1 45 R1 request grant A#2/52/list/grant/queued:R1\n4002900 A start A#2 52 R1 regular 4003420\n5003420 R1 in A#2 52 A regular - queued:B\n5003420 R1 start A#2 52 B regular 5003940\n6003940 B recv A#2 52 R1 regular grant -\n10000000 A send A#3 1028 nonce queued:R1\n10000000 A start A#3 1028 R1 regular 10010280\n11010280 R1 in A#3 1028 A regular - queued:B\n11010280 R1 start A#3 1028 B regular 11020560\n12020560 B recv A#3 1028 R1 regular - -\ntotal events=18 routed=4 authorised=2 demoted=0 dropped=0 started=8 received=4 bytes=1077\n";
-
-pub fn walk_report() -> &'static str {
-    WALK_REPORT
+pub fn configs() -> &'static [(&'static str, &'static str)] {
+    &CONFIGS
 }
 
 pub fn rows() -> &'static [(&'static str, &'static str, &'static str, u8, &'static str)] {
