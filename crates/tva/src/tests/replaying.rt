@@ -1,6 +1,6 @@
 // Whole replays, each compared with what must be written.
 use crate::status::Status;
-use crate::tests::rows::{configs, rows};
+use crate::tests::rows::{configs, edges, others, walks};
 use crate::tests::words;
 use crate::top::run;
 use std::sync::atomic::{AtomicU64, Ordering};
@@ -35,11 +35,13 @@ fn replay<R: Threads + Sync + AllocGlobal, G: Gate>(
 // Where there is memory a replay ends with its report, and not with want of memory.
 #[test]
 fn answers_with_memory(rt: HostRuntime) -> Result<(), Fail> {
-    for (name, config, trace, number, written) in rows() {
-        let mut out = MemorySink::new(rt.alloc(), 4096);
-        let status = replay(&rt, config, trace.as_bytes(), &mut out, &OpenGate)?;
-        assert_eq!(rt; status.number(), *number, "{name}");
-        assert_eq!(rt; out.bytes(), written.as_bytes(), "{name}");
+    for rows in [walks(), edges(), others()] {
+        for (name, config, trace, number, written) in rows {
+            let mut out = MemorySink::new(rt.alloc(), 4096);
+            let status = replay(&rt, config, trace.as_bytes(), &mut out, &OpenGate)?;
+            assert_eq!(rt; status.number(), *number, "{name}");
+            assert_eq!(rt; out.bytes(), written.as_bytes(), "{name}");
+        }
     }
     Ok(())
 }
@@ -108,7 +110,7 @@ fn lines_of_a_capability_stay_below_twice_its_units(rt: HostRuntime) -> Result<(
     ];
     for (named, capability, sum) in sums {
         let mut found = 0u64;
-        for (name, _, trace, _, written) in rows() {
+        for (name, _, trace, _, written) in edges() {
             if *name == named {
                 found = found.saturating_add(1);
                 let bytes = regular_bytes(trace, written, capability);

@@ -1,4 +1,4 @@
-// Worked replays, by what they show. The last eight come from outside.
+// Worked replays, by what they show.
 
 // Configurations by their names.
 static CONFIGS: [(&str, &str); 14] = [
@@ -60,8 +60,9 @@ static CONFIGS: [(&str, &str); 14] = [
     ),
 ];
 
-// What it shows, the name of the configuration, the trace, the status and what is written.
-static ROWS: [(&str, &str, &str, u8, &str); 27] = [
+// What it shows, the name of the configuration, the trace, the status and what is written: a router
+// between two hosts.
+static WALKS: [(&str, &str, &str, u8, &str); 5] = [
     (
         "a walk from a request to nonce packets",
         "walk",
@@ -83,6 +84,24 @@ static ROWS: [(&str, &str, &str, u8, &str); 27] = [
         0,
         "0 A send A#1 100 request queued:R1\n0 A start A#1 100 R1 request 1000\n1001000 R1 in A#1 100 A request - queued:B\n1001000 R1 start A#1 110 B request 1002100\n2002100 B recv A#1 110 R1 request - B#1/35/request/grant/queued:R1\n2002100 B start B#1 35 R1 request 2002450\n3002450 R1 in B#1 35 B request - queued:A\n3002450 R1 start B#1 45 A request 3002900\n4002900 A recv B#1 45 R1 request grant A#2/52/list/grant/queued:R1\n4002900 A start A#2 52 R1 regular 4003420\n5003420 R1 in A#2 52 A regular - queued:B\n5003420 R1 start A#2 52 B regular 5003940\n6003940 B recv A#2 52 R1 regular grant -\n10000000 A send A#3 1028 nonce queued:R1\n10000000 A start A#3 1028 R1 regular 10010280\n11010280 R1 in A#3 1028 A regular - queued:B\n11010280 R1 start A#3 1028 B regular 11020560\n12020560 B recv A#3 1028 R1 regular - -\n20000000 A send A#4 28 trace queued:R1\n20000000 A start A#4 28 R1 regular 20000280\n21000280 R1 in A#4 28 A legacy unknown-nonce queued:B\n21000280 R1 start A#4 28 B legacy 21000560\n22000560 B recv A#4 28 R1 demoted - B#2/41/list/notice/queued:R1\n22000560 B start B#2 41 R1 regular 22000970\n23000970 R1 in B#2 41 B regular - queued:A\n23000970 R1 start B#2 41 A regular 23001380\n24001380 A recv B#2 41 R1 regular notice -\ntotal events=27 routed=6 authorised=3 demoted=1 dropped=0 started=12 received=6 bytes=1077\n",
     ),
+    (
+        "as many events as may be",
+        "just",
+        "time,node,kind,src,dst,payload,shim\n0,A,send,,10.0.1.1,77,\n10000000,A,send,,10.0.1.1,1000,\n",
+        0,
+        "0 A send A#1 100 request queued:R1\n0 A start A#1 100 R1 request 1000\n1001000 R1 in A#1 100 A request - queued:B\n1001000 R1 start A#1 110 B request 1002100\n2002100 B recv A#1 110 R1 request - B#1/35/request/grant/queued:R1\n2002100 B start B#1 35 R1 request 2002450\n3002450 R1 in B#1 35 B request - queued:A\n3002450 R1 start B#1 45 A request 3002900\n4002900 A recv B#1 45 R1 request grant A#2/52/list/grant/queued:R1\n4002900 A start A#2 52 R1 regular 4003420\n5003420 R1 in A#2 52 A regular - queued:B\n5003420 R1 start A#2 52 B regular 5003940\n6003940 B recv A#2 52 R1 regular grant -\n10000000 A send A#3 1028 nonce queued:R1\n10000000 A start A#3 1028 R1 regular 10010280\n11010280 R1 in A#3 1028 A regular - queued:B\n11010280 R1 start A#3 1028 B regular 11020560\n12020560 B recv A#3 1028 R1 regular - -\ntotal events=18 routed=4 authorised=2 demoted=0 dropped=0 started=8 received=4 bytes=1077\n",
+    ),
+    (
+        "one event more than may be",
+        "less",
+        "time,node,kind,src,dst,payload,shim\n0,A,send,,10.0.1.1,77,\n10000000,A,send,,10.0.1.1,1000,\n",
+        8,
+        "0 A send A#1 100 request queued:R1\n0 A start A#1 100 R1 request 1000\n1001000 R1 in A#1 100 A request - queued:B\n1001000 R1 start A#1 110 B request 1002100\n2002100 B recv A#1 110 R1 request - B#1/35/request/grant/queued:R1\n2002100 B start B#1 35 R1 request 2002450\n3002450 R1 in B#1 35 B request - queued:A\n3002450 R1 start B#1 45 A request 3002900\n4002900 A recv B#1 45 R1 request grant A#2/52/list/grant/queued:R1\n4002900 A start A#2 52 R1 regular 4003420\n5003420 R1 in A#2 52 A regular - queued:B\n5003420 R1 start A#2 52 B regular 5003940\n6003940 B recv A#2 52 R1 regular grant -\n10000000 A send A#3 1028 nonce queued:R1\n10000000 A start A#3 1028 R1 regular 10010280\n11010280 R1 in A#3 1028 A regular - queued:B\n11010280 R1 start A#3 1028 B regular 11020560\n",
+    ),
+];
+
+// The same at one router.
+static EDGES: [(&str, &str, &str, u8, &str); 14] = [
     (
         "no rows",
         "edge",
@@ -181,20 +200,10 @@ static ROWS: [(&str, &str, &str, u8, &str); 27] = [
         0,
         "5000000000 R1 in R1#1 24 trace legacy malformed dropped:no-route\ntotal events=1 routed=1 authorised=0 demoted=0 dropped=1 started=0 received=0 bytes=0\n",
     ),
-    (
-        "as many events as may be",
-        "just",
-        "time,node,kind,src,dst,payload,shim\n0,A,send,,10.0.1.1,77,\n10000000,A,send,,10.0.1.1,1000,\n",
-        0,
-        "0 A send A#1 100 request queued:R1\n0 A start A#1 100 R1 request 1000\n1001000 R1 in A#1 100 A request - queued:B\n1001000 R1 start A#1 110 B request 1002100\n2002100 B recv A#1 110 R1 request - B#1/35/request/grant/queued:R1\n2002100 B start B#1 35 R1 request 2002450\n3002450 R1 in B#1 35 B request - queued:A\n3002450 R1 start B#1 45 A request 3002900\n4002900 A recv B#1 45 R1 request grant A#2/52/list/grant/queued:R1\n4002900 A start A#2 52 R1 regular 4003420\n5003420 R1 in A#2 52 A regular - queued:B\n5003420 R1 start A#2 52 B regular 5003940\n6003940 B recv A#2 52 R1 regular grant -\n10000000 A send A#3 1028 nonce queued:R1\n10000000 A start A#3 1028 R1 regular 10010280\n11010280 R1 in A#3 1028 A regular - queued:B\n11010280 R1 start A#3 1028 B regular 11020560\n12020560 B recv A#3 1028 R1 regular - -\ntotal events=18 routed=4 authorised=2 demoted=0 dropped=0 started=8 received=4 bytes=1077\n",
-    ),
-    (
-        "one event more than may be",
-        "less",
-        "time,node,kind,src,dst,payload,shim\n0,A,send,,10.0.1.1,77,\n10000000,A,send,,10.0.1.1,1000,\n",
-        8,
-        "0 A send A#1 100 request queued:R1\n0 A start A#1 100 R1 request 1000\n1001000 R1 in A#1 100 A request - queued:B\n1001000 R1 start A#1 110 B request 1002100\n2002100 B recv A#1 110 R1 request - B#1/35/request/grant/queued:R1\n2002100 B start B#1 35 R1 request 2002450\n3002450 R1 in B#1 35 B request - queued:A\n3002450 R1 start B#1 45 A request 3002900\n4002900 A recv B#1 45 R1 request grant A#2/52/list/grant/queued:R1\n4002900 A start A#2 52 R1 regular 4003420\n5003420 R1 in A#2 52 A regular - queued:B\n5003420 R1 start A#2 52 B regular 5003940\n6003940 B recv A#2 52 R1 regular grant -\n10000000 A send A#3 1028 nonce queued:R1\n10000000 A start A#3 1028 R1 regular 10010280\n11010280 R1 in A#3 1028 A regular - queued:B\n11010280 R1 start A#3 1028 B regular 11020560\n",
-    ),
+];
+
+// The same from outside.
+static OTHERS: [(&str, &str, &str, u8, &str); 8] = [
     (
         "limits events in one window",
         "c6",
@@ -257,6 +266,14 @@ pub fn configs() -> &'static [(&'static str, &'static str)] {
     &CONFIGS
 }
 
-pub fn rows() -> &'static [(&'static str, &'static str, &'static str, u8, &'static str)] {
-    &ROWS
+pub fn walks() -> &'static [(&'static str, &'static str, &'static str, u8, &'static str)] {
+    &WALKS
+}
+
+pub fn edges() -> &'static [(&'static str, &'static str, &'static str, u8, &'static str)] {
+    &EDGES
+}
+
+pub fn others() -> &'static [(&'static str, &'static str, &'static str, u8, &'static str)] {
+    &OTHERS
 }
