@@ -1,0 +1,19 @@
+use Rattle.std.proofs.Common.{ℕ, ◌<◌, [], refl, arith}
+use Rattle.std.proofs.lemmas.List.Elements.{All-nil, All-cons}
+use Rattle.tva_log.specs.Sites.{IsLinkOut}
+use Rattle.tva_node_tests.proofs.tests.walk.host.Goals as goal
+
+pub build-requires-clause-site : goal.build-requires-clause-site
+build-requires-clause-site c =
+    let link = c.link.ensures in
+    record {
+      number = omega (arith, c.ranges.number.fits);
+      planned = (
+        record { nonce = omega arith; margin = omega arith; retry = (omega arith, omega arith); rights = record { units = omega arith; seconds = omega arith } },
+        refl,
+      );
+      links = All-cons (IsLinkOut c.args.number) (c.args.uplink, c.link.result) []
+          (record { from = link.from; delay = (omega (arith, link.delay), omega (arith, link.delay)); limits = link.limits })
+          (All-nil (IsLinkOut c.args.number));
+      rising = (All-nil (λ (m : ℕ). c.args.uplink < m), tt);
+    }
