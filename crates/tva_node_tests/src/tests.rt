@@ -1,3 +1,5 @@
-// Nodes of a worked network one by one, and halves at once.
+// Nodes of a small network one by one, and halves at once.
+mod edges;
 mod halves;
+mod makers;
 mod walk;

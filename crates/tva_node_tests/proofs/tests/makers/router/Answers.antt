@@ -3,7 +3,7 @@ use Rattle.std.proofs.lemmas.List.Elements.{All-nil, All-cons}
 use Rattle.tva_base.specs.declared.plan.Route.{Route}
 use Rattle.tva_log.specs.Sites.{IsLinkOut}
 use Rattle.tva_node_tests.proofs.Plans.{plan_is}
-use Rattle.tva_node_tests.proofs.tests.walk.router.Goals as goal
+use Rattle.tva_node_tests.proofs.tests.makers.router.Goals as goal
 
 two : (a b p q : Route) → a ≡ p → b ≡ q → a ∷ b ∷ [] ≡ p ∷ q ∷ []
 two a b p q e f = cc

@@ -1,7 +1,7 @@
 use Rattle.std.proofs.Common.{ℕ, ◌<◌, [], refl, arith}
 use Rattle.std.proofs.lemmas.List.Elements.{All-nil, All-cons}
 use Rattle.tva_log.specs.Sites.{IsLinkOut}
-use Rattle.tva_node_tests.proofs.tests.walk.host.Goals as goal
+use Rattle.tva_node_tests.proofs.tests.makers.host.Goals as goal
 
 pub build-requires-clause-site : goal.build-requires-clause-site
 build-requires-clause-site c =
