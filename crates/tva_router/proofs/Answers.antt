@@ -21,6 +21,7 @@ guard-later plan last now g le k = record {
   offset = k.offset;
   minted = omega (arith, le, k.minted);
   charged = omega (arith, le, k.charged);
+  incoming = k.incoming;
 }
 
 -- a verdict charges what its answer does

@@ -15,6 +15,7 @@ use Rattle.tva_flow.specs.Stands as flows
 use Rattle.tva_port.specs.Stands as port
 use Rattle.tva_router.specs.declared.guard.Guard.{Guard}
 use Rattle.tva_router.specs.declared.judged.Judged.{Judged}
+use Rattle.tva_router.specs.declared.finding.Ways.{Ways}
 use Rattle.tva_router.specs.Judging.{judge}
 use Rattle.tva_shim.specs.Shows.{nonce_in}
 use Rattle.tva_router.specs.Handling.{Logs, Handled, arrival, goes_on, handle, stopped, fate_of, forwarded, sent, queued, way_to, charged_by}
@@ -23,10 +24,11 @@ use Rattle.tva_router.specs.Steps.{ArePorts, IsSound, Keeps}
 use Rattle.tva_router.proofs.Answers.{guard-later}
 use Rattle.tva_router.proofs.Ports.{ports-later, stands-nothing}
 
-pub sound-later : (plan : RouterPlan) (last now : ℕ) (g : Guard) (ps : List port.PortData) → last ≤ now → IsSound plan last g ps → IsSound plan now g ps
-sound-later plan last now g ps le s = record {
+pub sound-later : (plan : RouterPlan) (last now : ℕ) (g : Guard) (w : Ways) (ps : List port.PortData) → last ≤ now → IsSound plan last g w ps → IsSound plan now g w ps
+sound-later plan last now g w ps le s = record {
   valid = s.valid;
   guard = guard-later plan last now g le s.guard;
+  ways = s.ways;
   ports = ports-later plan.outgoing last now ps le s.ports;
 }
 
@@ -37,8 +39,8 @@ all-early (o ∷ os) last [] a = absurd a
 all-early (o ∷ os) last (p ∷ ps) a = All-cons (λ (q : port.PortData). q.last ≤ last) p ps a.1 (all-early os last ps a.2)
 
 -- a sound router is one of its plan
-pub by-plan : (plan : RouterPlan) (last : ℕ) (g : Guard) (ps : List port.PortData) → IsSound plan last g ps → IsByPlan (router_data plan last g.minter g.cache ps)
-by-plan plan last g ps s = record {
+pub by-plan : (plan : RouterPlan) (last : ℕ) (g : Guard) (w : Ways) (ps : List port.PortData) → IsSound plan last g w ps → IsByPlan (router_data plan last g.minter g.cache ps)
+by-plan plan last g w ps s = record {
   valid = s.valid;
   master = s.guard.master;
   clock = s.guard.clock;

@@ -5,4 +5,5 @@ pub mod Queueing
 pub mod Handled
 pub mod Known
 pub mod Ways
+pub mod Tables
 pub mod Fates

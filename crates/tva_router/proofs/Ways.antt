@@ -38,13 +38,13 @@ module _ {X : Type 0} where
       ]) refl f
 
 -- the greatest length of those that hold the destination, and of a length to begin with
-abbrev best : ℕ → List Route → Address → ℕ
+abbrev pub best : ℕ → List Route → Address → ℕ
 best bits routes dst = fold max bits (map (λ r. r.prefix.bits) (filter (λ r. holds r.prefix dst) routes))
 
-abbrev Within : Address → ℕ → Route → Type 0
+abbrev pub Within : Address → ℕ → Route → Type 0
 Within dst most r = holds r.prefix dst ≡ true → r.prefix.bits ≤ most
 
-greatest : (bits : ℕ) (routes : List Route) (dst : Address) → (bits ≤ best bits routes dst) × All (Within dst (best bits routes dst)) routes
+pub greatest : (bits : ℕ) (routes : List Route) (dst : Address) → (bits ≤ best bits routes dst) × All (Within dst (best bits routes dst)) routes
 greatest bits [] dst = (omega arith, All-nil (Within dst bits))
 greatest bits (r ∷ rs) dst =
     (elim (holds r.prefix dst) as (λ b. holds r.prefix dst ≡ b
@@ -57,13 +57,13 @@ greatest bits (r ∷ rs) dst =
     ]) refl
 
 -- a route of that length that holds the destination
-abbrev Reaches : List Route → Address → ℕ → Type 0
+abbrev pub Reaches : List Route → Address → ℕ → Type 0
 Reaches routes dst bits = (r : Route) × (Contains routes r × ((holds r.prefix dst ≡ true) × (r.prefix.bits ≡ bits)))
 
 further : (r : Route) (rs : List Route) (dst : Address) (bits : ℕ) → Reaches rs dst bits → Reaches (r ∷ rs) dst bits
 further r rs dst bits a = (a.0, (there a.0 r rs a.1.0, a.1.1))
 
-reached : (bits : ℕ) (routes : List Route) (dst : Address) → (best bits routes dst ≡ bits) ⊎ Reaches routes dst (best bits routes dst)
+pub reached : (bits : ℕ) (routes : List Route) (dst : Address) → (best bits routes dst ≡ bits) ⊎ Reaches routes dst (best bits routes dst)
 reached bits [] dst = inl refl
 reached bits (r ∷ rs) dst =
     (elim (holds r.prefix dst) as (λ b. holds r.prefix dst ≡ b
@@ -82,7 +82,7 @@ reached bits (r ∷ rs) dst =
       ]
     ]) refl
 
-both : (a b : Bool) → a && b ≡ true → (a ≡ true) × (b ≡ true)
+pub both : (a b : Bool) → a && b ≡ true → (a ≡ true) × (b ≡ true)
 both true true e = (refl, refl)
 both true false e = absurd (cc)
 both false b e = absurd (cc)
@@ -90,14 +90,14 @@ both false b e = absurd (cc)
 eqb_same : (k : ℕ) → eqb k k ≡ true
 eqb_same k = grind (arith, nat_tests)
 
-leads_is : (bits : ℕ) (dst : Address) (r : Route) → holds r.prefix dst ≡ true → r.prefix.bits ≡ bits → leads bits dst r ≡ true
+pub leads_is : (bits : ℕ) (dst : Address) (r : Route) → holds r.prefix dst ≡ true → r.prefix.bits ≡ bits → leads bits dst r ≡ true
 leads_is bits dst r h k = subst (λ (n : ℕ). leads n dst r ≡ true) k (subst (λ (b : Bool). b && eqb r.prefix.bits r.prefix.bits ≡ true) (sym h) (eqb_same r.prefix.bits))
 
-link_some : (o : Option Route) (link : ℕ) → option_map (λ r. r.link) o ≡ Some link → (r : Route) × ((o ≡ Some r) × (r.link ≡ link))
+pub link_some : (o : Option Route) (link : ℕ) → option_map (λ r. r.link) o ≡ Some link → (r : Route) × ((o ≡ Some r) × (r.link ≡ link))
 link_some None link e = absurd (cc)
 link_some (Some r) link e = (r, (refl, cc))
 
-link_none : (o : Option Route) → option_map (λ r. r.link) o ≡ None → o ≡ None
+pub link_none : (o : Option Route) → option_map (λ r. r.link) o ≡ None → o ≡ None
 link_none None e = refl
 link_none (Some r) e = absurd (cc)
 
@@ -134,7 +134,7 @@ none_leads routes dst a r c h =
           absurd (cc)
     ]
 
-not_true : (b : Bool) → (b ≡ true → ⊥) → b ≡ false
+pub not_true : (b : Bool) → (b ≡ true → ⊥) → b ≡ false
 not_true true f = absurd (f refl)
 not_true false f = refl
 

@@ -3,4 +3,5 @@ pub mod Judging
 pub mod Handling
 pub mod Marks
 pub mod Stands
+pub mod Tables
 pub mod Steps

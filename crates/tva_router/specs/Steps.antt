@@ -10,10 +10,13 @@ use Rattle.tva_flow.specs.Stands as flows
 use Rattle.tva_port.specs.Stands as port
 use Rattle.tva_router.specs.declared.judged.Arrival.{Arrival}
 use Rattle.tva_router.specs.declared.guard.Guard.{Guard}
+use Rattle.tva_router.specs.declared.finding.Ways.{Ways}
+use Rattle.tva_router.specs.Tables.{ArePlaces, AreWays}
 use Rattle.tva_router.specs.Judging.{Answer}
 use Rattle.tva_router.specs.Handling.{charged_by}
 
--- the minter and the cache are the plan's, and were called no later than that
+-- the minter and the cache are the plan's, and were called no later than that, and the places are those of
+-- its incoming links
 pub record IsGuard (plan : RouterPlan) (last : ℕ) (g : Guard) : Type 0 where
   pub master : g.minter.master ≡ plan.master
   pub clock : g.minter.clock_offset ≡ plan.clock_offset
@@ -21,6 +24,7 @@ pub record IsGuard (plan : RouterPlan) (last : ℕ) (g : Guard) : Type 0 where
   pub offset : g.cache.offset ≡ plan.clock_offset
   pub minted : g.minter.last ≤ last
   pub charged : g.cache.last ≤ last
+  pub incoming : ArePlaces plan.incoming g.incoming
 
 -- a guard of the plan may judge such an arrival
 pub record MayJudge (plan : RouterPlan) (g : Guard) (a : Arrival) : Type 0 where
@@ -48,7 +52,8 @@ ArePorts (o ∷ os) last [] = ⊥
 ArePorts (o ∷ os) last (p ∷ ps) = (p.limits ≡ o.1) × (p.last ≤ last) × ArePorts os last ps
 
 -- a router by its plan, whose parts were called no later than that
-pub record IsSound (plan : RouterPlan) (last : ℕ) (g : Guard) (ps : List port.PortData) : Type 0 where
+pub record IsSound (plan : RouterPlan) (last : ℕ) (g : Guard) (w : Ways) (ps : List port.PortData) : Type 0 where
   pub valid : IsRouterPlan plan
   pub guard : IsGuard plan last g
+  pub ways : AreWays plan w
   pub ports : ArePorts plan.outgoing last ps

@@ -1,7 +1,7 @@
 // What a router makes of the packets that arrive.
-ghost use Rattle.std.specs.Prelude.{◌≡◌, ◌≤◌, ◌<◌, ◌==◌, List, length, slice_get, IfOk, IfSome, Some, None};
+ghost use Rattle.std.specs.Prelude.{◌≡◌, ◌≤◌, ◌<◌, ◌==◌, List, [], length, slice_get, IfOk, IfSome, Some, None};
 ghost use Rattle.std.specs.List.{find};
-ghost use Rattle.tva_base.specs.Plan.{AreRights};
+ghost use Rattle.tva_base.specs.Plan.{AreRights, IsRouterPlan};
 ghost use Rattle.tva_shim.specs.Changes.{IsRequest, PointsAtOne, with_next_pointer, with_fresh};
 ghost use Rattle.tva_shim.specs.Packets.{IsCarried};
 ghost use Rattle.tva_caps.specs.Check.{IfValid, IsSecondOf};
@@ -10,22 +10,39 @@ ghost use Rattle.tva_flow.specs.Stands.{StandsFor};
 ghost use Rattle.tva_router.specs.Judging.{tag_or_zero, tag_of, second_of, fresh_for, answer_of, answer_to_checked, answer_to_shown, answer_to_nonce, marked, judged, judged_by, judged_request, judged_shim, judge};
 ghost use Rattle.tva_shim.specs.Shows.{kind_nonce, nonce_in};
 ghost use Rattle.tva_router.specs.Steps.{IsGuard, MayJudge, Keeps, grant_in};
+ghost use Rattle.tva_router.specs.Tables.{ArePlaces};
 
 use crate::judged::{Arrival, Judged};
-use crate::routes::place_of;
+use crate::places::{place_of, places_of};
+use std::alloc::{AllocError, Global};
+use std::collections::HashMap;
 use tva_base::{Cause, Class, Grant, RouterPlan};
 use tva_caps::{Checked, Minter};
 use tva_flow::{FlowCache, Verdict};
 use tva_shim::{Carried, Entry, Kind, Shim, Shown};
 
-/// What a router judges packets with.
+/// What a router judges packets with: the places are those of its incoming links.
 #[derive(Drop)]
 pub(crate) struct Guard {
     pub minter: Minter,
     pub cache: FlowCache,
+    pub incoming: HashMap<u16, usize>,
 }
 
 impl Guard {
+    /// What a router of the plan judges with, without charges. The error is want of memory.
+    pub fn build(alloc: Global, plan: &RouterPlan) -> Result<Guard, AllocError>
+        requires { IsRouterPlan plan.now }
+        ensures guard { IfOk result (λ guard. IsGuard plan.now 0 guard) }
+        ensures stands { IfOk result (λ guard. StandsFor guard.cache []) }
+    {
+        Ok(Guard {
+            minter: Minter::new(plan.master, plan.clock_offset),
+            cache: FlowCache::with_slots(alloc, plan.slots, plan.clock_offset)?,
+            incoming: places_of(alloc, plan.incoming.as_slice())?,
+        })
+    }
+
     /// What the router makes of an arrival that carries this.
     pub fn judge(&mut self, plan: &RouterPlan, arrival: &Arrival, carried: Carried) -> Judged
         requires { MayJudge plan.now self.old arrival.now }
@@ -81,7 +98,7 @@ impl Guard {
     {
         let mut shim = shim;
         let entry = Entry {
-            tag: tag_of(plan, arrival.from),
+            tag: tag_of(plan, &self.incoming, arrival.from),
             precap: self.minter.mint(arrival.time, arrival.flow),
         };
         match shim.push_entry(entry) {
@@ -279,19 +296,21 @@ fn cap_at(shown: &Shown) -> Option<u64>
 }
 
 // The tag of the link that a packet came in on.
-fn tag_of(plan: &RouterPlan, from: Option<u16>) -> u16
+fn tag_of(plan: &RouterPlan, places: &HashMap<u16, usize>, from: Option<u16>) -> u16
+    requires { ArePlaces plan.now.incoming places.now }
     ensures { result ≡ tag_of plan.now from }
 {
     match from {
-        Some(link) => tag_in(plan.incoming.as_slice(), link),
+        Some(link) => tag_in(plan.incoming.as_slice(), places, link),
         None => plan.edge_tag,
     }
 }
 
-fn tag_in(incoming: &[(u16, u16)], link: u16) -> u16
+fn tag_in(incoming: &[(u16, u16)], places: &HashMap<u16, usize>, link: u16) -> u16
+    requires { ArePlaces incoming.now places.now }
     ensures { result ≡ tag_or_zero (find (λ pair. pair.0 == link) incoming.now) }
 {
-    match place_of(incoming, link) {
+    match place_of(incoming, places, link) {
         Some(place) => incoming[place].1,
         None => 0,
     }

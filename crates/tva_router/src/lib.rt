@@ -3,9 +3,11 @@
 //! though it keeps none of these; and that it then stands for them with what the arrival added.
 #![tactic(auto)]
 
+mod finding;
 mod guard;
 mod judged;
 mod laws;
+mod places;
 mod router;
 mod routes;
 mod sending;

@@ -12,25 +12,25 @@ ghost use Rattle.tva_router.specs.Handling.{Logs, outgoing_link, arrival, stoppe
 ghost use Rattle.tva_router.specs.Stands.{StandsFor, StandForLogs, free_of, started_on, ◌with◌};
 ghost use Rattle.tva_router.specs.Steps.{ArePorts};
 
+use crate::finding::{Ways, ways_of};
 use crate::guard::Guard;
 use crate::judged::{Arrival, Judged};
 use crate::sending::{decide_on, free_on, send};
 use std::alloc::{AllocError, Global};
 use std::marker::Model;
 use tva_base::{Class, DropCause, Fate, LinkLimits, Listed, Name, Outcome, RouterPlan, Time};
-use tva_caps::Minter;
-use tva_flow::FlowCache;
 use tva_port::{Decision, Port};
 use tva_shim::{HOPS_MAX, Packet, class_of, length};
 
-/// What a router keeps: its plan, its last time, what it judges packets with, and a port for each
-/// outgoing link. Contracts speak of all its charges and of the logs of its links' ports, for which
-/// these stand. All memory is taken when it is built.
+/// What a router keeps: its plan, its last time, what it judges packets with, the tables by which it
+/// finds links, and a port for each outgoing link. Contracts speak of all its charges and of the logs of
+/// its links' ports, for which these stand. All memory is taken when it is built.
 #[derive(Drop)]
 pub struct Router {
     plan: RouterPlan,
     last: u64,
     guard: Guard,
+    ways: Ways,
     ports: Vec<Port>,
 }
 
@@ -42,7 +42,7 @@ impl Model for Router {
 
     ghost view = { λ r. router_data r.plan r.last r.guard.minter r.guard.cache r.ports.items };
 
-    ghost invariant = { λ r. IsSound r.plan r.last r.guard r.ports.items };
+    ghost invariant = { λ r. IsSound r.plan r.last r.guard r.ways r.ports.items };
 }
 
 impl Router {
@@ -60,10 +60,8 @@ impl Router {
         Ok(Router {
             plan: copied(alloc, plan)?,
             last: 0,
-            guard: Guard {
-                minter: Minter::new(plan.master, plan.clock_offset),
-                cache: FlowCache::with_slots(alloc, plan.slots, plan.clock_offset)?,
-            },
+            guard: Guard::build(alloc, plan)?,
+            ways: ways_of(alloc, plan)?,
             ports: ports_of(alloc, plan.outgoing.as_slice())?,
         })
     }
@@ -111,7 +109,7 @@ impl Router {
             carried,
         } = self.guard.judge(&self.plan, &arrival, carried);
         let packet = Packet::new(id, flow, hops + 1, payload, carried);
-        let outcome = send(&self.plan, &mut self.ports, now, class, packet);
+        let outcome = send(&self.plan, &self.ways, &mut self.ports, now, class, packet);
         Fate {
             class,
             cause,
@@ -173,7 +171,7 @@ impl Router {
         ensures same { self.new.plan ≡ self.old.plan }
     {
         self.last = now.0;
-        decide_on(&self.plan, &mut self.ports, now, link)
+        decide_on(&self.plan, &self.ways, &mut self.ports, now, link)
     }
 
     /// When an outgoing link is free, in nanoseconds: the end of its last start, or 0.
@@ -185,7 +183,7 @@ impl Router {
             → result.0 ≡ free_after limits (logs link) }
         ensures soon { result.0 ≤ self.now.last + 2048000000 }
     {
-        free_on(&self.plan, &self.ports, link)
+        free_on(&self.plan, &self.ways, &self.ports, link)
     }
 
     /// How many flows may live at once. Whatever packets came, each was charged in one of its grant's

@@ -1,61 +1,100 @@
-// Which link leads to a destination.
-ghost use Rattle.std.specs.Prelude.{◌≡◌, ◌==◌, ◌<◌, max, if◌then◌else◌, IfSome, position, length};
-ghost use Rattle.tva_base.specs.Addresses.{holds};
-ghost use Rattle.tva_router.specs.Routes.{longest, leads, link_to};
+// Which link leads to a destination. Of the lengths that prefixes have, the longest is looked up first,
+// so the time doesn't grow with the number of routes.
+ghost use Rattle.std.specs.Prelude.{◌≡◌, ◌≤◌, ◌-◌, ◌^◌, All, IfOk};
+ghost use Rattle.std.specs.Option.{option_map};
+ghost use Rattle.std.specs.List.{find};
+ghost use Rattle.tva_base.specs.Addresses.{kept};
+ghost use Rattle.tva_base.specs.Plan.{IsPrefix};
+ghost use Rattle.tva_router.specs.Routes.{leads, link_to};
+ghost use Rattle.tva_router.specs.Tables.{AreMarked, AreLinksOf, IsTableOf};
 
-use tva_base::{Address, Prefix, Route};
+use std::alloc::{AllocError, Global};
+use std::collections::HashMap;
+use tva_base::{Address, Route};
+
+/// The links of routes by the lengths and the addresses of their prefixes, and which lengths there are.
+#[derive(Drop)]
+pub(crate) struct RouteTable {
+    lengths: [bool; 33],
+    links: HashMap<(u8, u32), u16>,
+}
+
+/// The table of these routes. The error is want of memory.
+pub(crate) fn table_of(alloc: Global, routes: &[Route]) -> Result<RouteTable, AllocError>
+    requires { All (λ route. IsPrefix route.prefix) routes.now }
+    ensures { IfOk result (λ table. IsTableOf routes.now table) }
+{
+    Ok(RouteTable {
+        lengths: lengths_of(routes),
+        links: links_of(alloc, routes)?,
+    })
+}
+
+// Which lengths the prefixes have.
+fn lengths_of(routes: &[Route]) -> [bool; 33]
+    requires { All (λ route. IsPrefix route.prefix) routes.now }
+    ensures { AreMarked routes.now result }
+{
+    let mut lengths = [false; 33];
+    for route in routes {
+        lengths[usize::from(route.prefix.bits)] = true;
+    }
+    lengths
+}
+
+// The links by their prefixes. Of two routes with one prefix the first counts.
+fn links_of(alloc: Global, routes: &[Route]) -> Result<HashMap<(u8, u32), u16>, AllocError>
+    ensures { IfOk result (λ links. AreLinksOf routes.now links) }
+{
+    let mut links = HashMap::with_capacity(alloc, routes.len())?;
+    let mut number = routes.len();
+    while number > 0 {
+        number -= 1;
+        let route = routes[number];
+        links.insert((route.prefix.bits, route.prefix.address.0), route.link)?;
+    }
+    Ok(links)
+}
 
 /// The link of the longest prefix that the destination begins with.
-#[tactic(auto, unfolding(crate::specs::Routes::link_to))]
-pub(crate) fn link_to(routes: &[Route], dst: Address) -> Option<u16>
+pub(crate) fn link_to(routes: &[Route], table: &RouteTable, dst: Address) -> Option<u16>
+    requires { IsTableOf routes.now table.now }
     ensures { result ≡ link_to routes.now dst }
 {
-    let bits = longest(routes, dst);
-    match place_leading(routes, dst, bits) {
-        Some(place) => Some(routes[place].link),
-        None => None,
+    for shorter in 0..33u8 {
+        let link = link_at(routes, table, dst, 32 - shorter);
+        if link.is_some() {
+            return link;
+        }
     }
+    None
 }
 
-// The greatest length of the prefixes that the destination begins with.
-fn longest(routes: &[Route], dst: Address) -> u8
-    ensures { result ≡ longest routes.now dst }
+// The link of the prefix of that length that the destination begins with.
+fn link_at(routes: &[Route], table: &RouteTable, dst: Address, bits: u8) -> Option<u16>
+    requires table { IsTableOf routes.now table.now }
+    requires bits { bits ≤ 32 }
+    ensures { result ≡ option_map (λ route. route.link) (find (leads bits dst) routes.now) }
 {
-    let mut bits = 0;
-    for route in routes {
-        bits = longer(bits, &route.prefix, dst);
-    }
-    bits
-}
-
-fn longer(bits: u8, prefix: &Prefix, dst: Address) -> u8
-    ensures { result ≡ (if holds prefix.now dst then max bits prefix.now.bits else bits) }
-{
-    if prefix.holds(dst) {
-        bits.max(prefix.bits)
+    if table.lengths[usize::from(bits)] {
+        table.links.get(&(bits, front_of(dst, bits))).copied()
     } else {
-        bits
+        None
     }
 }
 
-// The place of the first route whose prefix has that length, and that the destination begins with.
-fn place_leading(routes: &[Route], dst: Address, bits: u8) -> Option<usize>
-    ensures place { result ≡ position (leads bits dst) routes.now }
-    ensures within { IfSome result (λ at. at < length routes.now) }
+// The least address with the same first bits.
+fn front_of(address: Address, bits: u8) -> u32
+    ensures { result ≡ (kept address bits).0 }
 {
-    routes.iter().position(|route| leads(route, dst, bits))
+    let size = size_past(bits);
+    (u64::from(address.0) / size * size) as u32
 }
 
-fn leads(route: &Route, dst: Address, bits: u8) -> bool
-    ensures { result ≡ leads bits dst route.now }
+// How many addresses have the same first bits.
+fn size_past(bits: u8) -> u64
+    ensures size { result ≡ 2 ^ (32 - bits) }
+    ensures some { 1 ≤ result }
 {
-    route.prefix.holds(dst) && route.prefix.bits == bits
-}
-
-// The place of a link among links.
-pub(crate) fn place_of<T>(links: &[(u16, T)], link: u16) -> Option<usize>
-    ensures place { result ≡ position (λ o. o.0 == link) links.now }
-    ensures within { IfSome result (λ at. at < length links.now) }
-{
-    links.iter().position(|o| o.0 == link)
+    1 << 32u8.saturating_sub(bits)
 }

@@ -6,8 +6,11 @@ ghost use Rattle.tva_router.specs.Handling.{Logs, outcome_of, outgoing_link, sen
 ghost use Rattle.tva_port.specs.Decide.{decision, is_start};
 ghost use Rattle.tva_router.specs.Stands.{StandForLogs, free_in, started_on, ◌with◌};
 ghost use Rattle.tva_router.specs.Steps.{ArePorts};
+ghost use Rattle.tva_router.specs.Tables.{AreWays};
 
-use crate::routes::{link_to, place_of};
+use crate::finding::Ways;
+use crate::places::place_of;
+use crate::routes::link_to;
 use tva_base::{Class, DropCause, Outcome, RouterPlan, Time};
 use tva_drr::Offered;
 use tva_port::{Decision, Port};
@@ -16,12 +19,14 @@ use tva_shim::{Packet, queue_key};
 /// Queues the packet at the port of the link that leads to its destination.
 pub(crate) fn send(
     plan: &RouterPlan,
+    ways: &Ways,
     ports: &mut Vec<Port>,
     now: Time,
     class: Class,
     packet: Packet,
 ) -> Outcome
     requires plan { IsRouterPlan plan.now }
+    requires ways { AreWays plan.now ways.now }
     requires ports { ArePorts plan.now.outgoing now.0 ports.old.items }
     requires horizon { now.0 ≤ 1000000000000000 }
     ensures ports { ArePorts plan.now.outgoing now.0 ports.new.items }
@@ -31,18 +36,25 @@ pub(crate) fn send(
         → StandForLogs plan.now.outgoing ports.new.items
         (logs with queued logs now.0 class packet (way_to plan.now packet.flow.dst)) }
 {
-    let Some(link) = link_to(plan.routes.as_slice(), packet.flow.dst) else {
+    let Some(link) = link_to(plan.routes.as_slice(), &ways.routes, packet.flow.dst) else {
         return Outcome::Dropped(DropCause::NoRoute);
     };
-    match place_of(plan.outgoing.as_slice(), link) {
+    match place_of(plan.outgoing.as_slice(), &ways.places, link) {
         Some(place) => queue_at(plan, ports, place, link, now, class, packet),
         None => Outcome::Dropped(DropCause::NoRoute),
     }
 }
 
 /// What the outgoing link does.
-pub(crate) fn decide_on(plan: &RouterPlan, ports: &mut Vec<Port>, now: Time, link: u16) -> Decision
+pub(crate) fn decide_on(
+    plan: &RouterPlan,
+    ways: &Ways,
+    ports: &mut Vec<Port>,
+    now: Time,
+    link: u16,
+) -> Decision
     requires plan { IsRouterPlan plan.now }
+    requires ways { AreWays plan.now ways.now }
     requires ports { ArePorts plan.now.outgoing now.0 ports.old.items }
     requires horizon { now.0 ≤ 1000000000000000 }
     requires outgoing { outgoing_link plan.now link ≢ None }
@@ -55,20 +67,21 @@ pub(crate) fn decide_on(plan: &RouterPlan, ports: &mut Vec<Port>, now: Time, lin
     ensures busy { is_start result ≡ true → now.0 < free_in plan.now.outgoing ports.new.items link }
     ensures soon { free_in plan.now.outgoing ports.new.items link ≤ now.0 + 2048000000 }
 {
-    match place_of(plan.outgoing.as_slice(), link) {
+    match place_of(plan.outgoing.as_slice(), &ways.places, link) {
         Some(place) => ports[place].decide(now),
         None => unreachable!(),
     }
 }
 
 /// When the outgoing link is free.
-pub(crate) fn free_on(plan: &RouterPlan, ports: &Vec<Port>, link: u16) -> Time
+pub(crate) fn free_on(plan: &RouterPlan, ways: &Ways, ports: &Vec<Port>, link: u16) -> Time
+    requires ways { AreWays plan.now ways.now }
     requires ports { (last : ℕ) × ArePorts plan.now.outgoing last ports.now.items }
     requires outgoing { outgoing_link plan.now link ≢ None }
     ensures value { result.0 ≡ free_in plan.now.outgoing ports.now.items link }
     ensures soon { (last : ℕ) → ArePorts plan.now.outgoing last ports.now.items → result.0 ≤ last + 2048000000 }
 {
-    match place_of(plan.outgoing.as_slice(), link) {
+    match place_of(plan.outgoing.as_slice(), &ways.places, link) {
         Some(place) => ports[place].free_at(),
         None => unreachable!(),
     }

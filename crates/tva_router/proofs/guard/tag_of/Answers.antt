@@ -1,7 +1,11 @@
-use Rattle.std.proofs.Common.{◌≡◌, ℕ, List, ◌==◌, subst}
+use Rattle.std.proofs.Common.{◌≡◌, ℕ, List, ◌==◌, sym, subst}
 use Rattle.std.specs.List.{find}
 use Rattle.tva_router.specs.Judging.{tag_or_zero}
+use Rattle.tva_router.specs.Tables.{ArePlaces}
 use Rattle.tva_router.proofs.guard.tag_of.Goals as goal
+
+pub tag_in-requires : goal.tag_in-requires
+tag_in-requires c = subst (λ (z : List (ℕ × ℕ)). ArePlaces z c.args.places.now) (sym c.as_slice.ensures) c.requires
 
 pub returns-in-Some : goal.returns-in-Some
 returns-in-Some c =

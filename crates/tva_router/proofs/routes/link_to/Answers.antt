@@ -1,22 +1,17 @@
-use Rattle.std.proofs.Common.{◌≡◌, ℕ, Some, None, sym, ap, ◌∙◌, subst, get_or}
-use Rattle.std.specs.Option.{option_map}
-use Rattle.std.specs.List.{find}
-use Rattle.tva_base.specs.declared.plan.Route.{Route}
-use Rattle.tva_router.specs.Routes.{leads, link_to}
-use Rattle.tva_router.proofs.Links.{find_there, find_nowhere}
+use Rattle.std.proofs.Common.{sym, ◌∙◌, arith}
+use Rattle.tva_router.proofs.Tables.{shorter_at_first, shorter-more, found_longest, found_nowhere}
 use Rattle.tva_router.proofs.routes.link_to.Goals as goal
 
-pub returns-in-Some : goal.returns-in-Some
-unfolding link_to
-returns-in-Some c =
-    let none : Route = record { prefix = record { address = record { 0 = 0 }; bits = 0 }; link = 0 } in
-    sym (ap (option_map (λ (r : Route). r.link))
-    (subst (λ (b : ℕ). find (leads b c.args.dst) c.args.routes.now ≡ Some (get_or c.args.routes.now c.in-Some.place none)) c.longest-bits.ensures
-    (find_there (leads c.longest-bits.result c.args.dst) c.args.routes.now c.in-Some.place none (sym c.place_leading.ensures.place ∙ c.in-Some.is))))
+pub loop-shorter-init : goal.loop-shorter-init
+loop-shorter-init c = shorter_at_first c.args.routes.now c.args.dst c.requires.short
 
-pub returns-in-None : goal.returns-in-None
-unfolding link_to
-returns-in-None c =
-    sym (ap (option_map (λ (r : Route). r.link))
-    (subst (λ (b : ℕ). find (leads b c.args.dst) c.args.routes.now ≡ None) c.longest-bits.ensures
-    (find_nowhere (leads c.longest-bits.result c.args.dst) c.args.routes.now (sym c.place_leading.ensures.place ∙ c.in-None.is))))
+pub loop-shorter-preserved : goal.loop-shorter-preserved
+loop-shorter-preserved c =
+    shorter-more c.args.routes.now c.args.dst c.loop-shorter.shorter c.link_at-link.result (omega arith) c.link_at-link.ensures (sym c.is_some.ensures ∙ c.if-is_some.false) c.loop-shorter.invariant
+
+pub returns-then-is_some : goal.returns-then-is_some
+returns-then-is_some c =
+    found_longest c.args.routes.now c.args.dst c.loop-shorter.shorter c.link_at-link.result (omega arith) c.link_at-link.ensures (sym c.is_some.ensures ∙ c.if-is_some.true) c.loop-shorter.invariant
+
+pub returns : goal.returns
+returns c = found_nowhere c.args.routes.now c.args.dst c.loop-shorter.shorter (omega arith) c.loop-shorter.invariant

@@ -1,10 +1,14 @@
-use Rattle.std.proofs.Common.{◌≡◌, ℕ, ◌≤◌, Option, Some, None, eqb, ap, ◌∙◌, subst, arith}
+use Rattle.std.proofs.Common.{◌≡◌, ℕ, ◌≤◌, Option, Some, None, eqb, ap, ◌∙◌, subst, arith, sym, List}
 use Rattle.tva_base.specs.declared.limits.LinkLimits.{LinkLimits}
 use Rattle.tva_port.specs.Decide.{decision, started_by}
+use Rattle.tva_router.specs.Tables.{ArePlaces}
 use Rattle.tva_router.proofs.Links.{is_at, at_within, find_nowhere}
 use Rattle.tva_router.proofs.Ports.{ports-length, port-get, ports-set, free-at, free-set, place-in, stands-get, stands-set}
 use Rattle.tva_router.proofs.Queueing.{found}
 use Rattle.tva_router.proofs.sending.decide_on.Goals as goal
+
+pub place_of-requires : goal.place_of-requires
+place_of-requires c = subst (λ (z : List (ℕ × LinkLimits)). ArePlaces z c.args.ways.now.places) (sym c.as_slice.ensures) c.requires.ways.places
 
 pub index_mut-requires : goal.index_mut-requires
 index_mut-requires c =

@@ -1,8 +1,12 @@
-use Rattle.std.proofs.Common.{ℕ, Some, None, eqb, sym, ◌∙◌, arith}
+use Rattle.std.proofs.Common.{ℕ, Some, None, eqb, sym, ◌∙◌, arith, subst, List}
 use Rattle.tva_base.specs.declared.limits.LinkLimits.{LinkLimits}
+use Rattle.tva_router.specs.Tables.{ArePlaces}
 use Rattle.tva_router.proofs.Links.{is_at, at_within, find_nowhere}
 use Rattle.tva_router.proofs.Ports.{ports-length, port-get, free-at, place-in}
 use Rattle.tva_router.proofs.sending.free_on.Goals as goal
+
+pub place_of-requires : goal.place_of-requires
+place_of-requires c = subst (λ (z : List (ℕ × LinkLimits)). ArePlaces z c.args.ways.now.places) (sym c.as_slice.ensures) c.requires.ways.places
 
 pub index-requires : goal.index-requires
 index-requires c =

@@ -7,6 +7,7 @@ use Rattle.tva_shim.specs.Packets.{PacketData}
 use Rattle.tva_router.specs.Routes.{link_to}
 use Rattle.tva_router.specs.Handling.{sent, queued, way_to, link_or_none}
 use Rattle.tva_router.specs.Stands.{StandForLogs, ◌with◌}
+use Rattle.tva_router.specs.Tables.{ArePlaces, IsTableOf}
 use Rattle.tva_router.proofs.Links.{find_nowhere}
 use Rattle.tva_router.proofs.Ports.{stands-nothing}
 use Rattle.tva_router.proofs.sending.send.Goals as goal
@@ -20,6 +21,12 @@ way-none plan routes outgoing p packet link r o v to nowhere =
     let gone : find (λ o. eqb o.0 link) plan.outgoing ≡ None =
     find_nowhere (λ (o : ℕ × LinkLimits). eqb o.0 link) plan.outgoing (subst (λ (z : List (ℕ × LinkLimits)). position (λ o. eqb o.0 link) z ≡ None) o nowhere) in
     ap (link_or_none plan) leads ∙ gone
+
+pub link_to-requires : goal.link_to-requires
+link_to-requires c = subst (λ (z : List Route). IsTableOf z c.args.ways.now.routes) (sym c.as_slice.ensures) c.requires.ways.routes
+
+pub place_of-requires : goal.place_of-requires
+place_of-requires c = subst (λ (z : List (ℕ × LinkLimits)). ArePlaces z c.args.ways.now.places) (sym c.as_slice-2.ensures) c.requires.ways.places
 
 pub returns-in-None-clause-outcome : goal.returns-in-None-clause-outcome
 returns-in-None-clause-outcome c logs s =

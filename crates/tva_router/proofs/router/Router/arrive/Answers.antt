@@ -14,7 +14,7 @@ use Rattle.tva_router.proofs.router.Router.arrive.Goals as goal
 
 pub invariant_of-self : goal.invariant_of-self
 invariant_of-self c =
-    sound-later c.self.inside.plan c.self.inside.last c.args.now.0 c.self.inside.guard c.self.inside.ports.items
+    sound-later c.self.inside.plan c.self.inside.last c.args.now.0 c.self.inside.guard c.self.inside.ways c.self.inside.ports.items
     (subst (λ (z : RouterData). z.last ≤ c.args.now.0) (sym c.self.view_is) c.requires.time) c.self.invariant
 
 pub returns-then-at_hop_limit-clause-fate : goal.returns-then-at_hop_limit-clause-fate
@@ -69,9 +69,10 @@ returns-clause-stands c h logs s =
     subst (λ (z : PacketData). StandForLogs plan.outgoing c.send-outcome.new.ports.items (logs with queued logs c.args.now.0 c.judge-class.result.class z (way_to plan z.flow.dst))) c.new-packet.ensures
     (c.send-outcome.ensures.stands logs stood.links) in
     let by : IsByPlan (router_data plan c.args.now.0 c.judge-class.new.self.minter c.judge-class.new.self.cache c.send-outcome.new.ports.items) =
-    by-plan plan c.args.now.0 c.judge-class.new.self c.send-outcome.new.ports.items (record {
+    by-plan plan c.args.now.0 c.judge-class.new.self c.self.inside.ways c.send-outcome.new.ports.items (record {
       valid = c.self.invariant.valid;
       guard = subst (λ (z : Arrival). IsGuard plan z.time.0 c.judge-class.new.self) came c.judge-class.ensures.guard;
+      ways = c.self.invariant.ways;
       ports = c.send-outcome.ensures.ports;
     }) in
     let few : leb 32 packet.hops ≡ false = subst (λ (z : PacketData). leb 32 z.hops ≡ false) (sym c.packet.view_is) (sym c.at_hop_limit.ensures ∙ c.if-at_hop_limit.false) in

@@ -1,15 +1,14 @@
-use Rattle.std.proofs.Common.{◌≡◌, ℕ, List, [], sym, ap, ◌∙◌, subst, arith}
+use Rattle.std.proofs.Common.{◌≡◌, ℕ, List, [], sym, ap, ◌∙◌, subst}
 use Rattle.std.proofs.lemmas.List.Elements.{All-nil}
 use Rattle.tva_base.specs.Plan.{IsRouterPlan}
 use Rattle.tva_base.specs.declared.limits.LinkLimits.{LinkLimits}
 use Rattle.tva_base.specs.declared.plan.RouterPlan.{RouterPlan}
-use Rattle.tva_caps.specs.Minting.{MinterState}
 use Rattle.tva_flow.specs.Charges.{Charge}
 use Rattle.tva_flow.specs.Budget.{IsWithinSeconds}
-use Rattle.tva_flow.specs.Stands.{Cache}
 use Rattle.tva_port.proofs.Steady.{misses_empty}
 use Rattle.tva_router.specs.Stands.{StandForLogs}
-use Rattle.tva_router.specs.Steps.{ArePorts}
+use Rattle.tva_router.specs.Steps.{ArePorts, IsGuard}
+use Rattle.tva_router.specs.Tables.{AreWays}
 use Rattle.tva_router.proofs.Handled.{by-plan}
 use Rattle.tva_router.proofs.router.Router.build.Goals as goal
 
@@ -19,19 +18,13 @@ returns-clause-stands c =
     let same : plan ≡ c.args.plan.now = c.in_ok-copied.ensures in
     let outgoing : c.as_slice.result.now ≡ plan.outgoing = c.as_slice.ensures ∙ ap (λ (z : RouterPlan). z.outgoing) (sym same) in
     record {
-      plan = by-plan plan 0 (record { minter = c.new.result; cache = c.in_ok-with_slots.field-0 }) c.in_ok-ports_of.field-0.items (record {
+      plan = by-plan plan 0 c.in_ok-build.field-0 c.in_ok-ways_of.field-0 c.in_ok-ports_of.field-0.items (record {
         valid = subst (λ (z : RouterPlan). IsRouterPlan z) (sym same) c.requires;
-        guard = record {
-          master = ap (λ (z : MinterState). z.master) c.new.ensures ∙ ap (λ (z : RouterPlan). z.master) (sym same);
-          clock = ap (λ (z : MinterState). z.clock_offset) c.new.ensures ∙ ap (λ (z : RouterPlan). z.clock_offset) (sym same);
-          slots = ap (λ (z : Cache). z.slots) c.in_ok-with_slots.ensures.value ∙ ap (λ (z : RouterPlan). z.slots) (sym same);
-          offset = ap (λ (z : Cache). z.offset) c.in_ok-with_slots.ensures.value ∙ ap (λ (z : RouterPlan). z.clock_offset) (sym same);
-          minted = omega (arith, ap (λ (z : MinterState). z.last) c.new.ensures);
-          charged = omega (arith, ap (λ (z : Cache). z.last) c.in_ok-with_slots.ensures.value);
-        };
+        guard = subst (λ (z : RouterPlan). IsGuard z 0 c.in_ok-build.field-0) (sym same) c.in_ok-build.ensures.guard;
+        ways = subst (λ (z : RouterPlan). AreWays z c.in_ok-ways_of.field-0) (sym same) c.in_ok-ways_of.ensures;
         ports = subst (λ (z : List (ℕ × LinkLimits)). ArePorts z 0 c.in_ok-ports_of.field-0.items) outgoing c.in_ok-ports_of.ensures.ports;
       });
-      charges = c.in_ok-with_slots.ensures.stands;
+      charges = c.in_ok-build.ensures.stands;
       timely = All-nil (λ (x : Charge). IsWithinSeconds plan.clock_offset x.time x.grant);
       links = subst (λ (z : List (ℕ × LinkLimits)). StandForLogs z c.in_ok-ports_of.field-0.items (λ link. [])) outgoing c.in_ok-ports_of.ensures.stands;
     }

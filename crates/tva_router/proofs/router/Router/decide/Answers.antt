@@ -30,8 +30,13 @@ returns-clause-stands c h logs s =
     subst (λ (z : RouterData). StandsFor z h logs) (sym c.self.view_is) s in
     let le : c.self.inside.last ≤ c.args.now.0 = subst (λ (z : RouterData). z.last ≤ c.args.now.0) (sym c.self.view_is) c.requires.time in
     record {
-      plan = by-plan c.self.inside.plan c.args.now.0 c.self.inside.guard c.decide_on.new.ports.items
-          (record { valid = c.self.invariant.valid; guard = guard-later c.self.inside.plan c.self.inside.last c.args.now.0 c.self.inside.guard le c.self.invariant.guard; ports = c.decide_on.ensures.ports });
+      plan = by-plan c.self.inside.plan c.args.now.0 c.self.inside.guard c.self.inside.ways c.decide_on.new.ports.items
+          (record {
+            valid = c.self.invariant.valid;
+            guard = guard-later c.self.inside.plan c.self.inside.last c.args.now.0 c.self.inside.guard le c.self.invariant.guard;
+            ways = c.self.invariant.ways;
+            ports = c.decide_on.ensures.ports;
+          });
       charges = stood.charges;
       timely = stood.timely;
       links = c.decide_on.ensures.stands logs stood.links;

@@ -1,0 +1,195 @@
+-- The tables of routes and of links.
+use Rattle.std.proofs.Common.{◌≡◌, ℕ, ◌+◌, ◌-◌, ◌<◌, ◌≤◌, Bool, true, false, ◌&&◌, cond, eqb, List, [], ◌∷◌, length, take, drop, get_or, set, Option, Some, None, IfSome, is_some, nat_eq, refl, sym, ap, ◌∙◌, subst, inl, inr, zero, suc, arith}
+use Rattle.std.specs.List.{All, AllByRecursion, find, position, position_from}
+use Rattle.std.specs.Option.{option_map}
+use Rattle.std.specs.HashMap.{get}
+use Rattle.std.proofs.lemmas.Bool.Decides.{eqb_tells, nat_tests}
+use Rattle.std.proofs.lemmas.List.{drop_more, get_or-set_same}
+use Rattle.std.proofs.lemmas.List.Elements.{All-more, All-weaker, recursion_from_All}
+use Rattle.tva_base.specs.Addresses.{holds, kept}
+use Rattle.tva_base.specs.Plan.{IsPrefix}
+use Rattle.tva_base.specs.declared.addresses.Address.{Address}
+use Rattle.tva_base.specs.declared.plan.Route.{Route}
+use Rattle.tva_router.specs.Routes.{longest, leads, link_to}
+use Rattle.tva_router.specs.Tables.{Places, ArePlacesFrom, PrefixLinks, same_prefix, has_prefix, AreLinksOf, AreMarked, IsTableOf}
+use Rattle.tva_router.specs.declared.routes.RouteTable.{RouteTable}
+use Rattle.tva_router.proofs.Links.{is_at, at_within}
+use Rattle.tva_router.proofs.Ports.{same_link}
+use Rattle.tva_router.proofs.Ways.{all_at, found_is, none_is, Within, greatest, reached, both, leads_is, link_some, link_none, not_true}
+
+-- ## made from the last to the first
+
+-- an element and those behind it
+drop_before : {X : Type 0} (xs : List X) (n m : ℕ) (d : X) → n ≤ length xs → m + 1 ≡ n → drop m xs ≡ get_or xs m d ∷ drop n xs
+drop_before xs n m d within next = drop_more xs m d (omega (arith, within, next)) ∙ ap (λ (k : ℕ). get_or xs m d ∷ drop k xs) next
+
+-- one link more
+pub places-before : {X : Type 0} (links : List (ℕ × X)) (n m : ℕ) (d : ℕ × X) (old new : Places) → n ≤ length links → m + 1 ≡ n → ArePlacesFrom n (drop n links) old
+    → ((q : ℕ) → get nat_eq new q ≡ cond (eqb (get_or links m d).0 q) (Some m) (get nat_eq old q)) → ArePlacesFrom m (drop m links) new
+places-before {X} links n m d old new within next is updates =
+    λ link.
+    let o : ℕ × X = get_or links m d in
+    updates link
+    ∙ ap (λ (p : Option ℕ). cond (eqb o.0 link) (Some m) p) (is link)
+    ∙ ap (λ (k : ℕ). cond (eqb o.0 link) (Some m) (position_from (λ (z : ℕ × X). eqb z.0 link) k (drop n links))) (sym next)
+    ∙ ap (λ (zs : List (ℕ × X)). position_from (λ (y : ℕ × X). eqb y.0 link) m zs) (sym (drop_before links n m d within next))
+
+-- a place is one of the list
+pub place_within : {X : Type 0} (links : List (ℕ × X)) (link : ℕ) (o : Option ℕ) → o ≡ position (λ z. eqb z.0 link) links → IfSome o (λ at. at < length links)
+place_within links link None e = tt
+place_within links link (Some at) e = at_within links at link (is_at links at link (sym e))
+
+first_kept : (b : Bool) (r : Route) (o : Option Route) → cond b (Some r.link) (option_map (λ (x : Route). x.link) o) ≡ option_map (λ (x : Route). x.link) (cond b (Some r) o)
+first_kept true r o = refl
+first_kept false r o = refl
+
+-- one route more
+pub links-before : (routes : List Route) (n m : ℕ) (d : Route) (old new : PrefixLinks) → n ≤ length routes → m + 1 ≡ n → AreLinksOf (drop n routes) old
+    → ((q : ℕ × ℕ) → get same_prefix new q ≡ cond (same_prefix ((get_or routes m d).prefix.bits, (get_or routes m d).prefix.address.0) q) (Some (get_or routes m d).link) (get same_prefix old q))
+    → AreLinksOf (drop m routes) new
+links-before routes n m d old new within next is updates =
+    λ bits address.
+    let r : Route = get_or routes m d in
+    updates (bits, address)
+    ∙ ap (λ (o : Option ℕ). cond (has_prefix bits address r) (Some r.link) o) (is bits address)
+    ∙ first_kept (has_prefix bits address r) r (find (has_prefix bits address) (drop n routes))
+    ∙ ap (λ (rs : List Route). option_map (λ (x : Route). x.link) (find (has_prefix bits address) rs)) (sym (drop_before routes n m d within next))
+
+-- ## which lengths there are
+
+marked_kept : (marks : List Bool) (i k : ℕ) → get_or marks k false ≡ true → get_or (set marks i true) k false ≡ true
+marked_kept [] i k h = h
+marked_kept (m ∷ ms) zero zero h = refl
+marked_kept (m ∷ ms) zero (suc k) h = h
+marked_kept (m ∷ ms) (suc i) zero h = h
+marked_kept (m ∷ ms) (suc i) (suc k) h = marked_kept ms i k h
+
+pub marked-more : (routes : List Route) (i : ℕ) (d : Route) (marks : List Bool) → i < length routes → (get_or routes i d).prefix.bits < length marks → AreMarked (take i routes) marks
+    → AreMarked (take (i + 1) routes) (set marks (get_or routes i d).prefix.bits true)
+marked-more routes i d marks within fits a =
+    let bits : ℕ = (get_or routes i d).prefix.bits in
+    let after : Route → Type 0 = λ r. get_or (set marks bits true) r.prefix.bits false ≡ true in
+    All-more after routes i d within
+    (All-weaker (λ (r : Route). get_or marks r.prefix.bits false ≡ true) after (λ r k. marked_kept marks bits r.prefix.bits k) (take i routes) a)
+    (get_or-set_same marks bits true false fits)
+
+pub all_short : (routes : List Route) → All (λ r. IsPrefix r.prefix) routes → All (λ r. r.prefix.bits ≤ 32) routes
+all_short routes a = All-weaker (λ (r : Route). IsPrefix r.prefix) (λ (r : Route). r.prefix.bits ≤ 32) (λ r k. k.bits) routes a
+
+-- ## a look-up at one length
+
+and_true : (b : Bool) → b && true ≡ b
+and_true true = refl
+and_true false = refl
+
+and_false : (b : Bool) → b && false ≡ false
+and_false true = refl
+and_false false = refl
+
+flipped : (a b : ℕ) → eqb a b ≡ eqb b a
+flipped a b = grind (arith, nat_tests)
+
+-- a prefix of that length that the destination begins with is that of its first bits
+has_leads : (bits : ℕ) (dst : Address) (r : Route) → has_prefix bits (kept dst bits).0 r ≡ leads bits dst r
+has_leads bits dst r =
+    elim (eqb_tells r.prefix.bits bits) [
+      | inl h ↦ subst (λ (b : Bool). b && eqb r.prefix.address.0 (kept dst bits).0 ≡ holds r.prefix dst && b) (sym h.0)
+          (flipped r.prefix.address.0 (kept dst bits).0 ∙ ap (λ (n : ℕ). eqb (kept dst n).0 r.prefix.address.0) (sym h.1) ∙ sym (and_true (holds r.prefix dst)))
+      | inr h ↦ subst (λ (b : Bool). b && eqb r.prefix.address.0 (kept dst bits).0 ≡ holds r.prefix dst && b) (sym h.0) (sym (and_false (holds r.prefix dst)))
+    ]
+
+-- tests that agree find the same
+find_same : (p q : Route → Bool) (routes : List Route) → ((r : Route) → p r ≡ q r) → find p routes ≡ find q routes
+find_same p q [] same = refl
+find_same p q (r ∷ rs) same = ap (λ (b : Bool). cond b (Some r) (find p rs)) (same r) ∙ ap (λ (o : Option Route). cond (q r) (Some r) o) (find_same p q rs same)
+
+find_none : (p : Route → Bool) (routes : List Route) → AllByRecursion (λ r. p r ≡ false) routes → find p routes ≡ None
+find_none p [] a = refl
+find_none p (r ∷ rs) a = ap (λ (b : Bool). cond b (Some r) (find p rs)) a.0 ∙ find_none p rs a.1
+
+all_none : (p : Route → Bool) (routes : List Route) → All (λ r. p r ≡ false) routes → find p routes ≡ None
+all_none p routes a = find_none p routes (recursion_from_All (λ (r : Route). p r ≡ false) routes a)
+
+-- the table has the link
+pub link_looked : (routes : List Route) (table : RouteTable) (dst : Address) (bits : ℕ) → IsTableOf routes table
+    → get same_prefix table.links (bits, (kept dst bits).0) ≡ option_map (λ r. r.link) (find (leads bits dst) routes)
+link_looked routes table dst bits t =
+    t.links bits (kept dst bits).0
+    ∙ ap (λ (o : Option Route). option_map (λ (r : Route). r.link) o) (find_same (has_prefix bits (kept dst bits).0) (leads bits dst) routes (has_leads bits dst))
+
+unmarked_leads : (marks : List Bool) (dst : Address) (bits : ℕ) (r : Route) → get_or marks bits false ≡ false → get_or marks r.prefix.bits false ≡ true → leads bits dst r ≡ false
+unmarked_leads marks dst bits r none some =
+    elim (eqb_tells r.prefix.bits bits) [
+      | inl h ↦ let here : get_or marks bits false ≡ true = subst (λ (n : ℕ). get_or marks n false ≡ true) h.1 some in absurd (cc)
+      | inr h ↦ subst (λ (b : Bool). holds r.prefix dst && b ≡ false) (sym h.0) (and_false (holds r.prefix dst))
+    ]
+
+-- no prefix has that length
+pub link_unmarked : (routes : List Route) (marks : List Bool) (dst : Address) (bits : ℕ) → AreMarked routes marks → get_or marks bits false ≡ false → None ≡ option_map (λ r. r.link) (find (leads bits dst) routes)
+link_unmarked routes marks dst bits a none =
+    sym (ap (λ (o : Option Route). option_map (λ (r : Route). r.link) o)
+    (all_none (leads bits dst) routes (All-weaker (λ (r : Route). get_or marks r.prefix.bits false ≡ true) (λ (r : Route). leads bits dst r ≡ false) (λ r some. unmarked_leads marks dst bits r none some) routes a)))
+
+-- ## from the longest length down
+
+-- a prefix that the destination begins with is so much shorter than an address
+abbrev pub IsShorter : Address → ℕ → Route → Type 0
+IsShorter dst shorter r = holds r.prefix dst ≡ true → r.prefix.bits + shorter ≤ 32
+
+pub shorter_at_first : (routes : List Route) (dst : Address) → All (λ r. r.prefix.bits ≤ 32) routes → All (IsShorter dst 0) routes
+shorter_at_first routes dst a = All-weaker (λ (r : Route). r.prefix.bits ≤ 32) (IsShorter dst 0) (λ r k h. omega (arith, k)) routes a
+
+none_some : (o : Option ℕ) → is_some o ≡ false → o ≡ None
+none_some None e = refl
+none_some (Some n) e = absurd (cc)
+
+shorter_one : (dst : Address) (shorter : ℕ) (r : Route) → shorter ≤ 32 → IsShorter dst shorter r → leads (32 - shorter) dst r ≡ false → IsShorter dst (shorter + 1) r
+shorter_one dst shorter r le s none h =
+    elim (eqb_tells r.prefix.bits (32 - shorter)) [
+      | inl k ↦ let leads_there : leads (32 - shorter) dst r ≡ true = leads_is (32 - shorter) dst r h k.1 in absurd (cc)
+      | inr k ↦ omega (arith, le, s h, k.1)
+    ]
+
+-- nothing was found at this length
+pub shorter-more : (routes : List Route) (dst : Address) (shorter : ℕ) (o : Option ℕ) → shorter ≤ 32 → o ≡ option_map (λ r. r.link) (find (leads (32 - shorter) dst) routes) → is_some o ≡ false
+    → All (IsShorter dst shorter) routes → All (IsShorter dst (shorter + 1)) routes
+shorter-more routes dst shorter o le looked none a =
+    let absent = none_is (leads (32 - shorter) dst) routes (link_none (find (leads (32 - shorter) dst) routes) (sym looked ∙ none_some o none)) in
+    λ k d within. shorter_one dst shorter (get_or routes k d) le (a k d within) (absent k d within)
+
+longest_found : (routes : List Route) (dst : Address) (bits : ℕ) (r : Route) → find (leads bits dst) routes ≡ Some r → All (Within dst bits) routes → longest routes dst ≡ bits
+longest_found routes dst bits r e a =
+    let f = found_is (leads bits dst) routes r e in
+    let b = both (holds r.prefix dst) (eqb r.prefix.bits bits) f.1 in
+    let same : r.prefix.bits ≡ bits = same_link r.prefix.bits bits b.1 in
+    let least : r.prefix.bits ≤ longest routes dst = all_at (Within dst (longest routes dst)) routes r (greatest 0 routes dst).1 f.0 b.0 in
+    elim (reached 0 routes dst) [
+      | inl k ↦ omega (arith, same, least, k)
+      | inr k ↦ let most : k.0.prefix.bits ≤ bits = all_at (Within dst bits) routes k.0 a k.1.0 k.1.1.0 in omega (arith, same, least, most, k.1.1.1)
+    ]
+
+found_at : (routes : List Route) (dst : Address) (bits : ℕ) (o : Option Route) → find (leads bits dst) routes ≡ o → is_some (option_map (λ (r : Route). r.link) o) ≡ true → All (Within dst bits) routes → longest routes dst ≡ bits
+found_at routes dst bits None e some a = absurd (cc)
+found_at routes dst bits (Some r) e some a = longest_found routes dst bits r e a
+
+-- what is found first is at the greatest length
+pub found_longest : (routes : List Route) (dst : Address) (shorter : ℕ) (o : Option ℕ) → shorter ≤ 32 → o ≡ option_map (λ r. r.link) (find (leads (32 - shorter) dst) routes) → is_some o ≡ true
+    → All (IsShorter dst shorter) routes → o ≡ link_to routes dst
+unfolding link_to
+found_longest routes dst shorter o le looked some a =
+    let within : All (Within dst (32 - shorter)) routes = All-weaker (IsShorter dst shorter) (Within dst (32 - shorter)) (λ r k h. omega (arith, k h)) routes a in
+    let there : is_some (option_map (λ (r : Route). r.link) (find (leads (32 - shorter) dst) routes)) ≡ true = subst (λ (z : Option ℕ). is_some z ≡ true) looked some in
+    let bits : longest routes dst ≡ 32 - shorter = found_at routes dst (32 - shorter) (find (leads (32 - shorter) dst) routes) refl there within in
+    looked ∙ ap (λ (n : ℕ). option_map (λ (r : Route). r.link) (find (leads n dst) routes)) (sym bits)
+
+holds_none : (dst : Address) (shorter : ℕ) (r : Route) → 33 ≤ shorter → IsShorter dst shorter r → (n : ℕ) → leads n dst r ≡ false
+holds_none dst shorter r ge s n =
+    let no : holds r.prefix dst ≡ false = not_true (holds r.prefix dst) (λ h. omega (arith, ge, s h)) in
+    ap (λ (b : Bool). b && eqb r.prefix.bits n) no
+
+-- nothing was found at any length
+pub found_nowhere : (routes : List Route) (dst : Address) (shorter : ℕ) → 33 ≤ shorter → All (IsShorter dst shorter) routes → None ≡ link_to routes dst
+unfolding link_to
+found_nowhere routes dst shorter ge a =
+    sym (ap (λ (o : Option Route). option_map (λ (r : Route). r.link) o)
+    (all_none (leads (longest routes dst) dst) routes (All-weaker (IsShorter dst shorter) (λ (r : Route). leads (longest routes dst) dst r ≡ false) (λ r s. holds_none dst shorter r ge s (longest routes dst)) routes a)))
