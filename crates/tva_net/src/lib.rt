@@ -9,6 +9,7 @@ mod building;
 mod gathering;
 mod kinds;
 mod net;
+mod pace;
 mod parts;
 mod posting;
 mod sums;

@@ -10,6 +10,7 @@ ghost use Rattle.tva_net.specs.Work.{AreWorked, CanBeWorked, CanWork, WorksOn, W
 
 use crate::building::first_nodes;
 use crate::gathering::gather;
+use crate::pace::{advance, busier};
 use crate::posting::post_all;
 use crate::timing::{first_time, window_length};
 use std::alloc::{AllocError, Global};
@@ -17,13 +18,13 @@ use std::cmp;
 use std::thread::Threads;
 use tva_base::{Event, LinkPlan, Time};
 use tva_config::Config;
-use tva_node::{Node, advance_all};
+use tva_node::Node;
 use tva_outside::Gate;
 use tva_trace::Row;
 
 /// The horizon, the links, the length of a window in nanoseconds, the nodes, how much of what each
-/// one's links sent was posted and how much of what each told was shown, and the time up to which
-/// they are worked.
+/// one's links sent was posted and how much of what each told was shown, the time up to which they
+/// are worked, and the most events of a window so far, if there was one.
 #[derive(Drop)]
 pub(crate) struct Works {
     pub horizon: Time,
@@ -33,6 +34,7 @@ pub(crate) struct Works {
     pub posted: Vec<usize>,
     pub shown: Vec<usize>,
     pub worked_to: u64,
+    pub busiest: Option<usize>,
 }
 
 impl Works {
@@ -53,6 +55,7 @@ impl Works {
             posted: vec![in alloc; 0; count]?,
             shown: vec![in alloc; 0; count]?,
             worked_to: 0,
+            busiest: None,
         })
     }
 
@@ -94,6 +97,7 @@ impl Works {
             rt,
             alloc,
             gate,
+            self.busiest,
             Time(until),
             self.horizon,
             self.links.as_slice(),
@@ -101,6 +105,7 @@ impl Works {
             self.shown.as_mut_slice(),
             self.nodes.as_mut_slice(),
         )?;
+        self.busiest = busier(self.busiest, events.len());
         self.worked_to = until;
         Ok(Some(events))
     }
@@ -111,6 +116,7 @@ fn work_nodes<R: Threads + Sync, G: Gate>(
     rt: &R,
     alloc: Global,
     gate: &G,
+    busiest: Option<usize>,
     until: Time,
     horizon: Time,
     links: &[LinkPlan],
@@ -122,7 +128,7 @@ fn work_nodes<R: Threads + Sync, G: Gate>(
     ensures worked { IfOk result (λ list. AreWorked until.0 horizon.0 links.now posted.old shown.old nodes.old list.items posted.new shown.new nodes.new) }
     ensures kept { AllZip BeginsWith (told_by nodes.old) (told_by nodes.new) }
 {
-    advance_all(rt, gate, until, nodes)?;
+    advance(rt, gate, busiest, until, nodes)?;
     let events = gather(alloc, nodes, shown)?;
     post_all(nodes, horizon, links, posted)?;
     Ok(events)

@@ -1,6 +1,6 @@
 -- What a node stands for that is new, or that is given one more input; and when it has work.
-use Rattle.std.proofs.Common.{◌≡◌, ℕ, zero, suc, ◌+◌, ◌<◌, ◌≤◌, false, List, [], ◌∷◌, ◌++◌, length, get_or, map, All, Option, Some, None, refl, sym, subst, ◌∙◌, ap, arith, inl, inr}
-use Rattle.std.specs.Prelude.{nat_lt, ◌==◌, ◌||◌, ◌&&◌, Contains, slice_get}
+use Rattle.std.proofs.Common.{◌≡◌, ℕ, zero, suc, ◌+◌, ◌<◌, ◌≤◌, false, List, [], ◌∷◌, ◌++◌, length, get_or, map, All, Option, Some, None, Result, Ok, Err, refl, sym, subst, ◌∙◌, ap, arith, inl, inr}
+use Rattle.std.specs.Prelude.{nat_lt, ◌==◌, ◌||◌, ◌&&◌, Contains, OnErr, slice_get}
 use Rattle.std.specs.Option.{option_and_then, option_map}
 use Rattle.std.specs.List.{AllByRecursion, AllZip, find}
 use Rattle.std.proofs.lemmas.Bool.{cases_Bool, cond-true, cond-false, eq-eqb}
@@ -29,6 +29,11 @@ use Rattle.tva_node.specs.States.{NodeState, Fits, IsBy, IsFirstWork, KnowsNext,
 use Rattle.tva_node.specs.Steps.{first_link}
 use Rattle.tva_node.specs.Work.{IsNoneBefore, turn_next, least_next, work_time}
 use Rattle.tva_node.proofs.Works.{any_link, either, none_sooner, quiet, work_late}
+
+-- what holds anyway holds after an error
+pub on_err : {T E : Type 0} (P : Type 0) (r : Result T E) → P → OnErr r P
+on_err P (Ok x) h = tt
+on_err P (Err e) h = h
 
 -- ## one more input
 
@@ -126,6 +131,11 @@ next_nothing (Some x) = sym (nothing_next x.1)
 pub pairs_first : (links : List (ℕ × LinkPlan)) → map link_pair (map first_link links) ≡ links
 pairs_first [] = refl
 pairs_first (o ∷ os) = ap (λ (xs : List (ℕ × LinkPlan)). o ∷ xs) (pairs_first os)
+
+-- none of its links decides by itself yet
+pub none_first : (links : List (ℕ × LinkPlan)) → least_next (map first_link links) ≡ None
+none_first [] = refl
+none_first (o ∷ os) = none_first os
 
 -- a node to which nothing happened
 pub built : (number horizon : ℕ) (role : Role) (links : List (ℕ × LinkPlan)) (ls : List Link) → horizon ≤ 1000000000000000 → ls ≡ map first_link links → IsSite (site_of number (role_plan role) links) → RoleStands (site_of number (role_plan role) links) role [] → IsBy 0 role

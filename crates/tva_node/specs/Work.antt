@@ -1,5 +1,5 @@
 -- Kit: when there is work at a node, and how far it is within one time.
-use Rattle.std.specs.Prelude.{ℕ, ◌+◌, ◌*◌, ◌≤◌, ◌<◌, ◌==◌, min, Bool, false, List, [], ◌∷◌, All, take, drop, set}
+use Rattle.std.specs.Prelude.{◌≡◌, ℕ, ◌+◌, ◌*◌, ◌≤◌, ◌<◌, ◌==◌, min, Bool, false, List, [], ◌∷◌, All, take, drop, set}
 use Rattle.std.specs.Prelude.{get_or, Option, Some, None, IfSome}
 use Rattle.tva_base.specs.declared.event.Event.{Event}
 use Rattle.tva_base.specs.declared.event.Happened.TheVariants as happens
@@ -11,6 +11,7 @@ use Rattle.tva_log.specs.declared.kinds.Input.{Input}
 use Rattle.tva_log.specs.Entries.{Entry}
 use Rattle.tva_log.specs.NodeLog.{in_turn, due}
 use Rattle.tva_node.specs.declared.parts.Link.{Link}
+use Rattle.tva_node.specs.declared.parts.Parts.{Parts}
 use Rattle.tva_node.specs.declared.turns.Turn.{Turn}
 use Rattle.tva_node.specs.States.{NodeState}
 use Rattle.tva_node.specs.Steps.{StandsAt}
@@ -36,6 +37,10 @@ least_next (link ∷ links) = sooner link.next (least_next links)
 -- the next time at which there is work
 abbrev pub work_time : List Turn → List Link → Option ℕ
 work_time turns links = sooner (turn_next turns) (least_next links)
+
+-- a node knows the next time at which one of its links decides by itself
+abbrev pub KnowsFirst : Parts → Type 0
+KnowsFirst p = p.next ≡ least_next p.links.items
 
 -- none is before that time
 abbrev pub IsNoneBefore : ℕ → Option ℕ → Type 0

@@ -1,4 +1,4 @@
-// All nodes, worked in halves at once.
+// All nodes, worked in halves at once, or one after another.
 ghost use Rattle.std.specs.Prelude.{◌≡◌, ◌≤◌, OnOk};
 ghost use Rattle.std.specs.List.{AllByRecursion, AllZip};
 ghost use Rattle.std.specs.Thread.{IsSync};
@@ -48,7 +48,7 @@ pub fn work_parts<R: Threads + Sync, G: Gate>(
     ensures kept { AllZip Keeps nodes.old nodes.new }
 {
     if parts <= 1 || nodes.len() <= 1 {
-        return work_each(gate, until, nodes);
+        return advance_each(gate, until, nodes);
     }
     let half = nodes.len() / 2;
     let less = parts / 2;
@@ -71,8 +71,9 @@ pub fn work_parts<R: Threads + Sync, G: Gate>(
     second
 }
 
-// Works one node after another.
-fn work_each<G: Gate>(gate: &G, until: Time, nodes: &mut [Node]) -> Result<(), AllocError>
+/// The same one node after another, on one thread: where little happens, starting threads would take
+/// longer than the work.
+pub fn advance_each<G: Gate>(gate: &G, until: Time, nodes: &mut [Node]) -> Result<(), AllocError>
     requires { AllByRecursion Stands nodes.old }
     ensures ok { OnOk result (AllZip (IsAdvanced until.0) nodes.old nodes.new) }
     ensures kept { AllZip Keeps nodes.old nodes.new }

@@ -2,7 +2,8 @@
 //! inputs first, then each link that is free. Its contract promises that what it keeps is the node's
 //! log over its inputs up to the time up to which it is worked; that its next time is the first at
 //! which an input comes or a link decides; and that nodes that are worked in halves at once have the
-//! logs that they have one after another.
+//! logs that they have one after another. A node at which nothing is to be done costs no look at its
+//! links.
 #![tactic(auto)]
 
 mod halves;
@@ -11,5 +12,5 @@ mod parts;
 mod role;
 mod turns;
 
-pub use halves::advance_all;
+pub use halves::{advance_all, advance_each};
 pub use node::{Node, node_crosses};

@@ -1,5 +1,5 @@
 // A node of a network.
-ghost use Rattle.std.specs.Prelude.{◌≡◌, ◌≤◌, ◌+◌, ◌∷◌, [], ◌++◌, min, max, map, List, IfOk, OnOk};
+ghost use Rattle.std.specs.Prelude.{◌≡◌, ◌≤◌, ◌+◌, ◌∷◌, [], ◌++◌, min, max, map, List, IfOk, OnErr, OnOk};
 ghost use Rattle.tva_log.specs.Entries.{Entry, input_source, input_time};
 ghost use Rattle.tva_log.specs.NodeLog.{in_turn};
 ghost use Rattle.tva_log.specs.Sites.{IsSite, site_of};
@@ -31,7 +31,11 @@ impl Model for Node {
 
     ghost Value = { NodeState };
 
+    ghost use Rattle.tva_node.specs.Work.{KnowsFirst};
+
     ghost view = { λ n. state_of n.parts };
+
+    ghost invariant = { λ n. KnowsFirst n.parts };
 }
 
 impl Node {
@@ -60,6 +64,7 @@ impl Node {
                 alloc,
                 role,
                 links: links_out(alloc, links)?,
+                next: None,
                 inbox: Vec::new(alloc),
                 turns: Turns::new(alloc),
                 log: Vec::new(alloc),
@@ -110,18 +115,20 @@ impl Node {
     }
 
     /// Gives the node one more input, at the time up to which it is worked or later, and up to the
-    /// horizon. The error is want of memory.
+    /// horizon. The error is want of memory, and changes nothing.
     pub fn post(&mut self, input: Input) -> Result<(), AllocError>
         requires late { self.old.worked_to ≤ input_time input }
         requires horizon { input_time input ≤ self.old.horizon }
         requires fits { Fits self.old.site.plan input }
         ensures inbox { OnOk result (self.new.inbox ≡ self.old.inbox ++ input ∷ []) }
         ensures stands { Stands self.old → OnOk result (Stands self.new) }
+        ensures err { OnErr result (self.new ≡ self.old) }
         ensures same { (self.new.site ≡ self.old.site) × (self.new.horizon ≡ self.old.horizon)
             × (self.new.events ≡ self.old.events) × (self.new.sendings ≡ self.old.sendings)
             × (self.new.worked_to ≡ self.old.worked_to) }
     {
         let turn = turn_of(&input, self.parts.inbox.len());
+        self.parts.inbox.reserve(1)?;
         self.parts.turns.put(turn)?;
         self.parts.inbox.push(input)?;
         Ok(())

@@ -3,7 +3,7 @@ ghost use Rattle.std.specs.Prelude.{◌≡◌, ◌≤◌, ◌<◌, ◌+◌, ◌�
 ghost use Rattle.tva_log.specs.Sites.{limits_out};
 ghost use Rattle.tva_node.specs.declared.parts.Link.{Link};
 ghost use Rattle.tva_node.specs.States.{BeginsWith, Keeps, Stands, state_of};
-ghost use Rattle.tva_node.specs.Work.{DecidesAt, IsNoneBefore, IsStartable, TakesAt, end_on, is_due, least_next, sooner, start_event, start_sending, turn_next, with_next, work_time};
+ghost use Rattle.tva_node.specs.Work.{DecidesAt, IsNoneBefore, IsStartable, KnowsFirst, TakesAt, end_on, is_due, least_next, sooner, start_event, start_sending, turn_next, with_next, work_time};
 
 use crate::role::Role;
 use crate::turns::Turns;
@@ -23,30 +23,34 @@ pub struct Link {
     pub next: Option<u64>,
 }
 
-/// A node's number, the horizon in nanoseconds, its memory, what it is, its links out by their
-/// numbers, all its inputs, the turns of those that are not taken yet, its events and sendings, and
-/// the time up to which it is worked.
+/// A node's number, the horizon and the time up to which it is worked, in nanoseconds; when the first of
+/// its links decides next by itself, in nanoseconds, if one does; the turns of its inputs that are not
+/// taken yet, its events and its sendings; all its inputs, its links out by their numbers, its memory, and
+/// what it is. What each window looks at stands in front.
 #[derive(Drop)]
 pub(crate) struct Parts {
     pub number: u16,
     pub horizon: u64,
-    pub alloc: Global,
-    pub role: Role,
-    pub links: Vec<Link>,
-    pub inbox: Vec<Input>,
+    pub worked_to: u64,
+    pub next: Option<u64>,
     pub turns: Turns,
     pub log: Vec<Event>,
     pub outbox: Vec<Sending>,
-    pub worked_to: u64,
+    pub inbox: Vec<Input>,
+    pub links: Vec<Link>,
+    pub alloc: Global,
+    pub role: Role,
 }
 
 impl Parts {
     /// Works what is to be done before a time and up to the horizon.
     pub fn advance(&mut self, until: u64) -> Result<(), AllocError>
         requires stands { Stands (state_of self.old) }
+        requires first { KnowsFirst self.old }
         ensures stands { OnOk result (Stands (state_of self.new)) }
         ensures upto { OnOk result (self.new.worked_to ≡ max self.old.worked_to (min until (self.old.horizon + 1))) }
         ensures keeps { Keeps (state_of self.old) (state_of self.new) }
+        ensures first { KnowsFirst self.new }
     {
         let end = cmp::min(until, self.horizon + 1);
         while let Some(now) = self.work_before(end) {
@@ -56,15 +60,17 @@ impl Parts {
         Ok(())
     }
 
-    // The next time at which there is work.
+    // The next time at which there is work. An idle link costs nothing here.
     fn work_time(&self) -> Option<u64>
+        requires { KnowsFirst self.now }
         ensures { result ≡ work_time self.now.turns self.now.links.items }
     {
-        sooner(self.turn_time(), least_next(&self.links))
+        sooner(self.turn_time(), self.next)
     }
 
     /// The next time at which there is work, where it is no later than the horizon.
     pub fn work_within(&self) -> Option<u64>
+        requires { KnowsFirst self.now }
         ensures some { IfSome result (λ now. (work_time self.now.turns self.now.links.items ≡ Some now) × (now ≤ self.now.horizon)) }
         ensures none { result ≡ None → IsNoneBefore (self.now.horizon + 1) (work_time self.now.turns self.now.links.items) }
     {
@@ -76,6 +82,7 @@ impl Parts {
 
     // The next time at which there is work, where it is before the end.
     fn work_before(&self, end: u64) -> Option<u64>
+        requires { KnowsFirst self.now }
         ensures some { IfSome result (λ now. (work_time self.now.turns self.now.links.items ≡ Some now) × (now < end)) }
         ensures none { result ≡ None → IsNoneBefore end (work_time self.now.turns self.now.links.items) }
     {
@@ -102,6 +109,7 @@ impl Parts {
         ensures stands { Stands (state_of self.new) }
         ensures upto { self.new.worked_to ≡ max self.old.worked_to end }
         ensures keeps { Keeps (state_of self.old) (state_of self.new) }
+        ensures first { KnowsFirst self.old → KnowsFirst self.new }
     {
         self.worked_to = cmp::max(self.worked_to, end);
     }
@@ -111,10 +119,12 @@ impl Parts {
         requires stands { Stands (state_of self.old) }
         requires horizon { now ≤ self.old.horizon }
         requires next { work_time self.old.turns self.old.links.items ≡ Some now }
+        requires first { KnowsFirst self.old }
         ensures stands { OnOk result (Stands (state_of self.new)) }
         ensures upto { OnOk result (self.new.worked_to ≡ now + 1) }
         ensures on { OnOk result (self.old.worked_to < self.new.worked_to) }
         ensures keeps { Keeps (state_of self.old) (state_of self.new) }
+        ensures first { KnowsFirst self.new }
     {
         self.take_all(now)?;
         self.decide_all(now)?;
@@ -126,7 +136,7 @@ impl Parts {
     fn take_all(&mut self, now: u64) -> Result<(), AllocError>
         requires { TakesAt (state_of self.old) now }
         ensures taken { OnOk result (DecidesAt (state_of self.new) now 0) }
-        ensures links { self.new.links ≡ self.old.links }
+        ensures first { KnowsFirst self.old → KnowsFirst self.new }
         ensures keeps { Keeps (state_of self.old) (state_of self.new) }
     {
         while self.is_due(now) {
@@ -150,7 +160,7 @@ impl Parts {
         requires next { is_due now self.old.turns ≡ true }
         ensures stands { OnOk result (TakesAt (state_of self.new) now) }
         ensures fewer { length self.new.turns < length self.old.turns }
-        ensures links { self.new.links ≡ self.old.links }
+        ensures first { KnowsFirst self.old → KnowsFirst self.new }
         ensures keeps { Keeps (state_of self.old) (state_of self.new) }
     {
         let Some(turn) = self.turns.take() else {
@@ -167,8 +177,20 @@ impl Parts {
         Ok(())
     }
 
-    // Lets each link decide, in the order of their numbers.
+    // Lets each link decide, and keeps when the first of them decides next by itself.
     fn decide_all(&mut self, now: u64) -> Result<(), AllocError>
+        requires { DecidesAt (state_of self.old) now 0 }
+        ensures decided { OnOk result (DecidesAt (state_of self.new) now (length self.new.links.items)) }
+        ensures keeps { Keeps (state_of self.old) (state_of self.new) }
+        ensures first { KnowsFirst self.new }
+    {
+        let decided = self.decide_each(now);
+        self.next = least_next(&self.links);
+        decided
+    }
+
+    // Lets each link decide, in the order of their numbers.
+    fn decide_each(&mut self, now: u64) -> Result<(), AllocError>
         requires { DecidesAt (state_of self.old) now 0 }
         ensures decided { OnOk result (DecidesAt (state_of self.new) now (length self.new.links.items)) }
         ensures keeps { Keeps (state_of self.old) (state_of self.new) }

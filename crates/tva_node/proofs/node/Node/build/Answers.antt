@@ -2,8 +2,12 @@ use Rattle.std.proofs.Common.{[], map, sym, subst, ◌∙◌, ap}
 use Rattle.tva_config.specs.declared.config.NodePlan.{NodePlan}
 use Rattle.tva_log.specs.Sites.{IsSite, site_of}
 use Rattle.tva_node.specs.States.{RoleStands, Stands, link_pair, role_plan}
-use Rattle.tva_node.proofs.Posts.{built, pairs_first}
+use Rattle.tva_node.specs.Work.{least_next}
+use Rattle.tva_node.proofs.Posts.{built, none_first, pairs_first}
 use Rattle.tva_node.proofs.node.Node.build.Goals as goal
+
+pub invariant_of-result : goal.invariant_of-result
+invariant_of-result c = sym (ap least_next c.in_ok-links_out.ensures ∙ none_first c.args.links.now)
 
 pub returns-clause-site : goal.returns-clause-site
 returns-clause-site c =

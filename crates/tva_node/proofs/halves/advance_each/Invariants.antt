@@ -1,7 +1,7 @@
 use Rattle.std.proofs.Common.{◌≡◌, length, take, drop}
 use Rattle.std.specs.List.{AllZip}
 use Rattle.tva_node.specs.States.{IsAdvanced, Keeps}
-use Rattle.tva_node.proofs.halves.work_each.Given as goal
+use Rattle.tva_node.proofs.halves.advance_each.Given as goal
 
 abbrev pub invariant-loop-place : goal.invariant-loop-place
 invariant-loop-place g l = record {

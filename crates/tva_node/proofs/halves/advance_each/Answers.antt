@@ -1,7 +1,7 @@
 use Rattle.std.proofs.Common.{◌<◌, length, get_or, sym, subst, arith, ◌∙◌, length-set}
 use Rattle.tva_node.specs.States.{NodeState, IsAdvanced, Keeps}
 use Rattle.tva_node.proofs.Zips.{keeps_same, rest_more, zip_more, zip_whole}
-use Rattle.tva_node.proofs.halves.work_each.Goals as goal
+use Rattle.tva_node.proofs.halves.advance_each.Goals as goal
 
 pub returns-in_err-advance-clause-kept : goal.returns-in_err-advance-clause-kept
 returns-in_err-advance-clause-kept g c =

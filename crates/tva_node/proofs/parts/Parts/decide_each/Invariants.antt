@@ -1,7 +1,7 @@
 use Rattle.std.proofs.Common.{◌≡◌, length}
 use Rattle.tva_node.specs.States.{Keeps, state_of}
 use Rattle.tva_node.specs.Work.{DecidesAt}
-use Rattle.tva_node.proofs.parts.Parts.decide_all.Given as goal
+use Rattle.tva_node.proofs.parts.Parts.decide_each.Given as goal
 
 abbrev pub invariant-loop-place : goal.invariant-loop-place
 invariant-loop-place l = record {
