@@ -6,6 +6,7 @@ use std::sync::atomic::{AtomicU64, Ordering};
 use std::test::Fail;
 use tva_outside::{Gate, MemoryShelf, MemorySink, OpenGate, Shelf};
 
+mod damage;
 mod replaying;
 mod rows;
 mod texts;
