@@ -5,7 +5,6 @@ use Rattle.tva_base.specs.declared.event.Event.{Event}
 use Rattle.tva_run.specs.Report.{lines_of}
 use Rattle.tva.specs.Expected.{Expected, writes, shows, replays, lacks, exceeds, misconfigured, mistraced, IsText}
 use Rattle.tva.specs.Answer.{Answers, BeginsEach, IsBegunText, WroteAll, WroteEach, WroteLines, WrotePart}
-use Rattle.tva.specs.Network.{ArePromisesKept, HasRead}
 use Rattle.tva.specs.Replayed.{AreLines, all_of}
 use Rattle.tva.specs.declared.status.Status as status
 use Rattle.tva.specs.declared.status.Status.TheVariants.{Done, Usage, ReadFault, WriteFault, TooLarge, BadConfig, BadTrace, EventLimit, OutOfMemory}
@@ -79,16 +78,3 @@ begins_of_answer (Some x) r w old new (BadConfig f) a = begins_of_nothing old ne
 begins_of_answer (Some x) r w old new (BadTrace f) a = begins_of_nothing old new x a.1
 begins_of_answer (Some x) r w old new (EventLimit m) a = a.1
 begins_of_answer (Some x) r w old new OutOfMemory a = a.1
-
--- and every run keeps its promises
-pub promises_of_answer : (e : Option Expected) (r w : Type 0) (old new : Option (List ℕ)) (s : status.Status) → Answers e r w old new s → HasRead s → IfSome e ArePromisesKept
-promises_of_answer None r w old new s a read = tt
-promises_of_answer (Some x) r w old new Done a read = a.2
-promises_of_answer (Some x) r w old new Usage a read = absurd read
-promises_of_answer (Some x) r w old new ReadFault a read = absurd read
-promises_of_answer (Some x) r w old new WriteFault a read = a.1.2
-promises_of_answer (Some x) r w old new (TooLarge k) a read = absurd read
-promises_of_answer (Some x) r w old new (BadConfig f) a read = absurd read
-promises_of_answer (Some x) r w old new (BadTrace f) a read = absurd read
-promises_of_answer (Some x) r w old new (EventLimit m) a read = a.2
-promises_of_answer (Some x) r w old new OutOfMemory a read = absurd read

@@ -4,3 +4,4 @@ pub mod Replays
 pub mod Settled
 pub mod HexWords
 pub mod Windowed
+pub mod Wants

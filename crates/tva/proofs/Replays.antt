@@ -11,16 +11,13 @@ use Rattle.tva_config.specs.Valid.{IsConfig}
 use Rattle.tva_trace.specs.declared.rows.Row.{Row}
 use Rattle.tva_trace.specs.Lines.{line_of, summary_of}
 use Rattle.tva_trace.specs.Meaning.{AreRows}
-use Rattle.tva_trace.specs.Valid.{AreTraceRows}
 use Rattle.tva_trace.proofs.OneList.{rows_are_one}
 use Rattle.tva_run.specs.Report.{AreEventsTo, IsReport, lines_of, report_of, totals_of}
 use Rattle.tva_run.proofs.Runs.{are_delayed}
 use Rattle.tva_run.proofs.Reports.{events_begin, one_list}
-use Rattle.tva_promises.proofs.Runs.{run_keeps}
 use Rattle.tva.specs.Command.{replay}
 use Rattle.tva.specs.Expected.{Expected, followed, lacks, of_plan, plan_at, replays, told, trace_at}
 use Rattle.tva.specs.Answer.{Answers}
-use Rattle.tva.specs.Network.{ArePromisesKept, EachKeepsPromises}
 use Rattle.tva.specs.Parts.{IsCut, IsFound, IsReplayed}
 use Rattle.tva.specs.Replayed.{IsBegun, IsCutShort, all_of}
 use Rattle.tva.specs.declared.status.Status as status
@@ -74,14 +71,9 @@ cut_of_whole old new text w = (length text, w ∙ ap (append_known old) (sym (ta
 
 -- ## what the replay of its rows answers
 
-module _ (plan : Config) (trace : List ℕ) (rows : List Row) (valid : IsConfig plan) (traced : AreTraceRows plan rows) (are : AreRows plan trace rows) where
+module _ (plan : Config) (trace : List ℕ) (rows : List Row) (valid : IsConfig plan) (are : AreRows plan trace rows) where
   of_rows : (text : List ℕ) (others : List Row) → AreRows plan trace others → IsReport plan others text → IsReport plan rows text
   of_rows text others theirs report = subst (λ (rs : List Row). IsReport plan rs text) (rows_are_one plan trace others rows theirs are) report
-
-  kept : ArePromisesKept (replays plan trace)
-  kept others theirs =
-      let own : EachKeepsPromises plan rows = λ until logs run node site is. run_keeps plan rows until logs valid traced run node site is in
-      subst (λ (rs : List Row). EachKeepsPromises plan rs) (rows_are_one plan trace rows others are theirs) own
 
   pub answers_of_replayed : (w : Type 0) (old new : Option (List ℕ)) (s : status.Status) → IsReplayed plan rows old new w s → Answers (Some (replays plan trace)) ⊥ w old new s
   answers_of_replayed w old new Done (text, has, written) =
@@ -89,20 +81,20 @@ module _ (plan : Config) (trace : List ℕ) (rows : List Row) (valid : IsConfig 
       λ others other theirs report.
       written ∙ ap (append_known old) (same_report plan rows valid text other
       (record { told = has.told; events = has.events; whole = has.whole }) (of_rows other others theirs report)) in
-      ((text, (rows, are, has), written), each, kept)
+      ((text, (rows, are, has), written), each)
   answers_of_replayed w old new Usage a = absurd a
   answers_of_replayed w old new ReadFault a = absurd a
   answers_of_replayed w old new WriteFault (rose, (text, begun, cut)) =
       let begins : (others : List Row) (other : List ℕ) → AreRows plan trace others → IsReport plan others other → IsCut old new other =
       λ others other theirs report. begins_of_begun plan rows valid old new text other begun (of_rows other others theirs report) cut in
-      (rose, ((text, (rows, are, begun), cut), begins, kept))
+      (rose, ((text, (rows, are, begun), cut), begins))
   answers_of_replayed w old new (TooLarge k) a = absurd a
   answers_of_replayed w old new (BadConfig f) a = absurd a
   answers_of_replayed w old new (BadTrace f) a = absurd a
   answers_of_replayed w old new (EventLimit most) (same, (text, short, written)) =
       let begins : (others : List Row) (other : List ℕ) → AreRows plan trace others → IsReport plan others other → IsCut old new other =
       λ others other theirs report. begins_of_short plan rows valid old new text other short (of_rows other others theirs report) (cut_of_whole old new text written) in
-      ((rows, are, (same, (text, short, written))), begins, kept)
+      ((rows, are, (same, (text, short, written))), begins)
   answers_of_replayed w old new OutOfMemory (inl same) = (inl same, λ others other theirs report. cut_of_nothing old new other same)
   answers_of_replayed w old new OutOfMemory (inr (text, begun, cut)) = (
     inr (text, (rows, are, begun), cut),
@@ -146,8 +138,8 @@ told_replay (Some files) config trace text plan r w old new s found rows a =
 
 -- what a replay answers where its plan and its rows were found, one after another
 pub replay_found : (held between : Option Held) (config trace text : List ℕ) (plan : Config) (rows : List Row) (r w : Type 0) (old new : Option (List ℕ)) (s : status.Status) →
-    between ≡ held → IsConfig plan → AreTraceRows plan rows → AreRows plan text rows → IsFound held (plan_at config) plan → IsFound between (trace_at plan trace) text →
+    between ≡ held → IsConfig plan → AreRows plan text rows → IsFound held (plan_at config) plan → IsFound between (trace_at plan trace) text →
     IsReplayed plan rows old new w s → Answers (told held (replay config trace)) r w old new s
-replay_found held between config trace text plan rows r w old new s same valid traced are found there a =
+replay_found held between config trace text plan rows r w old new s same valid are found there a =
     told_replay held config trace text plan r w old new s found (subst (λ (h : Option Held). IsFound h (trace_at plan trace) text) same there)
-    (answers_of_replayed plan text rows valid traced are w old new s a)
+    (answers_of_replayed plan text rows valid are w old new s a)

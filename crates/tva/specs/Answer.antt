@@ -6,7 +6,6 @@ use Rattle.tva_trace.specs.declared.rows.Row.{Row}
 use Rattle.tva_trace.specs.Meaning.{AreRows}
 use Rattle.tva_run.specs.Report.{IsReport}
 use Rattle.tva.specs.Expected.{Expected, replays, lacks, exceeds, misconfigured, mistraced, IsText}
-use Rattle.tva.specs.Network.{ArePromisesKept}
 use Rattle.tva.specs.Parts.{IsCut, WroteCutShort}
 use Rattle.tva.specs.Replayed.{IsBegun}
 use Rattle.tva.specs.declared.status.Status as status
@@ -57,12 +56,12 @@ BeginsEach old new x = Unit {0}
 -- what a command answers: what is expected where it is told, whether each count rose, and the bytes
 -- written before and after
 abbrev pub Answers : Option Expected → Type 0 → Type 0 → Option (List ℕ) → Option (List ℕ) → status.Status → Type 0
-Answers e read_rose write_rose old new Done = IfSome e (λ x. WroteAll old new x × WroteEach old new x × ArePromisesKept x)
+Answers e read_rose write_rose old new Done = IfSome e (λ x. WroteAll old new x × WroteEach old new x)
 Answers e read_rose write_rose old new Usage = ⊥
 Answers e read_rose write_rose old new ReadFault = (read_rose ⊎ (e ≡ Some lacks)) × (new ≡ old)
-Answers e read_rose write_rose old new WriteFault = write_rose × IfSome e (λ x. WroteCut old new x × BeginsEach old new x × ArePromisesKept x)
+Answers e read_rose write_rose old new WriteFault = write_rose × IfSome e (λ x. WroteCut old new x × BeginsEach old new x)
 Answers e read_rose write_rose old new (TooLarge k) = IfSome e (λ x. x ≡ exceeds k) × (new ≡ old)
 Answers e read_rose write_rose old new (BadConfig fault) = IfSome e (λ x. x ≡ misconfigured fault) × (new ≡ old)
 Answers e read_rose write_rose old new (BadTrace fault) = IfSome e (λ x. x ≡ mistraced fault) × (new ≡ old)
-Answers e read_rose write_rose old new (EventLimit m) = IfSome e (λ x. WroteLines m old new x × BeginsEach old new x × ArePromisesKept x)
+Answers e read_rose write_rose old new (EventLimit m) = IfSome e (λ x. WroteLines m old new x × BeginsEach old new x)
 Answers e read_rose write_rose old new OutOfMemory = IfSome e (λ x. WrotePart old new x × BeginsEach old new x)

@@ -1,4 +1,4 @@
--- What holds of every run that a replay can have.
+-- What holds of every run that a replay can have, whatever the replay answers.
 use Rattle.std.specs.Prelude.{◌≡◌, ℕ, List, Some}
 use Rattle.tva_config.specs.declared.config.Config.{Config}
 use Rattle.tva_trace.specs.declared.rows.Row.{Row}
@@ -8,8 +8,6 @@ use Rattle.tva_run.specs.Reaching.{Logs, log_at, site_at}
 use Rattle.tva_run.specs.Run.{IsRunTo}
 use Rattle.tva_promises.specs.Promises.{KeepsPromises}
 use Rattle.tva.specs.Expected.{Expected, replays}
-use Rattle.tva.specs.declared.status.Status as status
-use Rattle.tva.specs.declared.status.Status.TheVariants.{Done, WriteFault, EventLimit}
 
 -- in every run up to any time the log of each node keeps its promises
 abbrev pub EachKeepsPromises : Config → List Row → Type 0
@@ -17,14 +15,7 @@ EachKeepsPromises plan rows =
     (until : ℕ) (logs : Logs) → IsRunTo plan rows until logs
     → (node : ℕ) (site : Site) → site_at plan node ≡ Some site → KeepsPromises site until (log_at logs node)
 
--- so it is in every run of the trace that is replayed
+-- so it is in every run of a trace that is to be replayed
 abbrev pub ArePromisesKept : Expected → Type 0
 ArePromisesKept (replays plan trace) = (rows : List Row) → AreRows plan trace rows → EachKeepsPromises plan rows
 ArePromisesKept x = Unit {0}
-
--- a status of a command that has read all that it reads
-abbrev pub HasRead : status.Status → Type 0
-HasRead Done = Unit {0}
-HasRead WriteFault = Unit {0}
-HasRead (EventLimit most) = Unit {0}
-HasRead _ = ⊥

@@ -32,3 +32,8 @@ SettlesRefusal s lacks = Settles s lacks
 SettlesRefusal s (exceeds k) = Settles s (exceeds k)
 SettlesRefusal s (misconfigured fault) = Settles s (misconfigured fault)
 SettlesRefusal s (mistraced fault) = Settles s (mistraced fault)
+
+-- it is to end in one way at most: the run of a trace is within the number of events that it may have, or passes it,
+-- and never both
+abbrev pub HasOneEnd : Expected → Type 0
+HasOneEnd x = (s other : status.Status) → Ends s x → Ends other x → other ≡ s

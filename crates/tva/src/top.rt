@@ -7,8 +7,8 @@ ghost use Rattle.tva.specs.Asked.{asked};
 ghost use Rattle.tva.specs.Command.{command_of, texts, replay, check, shim, gen};
 ghost use Rattle.tva.specs.Expected.{told, shows, lacks, exceeds, misconfigured, mistraced};
 ghost use Rattle.tva.specs.Answer.{Answers, BeginsEach, WroteAll, WroteEach, WroteLines, WrotePart};
-ghost use Rattle.tva.specs.Network.{ArePromisesKept, HasRead};
-ghost use Rattle.tva.specs.Wanted.{wanted, IsRefusal, Settles, SettlesRefusal};
+ghost use Rattle.tva.specs.Network.{ArePromisesKept};
+ghost use Rattle.tva.specs.Wanted.{wanted, HasOneEnd, IsRefusal, Settles, SettlesRefusal};
 
 use crate::check::put_check_line;
 use crate::command::{Command, parse};
@@ -26,7 +26,7 @@ use tva_trace::shim_text;
 /// in this order: words that are no command; then, file by file, a file that can't be loaded or is
 /// too large, and a fault of the configuration or of the trace; then, window by window, more events
 /// than the configuration allows, and failing writes.
-#[tactic(auto, using(crate::proofs::Fronts::part_of_answer, crate::proofs::Fronts::begins_of_answer, crate::proofs::Fronts::promises_of_answer, crate::proofs::Settled::settles_of_answer, crate::proofs::Settled::refusal_of_answer))]
+#[tactic(auto, using(crate::proofs::Fronts::part_of_answer, crate::proofs::Fronts::begins_of_answer, crate::proofs::Settled::settles_of_answer, crate::proofs::Settled::refusal_of_answer))]
 pub fn run<R: Threads + Sync, S: Shelf, W: Sink, G: Gate>(
     rt: &R,
     alloc: Global,
@@ -61,15 +61,17 @@ pub fn run<R: Threads + Sync, S: Shelf, W: Sink, G: Gate>(
     ensures nothing { IsRefusal result → W.written out.new ≡ W.written out.old }
 
     // Where no count rises it comes to what is wanted, unless memory runs out; and to each refusal
-    // of what is read where no load fails.
+    // of what is read where no load fails. What is wanted is one: no run is within its number of
+    // events and past it.
     ensures complete { ¬ Rose (S.faults shelf.old) (S.faults shelf.new) → ¬ Rose (W.faults out.old) (W.faults out.new) →
         IfSome (wanted (S.held shelf.old) (texts words.now)) (Settles result) }
     ensures refused { ¬ Rose (S.faults shelf.old) (S.faults shelf.new) →
         IfSome (wanted (S.held shelf.old) (texts words.now)) (SettlesRefusal result) }
+    ensures one_end { IfSome (wanted (S.held shelf.old) (texts words.now)) HasOneEnd }
 
-    // The network: in every run of a trace that was read, the log of each node keeps its promises at
-    // each of its places.
-    ensures network { HasRead result → IfSome (wanted (S.held shelf.old) (texts words.now)) ArePromisesKept }
+    // The network, whatever the answer: in every run of a trace that is to be replayed, up to any
+    // time, the log of each node keeps its promises at each of its places.
+    ensures network { IfSome (wanted (S.held shelf.old) (texts words.now)) ArePromisesKept }
 
     // What stays. Usage leaves the shelf and the sink as they were, whatever they are.
     ensures held { S.held shelf.new ≡ S.held shelf.old }

@@ -15,6 +15,7 @@ use Rattle.tva_flow.proofs.Budget.{budget}
 use Rattle.tva_port.specs.Log as port
 use Rattle.tva_port.specs.Decide.{MissesNone}
 use Rattle.tva_port.specs.Legal.{IsLegal}
+use Rattle.tva_port.proofs.Legality.{rate_kept}
 use Rattle.tva_port.proofs.Logs.{legal-front}
 use Rattle.tva_port.proofs.Limits.{stays_within}
 use Rattle.tva_port.proofs.Evenly.{even}
@@ -48,6 +49,7 @@ grants_kept plan h before rest e a t =
 service_kept : (l : LinkLimits) (until : ℕ) (log : List port.Entry) → AreLinkLimits l → IsLegal l log → MissesNone l until log → KeepsService l until log
 service_kept l until log a g m = record {
   legal = g;
+  rate = rate_kept l log g;
   room = stays_within l log a g;
   missed = m;
   requests = λ now k. requests_served l log now until a g m k;

@@ -9,4 +9,6 @@ pub mod Links
 pub mod Entries
 pub mod Along
 pub mod Kept
+pub mod SaidShims
+pub mod ReadRows
 pub mod Runs

@@ -20,6 +20,7 @@ use Rattle.tva_config.specs.Valid.{IsConfig}
 use Rattle.tva_trace.specs.declared.rows.Row.{Row}
 use Rattle.tva_trace.specs.declared.rows.RowWhat.{RowWhat}
 use Rattle.tva_trace.specs.declared.rows.RowWhat.TheVariants.{Send, Inject}
+use Rattle.tva_trace.specs.Meaning.{AreRows}
 use Rattle.tva_trace.specs.Valid.{IsWithinWidths, IsRowWhat, IsRow, AreTraceRows}
 use Rattle.tva_joins.specs.Joins.{from_source, cut}
 use Rattle.tva_joins.proofs.Joins.{each-filter, filter-true, cut-zero, cut-cut}
@@ -37,6 +38,7 @@ use Rattle.tva_run.proofs.Sites.{site_is}
 use Rattle.tva_promises.specs.Sizes.{IsSizedWhat, IsSizedInput, IsSizedEntry}
 use Rattle.tva_promises.specs.Promises.{KeepsPromises}
 use Rattle.tva_promises.proofs.Kept.{keeps, sends_sized}
+use Rattle.tva_promises.proofs.ReadRows.{IsSizedRow, rows_sized}
 
 -- ## rows
 
@@ -48,9 +50,6 @@ carried_sized (carried.Malformed size) w = (w, tt)
 what_sized : (at_host : Bool) (what : RowWhat) → IsRowWhat at_host what → IsSizedWhat what
 what_sized at_host (Send dst payload) w = w.1
 what_sized at_host (Inject flow payload c) w = let k = carried_sized c w.1 in (w.0, k.0, k.1)
-
-abbrev IsSizedRow : Row → Type 0
-IsSizedRow row = IsSizedWhat row.what
 
 each_row : (config : Config) (rows : List Row) → All (IsRow config) rows → AllByRecursion IsSizedRow rows
 each_row config [] a = tt
@@ -96,7 +95,7 @@ each_source P (x ∷ xs) h = (own.0, each_source P xs (λ s. rest s (input_sourc
 
 -- ## over time
 
-module _ (config : Config) (rows : List Row) (until : ℕ) (logs : Logs) (valid : IsConfig config) (trace : AreTraceRows config rows) (run : IsRunTo config rows until logs) where
+module _ (config : Config) (rows : List Row) (until : ℕ) (logs : Logs) (valid : IsConfig config) (sized : AllByRecursion IsSizedRow rows) (run : IsRunTo config rows until logs) where
   abbrev AreSizedTo : ℕ → Type 0
   AreSizedTo t = (node : ℕ) → AllByRecursion IsSizedEntry (cut entry_time t (log_at logs node))
 
@@ -106,7 +105,7 @@ module _ (config : Config) (rows : List Row) (until : ℕ) (logs : Logs) (valid 
   -- what reaches a node before the next time
   reached : (t : ℕ) → AreSizedTo t → (node source : ℕ) → AllByRecursion IsSizedInput (due (suc t) (reaches config rows logs node source))
   reached t h node zero =
-      each-filter IsSizedInput (λ i. nat_lt (input_time i) (suc t)) (rows_at rows node) (mapped (filter (λ row. row.node == node) rows) (each-filter IsSizedRow (λ row. row.node == node) rows (each_row config rows trace.each)))
+      each-filter IsSizedInput (λ i. nat_lt (input_time i) (suc t)) (rows_at rows node) (mapped (filter (λ row. row.node == node) rows) (each-filter IsSizedRow (λ row. row.node == node) rows sized))
   reached t h node (suc number) = by_link (slice_get config.links number) refl
     where
       by_end : (link : LinkPlan) (b : Bool) → slice_get config.links number ≡ Some link → AllByRecursion IsSizedInput (due (suc t) (cond b (arrivals number link (log_at logs link.from)) []))
@@ -153,9 +152,19 @@ module _ (config : Config) (rows : List Row) (until : ℕ) (logs : Logs) (valid 
   whole_sized zero e node site number log = rw (cut-zero input_time input_source log.inputs) tt
   whole_sized (suc t) e node site number log = inputs_sized t (omega (arith, e)) (all_sized t (omega (arith, e))) node site number log
 
-  pub run_keeps : (node : ℕ) (site : Site) → site_at config node ≡ Some site → KeepsPromises site until (log_at logs node)
-  run_keeps node site is =
+  run_keeps_of : (node : ℕ) (site : Site) → site_at config node ≡ Some site → KeepsPromises site until (log_at logs node)
+  run_keeps_of node site is =
       let k = site_is config node site valid is in
       let own = run.each node site is in
       keeps site (due until own.inputs) until (log_at logs node) k.1 small (whole_sized until refl node site k.0 own)
       (IsNodeLog-same site own.inputs (due until own.inputs) until (log_at logs node) (sym (cut-cut input_time input_source until until own.inputs (omega arith))) own.is_log)
+
+-- so it is with the rows of a trace
+pub run_keeps : (config : Config) (rows : List Row) (until : ℕ) (logs : Logs) → IsConfig config → AreTraceRows config rows → IsRunTo config rows until logs
+    → (node : ℕ) (site : Site) → site_at config node ≡ Some site → KeepsPromises site until (log_at logs node)
+run_keeps config rows until logs valid trace run node site is = run_keeps_of config rows until logs valid (each_row config rows trace.each) run node site is
+
+-- and with the rows that a text stands for
+pub read_run_keeps : (config : Config) (text : List ℕ) (rows : List Row) (until : ℕ) (logs : Logs) → IsConfig config → AreRows config text rows → IsRunTo config rows until logs
+    → (node : ℕ) (site : Site) → site_at config node ≡ Some site → KeepsPromises site until (log_at logs node)
+read_run_keeps config text rows until logs valid are run node site is = run_keeps_of config rows until logs valid (rows_sized config text rows are) run node site is

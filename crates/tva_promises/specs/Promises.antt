@@ -10,7 +10,7 @@ use Rattle.tva_flow.specs.Budget.{AreTimely, IsWithinBudget}
 use Rattle.tva_port.specs.Log as port
 use Rattle.tva_port.specs.Decide.{MissesNone}
 use Rattle.tva_port.specs.Legal.{IsLegal}
-use Rattle.tva_port.specs.Keeps.{StaysWithinLimits}
+use Rattle.tva_port.specs.Keeps.{IsWithinRate, StaysWithinLimits}
 use Rattle.tva_port.specs.Bounds.{AreRequestsServed, AreRegularsServed, AlwaysWaits, bytes_started}
 use Rattle.tva_config.specs.declared.config.NodePlan.TheVariants.{Router}
 use Rattle.tva_log.specs.declared.kinds.Input.{Input}
@@ -34,11 +34,12 @@ AreServedAlike limits class more before between =
     (a b : ℕ) → a ≢ b → AlwaysWaits limits class a before between → AlwaysWaits limits class b before between
     → bytes_started limits class a before between < bytes_started limits class b before between + more
 
--- the log of a link's port up to a time: it is one that a port can have, what waits is within the limits at each
--- place, no start was missed, each request and each regular packet whose bound is over has started within it, and
--- between any two places keys are served alike
+-- the log of a link's port up to a time: it is one that a port can have, the requests that start from any time to any
+-- other keep their rate, what waits is within the limits at each place, no start was missed, each request and each
+-- regular packet whose bound is over has started within it, and between any two places keys are served alike
 pub record KeepsService (limits : LinkLimits) (until : ℕ) (log : List port.Entry) : Type 0 where
   pub legal : IsLegal limits log
+  pub rate : IsWithinRate limits log
   pub room : StaysWithinLimits limits log
   pub missed : MissesNone limits until log
   pub requests : (now : ℕ) → now < until → AreRequestsServed limits now log

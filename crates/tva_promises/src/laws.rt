@@ -4,6 +4,7 @@ ghost use Rattle.std.specs.List.{AllByRecursion};
 ghost use Rattle.tva_config.specs.declared.config.Config.{Config};
 ghost use Rattle.tva_config.specs.Valid.{IsConfig};
 ghost use Rattle.tva_trace.specs.declared.rows.Row.{Row};
+ghost use Rattle.tva_trace.specs.Meaning.{AreRows};
 ghost use Rattle.tva_trace.specs.Valid.{AreTraceRows};
 ghost use Rattle.tva_log.specs.declared.kinds.Input.{Input};
 ghost use Rattle.tva_log.specs.Sites.{IsSite, Site};
@@ -26,11 +27,15 @@ pub fn nodes_keep_promises()
         → AllByRecursion IsSizedEntry log }
 {}
 
-/// In every run up to a time, in nanoseconds, of a configuration and the rows of a trace, the log of each
-/// node keeps its promises.
+/// In every run up to a time, in nanoseconds, of a configuration and the rows of a trace, or the rows that
+/// a text stands for, the log of each node keeps its promises.
 pub fn runs_keep_promises()
-    ensures { (config : Config) (rows : List Row) (until : ℕ) (logs : Logs) → IsConfig config
+    ensures kept { (config : Config) (rows : List Row) (until : ℕ) (logs : Logs) → IsConfig config
         → AreTraceRows config rows → IsRunTo config rows until logs
+        → (node : ℕ) (site : Site) → site_at config node ≡ Some site
+        → KeepsPromises site until (log_at logs node) }
+    ensures read { (config : Config) (text : List ℕ) (rows : List Row) (until : ℕ) (logs : Logs) → IsConfig config
+        → AreRows config text rows → IsRunTo config rows until logs
         → (node : ℕ) (site : Site) → site_at config node ≡ Some site
         → KeepsPromises site until (log_at logs node) }
 {}

@@ -1,5 +1,5 @@
 -- The events of a run up to an earlier time are the first of those of a run up to a later one.
-use Rattle.std.proofs.Common.{◌≡◌, ℕ, ◌≤◌, List, [], ◌∷◌, ◌++◌, map, filter, Bool, Option, Some, None, refl, sym, ◌∙◌, ap, inl, inr}
+use Rattle.std.proofs.Common.{◌≡◌, ℕ, ◌+◌, ◌≤◌, List, [], ◌∷◌, ◌++◌, length, length-append, map, filter, Bool, Option, Some, None, refl, sym, ◌∙◌, ap, inl, inr, arith}
 use Rattle.std.specs.Prelude.{nat_lt, slice_get}
 use Rattle.std.specs.Option.{option_map_or}
 use Rattle.std.proofs.lemmas.Bool.{lt-ltb, cases_Bool, cases_lt}
@@ -62,6 +62,12 @@ module _ (config : Config) (rows : List Row) (delayed : (number : ℕ) (link : L
   events_begin t until first all l a b =
       let (rest, e) = begins_cut event_time event_node t all b.events.in_order in
       (rest, e ∙ ap (λ (es : List Event). es ++ rest) (sym (events_before t until first all l a b)))
+
+  -- no run up to some time has more events than the whole run
+  pub no_more_events : (until : ℕ) (part whole : List Event) → AreEventsTo config rows until part → AreEventsTo config rows (config.horizon.0 + 1) whole → length part ≤ length whole
+  no_more_events until part whole a b =
+      let (rest, e) = events_begin until (config.horizon.0 + 1) part whole a.run.within a b in
+      omega (arith, ap (λ (es : List Event). length es) e, length-append part rest)
 
   -- a run has one list of events
   pub one_list : (until : ℕ) (told others : List Event) → AreEventsTo config rows until told → AreEventsTo config rows until others → told ≡ others

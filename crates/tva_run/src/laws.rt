@@ -37,6 +37,14 @@ pub fn events_go_on()
         × (lines_of config told ≡ lines_of config first ++ lines_of config rest) }
 {}
 
+/// No run up to some time, in nanoseconds, has more events than the whole run has. So a number of events
+/// that the whole run keeps to is passed by no run of that configuration and trace.
+pub fn whole_runs_have_most_events()
+    ensures { (config : Config) (rows : List Row) (until : ℕ) (part whole : List Event) → IsConfig config
+        → AreEventsTo config rows until part → AreEventsTo config rows (config.horizon.0 + 1) whole
+        → length part ≤ length whole }
+{}
+
 /// A configuration and a trace have at most one report.
 pub fn one_report()
     ensures { (config : Config) (rows : List Row) (text other : List ℕ) → IsConfig config

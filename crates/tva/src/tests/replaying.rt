@@ -1,6 +1,6 @@
 // Whole replays, each compared with what must be written.
 use crate::status::Status;
-use crate::tests::rows::{configs, edges, others, walks};
+use crate::tests::rows::{configs, edges, walks};
 use crate::tests::words;
 use crate::top::run;
 use std::sync::atomic::{AtomicU64, Ordering};
@@ -35,7 +35,7 @@ fn replay<R: Threads + Sync + AllocGlobal, G: Gate>(
 // Where there is memory a replay ends with its report, and not with want of memory.
 #[test]
 fn answers_with_memory(rt: HostRuntime) -> Result<(), Fail> {
-    for rows in [walks(), edges(), others()] {
+    for rows in [walks(), edges()] {
         for (name, config, trace, number, written) in rows {
             let mut out = MemorySink::new(rt.alloc(), 4096);
             let status = replay(&rt, config, trace.as_bytes(), &mut out, &OpenGate)?;

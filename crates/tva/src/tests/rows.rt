@@ -1,7 +1,7 @@
 // Worked replays, by what they show.
 
 // Configurations by their names.
-static CONFIGS: [(&str, &str); 14] = [
+static CONFIGS: [(&str, &str); 7] = [
     (
         "edge",
         "horizon_ns = 1000000000000\nmax_events = 1000\n[[router]]\nname = \"R1\"\nmaster = \"000102030405060708090a0b0c0d0e0f101112131415161718191a1b1c1d1e1f\"\nslots = 8\n",
@@ -27,36 +27,8 @@ static CONFIGS: [(&str, &str); 14] = [
         "horizon_ns = 1000000000\nmax_events = 17\n[[router]]\nname = \"R1\"\nmaster = \"000102030405060708090a0b0c0d0e0f101112131415161718191a1b1c1d1e1f\"\nslots = 8\n[[host]]\nname = \"A\"\naddress = \"10.0.0.1\"\npolicy = \"client\"\n[[host]]\nname = \"B\"\naddress = \"10.0.1.1\"\npolicy = \"server\"\n[[link]]\nfrom = \"A\"\nto = \"R1\"\nns_per_byte = 10\ndelay_ns = 1000000\ntag = 1\n[[link]]\nfrom = \"R1\"\nto = \"A\"\nns_per_byte = 10\ndelay_ns = 1000000\n[[link]]\nfrom = \"R1\"\nto = \"B\"\nns_per_byte = 10\ndelay_ns = 1000000\n[[link]]\nfrom = \"B\"\nto = \"R1\"\nns_per_byte = 10\ndelay_ns = 1000000\ntag = 2\n[[route]]\nrouter = \"R1\"\nprefix = \"10.0.0.0/24\"\nvia = \"A\"\n[[route]]\nrouter = \"R1\"\nprefix = \"10.0.1.0/24\"\nvia = \"B\"\n",
     ),
     (
-        "c6",
-        "horizon_ns = 1000000000000\nmax_events = 2\n[[router]]\nname = \"R1\"\nmaster = \"000102030405060708090a0b0c0d0e0f101112131415161718191a1b1c1d1e1f\"\nslots = 8\n",
-    ),
-    (
-        "c7",
-        "horizon_ns = 1000000000\nmax_events = 7\n[[router]]\nname = \"R1\"\nmaster = \"000102030405060708090a0b0c0d0e0f101112131415161718191a1b1c1d1e1f\"\nslots = 8\n[[host]]\nname = \"A\"\naddress = \"10.0.0.1\"\npolicy = \"client\"\n[[host]]\nname = \"B\"\naddress = \"10.0.1.1\"\npolicy = \"server\"\n[[link]]\nfrom = \"A\"\nto = \"R1\"\nns_per_byte = 10\ndelay_ns = 1000000\ntag = 1\n[[link]]\nfrom = \"R1\"\nto = \"A\"\nns_per_byte = 10\ndelay_ns = 1000000\n[[link]]\nfrom = \"R1\"\nto = \"B\"\nns_per_byte = 10\ndelay_ns = 1000000\n[[link]]\nfrom = \"B\"\nto = \"R1\"\nns_per_byte = 10\ndelay_ns = 1000000\ntag = 2\n[[route]]\nrouter = \"R1\"\nprefix = \"10.0.0.0/24\"\nvia = \"A\"\n[[route]]\nrouter = \"R1\"\nprefix = \"10.0.1.0/24\"\nvia = \"B\"\n",
-    ),
-    (
-        "c8",
-        "horizon_ns = 1000000000000\nmax_events = 4\n[[router]]\nname = \"R1\"\nmaster = \"000102030405060708090a0b0c0d0e0f101112131415161718191a1b1c1d1e1f\"\nslots = 8\n[[router]]\nname = \"R2\"\nmaster = \"000102030405060708090a0b0c0d0e0f101112131415161718191a1b1c1d1e1f\"\nslots = 8\n[[link]]\nfrom = \"R1\"\nto = \"R2\"\nns_per_byte = 10000\ndelay_ns = 1000000\ntag = 1\n[[link]]\nfrom = \"R2\"\nto = \"R1\"\nns_per_byte = 10\ndelay_ns = 1000000\ntag = 1\n[[route]]\nrouter = \"R1\"\nprefix = \"10.0.1.0/24\"\nvia = \"R2\"\n",
-    ),
-    (
-        "c9",
+        "pair",
         "horizon_ns = 1000000000000\nmax_events = 1000\n[[router]]\nname = \"R1\"\nmaster = \"000102030405060708090a0b0c0d0e0f101112131415161718191a1b1c1d1e1f\"\nslots = 8\n[[router]]\nname = \"R2\"\nmaster = \"000102030405060708090a0b0c0d0e0f101112131415161718191a1b1c1d1e1f\"\nslots = 8\n[[link]]\nfrom = \"R1\"\nto = \"R2\"\nns_per_byte = 10\ndelay_ns = 1000000\ntag = 1\n[[link]]\nfrom = \"R2\"\nto = \"R1\"\nns_per_byte = 10\ndelay_ns = 1000000\ntag = 1\n[[route]]\nrouter = \"R1\"\nprefix = \"10.0.1.0/24\"\nvia = \"R2\"\n",
-    ),
-    (
-        "c10",
-        "horizon_ns = 1000000000000\nmax_events = 1000\n[[router]]\nname = \"R1\"\nmaster = \"000102030405060708090a0b0c0d0e0f101112131415161718191a1b1c1d1e1f\"\nslots = 8\n[[router]]\nname = \"R2\"\nmaster = \"000102030405060708090a0b0c0d0e0f101112131415161718191a1b1c1d1e1f\"\nslots = 8\n[[link]]\nfrom = \"R1\"\nto = \"R2\"\nns_per_byte = 10\ndelay_ns = 1000000\ntag = 1\n[[link]]\nfrom = \"R2\"\nto = \"R1\"\nns_per_byte = 10\ndelay_ns = 1000000\ntag = 1\n[[route]]\nrouter = \"R1\"\nprefix = \"10.0.1.0/24\"\nvia = \"R2\"\n",
-    ),
-    (
-        "c11",
-        "horizon_ns = 1000000000\nmax_events = 1000\n[[router]]\nname = \"R1\"\nmaster = \"000102030405060708090a0b0c0d0e0f101112131415161718191a1b1c1d1e1f\"\nslots = 8\n[[host]]\nname = \"A\"\naddress = \"10.0.0.1\"\npolicy = \"client\"\n[[host]]\nname = \"B\"\naddress = \"10.0.1.1\"\n[[link]]\nfrom = \"A\"\nto = \"R1\"\nns_per_byte = 10\ndelay_ns = 1000000\ntag = 1\n[[link]]\nfrom = \"R1\"\nto = \"A\"\nns_per_byte = 10\ndelay_ns = 1000000\n[[link]]\nfrom = \"R1\"\nto = \"B\"\nns_per_byte = 10\ndelay_ns = 1000000\n[[link]]\nfrom = \"B\"\nto = \"R1\"\nns_per_byte = 10\ndelay_ns = 1000000\ntag = 2\n[[route]]\nrouter = \"R1\"\nprefix = \"10.0.0.0/24\"\nvia = \"A\"\n[[route]]\nrouter = \"R1\"\nprefix = \"10.0.1.0/24\"\nvia = \"B\"\n",
-    ),
-    (
-        "c12",
-        "horizon_ns = 10000000000\nmax_events = 1000\n[[host]]\nname = \"A\"\naddress = \"10.0.0.1\"\npolicy = \"server\"\n[[host]]\nname = \"B\"\naddress = \"10.0.1.1\"\npolicy = \"server\"\n[[link]]\nfrom = \"A\"\nto = \"B\"\nns_per_byte = 10\ndelay_ns = 1000000\n[[link]]\nfrom = \"B\"\nto = \"A\"\nns_per_byte = 10\ndelay_ns = 1000000\n",
-    ),
-    (
-        "c13",
-        "horizon_ns = 1000000000000\nmax_events = 1000\n[[router]]\nname = \"R1\"\nmaster = \"000102030405060708090a0b0c0d0e0f101112131415161718191a1b1c1d1e1f\"\nslots = 8\nclock_offset_ns = 2500000000\n",
     ),
 ];
 
@@ -100,8 +72,8 @@ static WALKS: [(&str, &str, &str, u8, &str); 5] = [
     ),
 ];
 
-// The same at one router.
-static EDGES: [(&str, &str, &str, u8, &str); 14] = [
+// The same at one router, and at a pair of them.
+static EDGES: [(&str, &str, &str, u8, &str); 16] = [
     (
         "no rows",
         "edge",
@@ -200,65 +172,19 @@ static EDGES: [(&str, &str, &str, u8, &str); 14] = [
         0,
         "5000000000 R1 in R1#1 24 trace legacy malformed dropped:no-route\ntotal events=1 routed=1 authorised=0 demoted=0 dropped=1 started=0 received=0 bytes=0\n",
     ),
-];
-
-// The same from outside.
-static OTHERS: [(&str, &str, &str, u8, &str); 8] = [
     (
-        "limits events in one window",
-        "c6",
-        "time,node,kind,src,dst,payload,shim\n5000000000,R1,list,10.0.0.1,10.0.1.1,472,00000000000a/1/10/0/R1@5\n5000000000,R1,list,10.0.0.1,10.0.1.1,472,00000000000a/1/10/0/R1@5\n5000000000,R1,list,10.0.0.1,10.0.1.1,472,00000000000a/1/10/0/R1@5\n",
-        8,
-        "",
+        "two requests",
+        "edge",
+        "time,node,kind,src,dst,payload,shim\n0,R1,raw,10.0.0.1,10.0.1.1,77,100600\n0,R1,raw,10.0.0.1,10.0.1.1,77,100600\n",
+        0,
+        "0 R1 in R1#1 100 trace request - dropped:no-route\n0 R1 in R1#2 100 trace request - dropped:no-route\ntotal events=2 routed=2 authorised=0 demoted=0 dropped=2 started=0 received=0 bytes=0\n",
     ),
     (
-        "limits events in the middle",
-        "c7",
-        "time,node,kind,src,dst,payload,shim\n0,A,send,,10.0.1.1,77,\n10000000,A,send,,10.0.1.1,1000,\n",
-        8,
-        "0 A send A#1 100 request queued:R1\n0 A start A#1 100 R1 request 1000\n1001000 R1 in A#1 100 A request - queued:B\n1001000 R1 start A#1 110 B request 1002100\n2002100 B recv A#1 110 R1 request - B#1/35/request/grant/queued:R1\n2002100 B start B#1 35 R1 request 2002450\n",
-    ),
-    (
-        "limits events after an idle window",
-        "c8",
-        "time,node,kind,src,dst,payload,shim\n1000000000,R1,raw,10.0.0.1,10.0.1.1,100,\n1001900000,R2,raw,10.0.0.1,10.0.1.1,100,\n1002250000,R2,raw,10.0.0.1,10.0.1.1,100,\n",
-        8,
-        "1000000000 R1 in R1#1 120 trace legacy - queued:R2\n1000000000 R1 start R1#1 120 R2 legacy 1001200000\n1001900000 R2 in R2#1 120 trace legacy - dropped:no-route\n",
-    ),
-    (
-        "links request gets an entry",
-        "c9",
+        "a pair of routers",
+        "pair",
         "time,node,kind,src,dst,payload,shim\n0,R1,raw,10.0.0.1,10.0.1.1,77,100600\n",
         0,
         "0 R1 in R1#1 100 trace request - queued:R2\n0 R1 start R1#1 110 R2 request 1100\n1001100 R2 in R1#1 110 R1 request - dropped:no-route\ntotal events=3 routed=2 authorised=0 demoted=0 dropped=1 started=1 received=0 bytes=0\n",
-    ),
-    (
-        "links free exactly at an arrival",
-        "c10",
-        "time,node,kind,src,dst,payload,shim\n0,R1,raw,10.0.0.1,10.0.1.1,80,\n0,R1,raw,10.0.0.1,10.0.1.1,80,\n1000,R1,raw,10.0.0.1,10.0.1.1,0,100600\n1330,R1,raw,10.0.0.1,10.0.1.1,0,\n",
-        0,
-        "0 R1 in R1#1 100 trace legacy - queued:R2\n0 R1 in R1#2 100 trace legacy - queued:R2\n0 R1 start R1#1 100 R2 legacy 1000\n1000 R1 in R1#3 23 trace request - queued:R2\n1000 R1 start R1#3 33 R2 request 1330\n1330 R1 in R1#4 20 trace legacy - queued:R2\n1330 R1 start R1#2 100 R2 legacy 2330\n2330 R1 start R1#4 20 R2 legacy 2530\n1001000 R2 in R1#1 100 R1 legacy - dropped:no-route\n1001330 R2 in R1#3 33 R1 request - dropped:no-route\n1002330 R2 in R1#2 100 R1 legacy - dropped:no-route\n1002530 R2 in R1#4 20 R1 legacy - dropped:no-route\ntotal events=12 routed=8 authorised=0 demoted=0 dropped=4 started=4 received=0 bytes=0\n",
-    ),
-    (
-        "hosts policy by default",
-        "c11",
-        "time,node,kind,src,dst,payload,shim\n0,A,send,,10.0.1.1,77,\n10000000,A,send,,10.0.1.1,1000,\n",
-        0,
-        "0 A send A#1 100 request queued:R1\n0 A start A#1 100 R1 request 1000\n1001000 R1 in A#1 100 A request - queued:B\n1001000 R1 start A#1 110 B request 1002100\n2002100 B recv A#1 110 R1 request - -\n10000000 A send A#2 1020 legacy queued:R1\n10000000 A start A#2 1020 R1 legacy 10010200\n11010200 R1 in A#2 1020 A legacy - queued:B\n11010200 R1 start A#2 1020 B legacy 11020400\n12020400 B recv A#2 1020 R1 legacy - -\ntotal events=10 routed=2 authorised=0 demoted=0 dropped=0 started=4 received=2 bytes=1077\n",
-    ),
-    (
-        "hosts without a router",
-        "c12",
-        "time,node,kind,src,dst,payload,shim\n0,A,send,,10.0.1.1,77,\n10000000,A,send,,10.0.1.1,100,\n20000000,B,send,,10.0.0.1,100,\n6000000000,A,send,,10.0.1.1,100,\n",
-        0,
-        "0 A send A#1 100 request queued:B\n0 A start A#1 100 B request 1000\n1001000 B recv A#1 100 A request - B#1/27/request/grant/queued:A\n1001000 B start B#1 27 A request 1001270\n2001270 A recv B#1 27 B request grant A#2/36/list/grant/queued:B\n2001270 A start A#2 36 B regular 2001630\n3001630 B recv A#2 36 A regular grant -\n10000000 A send A#3 128 nonce queued:B\n10000000 A start A#3 128 B regular 10001280\n11001280 B recv A#3 128 A regular - -\n20000000 B send B#2 132 list queued:A\n20000000 B start B#2 132 A regular 20001320\n21001320 A recv B#2 132 B regular - -\n6000000000 A send A#4 132 renewal queued:B\n6000000000 A start A#4 132 B regular 6000001320\n6001001320 B recv A#4 132 A renewal - B#3/36/renewal/grant/queued:A\n6001001320 B start B#3 36 A regular 6001001680\n6002001680 A recv B#3 36 B renewal grant A#5/36/list/grant/queued:B\n6002001680 A start A#5 36 B regular 6002002040\n6003002040 B recv A#5 36 A regular grant -\ntotal events=20 routed=0 authorised=0 demoted=0 dropped=0 started=8 received=8 bytes=377\n",
-    ),
-    (
-        "clock offset",
-        "c13",
-        "time,node,kind,src,dst,payload,shim\n2499999999,R1,list,10.0.0.1,10.0.1.1,100,00000000000a/1/2/0/R1@5\n2500000000,R1,list,10.0.0.1,10.0.1.1,100,00000000000a/1/2/0/R1@5\n4499999999,R1,list,10.0.0.1,10.0.1.1,100,00000000000a/1/2/0/R1@5\n4500000000,R1,list,10.0.0.1,10.0.1.1,100,00000000000a/1/2/0/R1@5\n4500000000,R1,list,10.0.0.1,10.0.1.1,100,00000000000a/1/2/0/R1@7\n",
-        0,
-        "2499999999 R1 in R1#1 140 trace legacy expired dropped:no-route\n2500000000 R1 in R1#2 140 trace regular - dropped:no-route\n4499999999 R1 in R1#3 140 trace regular - dropped:no-route\n4500000000 R1 in R1#4 140 trace legacy expired dropped:no-route\n4500000000 R1 in R1#5 140 trace regular - dropped:no-route\ntotal events=5 routed=5 authorised=3 demoted=2 dropped=5 started=0 received=0 bytes=0\n",
     ),
 ];
 
@@ -272,8 +198,4 @@ pub fn walks() -> &'static [(&'static str, &'static str, &'static str, u8, &'sta
 
 pub fn edges() -> &'static [(&'static str, &'static str, &'static str, u8, &'static str)] {
     &EDGES
-}
-
-pub fn others() -> &'static [(&'static str, &'static str, &'static str, u8, &'static str)] {
-    &OTHERS
 }

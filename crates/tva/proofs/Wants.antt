@@ -1,0 +1,170 @@
+-- What holds of all that words can come to: its runs keep their promises, and it is to end in one way at most.
+use Rattle.std.proofs.Common.{◌≡◌, ℕ, ◌+◌, Bool, true, false, cond, List, length, Result, Ok, Err, Some, None, IfSome, refl, sym, ap, subst, ◌∙◌, arith}
+use Rattle.std.specs.declared.option.Option.{Option}
+use Rattle.std.specs.Prelude.{nat_lt, option_and_then}
+use Rattle.tva_outside.specs.Held.{Held, bytes_at}
+use Rattle.tva_config.specs.declared.config.Config.{Config}
+use Rattle.tva_config.specs.declared.fault.ConfigFault.{ConfigFault}
+use Rattle.tva_config.specs.Read.{read_of}
+use Rattle.tva_config.specs.Valid.{IsConfig}
+use Rattle.tva_config.proofs.ReadValid.{read_valid}
+use Rattle.tva_trace.specs.declared.rows.Row.{Row}
+use Rattle.tva_trace.specs.declared.rows.TraceFault.{TraceFault}
+use Rattle.tva_trace.specs.declared.said.SaidRow.{SaidRow}
+use Rattle.tva_trace.specs.Rows.{rows_of}
+use Rattle.tva_trace.proofs.OneList.{rows_are_one}
+use Rattle.tva_run.proofs.Runs.{are_delayed}
+use Rattle.tva_run.proofs.Reports.{no_more_events}
+use Rattle.tva_promises.proofs.Runs.{read_run_keeps}
+use Rattle.tva_gen.specs.Text.{generated}
+use Rattle.tva.specs.Check.{check_line}
+use Rattle.tva.specs.Command.{Command, command_of, replay, check, shim, gen}
+use Rattle.tva.specs.Expected.{Expected, writes, shows, replays, lacks, exceeds, misconfigured, mistraced, Found, followed, ◌>>=◌, within_limit, plan_at, plan_or_fault, trace_or_fault, of_plan, told, EndsReplay}
+use Rattle.tva.specs.Network.{ArePromisesKept}
+use Rattle.tva.specs.Replayed.{IsPastLimit, IsWithinLimit}
+use Rattle.tva.specs.Wanted.{wanted, HasOneEnd}
+use Rattle.tva.specs.declared.status.Status as status
+use Rattle.tva.specs.declared.status.Status.TheVariants.{Done, Usage, ReadFault, WriteFault, TooLarge, BadConfig, BadTrace, EventLimit, OutOfMemory}
+
+-- ## what holds of each
+
+-- it holds of all texts and refusals, and of the replay of each trace under a valid plan
+record HoldsOfEach (P : Expected → Type 0) : Type 0 where
+  pub of_text : (text : List ℕ) → P (writes text)
+  pub of_shim : (bytes : List ℕ) → P (shows bytes)
+  pub of_trace : (plan : Config) (trace : List ℕ) → IsConfig plan → P (replays plan trace)
+  pub of_nothing : P lacks
+  pub of_size : (k : ℕ) → P (exceeds k)
+  pub of_config_fault : (fault : ConfigFault) → P (misconfigured fault)
+  pub of_trace_fault : (fault : TraceFault) → P (mistraced fault)
+
+module _ (P : Expected → Type 0) (holds : HoldsOfEach P) where
+  -- a file that is found is judged by its bytes
+  of_bytes : {A : Type 0} (max : ℕ) (bytes : List ℕ) (judge : List ℕ → Found A) (next : A → Expected) → P (followed (judge bytes) next)
+      → (b : Bool) → P (followed (cond b (Err (exceeds (max + 1))) (Ok bytes) >>= judge) next)
+  of_bytes max bytes judge next h true = holds.of_size (max + 1)
+  of_bytes max bytes judge next h false = h
+
+  of_file : {A : Type 0} (max : ℕ) (file : Option (List ℕ)) (judge : List ℕ → Found A) (next : A → Expected)
+      → ((bytes : List ℕ) → P (followed (judge bytes) next))
+      → P (followed (within_limit max file >>= judge) next)
+  of_file max None judge next h = holds.of_nothing
+  of_file max (Some bytes) judge next h = of_bytes max bytes judge next (h bytes) (nat_lt max (length bytes))
+
+  of_plan_or_fault : (text : List ℕ) (r : Result Config ConfigFault) (next : Config → Expected) → read_of text ≡ r
+      → ((plan : Config) → IsConfig plan → P (next plan))
+      → P (followed (plan_or_fault r) next)
+  of_plan_or_fault text (Ok plan) next e h = h plan (read_valid text plan e)
+  of_plan_or_fault text (Err fault) next e h = holds.of_config_fault fault
+
+  of_plan_at : (name : List ℕ) (files : Held) (next : Config → Expected) → ((plan : Config) → IsConfig plan → P (next plan))
+      → P (followed (plan_at name files) next)
+  of_plan_at name files next h =
+      of_file 1048576 (bytes_at files name) (λ bytes. plan_or_fault (read_of bytes)) next (λ bytes. of_plan_or_fault bytes (read_of bytes) next refl h)
+
+  of_trace_or_fault : (plan : Config) (text : List ℕ) (r : Result (List SaidRow) TraceFault) → IsConfig plan
+      → P (followed (trace_or_fault text r) (replays plan))
+  of_trace_or_fault plan text (Ok said) valid = holds.of_trace plan text valid
+  of_trace_or_fault plan text (Err fault) valid = holds.of_trace_fault fault
+
+  of_trace_at : (name : List ℕ) (files : Held) (plan : Config) → IsConfig plan → P (of_plan name files plan)
+  of_trace_at name files plan valid =
+      of_file 67108864 (bytes_at files name) (λ text. trace_or_fault text (rows_of plan text)) (replays plan) (λ text. of_trace_or_fault plan text (rows_of plan text) valid)
+
+  of_told : (held : Option Held) (c : Command) → IfSome (told held c) P
+  of_told None (replay config trace) = tt
+  of_told (Some files) (replay config trace) =
+      of_plan_at config files (of_plan trace files) (λ plan valid. of_trace_at trace files plan valid)
+  of_told None (check config) = tt
+  of_told (Some files) (check config) =
+      of_plan_at config files (λ plan. writes (check_line plan)) (λ plan valid. holds.of_text (check_line plan))
+  of_told held (shim bytes) = holds.of_shim bytes
+  of_told None (gen seed count config) = tt
+  of_told (Some files) (gen seed count config) =
+      of_plan_at config files (λ plan. writes (generated plan seed count)) (λ plan valid. holds.of_text (generated plan seed count))
+
+  of_command : (held : Option Held) (c : Option Command) → IfSome (option_and_then (told held) c) P
+  of_command held None = tt
+  of_command held (Some c) = of_told held c
+
+  of_wanted : (held : Option Held) (words : List (List ℕ)) → IfSome (wanted held words) P
+  of_wanted held words = of_command held (command_of words)
+
+-- ## promises
+
+kept_of_each : HoldsOfEach ArePromisesKept
+kept_of_each = record {
+  of_text = λ text. tt;
+  of_shim = λ bytes. tt;
+  of_trace =
+      λ plan trace valid rows are until logs run node site is. read_run_keeps plan trace rows until logs valid are run node site is;
+  of_nothing = tt;
+  of_size = λ k. tt;
+  of_config_fault = λ fault. tt;
+  of_trace_fault = λ fault. tt;
+}
+
+-- every run of a trace that is to be replayed keeps its promises
+pub kept_of_wanted : (held : Option Held) (words : List (List ℕ)) → IfSome (wanted held words) ArePromisesKept
+kept_of_wanted held words = of_wanted ArePromisesKept kept_of_each held words
+
+-- ## one end
+
+-- no run is within its number of events and past it
+apart : (plan : Config) (rows : List Row) → IsConfig plan → IsWithinLimit plan rows → IsPastLimit plan rows → ⊥
+apart plan rows valid (text, has) past =
+    omega (arith, has.few, past.more, no_more_events plan rows (are_delayed plan valid) past.until past.told has.told past.events has.events)
+
+module _ (plan : Config) (rows : List Row) (valid : IsConfig plan) where
+  within_ends : (other : status.Status) → IsWithinLimit plan rows → EndsReplay plan rows other → other ≡ Done
+  within_ends Done w o = refl
+  within_ends Usage w o = absurd o
+  within_ends ReadFault w o = absurd o
+  within_ends WriteFault w o = absurd o
+  within_ends (TooLarge k) w o = absurd o
+  within_ends (BadConfig fault) w o = absurd o
+  within_ends (BadTrace fault) w o = absurd o
+  within_ends (EventLimit m) w o = absurd (apart plan rows valid w o.1)
+  within_ends OutOfMemory w o = absurd o
+
+  past_ends : (other : status.Status) → IsPastLimit plan rows → EndsReplay plan rows other → other ≡ EventLimit plan.max_events
+  past_ends Done p o = absurd (apart plan rows valid o p)
+  past_ends Usage p o = absurd o
+  past_ends ReadFault p o = absurd o
+  past_ends WriteFault p o = absurd o
+  past_ends (TooLarge k) p o = absurd o
+  past_ends (BadConfig fault) p o = absurd o
+  past_ends (BadTrace fault) p o = absurd o
+  past_ends (EventLimit m) p o = ap EventLimit o.0
+  past_ends OutOfMemory p o = absurd o
+
+  replay_ends : (s other : status.Status) → EndsReplay plan rows s → EndsReplay plan rows other → other ≡ s
+  replay_ends Done other e o = within_ends other e o
+  replay_ends Usage other e o = absurd e
+  replay_ends ReadFault other e o = absurd e
+  replay_ends WriteFault other e o = absurd e
+  replay_ends (TooLarge k) other e o = absurd e
+  replay_ends (BadConfig fault) other e o = absurd e
+  replay_ends (BadTrace fault) other e o = absurd e
+  replay_ends (EventLimit m) other e o = past_ends other e.1 o ∙ sym (ap EventLimit e.0)
+  replay_ends OutOfMemory other e o = absurd e
+
+end_of_trace : (plan : Config) (trace : List ℕ) → IsConfig plan → HasOneEnd (replays plan trace)
+end_of_trace plan trace valid s other (rows, are, ends) (others, theirs, o) =
+    replay_ends plan rows valid s other ends
+    (subst (λ (rs : List Row). EndsReplay plan rs other) (rows_are_one plan trace others rows theirs are) o)
+
+one_end_of_each : HoldsOfEach HasOneEnd
+one_end_of_each = record {
+  of_text = λ text s other e o. o ∙ sym e;
+  of_shim = λ bytes s other e o. o ∙ sym e;
+  of_trace = end_of_trace;
+  of_nothing = λ s other e o. o ∙ sym e;
+  of_size = λ k s other e o. o ∙ sym e;
+  of_config_fault = λ fault s other e o. o ∙ sym e;
+  of_trace_fault = λ fault s other e o. o ∙ sym e;
+}
+
+-- what words come to ends in one way at most
+pub one_end_of_wanted : (held : Option Held) (words : List (List ℕ)) → IfSome (wanted held words) HasOneEnd
+one_end_of_wanted held words = of_wanted HasOneEnd one_end_of_each held words

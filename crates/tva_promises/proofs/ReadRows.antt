@@ -1,0 +1,175 @@
+-- The rows that a text stands for are within the sizes of a network.
+use Rattle.std.proofs.Common.{◌≡◌, ℕ, ◌+◌, ◌≤◌, Bool, true, false, cond, List, [], ◌∷◌, length, Option, Some, None, Result, Ok, Err, refl, sym, ap, subst, arith}
+use Rattle.std.specs.List.{AllByRecursion, AllZip}
+use Rattle.tva_base.specs.Addresses.{address_of}
+use Rattle.tva_base.specs.Decimal.{decimal_of}
+use Rattle.tva_shim.specs.Packets.{IsCarried, CarriesFew}
+use Rattle.tva_shim.specs.declared.packets.Carried.{Carried}
+use Rattle.tva_shim.specs.declared.packets.Carried.TheVariants as carried
+use Rattle.tva_shim.proofs.Lengths.{has_few}
+use Rattle.tva_config.specs.declared.config.Config.{Config}
+use Rattle.tva_config.specs.declared.config.NodePlan.{NodePlan}
+use Rattle.tva_config.specs.Names.{node_named}
+use Rattle.tva_trace.specs.declared.rows.Row.{Row}
+use Rattle.tva_trace.specs.declared.rows.RowKind as kinds
+use Rattle.tva_trace.specs.declared.rows.RowKind.TheVariants as kind
+use Rattle.tva_trace.specs.declared.rows.RowWhat.{RowWhat}
+use Rattle.tva_trace.specs.declared.rows.TraceFault.{TraceFault}
+use Rattle.tva_trace.specs.declared.rows.TraceRule as rules
+use Rattle.tva_trace.specs.declared.rows.TraceRule.TheVariants as rule
+use Rattle.tva_trace.specs.declared.said.SaidRow.{SaidRow}
+use Rattle.tva_trace.specs.declared.said.SaidShim.{SaidShim}
+use Rattle.tva_trace.specs.declared.said.SaidShim.TheVariants.{Bytes, Built}
+use Rattle.tva_trace.specs.declared.said.SaidWhat.{SaidWhat}
+use Rattle.tva_trace.specs.declared.said.SaidWhat.TheVariants as say
+use Rattle.tva_trace.specs.Items.{shim_of}
+use Rattle.tva_trace.specs.Rows.{Judged, ◌>>=◌, behind, demand, fault_at, field, flow_from, hold, injection_of, is_empty, is_header, kind_at, records_in, row_of, rows_from, rows_under, sending_of, then_rows, what_of}
+use Rattle.std.specs.Prelude.{nat_le, ◌==◌}
+use Rattle.tva_trace.specs.Meaning.{AreRows, CarriedBy, Means, MeansWhat}
+use Rattle.tva_promises.specs.Sizes.{IsSizedWhat}
+use Rattle.tva_promises.proofs.SaidShims.{IsSizedShim, decimal_fits, shim_sized}
+
+-- ## steps that gave something
+
+pub ok_one : {A : Type 0} (x y : A) → ◌≡◌ {A = Judged A} (Ok x) (Ok y) → x ≡ y
+ok_one x y e = cc
+
+pub ok_rows : (a b : List SaidRow) → ◌≡◌ {A = Result (List SaidRow) TraceFault} (Ok a) (Ok b) → a ≡ b
+ok_rows a b e = cc
+
+-- a chain of steps: each value is a variable where the next step is looked at
+pub when_held : {A B : Type 0} (P : B → Type 0) (r : Judged A) (next : A → Judged B) (y : B)
+    → (r >>= next) ≡ Ok y → ((x : A) → r ≡ Ok x → next x ≡ Ok y → P y) → P y
+when_held P (Ok x) next y gave go = go x refl gave
+when_held P (Err broken) next y gave go = absurd (cc)
+
+pub demanded : {A : Type 0} (r : rules.TraceRule) (o : Option A) (x : A) → demand r o ≡ Ok x → o ≡ Some x
+demanded r None x gave = absurd (cc)
+demanded r (Some y) x gave = ap Some (ok_one y x gave)
+
+pub held : (r : rules.TraceRule) (b : Bool) (u : Unit {0}) → hold r b ≡ Ok u → b ≡ true
+held r true u gave = refl
+held r false u gave = absurd (cc)
+
+-- ## what a row says
+
+-- what is said is within the sizes
+abbrev IsSizedSaid : SaidWhat → Type 0
+IsSizedSaid (say.Send dst payload) = payload ≤ 1600
+IsSizedSaid (say.Inject flow payload shim) = (payload ≤ 1600) × IsSizedShim shim
+
+sending_sized : (fields : List (List ℕ)) (w : SaidWhat) → sending_of fields ≡ Ok w → IsSizedSaid w
+unfolding sending_of
+sending_sized fields w gave =
+    when_held IsSizedSaid (hold rule.Src (is_empty (field fields 3))) _ w gave (λ own k1 g1.
+    when_held IsSizedSaid (demand rule.Dst (address_of (field fields 4))) _ w g1 (λ dst k2 g2.
+    when_held IsSizedSaid (demand rule.Payload (decimal_of (field fields 5) 1600)) _ w g2 (λ payload k3 g3.
+    when_held IsSizedSaid (hold rule.Shim (is_empty (field fields 6))) _ w g3 (λ none k4 g4.
+    let made : SaidWhat = say.Send dst payload in
+    let fits : IsSizedSaid made = decimal_fits (field fields 5) 1600 payload (demanded rule.Payload (decimal_of (field fields 5) 1600) payload k3) in
+    subst IsSizedSaid (ok_one made w g4) fits))))
+
+injection_sized : (plans : List NodePlan) (k : kinds.RowKind) (fields : List (List ℕ)) (w : SaidWhat)
+    → injection_of plans k fields ≡ Ok w → IsSizedSaid w
+unfolding injection_of
+injection_sized plans k fields w gave =
+    when_held IsSizedSaid (demand rule.Src (address_of (field fields 3))) _ w gave (λ src k1 g1.
+    when_held IsSizedSaid (demand rule.Dst (address_of (field fields 4))) _ w g1 (λ dst k2 g2.
+    when_held IsSizedSaid (demand rule.Payload (decimal_of (field fields 5) 1600)) _ w g2 (λ payload k3 g3.
+    when_held IsSizedSaid (demand rule.Shim (shim_of plans k (flow_from src dst) (field fields 6))) _ w g3 (λ shim k4 g4.
+    let made : SaidWhat = say.Inject (flow_from src dst) payload shim in
+    let fits = decimal_fits (field fields 5) 1600 payload (demanded rule.Payload (decimal_of (field fields 5) 1600) payload k3) in
+    let few = shim_sized plans k (flow_from src dst) (field fields 6) shim (demanded rule.Shim (shim_of plans k (flow_from src dst) (field fields 6)) shim k4) in
+    let sized : IsSizedSaid made = (fits, few) in
+    subst IsSizedSaid (ok_one made w g4) sized))))
+
+what_said : (plans : List NodePlan) (k : kinds.RowKind) (fields : List (List ℕ)) (w : SaidWhat) → what_of plans k fields ≡ Ok w
+    → IsSizedSaid w
+what_said plans kind.Send fields w gave = sending_sized fields w gave
+what_said plans kind.Raw fields w gave = injection_sized plans kind.Raw fields w gave
+what_said plans kind.List fields w gave = injection_sized plans kind.List fields w gave
+what_said plans kind.Renew fields w gave = injection_sized plans kind.Renew fields w gave
+what_said plans kind.Nonce fields w gave = injection_sized plans kind.Nonce fields w gave
+
+abbrev IsSizedRowSaid : SaidRow → Type 0
+IsSizedRowSaid said = IsSizedSaid said.what
+
+row_said : (config : Config) (number last : ℕ) (fields : List (List ℕ)) (said : SaidRow) → row_of config number last fields ≡ Ok said
+    → IsSizedRowSaid said
+unfolding row_of
+row_said config number last fields said gave =
+    when_held IsSizedRowSaid (hold rule.Rows (nat_le number 1000001)) _ said gave (λ few k1 g1.
+    when_held IsSizedRowSaid (hold rule.Fields (length fields == 7)) _ said g1 (λ seven k2 g2.
+    when_held IsSizedRowSaid (demand rule.Time (decimal_of (field fields 0) config.horizon.0)) _ said g2 (λ time k3 g3.
+    when_held IsSizedRowSaid (hold rule.Order (nat_le last time)) _ said g3 (λ later k4 g4.
+    when_held IsSizedRowSaid (demand rule.Node (node_named config.nodes (field fields 1))) _ said g4 (λ node k5 g5.
+    when_held IsSizedRowSaid (demand rule.Kind (kind_at config.nodes node (field fields 2))) _ said g5 (λ k k6 g6.
+    when_held IsSizedRowSaid (what_of config.nodes k fields) _ said g6 (λ what k7 g7.
+    let made : SaidRow = record { time = record { 0 = time }; node = node; what = what } in
+    let sized : IsSizedRowSaid made = what_said config.nodes k fields what k7 in
+    subst IsSizedRowSaid (ok_one made said g7) sized)))))))
+
+-- ## all rows
+
+abbrev AreSized : List SaidRow → Type 0
+AreSized said = AllByRecursion IsSizedRowSaid said
+
+behind_sized : (row : SaidRow) (r : Result (List SaidRow) TraceFault) (said : List SaidRow) → IsSizedRowSaid row
+    → ((rest : List SaidRow) → r ≡ Ok rest → AreSized rest) → behind (row ∷ []) r ≡ Ok said → AreSized said
+behind_sized row (Ok rest) said s more gave = subst AreSized (ok_rows (row ∷ rest) said gave) (s, more rest refl)
+behind_sized row (Err fault) said s more gave = absurd (cc)
+
+then_sized : (number : ℕ) (r : Judged SaidRow) (next : ℕ → Result (List SaidRow) TraceFault) (said : List SaidRow)
+    → ((row : SaidRow) → r ≡ Ok row → IsSizedRowSaid row)
+    → ((time : ℕ) (rest : List SaidRow) → next time ≡ Ok rest → AreSized rest) → then_rows number r next ≡ Ok said → AreSized said
+then_sized number (Err broken) next said own more gave = absurd (cc)
+then_sized number (Ok row) next said own more gave = behind_sized row (next row.time.0) said (own row refl) (more row.time.0) gave
+
+rows_said : (config : Config) (number last : ℕ) (records : List (List (List ℕ))) (said : List SaidRow)
+    → rows_from config number last records ≡ Ok said → AreSized said
+unfolding rows_from
+rows_said config number last [] said gave = subst AreSized (ok_rows [] said gave) tt
+rows_said config number last (fields ∷ records) said gave =
+    then_sized number (row_of config number last fields) (λ time. rows_from config (number + 1) time records) said
+    (λ row k. row_said config number last fields row k) (λ time rest k. rows_said config (number + 1) time records rest k) gave
+
+-- behind a header
+pub headed_by : (P : List SaidRow → Type 0) (b : Bool) (r : Result (List SaidRow) TraceFault) (said : List SaidRow)
+    → (r ≡ Ok said → P said)
+    → cond b r (Err (fault_at 1 rule.Header)) ≡ Ok said → P said
+headed_by P true r said rest gave = rest gave
+headed_by P false r said rest gave = absurd (cc)
+
+under_said : (config : Config) (records : List (List (List ℕ))) (said : List SaidRow) → rows_under config records ≡ Ok said
+    → AreSized said
+unfolding rows_under
+under_said config [] said gave = absurd (cc)
+under_said config (fields ∷ records) said gave =
+    headed_by AreSized (is_header fields) (rows_from config 2 0 records) said (λ k. rows_said config 2 0 records said k) gave
+
+-- ## what is said is meant
+
+carried_meant : (shim : SaidShim) (c : Carried) → IsSizedShim shim → CarriedBy shim c → IsCarried c × CarriesFew c
+carried_meant (Bytes bytes) carried.Nothing s m = (tt, tt)
+carried_meant (Bytes bytes) (carried.Shim shim) s m = (tt, has_few shim m.0)
+carried_meant (Bytes bytes) (carried.Malformed count) s m =
+    (let long : count ≡ length bytes = m.2 in let short : length bytes ≤ 400 = s in omega (arith, long, short), tt)
+carried_meant (Built shim) c s m = subst (λ (x : Carried). IsCarried x × CarriesFew x) (sym m) (tt, s)
+
+what_meant : (said : SaidWhat) (w : RowWhat) → IsSizedSaid said → MeansWhat said w → IsSizedWhat w
+what_meant (say.Send dst payload) w s m = subst IsSizedWhat (sym m) s
+what_meant (say.Inject flow payload shim) w s m = let k = carried_meant shim m.0 s.1 m.1 in subst IsSizedWhat (sym m.2) (s.0, k.0, k.1)
+
+-- a row within the sizes
+abbrev pub IsSizedRow : Row → Type 0
+IsSizedRow row = IsSizedWhat row.what
+
+rows_meant : (said : List SaidRow) (rows : List Row) → AreSized said → AllZip Means said rows → AllByRecursion IsSizedRow rows
+rows_meant [] [] s m = tt
+rows_meant [] (y ∷ ys) s m = absurd m
+rows_meant (x ∷ xs) [] s m = absurd m
+rows_meant (x ∷ xs) (y ∷ ys) s m = (what_meant x.what y.what s.0 m.0.2, rows_meant xs ys s.1 m.1)
+
+-- so are the rows that a text stands for
+pub rows_sized : (config : Config) (text : List ℕ) (rows : List Row) → AreRows config text rows → AllByRecursion IsSizedRow rows
+rows_sized config text rows are = rows_meant are.0 rows (under_said config (records_in text) are.0 are.1) are.2
