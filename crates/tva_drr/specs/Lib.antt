@@ -8,3 +8,4 @@ pub mod Ahead
 pub mod Code
 pub mod Slots
 pub mod Places
+pub mod Numbers

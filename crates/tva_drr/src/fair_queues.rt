@@ -1,19 +1,20 @@
 // Fair queues: the list of queues in ring order, with one ring for each queue that there may be.
-ghost use Rattle.std.specs.Prelude.{◌≡◌, ℕ, ◌≤◌, ◌↔◌, [], IfOk, IfSome, IsNone};
+ghost use Rattle.std.specs.Prelude.{◌≡◌, ℕ, ◌≤◌, ◌↔◌, [], not, IfOk, IfSome, IsNone};
 ghost use Rattle.std.specs.Option.{option_map};
 ghost use Rattle.tva_base.specs.Plan.{AreDrrLimits};
 ghost use Rattle.tva_drr.specs.Queues.{fair, head};
-ghost use Rattle.tva_drr.specs.Offer.{offer_answer, offer_leaves};
+ghost use Rattle.tva_drr.specs.Offer.{lacks_queue, offer_answer, offer_leaves};
 ghost use Rattle.tva_drr.specs.Take.{take_leaves};
 ghost use Rattle.tva_drr.specs.Fair.{IsFair};
 ghost use Rattle.tva_drr.specs.Order.{GoesLast, GoesFirst, IsFront};
 ghost use Rattle.tva_drr.specs.declared.offered.Offered.TheVariants.{Queued};
 
 use crate::measured::Measured;
+use crate::numbers::Numbers;
 use crate::offered::Offered;
-use crate::places::{find_slot, lacks_room, lacks_slot, put_slot};
+use crate::places::{find_slot, lacks_room, lacks_slot, number_slot, put_slot};
 use crate::slot::{Slot, slots};
-use crate::turns::{pop_slot, settle_slots};
+use crate::turns::{pop_slot, settle_numbers, settle_slots};
 use std::alloc::{AllocError, Global};
 use std::collections::VecDeque;
 use std::marker::Model;
@@ -26,7 +27,8 @@ mod tests;
 /// limits and one list of keys, deficits and items in ring order, in which no queue is empty.
 ///
 /// As the quantum is at least the greatest length, a queue that comes to the front with the
-/// quantum covers its first item, so a take searches nothing. A deficit is below the greatest
+/// quantum covers its first item, so a take searches nothing. A key's queue is found by its number, and
+/// not by going through all queues. A deficit is below the greatest
 /// length behind the front, and below that and the quantum together at the front: with both at
 /// most 2^30 it fits in 32 bits.
 #[derive(Drop)]
@@ -35,6 +37,7 @@ pub struct FairQueues<T: Measured> {
     bytes: u32,
     waiting: VecDeque<Slot<T>>,
     spare: Vec<Slot<T>>,
+    numbers: Numbers,
 }
 
 impl<T: Measured> Model for FairQueues<T> {
@@ -44,6 +47,7 @@ impl<T: Measured> Model for FairQueues<T> {
     ghost use Rattle.tva_drr.specs.Fair.{IsFair};
     ghost use Rattle.tva_drr.specs.Code.{fair_code};
     ghost use Rattle.tva_drr.specs.Slots.{queues_in, AreSlots};
+    ghost use Rattle.tva_drr.specs.Numbers.{keys_in, AreNumbers};
 
     ghost Value = { Fair T };
 
@@ -55,7 +59,9 @@ impl<T: Measured> Model for FairQueues<T> {
         × (a.bytes ≡ all_bytes T.measure (queues_in a.waiting.items))
         × AreSlots a.limits.queues a.limits.ring a.waiting.items a.spare.items
         × (a.limits.queues ≤ deque_capacity a.waiting)
-        × (a.limits.queues ≤ vec_capacity a.spare) };
+        × (a.limits.queues ≤ vec_capacity a.spare)
+        × AreNumbers (keys_in (queues_in a.waiting.items)) a.numbers
+        × (a.limits.queues ≤ vec_capacity a.numbers.rest) };
 }
 
 impl<T: Measured> FairQueues<T> {
@@ -69,11 +75,13 @@ impl<T: Measured> FairQueues<T> {
     {
         let waiting = VecDeque::with_capacity(alloc, limits.queues as usize)?;
         let spare = slots(alloc, limits.queues, limits.ring)?;
+        let numbers = Numbers::with_places(alloc, limits.queues)?;
         Ok(FairQueues {
             limits,
             bytes: 0,
             waiting,
             spare,
+            numbers,
         })
     }
 
@@ -90,13 +98,14 @@ impl<T: Measured> FairQueues<T> {
         ensures fair { IsFair T.measure self.new }
     {
         let length = item.length();
-        let place = find_slot(&self.waiting, key);
+        let place = find_slot(&self.numbers, &self.waiting, key);
         if lacks_slot(&self.limits, &place, &self.waiting) {
             return Offered::NoQueue(item);
         }
         if lacks_room(&self.limits, &place, self.bytes, length) {
             return Offered::QueueFull(item);
         }
+        number_slot(&mut self.numbers, place.at, key, self.waiting.len());
         put_slot(
             &self.limits,
             &mut self.waiting,
@@ -107,6 +116,15 @@ impl<T: Measured> FairQueues<T> {
         );
         self.bytes += length;
         Offered::Queued
+    }
+
+    /// Whether the key has a queue, or there is one to give to it: whether an offer under the key is
+    /// not refused with `NoQueue`. It takes no memory.
+    pub fn takes_key(&self, key: u32) -> bool
+        ensures { result ≡ not (lacks_queue self.now key) }
+    {
+        let place = find_slot(&self.numbers, &self.waiting, key);
+        !lacks_slot(&self.limits, &place, &self.waiting)
     }
 
     /// The length in bytes of what the next take gives, and none where nothing waits.
@@ -137,6 +155,7 @@ impl<T: Measured> FairQueues<T> {
     {
         let item = pop_slot(&mut self.waiting)?;
         self.bytes -= item.length();
+        settle_numbers(&self.waiting, &mut self.numbers);
         settle_slots(&mut self.waiting, &mut self.spare, self.limits.quantum);
         Some(item)
     }

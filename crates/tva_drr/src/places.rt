@@ -1,12 +1,14 @@
 // Where a key's queue stands, and how an item is put there.
-ghost use Rattle.std.specs.Prelude.{◌≡◌, ◌+◌, ◌^◌, ◌<◌, ◌≤◌, ◌==◌, if◌then◌else◌, false, length, vec_capacity, nat_lt, nat_le, is_none, ◌&&◌, ◌||◌};
+ghost use Rattle.std.specs.Prelude.{◌≡◌, ℕ, ◌+◌, ◌^◌, ◌<◌, ◌≤◌, ◌==◌, if◌then◌else◌, false, List, length, vec_capacity, nat_lt, nat_le, is_none, ◌&&◌, ◌||◌};
 ghost use Rattle.std.specs.VecDeque.{deque_capacity};
 ghost use Rattle.tva_drr.specs.Queues.{has_key, items_of, bytes_in};
 ghost use Rattle.tva_drr.specs.Offer.{put};
 ghost use Rattle.tva_drr.specs.Slots.{queues_in, AreSlots};
 ghost use Rattle.tva_drr.specs.Places.{IsPlace};
+ghost use Rattle.tva_drr.specs.Numbers.{keys_in, keys_with, place_in, number_of, AreNumbers};
 
 use crate::measured::Measured;
+use crate::numbers::Numbers;
 use crate::slot::Slot;
 use std::collections::VecDeque;
 use tva_base::DrrLimits;
@@ -19,26 +21,47 @@ pub(crate) struct Place {
     pub bytes: u32,
 }
 
-/// The place of the key's queue.
-pub(crate) fn find_slot<T: Measured>(waiting: &VecDeque<Slot<T>>, key: u32) -> Place
+/// The place of the key's queue, by the queues' numbers.
+pub(crate) fn find_slot<T: Measured>(
+    numbers: &Numbers,
+    waiting: &VecDeque<Slot<T>>,
+    key: u32,
+) -> Place
+    requires numbers { AreNumbers (keys_in (queues_in waiting.now.items)) numbers.now }
+    requires few { length waiting.now.items ≤ 2 ^ 30 }
     ensures at { IsPlace key (queues_in waiting.now.items) result.at }
+    ensures place { result.at ≡ place_in key (keys_in (queues_in waiting.now.items)) }
     ensures items { result.items ≡ length (items_of key (queues_in waiting.now.items)) }
     ensures bytes { result.bytes ≡ bytes_in T.measure (items_of key (queues_in waiting.now.items)) }
 {
-    for at in 0..waiting.len() {
-        let slot = &waiting[at];
-        if slot.key() == key {
-            return Place {
+    match numbers.place(key) {
+        Some(at) => {
+            let slot = &waiting[at];
+            Place {
                 at: Some(at),
                 items: slot.len(),
                 bytes: slot.bytes(),
-            };
+            }
         }
+        None => Place {
+            at: None,
+            items: 0,
+            bytes: 0,
+        },
     }
-    Place {
-        at: None,
-        items: 0,
-        bytes: 0,
+}
+
+/// Numbers the queue that a key without one is to have, behind so many.
+pub(crate) fn number_slot(numbers: &mut Numbers, at: Option<usize>, key: u32, queues: usize)
+    requires some { 1 ≤ length numbers.old.buckets.items }
+    requires new { at ≡ None → (number_of numbers.old key ≡ None)
+        × (length numbers.old.rest.items < vec_capacity numbers.old.rest) }
+    ensures numbers { (keys : List ℕ) → AreNumbers keys numbers.old → at ≡ place_in key keys
+        → queues ≡ length keys → AreNumbers (keys_with key keys) numbers.new }
+    ensures room { vec_capacity numbers.new.rest ≡ vec_capacity numbers.old.rest }
+{
+    if at.is_none() {
+        numbers.add(key, queues);
     }
 }
 

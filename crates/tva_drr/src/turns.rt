@@ -5,8 +5,10 @@ ghost use Rattle.std.specs.VecDeque.{deque_capacity};
 ghost use Rattle.tva_drr.specs.Queues.{first, head};
 ghost use Rattle.tva_drr.specs.Take.{refilled, front_popped, front_settled};
 ghost use Rattle.tva_drr.specs.Slots.{queues_in, HaveRoom, AreSlots};
+ghost use Rattle.tva_drr.specs.Numbers.{keys_in, AreNumbers, IsAlone};
 
 use crate::measured::Measured;
+use crate::numbers::Numbers;
 use crate::slot::Slot;
 use std::collections::VecDeque;
 
@@ -50,6 +52,30 @@ fn leave<T: Measured>(waiting: &mut VecDeque<Slot<T>>, spare: &mut Vec<Slot<T>>)
 {
     if let Some(slot) = waiting.pop_front() {
         spare.push_reserved(slot);
+    }
+}
+
+/// Numbers the queues as they will stand once the front is settled.
+pub(crate) fn settle_numbers<T: Measured>(waiting: &VecDeque<Slot<T>>, numbers: &mut Numbers)
+    requires numbers { AreNumbers (keys_in (queues_in waiting.now.items)) numbers.old }
+    requires alone { IsAlone (queues_in waiting.now.items) }
+    requires room { length waiting.now.items ≤ vec_capacity numbers.old.rest }
+    ensures left { (quantum : ℕ)
+        → AreNumbers (keys_in (front_settled T.measure quantum (queues_in waiting.now.items))) numbers.new }
+    ensures room { vec_capacity numbers.new.rest ≡ vec_capacity numbers.old.rest }
+{
+    if waiting.is_empty() {
+        return;
+    }
+    let front = &waiting[0];
+    let key = front.key();
+    match front.head_length() {
+        None => numbers.leave(key),
+        Some(length) => {
+            if front.deficit() < length {
+                numbers.turn(key, waiting.len() - 1);
+            }
+        }
     }
 }
 

@@ -41,6 +41,14 @@ impl HeldPacket {
         HeldPacket { packet, bytes }
     }
 
+    /// The packet whose length was measured before.
+    pub fn measured(packet: Packet, bytes: u32) -> HeldPacket
+        requires { bytes ≡ packet_length packet }
+        ensures { result ≡ packet }
+    {
+        HeldPacket { packet, bytes }
+    }
+
     pub fn into_packet(self) -> Packet
         ensures { result ≡ self }
     {

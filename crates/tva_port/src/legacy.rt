@@ -9,7 +9,7 @@ use circular_buffer::HeapCircularBuffer;
 use std::alloc::{AllocError, Global};
 use std::marker::Model;
 use tva_drr::{Measured, Offered};
-use tva_shim::Packet;
+use tva_shim::{Packet, length};
 
 /// Packets in the order in which they came, at most so many and of at most so many bytes in all.
 /// All memory is taken when it is made.
@@ -62,16 +62,15 @@ impl LegacyList {
         ensures left { self.new ≡ legacy_leaves self.old packet }
         ensures sized { (20 ≤ packet_length packet) × (packet_length packet ≤ 2048) }
     {
-        let held = HeldPacket::new(packet);
-        let bytes = held.length();
+        let bytes = length(&packet);
         if lacks_place(&self.ring) {
-            return Offered::QueueFull(held.into_packet());
+            return Offered::QueueFull(packet);
         }
         if self.bytes + bytes > self.most {
-            return Offered::QueueFull(held.into_packet());
+            return Offered::QueueFull(packet);
         }
         self.bytes += bytes;
-        let _ = self.ring.push_back(held);
+        let _ = self.ring.push_back(HeldPacket::measured(packet, bytes));
         Offered::Queued
     }
 

@@ -1,43 +1,65 @@
-use Rattle.std.proofs.Common.{◌≡◌, ◌<◌, false, arith, ap, ◌∙◌, sym, length}
-use Rattle.std.proofs.lemmas.Bool.Decides.{nat_tests}
-use Rattle.std.proofs.lemmas.List.{take_more, take_all}
-use Rattle.tva_drr.specs.Queues.{bytes_in, has_key}
+use Rattle.std.proofs.Common.{◌≡◌, ◌<◌, ◌≤◌, ◌^◌, Option, Some, None, arith, ap, ◌∙◌, sym, subst, length, ℕ}
+use Rattle.tva_drr.specs.Queues.{bytes_in}
 use Rattle.tva_drr.specs.Slots.{queues_in}
-use Rattle.tva_drr.proofs.Lists.{has_key-push, items_of_at, items_of_none}
+use Rattle.tva_drr.specs.Places.{IsPlace}
+use Rattle.tva_drr.specs.Numbers.{keys_in, place_in}
+use Rattle.tva_drr.proofs.Lists.{items_of_at, items_of_none}
 use Rattle.tva_drr.proofs.SlotLists.{queue_read, length-queues}
-use Rattle.tva_drr.proofs.places.find_slot.Given.{Over}
+use Rattle.tva_drr.proofs.Numbering.{place_is, length-keys}
 use Rattle.tva_drr.proofs.places.find_slot.Goals as goal
 
-pub loop-at-preserved : goal.loop-at-preserved
-loop-at-preserved g c =
+pub index-slot-requires : goal.index-slot-requires
+index-slot-requires g c =
     let ws = c.args.waiting.now.items in
-    let n : c.loop-at.at < length ws = omega arith in
-    let s = queue_read ws c.loop-at.at c.index-slot.result.now n c.index-slot.ensures in
-    let e = take_more (queues_in ws) c.loop-at.at c.index-slot.result.now.queue (omega (arith, n, length-queues ws)) in
-    grind (arith, nat_tests, e, has_key-push, s)
+    let few : length (keys_in (queues_in ws)) ≤ 2 ^ 30 = omega (arith, c.requires.few, length-keys (queues_in ws), length-queues ws) in
+    let is : Some c.in-Some.at ≡ place_in c.args.key (keys_in (queues_in ws)) = sym c.in-Some.is ∙ c.place.ensures (keys_in (queues_in ws)) c.requires.numbers few in
+    let p : IsPlace c.args.key (queues_in ws) (Some c.in-Some.at) = subst (λ (o : Option ℕ). IsPlace c.args.key (queues_in ws) o) (sym is) (place_is c.args.key (queues_in ws)) in
+    omega (arith, p.0, length-queues ws)
 
-pub returns-then-key-clause-items : goal.returns-then-key-clause-items
-returns-then-key-clause-items g c =
+pub returns-in-Some-clause-at : goal.returns-in-Some-clause-at
+returns-in-Some-clause-at g c =
     let ws = c.args.waiting.now.items in
-    let n : c.loop-at.at < length ws = omega arith in
-    let s = queue_read ws c.loop-at.at c.index-slot.result.now n c.index-slot.ensures in
-    let e = items_of_at c.args.key (queues_in ws) c.loop-at.at c.index-slot.result.now.queue (omega (arith, n, length-queues ws)) c.loop-at.invariant s (sym c.key.ensures ∙ c.if-key.true) in
-    c.len.ensures ∙ ap length (sym e)
+    let few : length (keys_in (queues_in ws)) ≤ 2 ^ 30 = omega (arith, c.requires.few, length-keys (queues_in ws), length-queues ws) in
+    let is : Some c.in-Some.at ≡ place_in c.args.key (keys_in (queues_in ws)) = sym c.in-Some.is ∙ c.place.ensures (keys_in (queues_in ws)) c.requires.numbers few in
+    subst (λ (o : Option ℕ). IsPlace c.args.key (queues_in ws) o) (sym is) (place_is c.args.key (queues_in ws))
 
-pub returns-then-key-clause-bytes : goal.returns-then-key-clause-bytes
-returns-then-key-clause-bytes g c =
+pub returns-in-Some-clause-place : goal.returns-in-Some-clause-place
+returns-in-Some-clause-place g c =
     let ws = c.args.waiting.now.items in
-    let n : c.loop-at.at < length ws = omega arith in
-    let s = queue_read ws c.loop-at.at c.index-slot.result.now n c.index-slot.ensures in
-    let e = items_of_at c.args.key (queues_in ws) c.loop-at.at c.index-slot.result.now.queue (omega (arith, n, length-queues ws)) c.loop-at.invariant s (sym c.key.ensures ∙ c.if-key.true) in
-    c.bytes.ensures ∙ ap (bytes_in g.T.Measured.measure) (sym e)
+    let few : length (keys_in (queues_in ws)) ≤ 2 ^ 30 = omega (arith, c.requires.few, length-keys (queues_in ws), length-queues ws) in
+    sym c.in-Some.is ∙ c.place.ensures (keys_in (queues_in ws)) c.requires.numbers few
 
--- no queue has the key
-none_left : (g : Over) (c : goal.After-loop-at g) → has_key c.args.key (queues_in c.args.waiting.now.items) ≡ false
-none_left g c = rw (take_all c.loop-at.at (queues_in c.args.waiting.now.items) (omega (arith, length-queues c.args.waiting.now.items))) at c.loop-at.invariant
+pub returns-in-Some-clause-items : goal.returns-in-Some-clause-items
+returns-in-Some-clause-items g c =
+    let ws = c.args.waiting.now.items in
+    let p = returns-in-Some-clause-at g c in
+    let n : c.in-Some.at < length ws = omega (arith, p.0, length-queues ws) in
+    let s = queue_read ws c.in-Some.at c.index-slot.result.now n c.index-slot.ensures in
+    c.len.ensures ∙ ap length (sym (items_of_at c.args.key (queues_in ws) c.in-Some.at c.index-slot.result.now.queue p.0 p.1 s (p.2 _ s)))
 
-pub returns-clause-items : goal.returns-clause-items
-returns-clause-items g c = sym (ap length (items_of_none c.args.key (queues_in c.args.waiting.now.items) (none_left g c)))
+pub returns-in-Some-clause-bytes : goal.returns-in-Some-clause-bytes
+returns-in-Some-clause-bytes g c =
+    let ws = c.args.waiting.now.items in
+    let p = returns-in-Some-clause-at g c in
+    let n : c.in-Some.at < length ws = omega (arith, p.0, length-queues ws) in
+    let s = queue_read ws c.in-Some.at c.index-slot.result.now n c.index-slot.ensures in
+    c.bytes.ensures ∙ ap (bytes_in g.T.Measured.measure) (sym (items_of_at c.args.key (queues_in ws) c.in-Some.at c.index-slot.result.now.queue p.0 p.1 s (p.2 _ s)))
 
-pub returns-clause-bytes : goal.returns-clause-bytes
-returns-clause-bytes g c = sym (ap (bytes_in g.T.Measured.measure) (items_of_none c.args.key (queues_in c.args.waiting.now.items) (none_left g c)))
+pub returns-in-None-clause-at : goal.returns-in-None-clause-at
+returns-in-None-clause-at g c =
+    let ws = c.args.waiting.now.items in
+    let few : length (keys_in (queues_in ws)) ≤ 2 ^ 30 = omega (arith, c.requires.few, length-keys (queues_in ws), length-queues ws) in
+    let is : None ≡ place_in c.args.key (keys_in (queues_in ws)) = sym c.in-None.is ∙ c.place.ensures (keys_in (queues_in ws)) c.requires.numbers few in
+    subst (λ (o : Option ℕ). IsPlace c.args.key (queues_in ws) o) (sym is) (place_is c.args.key (queues_in ws))
+
+pub returns-in-None-clause-place : goal.returns-in-None-clause-place
+returns-in-None-clause-place g c =
+    let ws = c.args.waiting.now.items in
+    let few : length (keys_in (queues_in ws)) ≤ 2 ^ 30 = omega (arith, c.requires.few, length-keys (queues_in ws), length-queues ws) in
+    sym c.in-None.is ∙ c.place.ensures (keys_in (queues_in ws)) c.requires.numbers few
+
+pub returns-in-None-clause-items : goal.returns-in-None-clause-items
+returns-in-None-clause-items g c = sym (ap length (items_of_none c.args.key (queues_in c.args.waiting.now.items) (returns-in-None-clause-at g c)))
+
+pub returns-in-None-clause-bytes : goal.returns-in-None-clause-bytes
+returns-in-None-clause-bytes g c = sym (ap (bytes_in g.T.Measured.measure) (items_of_none c.args.key (queues_in c.args.waiting.now.items) (returns-in-None-clause-at g c)))

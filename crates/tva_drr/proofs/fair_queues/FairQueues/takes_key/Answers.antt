@@ -1,0 +1,15 @@
+use Rattle.std.proofs.Common.{◌≡◌, not, ap, sym, subst, arith}
+use Rattle.tva_drr.specs.Queues.{Fair}
+use Rattle.tva_drr.specs.Offer.{lacks_queue}
+use Rattle.tva_drr.proofs.SlotLists.{queue_lacked, length-queues}
+use Rattle.tva_drr.proofs.fair_queues.FairQueues.takes_key.Goals as goal
+
+pub find_slot-place-requires-clause-few : goal.find_slot-place-requires-clause-few
+find_slot-place-requires-clause-few g c =
+    omega (arith, c.self.invariant.0.queues.few, c.self.invariant.0.limits.queues, length-queues c.self.inside.waiting.items)
+
+pub returns : goal.returns
+returns g c =
+    let p = c.find_slot-place in
+    let lacks = queue_lacked c.self.inside.limits c.args.key c.self.inside.waiting.items p.result.at c.lacks_slot.result p.ensures.at c.lacks_slot.ensures in
+    subst (λ (v : Fair g.row.T.Denot). not c.lacks_slot.result ≡ not (lacks_queue v c.args.key)) c.self.view_is (ap not (sym lacks))
