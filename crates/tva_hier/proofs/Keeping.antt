@@ -1,0 +1,457 @@
+-- What is true of two-level queues stays true after an offer and after a take.
+use Rattle.std.proofs.Common.{◌≡◌, ℕ, ◌+◌, ◌-◌, ◌<◌, ◌≤◌, ◌^◌, suc, true, false, cond, eqb, leb, not, ◌&&◌, Some, None, List, [], ◌∷◌, ◌++◌, length, get_or, drop, take, slice_get, refl, sym, ap, ◌∙◌, subst, inl, inr, arith, length-append}
+use Rattle.std.proofs.lemmas.Bool.Decides.{nat_tests, leb_tells}
+use Rattle.std.proofs.lemmas.List.Sums.{sum_by-cons, sum_by_push}
+use Rattle.std.specs.List.{All, AllByRecursion}
+use Rattle.std.specs.Option.{option_map}
+use Rattle.std.proofs.lemmas.List.Elements.{All-from_recursion, recursion_from_All}
+use Rattle.tva_base.specs.declared.limits.DrrLimits.{DrrLimits}
+use Rattle.tva_base.specs.Plan.{AreDrrLimits}
+use Rattle.tva_drr.specs.Queues.{Queue, queue, Fair, fair, first, head, all_bytes}
+use Rattle.tva_drr.specs.Offer.{put, lacks_queue, lacks_room, offer_leaves}
+use Rattle.tva_drr.specs.Take.{taken}
+use Rattle.tva_drr.specs.Fair.{AreMeasured, AreQueues, IsFair}
+use Rattle.tva_drr.specs.Service.{first_bytes, head_bytes}
+use Rattle.tva_drr.proofs.Lists.{by_key}
+use Rattle.tva_drr.proofs.Keeps.{keeps-offer, fair-taken, all_bytes-taken}
+use Rattle.tva_drr.proofs.Falling.{by_test}
+use Rattle.tva_hier.specs.Groups.{Group, group, hier, inner_limits, has_group, queues_of, group_bytes, all_group_bytes, next}
+use Rattle.tva_hier.specs.Offer.{lacks_group, lacks_place, lacks_space, changed}
+use Rattle.tva_hier.specs.Take.{group_refilled, group_popped, front_popped, group_settled, front_settled, groups_taken}
+use Rattle.tva_hier.specs.Hier.{AreInner, AreGroups, AreGroupsBehind, HasGroupTurn, AreHier, IsHier}
+use Rattle.tva_hier.proofs.GroupLists.{none_true, has_group-push, has_group-changed, length-changed, bytes-changed, offered_is}
+
+-- ## the limits of one group
+
+pub limits_inner : (l : DrrLimits) (inner : ℕ) → AreDrrLimits l → (1 ≤ inner) × (inner ≤ 2 ^ 30) → AreDrrLimits (inner_limits l inner)
+limits_inner l inner a i =
+    record { queues = i; ring = a.ring; queue_bytes = a.queue_bytes; class_bytes = a.class_bytes; max = a.max; quantum = a.quantum }
+
+module _ {T : Type 0} (measure : T → ℕ) where
+  -- ## what fair queues send next
+
+  first_none : (xs : List T) → first xs ≡ None → first_bytes measure xs ≡ 0
+  first_none [] h = refl
+  first_none (x ∷ xs) h = absurd (cc)
+
+  first_some : (xs : List T) (x : T) → first xs ≡ Some x → first_bytes measure xs ≡ measure x
+  first_some [] x h = absurd (cc)
+  first_some (y ∷ ys) x h = cc
+
+  pub head_none : (qs : List (Queue T)) → head qs ≡ None → head_bytes measure qs ≡ 0
+  head_none [] h = refl
+  head_none (q ∷ qs) h = first_none q.items h
+
+  pub head_some : (qs : List (Queue T)) (x : T) → head qs ≡ Some x → head_bytes measure qs ≡ measure x
+  head_some [] x h = absurd (cc)
+  head_some (q ∷ qs) x h = first_some q.items x h
+
+  first_measured : (xs : List T) (n : ℕ) → option_map measure (first xs) ≡ Some n → first_bytes measure xs ≡ n
+  first_measured [] n h = absurd (cc)
+  first_measured (x ∷ xs) n h = cc
+
+  first_most : (m : DrrLimits) (xs : List T) → AreMeasured measure m xs → first_bytes measure xs ≤ m.max
+  first_most m [] h = omega arith
+  first_most m (x ∷ xs) h = h.0.1
+
+  pub head_most : (m : DrrLimits) (qs : List (Queue T)) → AreQueues measure m qs → head_bytes measure qs ≤ m.max
+  head_most m [] h = omega arith
+  head_most m (q ∷ qs) h = first_most m q.items h.0.measured
+
+  first_there : (xs : List T) → 1 ≤ length xs → (x : T) × ((first xs ≡ Some x) × (first_bytes measure xs ≡ measure x))
+  first_there [] h = absurd (omega arith)
+  first_there (x ∷ xs) h = (x, (refl, refl))
+
+  -- where something waits there is a next item
+  pub head_there : (m : DrrLimits) (qs : List (Queue T)) → AreQueues measure m qs → 1 ≤ length qs
+      → (x : T) × ((head qs ≡ Some x) × (head_bytes measure qs ≡ measure x))
+  head_there m [] a h = absurd (omega arith)
+  head_there m (q ∷ qs) a h = first_there q.items a.0.filled
+
+  first-push : (xs : List T) (x : T) → 1 ≤ length xs → first_bytes measure (xs ++ x ∷ []) ≡ first_bytes measure xs
+  first-push [] x h = absurd (omega arith)
+  first-push (y ∷ ys) x h = refl
+
+  some-put : (start key : ℕ) (x : T) (qs : List (Queue T)) → 1 ≤ length (put start key x qs)
+  some-put start key x [] = omega arith
+  some-put start key x (q ∷ qs) = by_test (eqb q.key key) (λ b. 1 ≤ length
+      (cond b (queue q.key q.deficit (q.items ++ x ∷ []) ∷ qs) (q ∷ put 0 key x qs))) (λ _. omega arith) (λ _. omega arith)
+
+  -- an item that is put behind others isn't sent next
+  head-put : (m : DrrLimits) (start key : ℕ) (x : T) (qs : List (Queue T)) → AreQueues measure m qs → 1 ≤ length qs
+      → head_bytes measure (put start key x qs) ≡ head_bytes measure qs
+  head-put m start key x [] a h = absurd (omega arith)
+  head-put m start key x (q ∷ qs) a h =
+      by_test (eqb q.key key) (λ b. head_bytes measure (cond b (queue q.key q.deficit (q.items ++ x ∷ []) ∷ qs) (q ∷ put 0 key x qs))
+      ≡ first_bytes measure q.items)
+      (λ _. first-push q.items x a.0.filled) (λ _. refl)
+
+  module _ (l : DrrLimits) (inner : ℕ) where
+    -- ## an offer
+
+    pub inner_empty : AreDrrLimits l → (1 ≤ inner) × (inner ≤ 2 ^ 30) → IsFair measure (fair (inner_limits l inner) [])
+    inner_empty a i =
+        record { limits = limits_inner l inner a i; queues = record { few = omega arith; each = tt; turn = tt; bytes = omega arith } }
+
+    pub inner_of : (key : ℕ) (gs : List (Group T)) → AreDrrLimits l → (1 ≤ inner) × (inner ≤ 2 ^ 30) → AreGroups measure l inner gs
+        → ((queues_of (inner_limits l inner) key gs).limits ≡ inner_limits l inner)
+        × IsFair measure (queues_of (inner_limits l inner) key gs)
+    inner_of key [] a i h = (refl, inner_empty a i)
+    inner_of key (g ∷ gs) a i h =
+        by_test (eqb g.key key) (λ b. ((cond b g.queues (queues_of (inner_limits l inner) key gs)).limits ≡ inner_limits l inner)
+        × IsFair measure (cond b g.queues (queues_of (inner_limits l inner) key gs)))
+        (λ _. (h.0.limits, h.0.fair)) (λ _. inner_of key gs a i h.2)
+
+    -- its queues where it has a group
+    pub inner_there : (key : ℕ) (gs : List (Group T)) → AreGroups measure l inner gs → has_group key gs ≡ true
+        → AreInner measure l inner (queues_of (inner_limits l inner) key gs)
+    inner_there key [] h t = absurd (cc)
+    inner_there key (g ∷ gs) h t =
+        by_test (eqb g.key key) (λ b. cond b true (has_group key gs) ≡ true → AreInner measure l inner
+        (cond b g.queues (queues_of (inner_limits l inner) key gs)))
+        (λ _ _. h.0) (λ _ w. inner_there key gs h.2 w) t
+
+    -- an item that is queued there
+    inner-offered : (f : Fair T) (key : ℕ) (x : T) → f.limits ≡ inner_limits l inner → IsFair measure f
+        → (1 ≤ measure x) × (measure x ≤ l.max) → lacks_queue f key ≡ false → lacks_room measure f key x ≡ false
+        → AreInner measure l inner (offer_leaves measure f key x)
+        × (all_bytes measure (offer_leaves measure f key x).queues ≡ all_bytes measure f.queues + measure x)
+    inner-offered f key x e i m h r =
+        let most : measure x ≤ f.limits.max = omega (arith, m.1, ap (λ (z : DrrLimits). z.max) e) in
+        let k = keeps-offer measure f.limits (all_bytes measure f.queues) key f.queues x i refl (m.0, most) h r in
+        subst (λ n. AreInner measure l inner n × (all_bytes measure n.queues ≡ all_bytes measure f.queues + measure x))
+        (sym (offered_is measure f key x h r))
+        (record { limits = e; fair = k.0; filled = some-put f.limits.quantum key x f.queues }, sym k.1)
+
+    groups-changed : (change : Fair T → Fair T) (start outer : ℕ) (gs : List (Group T))
+        → AreInner measure l inner (change (queues_of (inner_limits l inner) outer gs)) → AreGroups measure l inner gs
+        → AreGroups measure l inner (changed change (inner_limits l inner) start outer gs)
+    groups-changed change start outer [] w h = (w, refl, tt)
+    groups-changed change start outer (p ∷ gs) w h =
+        by_key p.key outer
+        (λ b. AreInner measure l inner (change (cond b p.queues (queues_of (inner_limits l inner) outer gs)))
+        → AreGroups measure l inner (cond b (group p.key p.deficit (change p.queues) ∷ gs)
+        (p ∷ changed change (inner_limits l inner) 0 outer gs)))
+        (λ e k. (k, h.1, h.2))
+        (λ n k. (
+          h.0,
+          has_group-changed p.key change (inner_limits l inner) 0 outer gs
+              (λ e. n (sym e)) h.1,
+          groups-changed change 0 outer gs k h.2,
+        ))
+        w
+
+    behind-changed : (change : Fair T → Fair T) (outer : ℕ) (gs : List (Group T)) → 1 ≤ l.max → AreGroupsBehind measure l inner gs
+        → AreGroupsBehind measure l inner (changed change (inner_limits l inner) 0 outer gs)
+    behind-changed change outer [] m h = (m, tt)
+    behind-changed change outer (p ∷ gs) m h =
+        by_test (eqb p.key outer) (λ b. AreGroupsBehind measure l inner
+        (cond b (group p.key p.deficit (change p.queues) ∷ gs) (p ∷ changed change (inner_limits l inner) 0 outer gs)))
+        (λ _. h) (λ _. (h.0, behind-changed change outer gs m h.1))
+
+    -- what the front sends next stays, or it is new and has the quantum
+    turn-changed : (change : Fair T → Fair T) (outer : ℕ) (gs : List (Group T)) → 1 ≤ l.max
+        → (has_group outer gs ≡ false → head_bytes measure (change (queues_of (inner_limits l inner) outer gs)).queues ≤ l.quantum)
+        → (has_group outer gs ≡ true
+        → head_bytes measure (change (queues_of (inner_limits l inner) outer gs)).queues
+        ≤ head_bytes measure (queues_of (inner_limits l inner) outer gs).queues) → HasGroupTurn measure l inner gs
+        → HasGroupTurn measure l inner (changed change (inner_limits l inner) l.quantum outer gs)
+    turn-changed change outer [] m new old h = (new refl, omega arith, tt)
+    turn-changed change outer (p ∷ gs) m new old h =
+        by_test (eqb p.key outer)
+        (λ b. (cond b true (has_group outer gs) ≡ true → head_bytes measure
+        (change (cond b p.queues (queues_of (inner_limits l inner) outer gs))).queues ≤ head_bytes measure
+        (cond b p.queues (queues_of (inner_limits l inner) outer gs)).queues)
+        → HasGroupTurn measure l inner (cond b (group p.key p.deficit (change p.queues) ∷ gs)
+        (p ∷ changed change (inner_limits l inner) 0 outer gs)))
+        (λ _ k. (omega (arith, k refl, h.0), h.1, h.2))
+        (λ _ _. (h.0, h.1, behind-changed change outer gs m h.2))
+        old
+
+    few-changed : (change : Fair T → Fair T) (start outer : ℕ) (gs : List (Group T)) → lacks_group (hier l inner gs) outer ≡ false
+        → length gs ≤ l.queues → length (changed change (inner_limits l inner) start outer gs) ≤ l.queues
+    few-changed change start outer gs h n =
+        by_test (has_group outer gs)
+        (λ b. (not b && leb l.queues (length gs)) ≡ false → length (changed change (inner_limits l inner) start outer gs) ≡ cond b
+        (length gs) (length gs + 1) → length (changed change (inner_limits l inner) start outer gs) ≤ l.queues)
+        (λ _ _ e. omega arith) (λ _ k e. grind (arith, nat_tests)) h (length-changed change (inner_limits l inner) start outer gs)
+
+    head-offered : (f : Fair T) (key : ℕ) (x : T) → AreInner measure l inner f → lacks_queue f key ≡ false
+        → lacks_room measure f key x ≡ false → head_bytes measure (offer_leaves measure f key x).queues ≤ head_bytes measure f.queues
+    head-offered f key x a h r =
+        subst (λ n. head_bytes measure n.queues ≤ head_bytes measure f.queues) (sym (offered_is measure f key x h r))
+        (omega (arith, head-put f.limits f.limits.quantum key x f.queues a.fair.queues.each a.filled))
+
+    -- an offer that is queued keeps what is true
+    pub keeps-offered : (b outer key : ℕ) (gs : List (Group T)) (x : T) → IsHier measure (hier l inner gs)
+        → b ≡ all_group_bytes measure gs → (1 ≤ measure x) × (measure x ≤ l.max) → lacks_place (hier l inner gs) outer key ≡ false
+        → lacks_space measure (hier l inner gs) outer key x ≡ false
+        → IsHier measure (hier l inner (changed (λ f. offer_leaves measure f key x) (inner_limits l inner) l.quantum outer gs))
+        × (b + measure x ≡ all_group_bytes measure
+        (changed (λ f. offer_leaves measure f key x) (inner_limits l inner) l.quantum outer gs))
+    keeps-offered b outer key gs x h e m p s =
+        let place = none_true (lacks_group (hier l inner gs) outer) (lacks_queue (queues_of (inner_limits l inner) outer gs) key) p in
+        let space = none_true (lacks_room measure (queues_of (inner_limits l inner) outer gs) key x)
+        (leb (suc l.class_bytes) (all_group_bytes measure gs + measure x)) s in
+        let fits : all_group_bytes measure gs + measure x ≤ l.class_bytes = grind (arith, nat_tests, space.1) in
+        let o = inner_of outer gs h.limits h.inner h.groups.each in
+        let i = inner-offered (queues_of (inner_limits l inner) outer gs) key x o.0 o.1 m place.1 space.0 in
+        let bytes = bytes-changed measure (λ f. offer_leaves measure f key x) (inner_limits l inner) l.quantum outer (measure x) gs i.1 in
+        let most : head_bytes measure (offer_leaves measure (queues_of (inner_limits l inner) outer gs) key x).queues ≤ l.quantum = omega (
+          arith,
+          ap (λ (z : DrrLimits). z.max) i.0.limits,
+          h.limits.quantum,
+          head_most
+              (offer_leaves measure (queues_of (inner_limits l inner) outer gs) key x).limits
+              (offer_leaves measure (queues_of (inner_limits l inner) outer gs) key x).queues i.0.fair.queues.each,
+        ) in (
+          record {
+            limits = h.limits;
+            inner = h.inner;
+            groups = record {
+              few = few-changed (λ f. offer_leaves measure f key x) l.quantum outer gs place.0 h.groups.few;
+              each = groups-changed (λ f. offer_leaves measure f key x) l.quantum outer gs i.0 h.groups.each;
+              turn = turn-changed (λ f. offer_leaves measure f key x) outer gs h.limits.max (λ _. most)
+                  (λ t. head-offered (queues_of (inner_limits l inner) outer gs) key x
+                  (inner_there outer gs h.groups.each t) place.1 space.0) h.groups.turn;
+              bytes = omega (arith, bytes, fits);
+            };
+          },
+          omega (arith, bytes, e),
+        )
+
+    -- ## a take
+
+    groups-push : (gs : List (Group T)) (g : Group T) → AreGroups measure l inner gs → AreInner measure l inner g.queues
+        → has_group g.key gs ≡ false → AreGroups measure l inner (gs ++ g ∷ [])
+    groups-push [] g h i n = (i, refl, tt)
+    groups-push (p ∷ gs) g h i n =
+        by_key p.key g.key (λ b. eqb p.key g.key ≡ b → cond b true (has_group g.key gs) ≡ false → AreGroups measure l inner
+        (p ∷ (gs ++ g ∷ [])))
+        (λ _ _ k. absurd (cc))
+        (λ m _ k. (
+          h.0,
+          has_group-push p.key gs g h.1 (by_key g.key p.key (λ b. b ≡ false) (λ s. absurd (m (sym s)))
+              (λ _. refl)),
+          groups-push gs g h.2 i k,
+        ))
+        refl n
+
+    behind-push : (gs : List (Group T)) (g : Group T) → AreGroupsBehind measure l inner gs → g.deficit < l.max
+        → AreGroupsBehind measure l inner (gs ++ g ∷ [])
+    behind-push [] g h i = (i, tt)
+    behind-push (p ∷ gs) g h i = (h.0, behind-push gs g h.1 i)
+
+    -- what a group sends next is at most the greatest length
+    pub next_most : (f : Fair T) → AreInner measure l inner f → head_bytes measure f.queues ≤ l.max
+    next_most f a = omega (arith, head_most f.limits f.queues a.fair.queues.each, ap (λ (z : DrrLimits). z.max) a.limits)
+
+    hier-refilled : (gs : List (Group T)) → AreDrrLimits l → length gs ≤ l.queues → AreGroups measure l inner gs
+        → AreGroupsBehind measure l inner gs → all_group_bytes measure gs ≤ l.class_bytes
+        → AreHier measure l inner (group_refilled l.quantum gs)
+    hier-refilled [] v n h b s = record { few = n; each = tt; turn = tt; bytes = s }
+    hier-refilled (p ∷ gs) v n h b s = record {
+      few = n;
+      each = (h.0, h.1, h.2);
+      turn = (omega (arith, next_most p.queues h.0, v.quantum), omega (arith, b.0), b.1);
+      bytes = omega (
+        arith,
+        s,
+        sum_by-cons (group_bytes measure) p gs,
+        sum_by-cons (group_bytes measure)
+            (group p.key (p.deficit + l.quantum) p.queues) gs,
+      );
+    }
+
+    hier-settled : (key deficit : ℕ) (m : DrrLimits) (qs : List (Queue T)) (gs : List (Group T)) → AreDrrLimits l
+        → m ≡ inner_limits l inner → IsFair measure (fair m qs) → length gs + 1 ≤ l.queues → AreGroups measure l inner gs
+        → has_group key gs ≡ false → AreGroupsBehind measure l inner gs → deficit < l.max + l.quantum
+        → all_bytes measure qs + all_group_bytes measure gs ≤ l.class_bytes
+        → AreHier measure l inner (group_settled measure l.quantum (group key deficit (fair m qs)) qs gs)
+    hier-settled key deficit m [] gs v e f n h k b d s = hier-refilled gs v (omega arith) h b (omega arith)
+    hier-settled key deficit m (q ∷ qs) gs v e f n h k b d s =
+        let g : Group T = group key deficit (fair m (q ∷ qs)) in
+        let whole : AreInner measure l inner (fair m (q ∷ qs)) = record { limits = e; fair = f; filled = omega arith } in
+        let most : first_bytes measure q.items ≤ l.max = next_most (fair m (q ∷ qs)) whole in
+        elim (leb_tells (suc deficit) (first_bytes measure q.items)) [
+          | inl t ↦ subst (λ z. AreHier measure l inner (cond z (group_refilled l.quantum (gs ++ g ∷ [])) (g ∷ gs))) (sym t.0)
+              (hier-refilled (gs ++ g ∷ []) v (omega (arith, length-append gs (g ∷ []))) (groups-push gs g h whole k)
+              (behind-push gs g b (omega (arith, t.1, most)))
+              (omega (arith, s, sum_by_push (group_bytes measure) gs g)))
+          | inr t ↦ subst (λ z. AreHier measure l inner (cond z (group_refilled l.quantum (gs ++ g ∷ [])) (g ∷ gs))) (sym t.0)
+              (record {
+                few = omega arith;
+                each = (whole, k, h);
+                turn = (omega (arith, t.1), d, b);
+                bytes = omega
+                    (arith, s, sum_by-cons (group_bytes measure) g gs);
+              })
+        ]
+
+    hier-taken : (gs : List (Group T)) → AreDrrLimits l → AreHier measure l inner gs
+        → AreHier measure l inner (groups_taken measure l.quantum gs)
+    hier-taken [] v h = h
+    hier-taken (g ∷ gs) v h =
+        let i = h.each.0 in
+        let there = head_there g.queues.limits g.queues.queues i.fair.queues.each i.filled in
+        let bytes = all_bytes-taken measure g.queues.limits g.queues.queues there.0 there.1.0 in
+        hier-settled g.key (g.deficit - head_bytes measure g.queues.queues) g.queues.limits
+        (taken measure g.queues.limits.quantum g.queues.queues) gs v i.limits
+        (record { limits = i.fair.limits; queues = fair-taken measure g.queues.limits g.queues.queues i.fair.limits i.fair.queues })
+        (omega (arith, h.few)) h.each.2 h.each.1 h.turn.2 (omega (arith, h.turn.1))
+        (omega (arith, h.bytes, bytes, sum_by-cons (group_bytes measure) g gs))
+
+    -- each group's deficit has room for the quantum, once the front's item is gone
+    groups_behind-room : (gs : List (Group T)) → AreDrrLimits l → AreGroupsBehind measure l inner gs
+        → AllByRecursion (λ g. g.deficit + l.quantum < 2 ^ 32) gs
+    groups_behind-room [] v b = tt
+    groups_behind-room (p ∷ gs) v b = (omega (arith, b.0, v.quantum), groups_behind-room gs v b.1)
+
+    groups_room : (gs : List (Group T)) → AreDrrLimits l → AreHier measure l inner gs
+        → AllByRecursion (λ g. g.deficit + l.quantum < 2 ^ 32) (front_popped measure gs)
+    groups_room [] v h = tt
+    groups_room (g ∷ gs) v h = (omega (arith, h.turn.1, v.quantum), groups_behind-room gs v h.turn.2)
+
+    pub all_groups_room : (gs : List (Group T)) → AreDrrLimits l → AreHier measure l inner gs
+        → All (λ g. g.deficit + l.quantum < 2 ^ 32) (front_popped measure gs)
+    all_groups_room gs v h = All-from_recursion (λ g. g.deficit + l.quantum < 2 ^ 32) (front_popped measure gs) (groups_room gs v h)
+
+    -- the bytes of an item that goes
+    bytes-refilled : (gs : List (Group T)) → all_group_bytes measure (group_refilled l.quantum gs) ≡ all_group_bytes measure gs
+    bytes-refilled [] = refl
+    bytes-refilled (g ∷ gs) = omega (
+      arith,
+      sum_by-cons (group_bytes measure) g gs,
+      sum_by-cons (group_bytes measure)
+          (group g.key (g.deficit + l.quantum) g.queues) gs,
+    )
+
+    bytes-settled : (key deficit : ℕ) (m : DrrLimits) (qs : List (Queue T)) (gs : List (Group T))
+        → all_group_bytes measure (group_settled measure l.quantum (group key deficit (fair m qs)) qs gs)
+        ≡ all_bytes measure qs + all_group_bytes measure gs
+    bytes-settled key deficit m [] gs = omega (arith, bytes-refilled gs)
+    bytes-settled key deficit m (q ∷ qs) gs =
+        let g : Group T = group key deficit (fair m (q ∷ qs)) in
+        elim (leb_tells (suc deficit) (first_bytes measure q.items)) [
+          | inl t ↦ subst (λ z. all_group_bytes measure (cond z (group_refilled l.quantum (gs ++ g ∷ [])) (g ∷ gs)) ≡ all_bytes measure
+              (q ∷ qs) + all_group_bytes measure gs) (sym t.0)
+              (omega (arith, bytes-refilled (gs ++ g ∷ []), sum_by_push (group_bytes measure) gs g))
+          | inr t ↦ subst (λ z. all_group_bytes measure (cond z (group_refilled l.quantum (gs ++ g ∷ [])) (g ∷ gs)) ≡ all_bytes measure
+              (q ∷ qs) + all_group_bytes measure gs) (sym t.0)
+              (sum_by-cons (group_bytes measure) g gs)
+        ]
+
+    bytes-taken : (gs : List (Group T)) (x : T) → next gs ≡ Some x
+        → all_group_bytes measure (groups_taken measure l.quantum gs) + measure x ≡ all_group_bytes measure gs
+    bytes-taken [] x e = absurd (cc)
+    bytes-taken (g ∷ gs) x e =
+        omega (
+          arith,
+          bytes-settled g.key (g.deficit - head_bytes measure g.queues.queues) g.queues.limits
+              (taken measure g.queues.limits.quantum g.queues.queues) gs,
+          all_bytes-taken measure g.queues.limits g.queues.queues x e,
+          sum_by-cons (group_bytes measure) g gs,
+        )
+
+    -- a take keeps what is true
+    pub keeps-groups_taken : (b : ℕ) (gs : List (Group T)) (x : T) → IsHier measure (hier l inner gs) → b ≡ all_group_bytes measure gs
+        → next gs ≡ Some x → IsHier measure (hier l inner (groups_taken measure l.quantum gs))
+        × (b - measure x ≡ all_group_bytes measure (groups_taken measure l.quantum gs))
+    keeps-groups_taken b gs x h e f = (
+      record { limits = h.limits; inner = h.inner; groups = hier-taken gs h.limits h.groups },
+      omega
+          (arith, bytes-taken gs x f, e),
+    )
+
+  -- ## the front's turn, as it is found
+
+  pub front_is : (ws : List (Group T)) (g : Group T) → 0 < length ws → g ≡ get_or ws 0 g → ws ≡ g ∷ drop 1 ws
+  front_is [] g n e = absurd (omega arith)
+  front_is (w ∷ ws) g n e = ap (λ z. z ∷ ws) (sym e)
+
+  pub settled_empty : (quantum : ℕ) (ws : List (Group T)) (g : Group T) → 0 < length ws → g ≡ get_or ws 0 g → g.queues.queues ≡ []
+      → front_settled measure quantum ws ≡ group_refilled quantum (drop 1 ws)
+  settled_empty quantum ws g n e q = ap (λ z. front_settled measure quantum z) (front_is ws g n e) ∙ ap
+      (λ z. group_settled measure quantum g z (drop 1 ws)) q
+
+  settled_by : (quantum n : ℕ) (g : Group T) (qs : List (Queue T)) (gs : List (Group T)) → option_map measure (head qs) ≡ Some n
+      → group_settled measure quantum g qs gs ≡ cond (leb (suc g.deficit) n) (group_refilled quantum (gs ++ g ∷ [])) (g ∷ gs)
+  settled_by quantum n g [] gs h = absurd (cc)
+  settled_by quantum n g (q ∷ qs) gs h = ap (λ z. cond (leb (suc g.deficit) z) (group_refilled quantum (gs ++ g ∷ [])) (g ∷ gs))
+      (first_measured q.items n h)
+
+  front_taken : (ws : List (Group T)) (g : Group T) → 0 < length ws → g ≡ get_or ws 0 g → drop 1 ws ++ g ∷ [] ≡ drop 1 ws ++ take 1 ws
+  front_taken [] g n e = absurd (omega arith)
+  front_taken (w ∷ ws) g n e = ap (λ z. ws ++ z ∷ []) e
+
+  pub settled_last : (quantum n : ℕ) (ws : List (Group T)) (g : Group T) → 0 < length ws → g ≡ get_or ws 0 g
+      → option_map measure (head g.queues.queues) ≡ Some n → g.deficit < n
+      → front_settled measure quantum ws ≡ group_refilled quantum (drop 1 ws ++ take 1 ws)
+  settled_last quantum n ws g s e h d =
+      let test : leb (suc g.deficit) n ≡ true = grind (arith, nat_tests) in
+      ap (λ z. front_settled measure quantum z) (front_is ws g s e)
+      ∙ (settled_by quantum n g g.queues.queues (drop 1 ws) h
+      ∙ (ap (λ z. cond z (group_refilled quantum (drop 1 ws ++ g ∷ [])) (g ∷ drop 1 ws)) test ∙ ap (λ z. group_refilled quantum z)
+      (front_taken ws g s e)))
+
+  pub settled_stays : (quantum n : ℕ) (ws : List (Group T)) (g : Group T) → 0 < length ws → g ≡ get_or ws 0 g
+      → option_map measure (head g.queues.queues) ≡ Some n → n ≤ g.deficit → front_settled measure quantum ws ≡ ws
+  settled_stays quantum n ws g s e h d =
+      let test : leb (suc g.deficit) n ≡ false = grind (arith, nat_tests) in
+      ap (λ z. front_settled measure quantum z) (front_is ws g s e)
+      ∙ (settled_by quantum n g g.queues.queues (drop 1 ws) h
+      ∙ (ap (λ z. cond z (group_refilled quantum (drop 1 ws ++ g ∷ [])) (g ∷ drop 1 ws)) test ∙ sym (front_is ws g s e)))
+
+module _ {T : Type 0} where
+  pub group_first : (ws : List (Group T)) (g : Group T) → 0 < length ws → g ≡ get_or ws 0 g → slice_get ws 0 ≡ Some g
+  group_first [] g n e = absurd (omega arith)
+  group_first (w ∷ ws) g n e = ap (λ (x : Group T). Some x) (sym e)
+
+  pub same_front : (ws : List (Group T)) (g h : Group T) → 0 < length ws → g ≡ get_or ws 0 g → h ≡ get_or ws 0 h → g ≡ h
+  same_front [] g h n e f = absurd (omega arith)
+  same_front (w ∷ ws) g h n e f = e ∙ sym f
+
+  pub empty_is : (f : Fair T) (l : DrrLimits) → f.limits ≡ l → f.queues ≡ [] → f ≡ fair l []
+  empty_is f l e q = ap (λ z. fair z f.queues) e ∙ ap (λ z. fair l z) q
+
+  pub length-turned : (ws : List (Group T)) → length (drop 1 ws ++ take 1 ws) ≡ length ws
+  length-turned [] = refl
+  length-turned (w ∷ ws) = omega (arith, length-append ws (w ∷ []))
+
+  next_left : (P : Group T → Type 0) (ws : List (Group T)) → AllByRecursion P ws → (x : Group T) → slice_get (drop 1 ws) 0 ≡ Some x → P x
+  next_left P [] a x e = absurd (cc)
+  next_left P (w ∷ []) a x e = absurd (cc)
+  next_left P (w ∷ v ∷ vs) a x e = let q : v ≡ x = cc in subst P q a.1.0
+
+  pub next_after_leaving : (P : Group T → Type 0) (ws : List (Group T)) → All P ws → (x : Group T) → slice_get (drop 1 ws) 0 ≡ Some x
+      → P x
+  next_after_leaving P ws a x e = next_left P ws (recursion_from_All P ws a) x e
+
+  next_turned : (P : Group T → Type 0) (ws : List (Group T)) → AllByRecursion P ws → (x : Group T)
+      → slice_get (drop 1 ws ++ take 1 ws) 0 ≡ Some x → P x
+  next_turned P [] a x e = absurd (cc)
+  next_turned P (w ∷ []) a x e = let q : w ≡ x = cc in subst P q a.0
+  next_turned P (w ∷ v ∷ vs) a x e = let q : v ≡ x = cc in subst P q a.1.0
+
+  pub next_after_turn : (P : Group T → Type 0) (ws : List (Group T)) → All P ws → (x : Group T)
+      → slice_get (drop 1 ws ++ take 1 ws) 0 ≡ Some x → P x
+  next_after_turn P ws a x e = next_turned P ws (recursion_from_All P ws a) x e
+
+  -- ## the front, as it is found
+
+  pub front_covers : (measure : T → ℕ) (l : DrrLimits) (n : ℕ) (gs : List (Group T)) → HasGroupTurn measure l n gs
+      → (x : Group T) → slice_get gs 0 ≡ Some x → head_bytes measure x.queues.queues ≤ x.deficit
+  front_covers measure l n [] h x e = absurd (cc)
+  front_covers measure l n (g ∷ gs) h x e =
+      let q : g ≡ x = cc in subst (λ (z : Group T). head_bytes measure z.queues.queues ≤ z.deficit) q h.0
+
+  pub popped_limits : (measure : T → ℕ) (l : DrrLimits) (n : ℕ) (gs : List (Group T)) → AreGroups measure l n gs
+      → (x : Group T) → slice_get (front_popped measure gs) 0 ≡ Some x → x.queues.limits ≡ inner_limits l n
+  popped_limits measure l n [] h x e = absurd (cc)
+  popped_limits measure l n (g ∷ gs) h x e =
+      let q : group_popped measure g ≡ x = cc in subst (λ (z : Group T). z.queues.limits ≡ inner_limits l n) q h.0.limits
+
+  pub front_filled : (measure : T → ℕ) (l : DrrLimits) (n : ℕ) (gs : List (Group T)) (g : Group T) → AreGroups measure l n gs
+      → 0 < length gs → g ≡ get_or gs 0 g → 1 ≤ length g.queues.queues
+  front_filled measure l n [] g a h e = absurd (omega arith)
+  front_filled measure l n (p ∷ gs) g a h e = subst (λ (z : Group T). 1 ≤ length z.queues.queues) (sym e) a.0.filled

@@ -1,0 +1,6 @@
+pub mod GroupLists
+pub mod Keeping
+pub mod Orders
+pub mod Offering
+pub mod Aheads
+pub mod Untils
