@@ -74,7 +74,7 @@ apart-set (d ∷ ds) (suc i) old new a h s w =
 take_suc_add : (i : ℕ) (d : Entry) (ds : List Entry) → take (suc i + 1) (d ∷ ds) ≡ d ∷ take (i + 1) ds
 take_suc_add i d ds = ap (λ n. take n (d ∷ ds)) (let e : suc i + 1 ≡ suc (i + 1) = omega arith in e)
 
-not_first : (f : Flow) (d : Entry) (ds : List Entry) → (d.grant.flow ≡ f → ⊥) → entry_of f ds ≡ None → entry_of f (d ∷ ds) ≡ None
+pub not_first : (f : Flow) (d : Entry) (ds : List Entry) → (d.grant.flow ≡ f → ⊥) → entry_of f ds ≡ None → entry_of f (d ∷ ds) ≡ None
 not_first f d ds n h = by_flow d.grant.flow f (λ b. cond b (Some d) (entry_of f ds) ≡ None) (λ e. absurd (n e)) (λ e. h)
 
 -- one more entry that is not the flow's

@@ -1,6 +1,7 @@
 pub mod Same
 pub mod Pushes
 pub mod Entries
+pub mod Indexed
 pub mod Steps
 pub mod Rows
 pub mod Rising

@@ -3,3 +3,5 @@ pub mod Verdicts
 pub mod Stands
 pub mod Budget
 pub mod Steps
+pub mod Hash
+pub mod Index

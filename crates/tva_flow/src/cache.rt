@@ -1,5 +1,5 @@
 // The cache of a router's living flows.
-ghost use Rattle.std.specs.Prelude.{◌≡◌, ℕ, ◌+◌, ◌*◌, ◌^◌, ◌≤◌, ◌<◌, false, nat_lt, List, [], ◌∷◌, ◌++◌, length, count_by, slice_index_or, vec_capacity, None, MatchOption, All, IfOk};
+ghost use Rattle.std.specs.Prelude.{◌≡◌, ℕ, ◌≤◌, ◌<◌, false, List, [], ◌++◌, length, slice_index_or, None, MatchOption, IfOk};
 ghost use Rattle.tva_base.specs.Clock.{router_second};
 ghost use Rattle.tva_flow.specs.declared.kept.Entry.{Entry};
 ghost use Rattle.tva_flow.specs.Charges.{Charge, living_count};
@@ -8,7 +8,9 @@ ghost use Rattle.tva_flow.specs.Stands.{cache, entry_of, IsChargeable, StandsFor
 ghost use Rattle.tva_flow.specs.Budget.{IsWithinSeconds, AreTimely, IsWithinBudget};
 ghost use Rattle.tva_flow.specs.Steps.{AreNear, Admits};
 
-use crate::kept::{Entry, extended, fresh, is_live, is_over, is_same_flow, judge, judge_nonce};
+use crate::hash::HashKey;
+use crate::kept::{extended, fresh, is_live, is_over, judge, judge_nonce};
+use crate::table::Entries;
 use crate::verdicts::Verdict;
 use std::alloc::{AllocError, Global};
 use std::marker::Model;
@@ -22,26 +24,24 @@ mod tests;
 /// as slots, and speak of all charges for which these stand. All memory is taken when it is made.
 #[derive(Drop)]
 pub struct FlowCache {
-    slots: u32,
     clock_offset: u64,
     last: u64,
-    entries: Vec<Entry>,
+    entries: Entries,
 }
 
 impl Model for FlowCache {
-    ghost use Rattle.std.specs.Prelude.{◌≤◌, length, vec_capacity};
+    ghost use Rattle.std.specs.Prelude.{◌≤◌, length};
     ghost use Rattle.tva_flow.specs.Stands.{Cache, cache};
     ghost use Rattle.tva_flow.specs.Steps.{AreNear};
 
     ghost Value = { Cache };
 
-    ghost view = { λ a. cache a.slots a.clock_offset a.last a.entries.items };
+    ghost view = { λ a. cache a.entries.slots a.clock_offset a.last a.entries.items };
 
     ghost invariant = { λ a.
-        (length a.entries.items ≤ a.slots)
-        × (a.slots ≤ vec_capacity a.entries)
+        (length a.entries.items ≤ a.entries.slots)
         × AreNear a.last a.entries.items
-        × (a.slots ≤ 1000000)
+        × (a.entries.slots ≤ 1000000)
         × (a.clock_offset ≤ 1000000000000000) };
 }
 
@@ -52,44 +52,9 @@ fn second_of(clock_offset: u64, now: u64) -> u128
     (u128::from(now) + u128::from(clock_offset)) / u128::from(SECOND)
 }
 
-/// The place of the flow's entry.
-fn find(entries: &Vec<Entry>, flow: &Flow) -> Option<usize>
-    ensures { MatchOption result (entry_of flow.now entries.now.items ≡ None) (λ at.
-        (at < length entries.now.items)
-        × ((e : Entry) → e ≡ slice_index_or entries.now.items at e → e.grant.flow ≡ flow.now)) }
-{
-    for (at, entry) in entries.iter().enumerate() {
-        if is_same_flow(&entry.grant.flow, flow) {
-            return Some(at);
-        }
-    }
-    None
-}
-
-/// The place of an entry that has ended.
-fn ended(entries: &Vec<Entry>, now: u64) -> Option<usize>
-    ensures { MatchOption result (All (λ e. now < e.end) entries.now.items) (λ at.
-        (at < length entries.now.items)
-        × ((e : Entry) → e ≡ slice_index_or entries.now.items at e → e.end ≤ now)) }
-{
-    for (at, entry) in entries.iter().enumerate() {
-        if !is_live(entry, now) {
-            return Some(at);
-        }
-    }
-    None
-}
-
-/// How many entries live.
-fn live_entries(entries: &Vec<Entry>, now: u64) -> usize
-    ensures { result ≡ count_by (λ e. nat_lt now e.end) entries.now.items }
-{
-    entries.iter().filter(|entry| is_live(entry, now)).count()
-}
-
 /// Admits a packet that shows a grant of a flow whose entry lives, or refuses it.
 fn renew(
-    entries: &mut Vec<Entry>,
+    entries: &mut Entries,
     at: usize,
     now: u64,
     grant: Grant,
@@ -106,13 +71,13 @@ fn renew(
         → Admits s o h now nonce bytes (list_verdict s h now grant bytes) result entries.new.items }
     ensures near { AreNear now entries.new.items }
     ensures same { (length entries.new.items ≡ length entries.old.items)
-        × (vec_capacity entries.new ≡ vec_capacity entries.old) }
+        × (entries.new.slots ≡ entries.old.slots) }
     ensures refused { is_authorised result ≡ false → entries.new.items ≡ entries.old.items }
 {
-    let entry = entries[at];
+    let entry = entries.get(at);
     let verdict = judge(&entry, &grant, bytes);
     if verdict.is_authorised() {
-        entries[at] = extended(&entry, grant, nonce, bytes);
+        entries.rewrite(at, extended(&entry, grant, nonce, bytes));
     }
     verdict
 }
@@ -120,7 +85,7 @@ fn renew(
 /// Admits a packet that shows a nonce of a flow whose entry lives, in that router second, or
 /// refuses it.
 fn renew_held(
-    entries: &mut Vec<Entry>,
+    entries: &mut Entries,
     at: usize,
     now: u64,
     second: u128,
@@ -138,22 +103,21 @@ fn renew_held(
         → Admits s o h now nonce bytes (nonce_verdict o h now f nonce bytes) result entries.new.items }
     ensures near { AreNear now entries.new.items }
     ensures same { (length entries.new.items ≡ length entries.old.items)
-        × (vec_capacity entries.new ≡ vec_capacity entries.old) }
+        × (entries.new.slots ≡ entries.old.slots) }
     ensures refused { is_authorised result ≡ false → entries.new.items ≡ entries.old.items }
 {
-    let entry = entries[at];
+    let entry = entries.get(at);
     let verdict = judge_nonce(&entry, second, nonce, bytes);
     if verdict.is_authorised() {
-        entries[at] = extended(&entry, entry.grant, nonce, bytes);
+        entries.rewrite(at, extended(&entry, entry.grant, nonce, bytes));
     }
     verdict
 }
 
 /// Admits a packet of a flow that doesn't live, or refuses it. A run begins in the flow's own entry,
-/// in one that has ended, or in a further one.
+/// in a further one, or where there is no place for one, in one that has ended.
 fn open(
-    entries: &mut Vec<Entry>,
-    slots: u32,
+    entries: &mut Entries,
     at: Option<usize>,
     now: u64,
     grant: Grant,
@@ -164,40 +128,35 @@ fn open(
         (i < length entries.old.items)
         × ((e : Entry) → e ≡ slice_index_or entries.old.items i e
         → (e.grant.flow ≡ grant.flow) × (e.end ≤ now))) }
-    requires room { (length entries.old.items ≤ slots) × (slots ≤ vec_capacity entries.old) }
+    requires room { length entries.old.items ≤ entries.old.slots }
     requires near { AreNear now entries.old.items }
     requires packet { IsChargeable grant bytes }
     ensures answer { (o last : ℕ) (h : List Charge) → last ≤ now
-        → StandsFor (cache slots o last entries.old.items) h
-        → Admits slots o h now nonce bytes (list_verdict slots h now grant bytes) result
-        entries.new.items }
+        → StandsFor (cache entries.old.slots o last entries.old.items) h
+        → Admits entries.old.slots o h now nonce bytes
+        (list_verdict entries.old.slots h now grant bytes) result entries.new.items }
     ensures near { AreNear now entries.new.items }
-    ensures room { (length entries.new.items ≤ slots) × (slots ≤ vec_capacity entries.new) }
+    ensures room { (length entries.new.items ≤ entries.new.slots)
+        × (entries.new.slots ≡ entries.old.slots) }
     ensures refused { is_authorised result ≡ false → entries.new.items ≡ entries.old.items }
 {
     if is_over(grant.rights, 0, bytes) {
         return Verdict::OverN;
     }
     let entry = fresh(now, grant, nonce, bytes);
-    match at {
-        Some(at) => {
-            entries[at] = entry;
-            Verdict::Authorised(grant)
-        }
-        None => match ended(entries, now) {
-            Some(other) => {
-                entries[other] = entry;
-                Verdict::Authorised(grant)
-            }
-            None => {
-                if entries.len() >= slots as usize {
-                    return Verdict::CacheFull;
-                }
-                entries.push_reserved(entry);
-                Verdict::Authorised(grant)
-            }
-        },
+    if let Some(at) = at {
+        entries.rewrite(at, entry);
+        return Verdict::Authorised(grant);
     }
+    if !entries.is_full() {
+        entries.push(entry);
+        return Verdict::Authorised(grant);
+    }
+    let Some(other) = entries.ended(now) else {
+        return Verdict::CacheFull;
+    };
+    entries.replace(other, entry);
+    Verdict::Authorised(grant)
 }
 
 impl FlowCache {
@@ -209,11 +168,28 @@ impl FlowCache {
         ensures value { IfOk result (λ v. v ≡ cache slots clock_offset 0 []) }
         ensures stands { IfOk result (λ v. StandsFor v []) }
     {
+        FlowCache::with_slots_keyed(alloc, slots, clock_offset, HashKey::FIXED)
+    }
+
+    /// The same under a key of the hash by which a flow's entry is found. Where senders choose the
+    /// addresses of flows, the key is to be one that they don't know: under a key that they know they
+    /// can choose flows whose packets each cost as many steps as there are slots. No answer depends on it.
+    pub fn with_slots_keyed(
+        alloc: Global,
+        slots: u32,
+        clock_offset: u64,
+        key: HashKey,
+    ) -> Result<FlowCache, AllocError>
+        requires slots { slots ≤ 1000000 }
+        requires clock { clock_offset ≤ 1000000000000000 }
+        ensures value { IfOk result (λ v. v ≡ cache slots clock_offset 0 []) }
+        ensures stands { IfOk result (λ v. StandsFor v []) }
+    {
+        let entries = Entries::with_slots(alloc, slots, key)?;
         Ok(FlowCache {
-            slots,
             clock_offset,
             last: 0,
-            entries: Vec::with_capacity(alloc, slots as usize)?,
+            entries,
         })
     }
 
@@ -238,20 +214,12 @@ impl FlowCache {
         ensures refused { is_authorised result ≡ false → self.new.entries ≡ self.old.entries }
     {
         self.last = now.0;
-        let at = find(&self.entries, &grant.flow);
+        let at = self.entries.find(&grant.flow);
         match at {
-            Some(place) if is_live(&self.entries[place], now.0) => {
+            Some(place) if is_live(&self.entries.get(place), now.0) => {
                 renew(&mut self.entries, place, now.0, grant, nonce, length)
             }
-            _ => open(
-                &mut self.entries,
-                self.slots,
-                at,
-                now.0,
-                grant,
-                nonce,
-                length,
-            ),
+            _ => open(&mut self.entries, at, now.0, grant, nonce, length),
         }
     }
 
@@ -275,8 +243,8 @@ impl FlowCache {
     {
         self.last = now.0;
         let second = second_of(self.clock_offset, now.0);
-        match find(&self.entries, &flow) {
-            Some(place) if is_live(&self.entries[place], now.0) => {
+        match self.entries.find(&flow) {
+            Some(place) if is_live(&self.entries.get(place), now.0) => {
                 renew_held(&mut self.entries, place, now.0, second, nonce, length)
             }
             _ => Verdict::UnknownNonce,
@@ -289,7 +257,7 @@ impl FlowCache {
         ensures count { (h : List Charge) → StandsFor self.now h → result ≡ living_count h now.0 }
         ensures few { result ≤ self.now.slots }
     {
-        live_entries(&self.entries, now.0) as u32
+        self.entries.living(now.0) as u32
     }
 
     /// How many flows may live at once. With these slots the cache keeps every grant's budget, whatever
@@ -303,6 +271,6 @@ impl FlowCache {
             → (now : ℕ) → self.now.last ≤ now → living_count h now ≤ self.now.slots }
         ensures entries { length self.now.entries ≤ self.now.slots }
     {
-        self.slots
+        self.entries.slots()
     }
 }

@@ -8,13 +8,16 @@
 mod cache;
 #[cfg(test)]
 mod cases;
+mod hash;
 mod kept;
 mod laws;
 #[cfg(test)]
 mod plain;
+mod table;
 mod verdicts;
 
 pub use cache::FlowCache;
+pub use hash::HashKey;
 pub use laws::{
     charges_have_places, charges_keep_budgets, living_flows_are_few, nonces_keep_seconds,
 };

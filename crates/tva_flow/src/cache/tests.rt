@@ -92,6 +92,21 @@ fn admit_nonce(
     (verdict, cache.living(Time(now)))
 }
 
+/// A packet of half a unit, a second of life, of the flow with that number.
+fn half_of_a_unit(rt: &impl Abort, cache: &mut FlowCache, now: u64, number: u32) -> (Verdict, u32) {
+    let flow = Flow {
+        src: Address(number),
+        dst: Address(1),
+    };
+    let rights = Rights { n: 1, t: 2 };
+    let grant = Grant {
+        flow,
+        rights,
+        second: 0,
+    };
+    admit_list(rt, cache, now, grant, 1, 512)
+}
+
 /// Makes the call of a line on the cache and on the list of all charges, which agree, and gives
 /// their answer.
 fn answer(
@@ -150,5 +165,27 @@ fn verdicts_over_all_charges(rt: HostRuntime) -> Result<(), Fail> {
         }
     }
     assert_eq!(rt; calls, 238);
+    Ok(())
+}
+
+/// As many flows as slots, all living: each has sent half of its bytes, at a time of its own, and the
+/// first one more. The one whose end comes first makes room at that very time, and no earlier.
+#[test]
+fn room_at_the_exact_end_of_one_of_many_lives(rt: HostRuntime) -> Result<(), Fail> {
+    let mut cache = FlowCache::with_slots(rt.alloc(), 1000, 0)?;
+    let first = half_of_a_unit(&rt, &mut cache, 0, 0);
+    assert_eq!(rt; first.1, 1);
+    for number in 1..1000u32 {
+        let (verdict, living) = half_of_a_unit(&rt, &mut cache, u64::from(number), number);
+        assert!(rt; matches!(verdict, Verdict::Authorised(_)));
+        assert_eq!(rt; living, number.wrapping_add(1));
+    }
+    let _renewed = half_of_a_unit(&rt, &mut cache, 1_000, 0);
+    for (time, wanted) in [(1_000_000_000, false), (1_000_000_001, true)] {
+        let (verdict, living) = half_of_a_unit(&rt, &mut cache, time, 1000);
+        assert_eq!(rt; matches!(verdict, Verdict::Authorised(_)), wanted);
+        assert!(rt; wanted || verdict == Verdict::CacheFull);
+        assert_eq!(rt; living, 1000);
+    }
     Ok(())
 }

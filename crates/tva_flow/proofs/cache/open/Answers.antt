@@ -1,8 +1,10 @@
-use Rattle.std.proofs.Common.{◌≡◌, true, false, ℕ, Bool, ◌+◌, ◌<◌, ◌≤◌, ltb, arith}
+use Rattle.std.proofs.Common.{◌≡◌, ℕ, ◌+◌, ◌<◌, ◌≤◌, Bool, true, false, not, ltb, leb, length, arith}
 use Rattle.std.proofs.lemmas.Bool.Decides.{nat_tests}
+use Rattle.std.proofs.lemmas.List.{length-set, length_push}
 use Rattle.tva_flow.specs.Steps.{opened}
 use Rattle.tva_flow.proofs.Admit.{admits-over_at, admits-full, admits-opened_own, admits-opened_over, admits-opened_next}
 use Rattle.tva_flow.proofs.Near.{near-set, near-push, near-opened}
+use Rattle.tva_flow.proofs.Indexed.{some_place}
 use Rattle.tva_flow.proofs.cache.open.Goals as goal
 
 over : (units bytes : ℕ) (t : Bool) → t ≡ ltb units (0 + bytes) → t ≡ true → units < bytes
@@ -11,43 +13,56 @@ over units bytes t e k = grind (arith, nat_tests)
 fits : (units bytes : ℕ) (t : Bool) → t ≡ ltb units (0 + bytes) → t ≡ false → bytes ≤ units
 fits units bytes t e k = grind (arith, nat_tests)
 
+full : (slots count : ℕ) (t : Bool) → t ≡ leb slots count → t ≡ true → slots ≤ count
+full slots count t e k = grind (arith, nat_tests)
+
+room : (slots count : ℕ) (t : Bool) → t ≡ leb slots count → t ≡ false → count < slots
+room slots count t e k = grind (arith, nat_tests)
+
 pub returns-then-is_over-clause-answer : goal.returns-then-is_over-clause-answer
 returns-then-is_over-clause-answer c o last h l v =
-    admits-over_at c.args.slots o last c.args.now c.args.entries.now.items h c.args.at c.args.grant c.args.nonce c.args.bytes v l c.requires.place (over _ _ _ c.is_over.ensures c.if-is_over.true)
+    admits-over_at c.args.entries.now.slots o last c.args.now c.args.entries.now.items h c.args.at c.args.grant c.args.nonce c.args.bytes v l c.requires.place (over _ _ _ c.is_over.ensures c.if-is_over.true)
 
-pub returns-then-len-slots-clause-answer : goal.returns-then-len-slots-clause-answer
-returns-then-len-slots-clause-answer c o last h l v =
-    let p = rw c.in-None.is at c.requires.place in
-    admits-full c.args.slots o last c.args.now c.args.entries.now.items h c.args.grant c.args.nonce c.args.bytes v l (omega (arith, c.len.ensures)) c.in-None-ended.ensures p (fits _ _ _ c.is_over.ensures c.if-is_over.false)
+pub rewrite-requires-clause-flow : goal.rewrite-requires-clause-flow
+rewrite-requires-clause-flow c e q =
+    let p = rw c.in-Some.is at c.requires.place in
+    rw c.fresh-entry.ensures.value (p.1 e q).0
 
 pub returns-in-Some-clause-answer : goal.returns-in-Some-clause-answer
 returns-in-Some-clause-answer c o last h l v =
     let p = rw c.in-Some.is at c.requires.place in
-    let e = p.1 c.index_mut.result.now c.index_mut.ensures.value in
-    rw c.fresh-entry.ensures.value (admits-opened_own c.args.slots o last c.args.now c.args.entries.now.items h c.in-Some.at c.index_mut.result.now c.args.grant c.args.nonce c.args.bytes v l p.0 c.index_mut.ensures.value e.0 e.1 (fits _ _ _ c.is_over.ensures c.if-is_over.false) c.requires.packet)
+    let r = some_place c.args.entries.now.items c.in-Some.at p.0 in
+    let e = p.1 r.0 r.1 in
+    rw (c.rewrite.ensures, c.fresh-entry.ensures.value) (admits-opened_own c.args.entries.now.slots o last c.args.now c.args.entries.now.items h c.in-Some.at r.0 c.args.grant c.args.nonce c.args.bytes v l p.0 r.1 e.0 e.1 (fits _ _ _ c.is_over.ensures c.if-is_over.false) c.requires.packet)
 
 pub returns-in-Some-clause-near : goal.returns-in-Some-clause-near
 returns-in-Some-clause-near c =
     let r = c.fresh-entry.ensures.ranges in
-    rw c.fresh-entry.ensures.value (near-set c.args.now c.args.entries.now.items c.in-Some.at (opened c.args.now c.args.grant c.args.nonce c.args.bytes) c.requires.near (near-opened c.args.now c.args.grant c.args.nonce c.args.bytes c.requires.packet r.0 r.1 (fits _ _ _ c.is_over.ensures c.if-is_over.false)))
+    rw (c.rewrite.ensures, c.fresh-entry.ensures.value) (near-set c.args.now c.args.entries.now.items c.in-Some.at (opened c.args.now c.args.grant c.args.nonce c.args.bytes) c.requires.near (near-opened c.args.now c.args.grant c.args.nonce c.args.bytes c.requires.packet r.0 r.1 (fits _ _ _ c.is_over.ensures c.if-is_over.false)))
 
-pub returns-in-Some-ended-clause-answer : goal.returns-in-Some-ended-clause-answer
-returns-in-Some-ended-clause-answer c o last h l v =
-    let p = rw c.in-None.is at c.requires.place in
+pub returns-then-not-is_full-clause-answer : goal.returns-then-not-is_full-clause-answer
+returns-then-not-is_full-clause-answer c o last h l v =
+    let p = rw c.in_default.is at c.requires.place in
+    rw (c.push.ensures, c.fresh-entry.ensures.value) (admits-opened_next c.args.entries.now.slots o last c.args.now c.args.entries.now.items h c.args.grant c.args.nonce c.args.bytes v l (room _ _ _ c.is_full.ensures c.if-not-is_full.true) p (fits _ _ _ c.is_over.ensures c.if-is_over.false) c.requires.packet)
+
+pub returns-then-not-is_full-clause-near : goal.returns-then-not-is_full-clause-near
+returns-then-not-is_full-clause-near c =
+    let r = c.fresh-entry.ensures.ranges in
+    rw (c.push.ensures, c.fresh-entry.ensures.value) (near-push c.args.now c.args.entries.now.items (opened c.args.now c.args.grant c.args.nonce c.args.bytes) c.requires.near (near-opened c.args.now c.args.grant c.args.nonce c.args.bytes c.requires.packet r.0 r.1 (fits _ _ _ c.is_over.ensures c.if-is_over.false)))
+
+pub returns-in_default-ended-clause-answer : goal.returns-in_default-ended-clause-answer
+returns-in_default-ended-clause-answer c o last h l v =
+    let p = rw c.in_default.is at c.requires.place in
+    admits-full c.args.entries.now.slots o last c.args.now c.args.entries.now.items h c.args.grant c.args.nonce c.args.bytes v l (full _ _ _ c.is_full.ensures c.if-not-is_full.false) c.in_default-ended.ensures p (fits _ _ _ c.is_over.ensures c.if-is_over.false)
+
+pub returns-clause-answer : goal.returns-clause-answer
+returns-clause-answer c o last h l v =
+    let p = rw c.in_default.is at c.requires.place in
     let d = c.in-Some-ended.ensures in
-    rw c.fresh-entry.ensures.value (admits-opened_over c.args.slots o last c.args.now c.args.entries.now.items h c.in-Some-ended.other c.index_mut-in-Some-ended.result.now c.args.grant c.args.nonce c.args.bytes v l d.0 c.index_mut-in-Some-ended.ensures.value p (d.1 c.index_mut-in-Some-ended.result.now c.index_mut-in-Some-ended.ensures.value) (fits _ _ _ c.is_over.ensures c.if-is_over.false) c.requires.packet)
+    let r = some_place c.args.entries.now.items c.in-Some-ended.other d.0 in
+    rw (c.replace.ensures, c.fresh-entry.ensures.value) (admits-opened_over c.args.entries.now.slots o last c.args.now c.args.entries.now.items h c.in-Some-ended.other r.0 c.args.grant c.args.nonce c.args.bytes v l d.0 r.1 p (d.1 r.0 r.1) (fits _ _ _ c.is_over.ensures c.if-is_over.false) c.requires.packet)
 
-pub returns-in-Some-ended-clause-near : goal.returns-in-Some-ended-clause-near
-returns-in-Some-ended-clause-near c =
+pub returns-clause-near : goal.returns-clause-near
+returns-clause-near c =
     let r = c.fresh-entry.ensures.ranges in
-    rw c.fresh-entry.ensures.value (near-set c.args.now c.args.entries.now.items c.in-Some-ended.other (opened c.args.now c.args.grant c.args.nonce c.args.bytes) c.requires.near (near-opened c.args.now c.args.grant c.args.nonce c.args.bytes c.requires.packet r.0 r.1 (fits _ _ _ c.is_over.ensures c.if-is_over.false)))
-
-pub returns-else-len-slots-clause-answer : goal.returns-else-len-slots-clause-answer
-returns-else-len-slots-clause-answer c o last h l v =
-    let p = rw c.in-None.is at c.requires.place in
-    rw (c.push_reserved.ensures.items, c.fresh-entry.ensures.value) (admits-opened_next c.args.slots o last c.args.now c.args.entries.now.items h c.args.grant c.args.nonce c.args.bytes v l (omega (arith, c.len.ensures)) p (fits _ _ _ c.is_over.ensures c.if-is_over.false) c.requires.packet)
-
-pub returns-else-len-slots-clause-near : goal.returns-else-len-slots-clause-near
-returns-else-len-slots-clause-near c =
-    let r = c.fresh-entry.ensures.ranges in
-    rw (c.push_reserved.ensures.items, c.fresh-entry.ensures.value) (near-push c.args.now c.args.entries.now.items (opened c.args.now c.args.grant c.args.nonce c.args.bytes) c.requires.near (near-opened c.args.now c.args.grant c.args.nonce c.args.bytes c.requires.packet r.0 r.1 (fits _ _ _ c.is_over.ensures c.if-is_over.false)))
+    rw (c.replace.ensures, c.fresh-entry.ensures.value) (near-set c.args.now c.args.entries.now.items c.in-Some-ended.other (opened c.args.now c.args.grant c.args.nonce c.args.bytes) c.requires.near (near-opened c.args.now c.args.grant c.args.nonce c.args.bytes c.requires.packet r.0 r.1 (fits _ _ _ c.is_over.ensures c.if-is_over.false)))

@@ -1,4 +1,6 @@
-use Rattle.std.proofs.Common.{sym, ◌∙◌, arith}
+use Rattle.std.proofs.Common.{sym, ap, ◌∙◌, arith}
+use Rattle.tva_flow.specs.declared.kept.Entry.{Entry}
+use Rattle.tva_flow.proofs.Indexed.{same_read}
 use Rattle.tva_flow.specs.Steps.{renewed}
 use Rattle.tva_flow.proofs.Admit.{answers-held, answers-unheld, held_judged}
 use Rattle.tva_flow.proofs.ByEntry.{held_fits}
@@ -7,37 +9,40 @@ use Rattle.tva_flow.proofs.cache.renew_held.Goals as goal
 
 pub judge_nonce-verdict-requires : goal.judge_nonce-verdict-requires
 judge_nonce-verdict-requires c =
-    let n = near-get c.args.now c.args.entries.now.items c.args.at c.index.result.now c.requires.near c.requires.place c.index.ensures in
+    let n = near-get c.args.now c.args.entries.now.items c.args.at c.get-entry.result c.requires.near c.requires.place c.get-entry.ensures in
     (omega (arith, n.used, n.units), n.second)
 
 pub extended-requires-clause-near : goal.extended-requires-clause-near
 extended-requires-clause-near c =
-    let n = near-get c.args.now c.args.entries.now.items c.args.at c.index.result.now c.requires.near c.requires.place c.index.ensures in
+    let n = near-get c.args.now c.args.entries.now.items c.args.at c.get-entry.result c.requires.near c.requires.place c.get-entry.ensures in
     (omega (arith, n.end, n.used, n.units, n.second, c.ranges.now.fits), omega (arith, n.used, n.units))
 
 pub extended-requires-clause-packet : goal.extended-requires-clause-packet
 extended-requires-clause-packet c =
-    let n = near-get c.args.now c.args.entries.now.items c.args.at c.index.result.now c.requires.near c.requires.place c.index.ensures in
+    let n = near-get c.args.now c.args.entries.now.items c.args.at c.get-entry.result c.requires.near c.requires.place c.get-entry.ensures in
     (c.requires.packet.1, n.some)
 
 pub returns-then-is_authorised-clause-answer : goal.returns-then-is_authorised-clause-answer
 returns-then-is_authorised-clause-answer c f s o last h k w l v =
-    let e = c.index.result.now in
-    let n = near-get c.args.now c.args.entries.now.items c.args.at e c.requires.near c.requires.place c.index.ensures in
-    rw c.extended.ensures.value (answers-held c.args.now c.args.second c.args.entries.now.items c.args.at e c.args.nonce c.args.bytes c.judge_nonce-verdict.result c.requires.place c.index.ensures
-    (c.requires.live e c.index.ensures) c.judge_nonce-verdict.ensures (sym c.is_authorised.ensures ∙ c.if-is_authorised.true) (packet_of c.args.now e c.args.bytes n c.requires.packet)
-    f s o last h (k e c.index.ensures) w l v)
+    let e = c.get-entry.result in
+    let n = near-get c.args.now c.args.entries.now.items c.args.at e c.requires.near c.requires.place c.get-entry.ensures in
+    rw (c.rewrite.ensures, c.extended.ensures.value) (answers-held c.args.now c.args.second c.args.entries.now.items c.args.at e c.args.nonce c.args.bytes c.judge_nonce-verdict.result c.requires.place c.get-entry.ensures
+    (c.requires.live e c.get-entry.ensures) c.judge_nonce-verdict.ensures (sym c.is_authorised.ensures ∙ c.if-is_authorised.true) (packet_of c.args.now e c.args.bytes n c.requires.packet)
+    f s o last h (k e c.get-entry.ensures) w l v)
 
 pub returns-then-is_authorised-clause-near : goal.returns-then-is_authorised-clause-near
 returns-then-is_authorised-clause-near c =
-    let e = c.index.result.now in
-    let n = near-get c.args.now c.args.entries.now.items c.args.at e c.requires.near c.requires.place c.index.ensures in
+    let e = c.get-entry.result in
+    let n = near-get c.args.now c.args.entries.now.items c.args.at e c.requires.near c.requires.place c.get-entry.ensures in
     let j = held_judged c.args.second e c.args.nonce c.args.bytes c.judge_nonce-verdict.result c.judge_nonce-verdict.ensures (sym c.is_authorised.ensures ∙ c.if-is_authorised.true) in
-    rw c.extended.ensures.value (near-set c.args.now c.args.entries.now.items c.args.at (renewed e e.grant c.args.nonce c.args.bytes) c.requires.near
+    rw (c.rewrite.ensures, c.extended.ensures.value) (near-set c.args.now c.args.entries.now.items c.args.at (renewed e e.grant c.args.nonce c.args.bytes) c.requires.near
     (near-held c.args.now e c.args.nonce c.args.bytes n c.requires.packet (held_fits c.args.second e c.args.nonce c.args.bytes e.grant j).0))
 
 pub returns-else-is_authorised-clause-answer : goal.returns-else-is_authorised-clause-answer
 returns-else-is_authorised-clause-answer c f s o last h k w l v =
-    let e = c.index.result.now in
-    answers-unheld c.args.now c.args.second c.args.entries.now.items c.args.at e c.args.nonce c.args.bytes c.judge_nonce-verdict.result c.requires.place c.index.ensures
-    (c.requires.live e c.index.ensures) c.judge_nonce-verdict.ensures (sym c.is_authorised.ensures ∙ c.if-is_authorised.false) f s o last h (k e c.index.ensures) w l v
+    let e = c.get-entry.result in
+    answers-unheld c.args.now c.args.second c.args.entries.now.items c.args.at e c.args.nonce c.args.bytes c.judge_nonce-verdict.result c.requires.place c.get-entry.ensures
+    (c.requires.live e c.get-entry.ensures) c.judge_nonce-verdict.ensures (sym c.is_authorised.ensures ∙ c.if-is_authorised.false) f s o last h (k e c.get-entry.ensures) w l v
+
+pub rewrite-requires-clause-flow : goal.rewrite-requires-clause-flow
+rewrite-requires-clause-flow c e q = rw c.extended.ensures.value (ap (λ (x : Entry). x.grant.flow) (same_read c.args.entries.now.items c.args.at e c.get-entry.result q c.get-entry.ensures c.requires.place))

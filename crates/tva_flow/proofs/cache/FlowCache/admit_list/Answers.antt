@@ -5,24 +5,24 @@ use Rattle.tva_flow.proofs.Timely.{list-timely}
 use Rattle.tva_flow.proofs.cache.FlowCache.admit_list.Goals as goal
 
 pub renew-requires-clause-near : goal.renew-requires-clause-near
-renew-requires-clause-near c = near-later c.self.inside.last c.args.now.0 c.self.inside.entries.items (rw (ap (λ (v : Cache). v.last) c.self.view_is) c.requires.time) c.self.invariant.2
+renew-requires-clause-near c = near-later c.self.inside.last c.args.now.0 c.self.inside.entries.items (rw (ap (λ (v : Cache). v.last) c.self.view_is) c.requires.time) c.self.invariant.1
 
 pub open-requires-clause-near : goal.open-requires-clause-near
-open-requires-clause-near c = near-later c.self.inside.last c.args.now.0 c.self.inside.entries.items (rw (ap (λ (v : Cache). v.last) c.self.view_is) c.requires.time) c.self.invariant.2
+open-requires-clause-near c = near-later c.self.inside.last c.args.now.0 c.self.inside.entries.items (rw (ap (λ (v : Cache). v.last) c.self.view_is) c.requires.time) c.self.invariant.1
 
 pub returns-in-Some-clause-verdict : goal.returns-in-Some-clause-verdict
 returns-in-Some-clause-verdict c h v =
     let s = ap (λ (v : Cache). v.slots) c.self.view_is in
-    rw (← s) (c.renew.ensures.answer c.self.inside.slots c.self.inside.clock_offset c.self.inside.last h (rw (ap (λ (v : Cache). v.last) c.self.view_is) c.requires.time) (subst (λ (z : Cache). StandsFor z h) (sym c.self.view_is) v)).0
+    rw (← s) (c.renew.ensures.answer c.self.inside.entries.slots c.self.inside.clock_offset c.self.inside.last h (rw (ap (λ (v : Cache). v.last) c.self.view_is) c.requires.time) (subst (λ (z : Cache). StandsFor z h) (sym c.self.view_is) v)).0
 
 pub returns-in-Some-clause-stands : goal.returns-in-Some-clause-stands
 returns-in-Some-clause-stands c h v =
-    (c.renew.ensures.answer c.self.inside.slots c.self.inside.clock_offset c.self.inside.last h (rw (ap (λ (v : Cache). v.last) c.self.view_is) c.requires.time) (subst (λ (z : Cache). StandsFor z h) (sym c.self.view_is) v)).1
+    rw c.renew.ensures.same.1 (c.renew.ensures.answer c.self.inside.entries.slots c.self.inside.clock_offset c.self.inside.last h (rw (ap (λ (v : Cache). v.last) c.self.view_is) c.requires.time) (subst (λ (z : Cache). StandsFor z h) (sym c.self.view_is) v)).1
 
 pub returns-in-Some-clause-timely : goal.returns-in-Some-clause-timely
 returns-in-Some-clause-timely c h v t w =
-    list-timely c.self.inside.slots c.args.self.now.offset h c.args.now.0 c.args.grant c.args.nonce c.args.length c.renew.result
-    (c.renew.ensures.answer c.self.inside.slots c.self.inside.clock_offset c.self.inside.last h (rw (ap (λ (v : Cache). v.last) c.self.view_is) c.requires.time) (subst (λ (z : Cache). StandsFor z h) (sym c.self.view_is) v)).0 t w
+    list-timely c.self.inside.entries.slots c.args.self.now.offset h c.args.now.0 c.args.grant c.args.nonce c.args.length c.renew.result
+    (c.renew.ensures.answer c.self.inside.entries.slots c.self.inside.clock_offset c.self.inside.last h (rw (ap (λ (v : Cache). v.last) c.self.view_is) c.requires.time) (subst (λ (z : Cache). StandsFor z h) (sym c.self.view_is) v)).0 t w
 
 pub returns-in_default-clause-verdict : goal.returns-in_default-clause-verdict
 returns-in_default-clause-verdict c h v =
@@ -31,9 +31,9 @@ returns-in_default-clause-verdict c h v =
 
 pub returns-in_default-clause-stands : goal.returns-in_default-clause-stands
 returns-in_default-clause-stands c h v =
-    (c.open.ensures.answer c.self.inside.clock_offset c.self.inside.last h (rw (ap (λ (v : Cache). v.last) c.self.view_is) c.requires.time) (subst (λ (z : Cache). StandsFor z h) (sym c.self.view_is) v)).1
+    rw c.open.ensures.room.1 (c.open.ensures.answer c.self.inside.clock_offset c.self.inside.last h (rw (ap (λ (v : Cache). v.last) c.self.view_is) c.requires.time) (subst (λ (z : Cache). StandsFor z h) (sym c.self.view_is) v)).1
 
 pub returns-in_default-clause-timely : goal.returns-in_default-clause-timely
 returns-in_default-clause-timely c h v t w =
-    list-timely c.self.inside.slots c.args.self.now.offset h c.args.now.0 c.args.grant c.args.nonce c.args.length c.open.result
+    list-timely c.self.inside.entries.slots c.args.self.now.offset h c.args.now.0 c.args.grant c.args.nonce c.args.length c.open.result
     (c.open.ensures.answer c.self.inside.clock_offset c.self.inside.last h (rw (ap (λ (v : Cache). v.last) c.self.view_is) c.requires.time) (subst (λ (z : Cache). StandsFor z h) (sym c.self.view_is) v)).0 t w

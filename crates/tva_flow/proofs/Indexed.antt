@@ -1,0 +1,205 @@
+-- Entries stay indexed where one is written or added.
+use Rattle.std.proofs.Common.{◌≡◌, ℕ, ◌+◌, ◌*◌, ◌<◌, ◌≤◌, List, [], ◌∷◌, ◌++◌, length, get_or, set, replicate, Option, Some, None, refl, sym, ap, ◌∙◌, subst, inl, inr, ◌⊎◌, zero, suc, arith}
+use Rattle.std.specs.List.{All}
+use Rattle.std.specs.Option.{MatchOption}
+use Rattle.std.proofs.lemmas.Bool.{cases_lt, cases_eq}
+use Rattle.std.proofs.lemmas.List.{get_or_past, get_or-set_same, get_or-set_other, get_or_append_left, get_or_push, get_or_default, get_or-replicate, length-set, length_push, length-replicate}
+use Rattle.tva_base.specs.declared.packet.Flow.{Flow}
+use Rattle.tva_index.specs.Buckets.{Placed, placed, IsLastBelow}
+use Rattle.tva_index.specs.Lowest.{IsLeastPlace}
+use Rattle.tva_flow.specs.declared.hash.HashKey.{HashKey}
+use Rattle.tva_flow.specs.declared.kept.Entry.{Entry}
+use Rattle.tva_flow.specs.Hash.{bucket_of}
+use Rattle.tva_flow.specs.Stands.{entry_of}
+use Rattle.tva_flow.specs.Index.{AreIndexed, IsUpTo}
+use Rattle.tva_flow.proofs.Entries.{not_first}
+
+-- what is read after a write, and after a further element
+read_set : (es : List Entry) (at i : ℕ) (new e : Entry) → at < length es → e ≡ get_or (set es at new) i e → ((i ≡ at) × (e ≡ new)) ⊎ ((i ≡ at → ⊥) × (e ≡ get_or es i e))
+read_set es at i new e l q =
+    elim (cases_eq i at) [
+      | inl k ↦ inl (k, q ∙ (ap (λ (z : ℕ). get_or (set es at new) z e) k ∙ get_or-set_same es at new e l))
+      | inr n ↦ inr (n, q ∙ get_or-set_other es at i new e n)
+    ]
+
+read_push : (es : List Entry) (i : ℕ) (new e : Entry) → i < length (es ++ new ∷ []) → e ≡ get_or (es ++ new ∷ []) i e → ((i ≡ length es) × (e ≡ new)) ⊎ ((i < length es) × (e ≡ get_or es i e))
+read_push es i new e l q =
+    elim (cases_lt i (length es)) [
+      | inl k ↦ inr (k, q ∙ get_or_append_left es (new ∷ []) e i k)
+      | inr k ↦ (let n : length es ≡ i = omega (arith, l, k, length_push es new) in inl (sym n, q ∙ get_or_push es new e i n))
+    ]
+
+-- the bucket of a place that was written, and of another
+home_here : (hs : List (Option ℕ)) (at i : ℕ) (v : Option ℕ) → at < length hs → i ≡ at → get_or (set hs at v) i None ≡ v
+home_here hs at i v l k = ap (λ (z : ℕ). get_or (set hs at v) z None) k ∙ get_or-set_same hs at v None l
+
+home_there : (hs : List (Option ℕ)) (at i : ℕ) (v : Option ℕ) → (i ≡ at → ⊥) → get_or (set hs at v) i None ≡ get_or hs i None
+home_there hs at i v n = get_or-set_other hs at i v None n
+
+number_here : (ns : List ℕ) (at i v : ℕ) → at < length ns → i ≡ at → get_or (set ns at v) i 0 ≡ v
+number_here ns at i v l k = ap (λ (z : ℕ). get_or (set ns at v) z 0) k ∙ get_or-set_same ns at v 0 l
+
+abbrev nowhere : Option ℕ
+nowhere = None
+
+-- no entries
+pub indexed_none : (slots : ℕ) (key : HashKey) (p : Placed) (ends : List ℕ) → p ≡ placed (2 * slots + 1) (replicate slots None) → ends ≡ replicate slots 0 → AreIndexed slots key [] p ends
+indexed_none slots key p ends e f =
+    let hs : p.homes ≡ replicate slots None = ap (λ (z : Placed). z.homes) e in
+    record {
+      count = ap (λ (z : Placed). z.count) e;
+      homes = ap (λ (z : List (Option ℕ)). length z) hs ∙ length-replicate slots nowhere;
+      numbers = ap (λ (z : List ℕ). length z) f ∙ length-replicate slots 0;
+      few = omega arith;
+      found = λ i x l q. absurd (omega arith);
+      within = λ i b h.
+          elim (cases_lt i slots) [
+            | inl l ↦ (let k : get_or p.homes i None ≡ None = subst (λ (z : List (Option ℕ)). get_or z i None ≡ None) (sym hs) (get_or-replicate slots i nowhere None l) in absurd (cc))
+            | inr l ↦ (
+                let k : get_or p.homes i None ≡ None = subst (λ (z : List (Option ℕ)). get_or z i None ≡ None) (sym hs) (get_or_past (replicate slots nowhere) i None (omega (arith, l, length-replicate slots nowhere))) in
+                absurd (cc))
+          ];
+      until = λ i x l q. absurd (omega arith);
+    }
+
+-- an entry of the same flow
+pub indexed-rewrite : (slots : ℕ) (key : HashKey) (es : List Entry) (p : Placed) (ends : List ℕ) (at : ℕ) (old new : Entry) → AreIndexed slots key es p ends → at < length es → old ≡ get_or es at old → old.grant.flow ≡ new.grant.flow
+    → AreIndexed slots key (set es at new) p (set ends at new.end)
+indexed-rewrite slots key es p ends at old new k l q g =
+    let n : length (set es at new) ≡ length es = length-set es at new in
+    let m : at < length ends = omega (arith, l, k.few, k.numbers) in
+    record {
+      count = k.count;
+      homes = k.homes;
+      numbers = length-set ends at new.end ∙ k.numbers;
+      few = omega (arith, n, k.few);
+      found = λ i e w r. elim (read_set es at i new e l r) [
+        | inl y ↦ subst (λ z. get_or p.homes z None ≡ Some (bucket_of (2 * slots + 1) key e.grant.flow)) (sym y.0)
+            (subst (λ (z : Entry). get_or p.homes at None ≡ Some (bucket_of (2 * slots + 1) key z.grant.flow)) (sym y.1) (subst (λ (z : Flow). get_or p.homes at None ≡ Some (bucket_of (2 * slots + 1) key z)) g (k.found at old l q)))
+        | inr y ↦ k.found i e (omega (arith, w, n)) y.1
+      ];
+      within = λ i b h. omega (arith, n, k.within i b h);
+      until = λ i e w r. elim (read_set es at i new e l r) [
+        | inl y ↦ number_here ends at i new.end m y.0 ∙ ap (λ (z : Entry). z.end) (sym y.1)
+        | inr y ↦ get_or-set_other ends at i new.end 0 y.0 ∙ k.until i e (omega (arith, w, n)) y.1
+      ];
+    }
+
+-- an entry of any flow
+pub indexed-replace : (slots : ℕ) (key : HashKey) (es : List Entry) (p p' : Placed) (ends : List ℕ) (at : ℕ) (new : Entry) → AreIndexed slots key es p ends → at < length es
+    → p' ≡ placed p.count (set p.homes at (Some (bucket_of (2 * slots + 1) key new.grant.flow))) → AreIndexed slots key (set es at new) p' (set ends at new.end)
+indexed-replace slots key es p p' ends at new k l f =
+    let v : Option ℕ = Some (bucket_of (2 * slots + 1) key new.grant.flow) in
+    let n : length (set es at new) ≡ length es = length-set es at new in
+    let m : at < length ends = omega (arith, l, k.few, k.numbers) in
+    let t : at < length p.homes = omega (arith, l, k.few, k.homes) in
+    let hs : p'.homes ≡ set p.homes at v = ap (λ (z : Placed). z.homes) f in
+    record {
+      count = ap (λ (z : Placed). z.count) f ∙ k.count;
+      homes = ap (λ (z : List (Option ℕ)). length z) hs ∙ (length-set p.homes at v ∙ k.homes);
+      numbers = length-set ends at new.end ∙ k.numbers;
+      few = omega (arith, n, k.few);
+      found = λ i e w r. subst (λ (z : List (Option ℕ)). get_or z i None ≡ Some (bucket_of (2 * slots + 1) key e.grant.flow)) (sym hs) (elim (read_set es at i new e l r) [
+        | inl y ↦ home_here p.homes at i v t y.0 ∙ ap (λ (z : Entry). Some (bucket_of (2 * slots + 1) key z.grant.flow)) (sym y.1)
+        | inr y ↦ home_there p.homes at i v y.0 ∙ k.found i e (omega (arith, w, n)) y.1
+      ]);
+      within = λ i b h. elim (cases_eq i at) [
+        | inl e ↦ omega (arith, n, e, l)
+        | inr d ↦ omega (arith, n, k.within i b (sym (home_there p.homes at i v d) ∙ subst (λ (z : List (Option ℕ)). get_or z i None ≡ Some b) hs h))
+      ];
+      until = λ i e w r. elim (read_set es at i new e l r) [
+        | inl y ↦ number_here ends at i new.end m y.0 ∙ ap (λ (z : Entry). z.end) (sym y.1)
+        | inr y ↦ get_or-set_other ends at i new.end 0 y.0 ∙ k.until i e (omega (arith, w, n)) y.1
+      ];
+    }
+
+-- a further entry
+pub indexed-push : (slots : ℕ) (key : HashKey) (es : List Entry) (p p' : Placed) (ends : List ℕ) (new : Entry) → AreIndexed slots key es p ends → length es < slots
+    → p' ≡ placed p.count (set p.homes (length es) (Some (bucket_of (2 * slots + 1) key new.grant.flow))) → AreIndexed slots key (es ++ new ∷ []) p' (set ends (length es) new.end)
+indexed-push slots key es p p' ends new k l f =
+    let at = length es in
+    let v : Option ℕ = Some (bucket_of (2 * slots + 1) key new.grant.flow) in
+    let n : length (es ++ new ∷ []) ≡ length es + 1 = length_push es new in
+    let m : at < length ends = omega (arith, l, k.numbers) in
+    let t : at < length p.homes = omega (arith, l, k.homes) in
+    let hs : p'.homes ≡ set p.homes at v = ap (λ (z : Placed). z.homes) f in
+    record {
+      count = ap (λ (z : Placed). z.count) f ∙ k.count;
+      homes = ap (λ (z : List (Option ℕ)). length z) hs ∙ (length-set p.homes at v ∙ k.homes);
+      numbers = length-set ends at new.end ∙ k.numbers;
+      few = omega (arith, n, l);
+      found = λ i e w r. subst (λ (z : List (Option ℕ)). get_or z i None ≡ Some (bucket_of (2 * slots + 1) key e.grant.flow)) (sym hs) (elim (read_push es i new e w r) [
+        | inl y ↦ home_here p.homes at i v t y.0 ∙ ap (λ (z : Entry). Some (bucket_of (2 * slots + 1) key z.grant.flow)) (sym y.1)
+        | inr y ↦ home_there p.homes at i v (λ (x : i ≡ at). absurd (omega (arith, x, y.0))) ∙ k.found i e y.0 y.1
+      ]);
+      within = λ i b h. elim (cases_eq i at) [
+        | inl e ↦ omega (arith, n, e)
+        | inr d ↦ omega (arith, n, k.within i b (sym (home_there p.homes at i v d) ∙ subst (λ (z : List (Option ℕ)). get_or z i None ≡ Some b) hs h))
+      ];
+      until = λ i e w r. elim (read_push es i new e w r) [
+        | inl y ↦ number_here ends at i new.end m y.0 ∙ ap (λ (z : Entry). z.end) (sym y.1)
+        | inr y ↦ get_or-set_other ends at i new.end 0 (λ (x : i ≡ at). absurd (omega (arith, x, y.0))) ∙ k.until i e y.0 y.1
+      ];
+    }
+
+-- a flow that no place has
+pub none_of : (f : Flow) (es : List Entry) → ((i : ℕ) (e : Entry) → i < length es → e ≡ get_or es i e → e.grant.flow ≡ f → ⊥) → entry_of f es ≡ None
+none_of f [] n = refl
+none_of f (d ∷ ds) n = not_first f d ds (λ q. n 0 d (omega arith) refl q) (none_of f ds (λ i e l s q. n (suc i) e (omega (arith, l)) s q))
+
+-- what is left of a bucket
+pub up_to : (hs : List (Option ℕ)) (bound b : ℕ) (o : Option ℕ) (i : ℕ) → IsLastBelow hs bound b o → i < bound → get_or hs i None ≡ Some b → IsUpTo o i
+up_to hs bound b None i k l h = k i l h
+up_to hs bound b (Some p) i k l h = k.2 i l h
+
+-- the root is least, so where it lives all do
+pub all_live : (slots : ℕ) (key : HashKey) (es : List Entry) (p : Placed) (ends : List ℕ) (first now : ℕ) (e : Entry) → AreIndexed slots key es p ends → slots ≤ length es → IsLeastPlace ends (Some first) → e ≡ get_or es first e → now < e.end
+    → All (λ (x : Entry). now < x.end) es
+all_live slots key es p ends first now e k f w r a i d l =
+    let n : length es ≡ slots = omega (arith, f, k.few) in
+    let x = get_or es i d in
+    omega (arith, k.until first e (omega (arith, w.0, k.numbers, n)) r, k.until i x l (get_or_default es i d x l), w.1 i (omega (arith, l, n, k.numbers)), a)
+
+-- no entries, where there are no slots
+pub none_live : (slots : ℕ) (key : HashKey) (es : List Entry) (p : Placed) (ends : List ℕ) (now : ℕ) → AreIndexed slots key es p ends → IsLeastPlace ends None → All (λ (x : Entry). now < x.end) es
+none_live slots key es p ends now k w i d l = absurd (omega (arith, k.few, k.numbers, w, l))
+
+-- what is read twice at a place
+pub same_read : (es : List Entry) (i : ℕ) (d e : Entry) → d ≡ get_or es i d → e ≡ get_or es i e → i < length es → d ≡ e
+same_read es i d e q r l = q ∙ (get_or_default es i d e l ∙ sym r)
+
+-- a place has an entry
+pub some_place : (es : List Entry) (i : ℕ) → i < length es → (e : Entry) × (e ≡ get_or es i e)
+some_place [] i l = absurd (omega arith)
+some_place (d ∷ ds) zero l = (d, refl)
+some_place (d ∷ ds) (suc i) l = some_place ds i (omega arith)
+
+-- how far a walk is from its end
+abbrev pub rank : Option ℕ → ℕ
+rank None = 0
+rank (Some p) = p + 1
+
+pub rank-le : (hs : List (Option ℕ)) (n b : ℕ) (o : Option ℕ) → IsLastBelow hs n b o → rank o ≤ n
+rank-le hs n b None k = omega arith
+rank-le hs n b (Some p) k = omega (arith, k.0)
+
+-- a walk begins at the last place of a bucket
+pub walk_starts : (hs : List (Option ℕ)) (n b : ℕ) (o : Option ℕ) → IsLastBelow hs n b o → MatchOption o (Unit {0}) (λ p. get_or hs p None ≡ Some b)
+walk_starts hs n b None k = tt
+walk_starts hs n b (Some p) k = k.1
+
+in_range : (hs : List (Option ℕ)) (q b : ℕ) → get_or hs q None ≡ Some b → q < length hs
+in_range hs q b h = elim (cases_lt q (length hs)) [ inl l ↦ l | inr l ↦ (let e = get_or_past hs q None l in absurd (cc)) ]
+
+-- the places of a flow that a walk through its bucket still has before it, at the start and a step on
+pub rest_starts : (es : List Entry) (hs : List (Option ℕ)) (b : ℕ) (f : Flow) (o : Option ℕ) → ((i : ℕ) (e : Entry) → i < length es → e ≡ get_or es i e → e.grant.flow ≡ f → get_or hs i None ≡ Some b) → IsLastBelow hs (length hs) b o
+    → (i : ℕ) (e : Entry) → i < length es → e ≡ get_or es i e → e.grant.flow ≡ f → IsUpTo o i
+rest_starts es hs b f o found k i e l q g = let h = found i e l q g in up_to hs (length hs) b o i k (in_range hs i b h) h
+
+pub rest_goes : (es : List Entry) (hs : List (Option ℕ)) (b : ℕ) (f : Flow) (p : ℕ) (x : Entry) (o : Option ℕ) → ((i : ℕ) (e : Entry) → i < length es → e ≡ get_or es i e → e.grant.flow ≡ f → get_or hs i None ≡ Some b)
+    → ((i : ℕ) (e : Entry) → i < length es → e ≡ get_or es i e → e.grant.flow ≡ f → i ≤ p) → x ≡ get_or es p x → (x.grant.flow ≡ f → ⊥) → IsLastBelow hs p b o
+    → (i : ℕ) (e : Entry) → i < length es → e ≡ get_or es i e → e.grant.flow ≡ f → IsUpTo o i
+rest_goes es hs b f p x o found rest r away k i e l q g =
+    let w = rest i e l q g in
+    let n : i ≡ p → ⊥ = λ d. away (ap (λ (z : Entry). z.grant.flow) (same_read es p x e r (subst (λ z. e ≡ get_or es z e) d q) (omega (arith, l, d))) ∙ g) in
+    up_to hs p b o i k (omega (arith, w, n)) (found i e l q g)

@@ -1,0 +1,163 @@
+// The entries of a cache at their places.
+ghost use Rattle.std.specs.Prelude.{◌≡◌, ℕ, ◌+◌, ◌*◌, ◌<◌, ◌≤◌, nat_lt, nat_le, List, [], ◌∷◌, ◌++◌, length, count_by, slice_index_or, slice_set, None, Some, MatchOption, All, IfOk};
+ghost use Rattle.tva_index.specs.Buckets.{home};
+ghost use Rattle.tva_flow.specs.declared.kept.Entry.{Entry};
+ghost use Rattle.tva_flow.specs.Stands.{entry_of};
+ghost use Rattle.tva_flow.specs.Index.{kept};
+
+use crate::hash::{HashKey, bucket_of};
+use crate::kept::{Entry, is_live, is_same_flow};
+use std::alloc::{AllocError, Global};
+use std::marker::Model;
+use tva_base::Flow;
+use tva_index::{Buckets, Lowest};
+
+/// Entries, of which there are at most as many as slots. Contracts see them in the order of their
+/// places. A flow's place is found by its bucket, and that of the entry that ends first by a tree of
+/// their ends. All memory is taken when they are made.
+#[derive(Drop)]
+pub(crate) struct Entries {
+    slots: u32,
+    key: HashKey,
+    all: Vec<Entry>,
+    places: Buckets,
+    ends: Lowest,
+}
+
+impl Model for Entries {
+    ghost use Rattle.std.specs.Prelude.{◌≤◌, vec_capacity};
+    ghost use Rattle.tva_flow.specs.Index.{Kept, kept, AreIndexed};
+
+    ghost Value = { Kept };
+
+    ghost view = { λ a. kept a.slots a.all.items };
+
+    ghost invariant = { λ a. (a.slots ≤ 1000000) × (a.slots ≤ vec_capacity a.all)
+        × AreIndexed a.slots a.key a.all.items a.places a.ends };
+}
+
+/// The place of the flow's entry, which stands in this bucket.
+fn find_in(all: &Vec<Entry>, places: &Buckets, bucket: u32, flow: &Flow) -> Option<usize>
+    requires bucket { bucket < places.now.count }
+    requires found { (i : ℕ) (e : Entry) → i < length all.now.items → e ≡ slice_index_or all.now.items i e
+        → e.grant.flow ≡ flow.now → home places.now.homes i ≡ Some bucket }
+    requires within { (i b : ℕ) → home places.now.homes i ≡ Some b → i < length all.now.items }
+    ensures { MatchOption result (entry_of flow.now all.now.items ≡ None) (λ at.
+        (at < length all.now.items)
+        × ((e : Entry) → e ≡ slice_index_or all.now.items at e → e.grant.flow ≡ flow.now)) }
+{
+    let mut at = places.last(bucket);
+    while let Some(place) = at {
+        let entry = &all[place as usize];
+        if is_same_flow(&entry.grant.flow, flow) {
+            return Some(place as usize);
+        }
+        at = places.before(place);
+    }
+    None
+}
+
+impl Entries {
+    /// No entries. The error is want of memory.
+    pub fn with_slots(alloc: Global, slots: u32, key: HashKey) -> Result<Entries, AllocError>
+        requires { slots ≤ 1000000 }
+        ensures { IfOk result (λ v. v ≡ kept slots []) }
+    {
+        let all = Vec::with_capacity(alloc, slots as usize)?;
+        let places = Buckets::with_places(alloc, slots, 2 * slots + 1)?;
+        let ends = Lowest::with_places(alloc, slots)?;
+        Ok(Entries {
+            slots,
+            key,
+            all,
+            places,
+            ends,
+        })
+    }
+
+    pub fn slots(&self) -> u32
+        ensures { result ≡ self.now.slots }
+    {
+        self.slots
+    }
+
+    /// Whether there is no place for a further entry.
+    pub fn is_full(&self) -> bool
+        ensures { result ≡ nat_le self.now.slots (length self.now.items) }
+    {
+        self.slots as usize <= self.all.len()
+    }
+
+    /// The entry at a place.
+    pub fn get(&self, at: usize) -> Entry
+        requires { at < length self.now.items }
+        ensures { result ≡ slice_index_or self.now.items at result }
+    {
+        self.all[at]
+    }
+
+    /// The place of the flow's entry.
+    pub fn find(&self, flow: &Flow) -> Option<usize>
+        ensures { MatchOption result (entry_of flow.now self.now.items ≡ None) (λ at.
+            (at < length self.now.items)
+            × ((e : Entry) → e ≡ slice_index_or self.now.items at e → e.grant.flow ≡ flow.now)) }
+    {
+        let bucket = bucket_of(&self.key, 2 * self.slots + 1, flow);
+        find_in(&self.all, &self.places, bucket, flow)
+    }
+
+    /// The place of an entry that has ended, where there are as many entries as slots.
+    pub fn ended(&self, now: u64) -> Option<usize>
+        requires { self.now.slots ≤ length self.now.items }
+        ensures { MatchOption result (All (λ e. now < e.end) self.now.items) (λ at.
+            (at < length self.now.items)
+            × ((e : Entry) → e ≡ slice_index_or self.now.items at e → e.end ≤ now)) }
+    {
+        let first = self.ends.least()? as usize;
+        if is_live(&self.all[first], now) {
+            return None;
+        }
+        Some(first)
+    }
+
+    /// How many entries live.
+    pub fn living(&self, now: u64) -> usize
+        ensures { result ≡ count_by (λ e. nat_lt now e.end) self.now.items }
+    {
+        self.all.iter().filter(|entry| is_live(entry, now)).count()
+    }
+
+    /// Writes an entry of the same flow at a place.
+    pub fn rewrite(&mut self, at: usize, renewed: Entry)
+        requires place { at < length self.old.items }
+        requires flow { (e : Entry) → e ≡ slice_index_or self.old.items at e
+            → e.grant.flow ≡ renewed.grant.flow }
+        ensures { self.new ≡ kept self.old.slots (slice_set self.old.items at renewed) }
+    {
+        self.all[at] = renewed;
+        self.ends.put(at as u32, renewed.end);
+    }
+
+    /// Writes an entry of any flow at a place.
+    pub fn replace(&mut self, at: usize, entry: Entry)
+        requires { at < length self.old.items }
+        ensures { self.new ≡ kept self.old.slots (slice_set self.old.items at entry) }
+    {
+        let bucket = bucket_of(&self.key, 2 * self.slots + 1, &entry.grant.flow);
+        self.all[at] = entry;
+        self.places.put(at as u32, bucket);
+        self.ends.put(at as u32, entry.end);
+    }
+
+    /// Adds an entry at a further place.
+    pub fn push(&mut self, entry: Entry)
+        requires { length self.old.items < self.old.slots }
+        ensures { self.new ≡ kept self.old.slots (self.old.items ++ entry ∷ []) }
+    {
+        let at = self.all.len() as u32;
+        let bucket = bucket_of(&self.key, 2 * self.slots + 1, &entry.grant.flow);
+        self.all.push_reserved(entry);
+        self.places.put(at, bucket);
+        self.ends.put(at, entry.end);
+    }
+}

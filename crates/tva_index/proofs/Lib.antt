@@ -1,0 +1,3 @@
+pub mod Homes
+pub mod Chains
+pub mod Nodes

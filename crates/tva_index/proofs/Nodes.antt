@@ -1,0 +1,71 @@
+-- A tree of numbers: each node has at most the numbers below it, and stays so where one is written.
+use Rattle.std.proofs.Common.{◌≡◌, ℕ, ◌+◌, ◌*◌, ◌/◌, ◌<◌, ◌≤◌, min, List, length, get_or, set, drop, replicate, sym, ap, subst, inl, inr, zero, suc, Some, arith}
+use Rattle.std.proofs.lemmas.Bool.{cases_lt, cases_eq}
+use Rattle.std.proofs.lemmas.List.{get_or-set_same, get_or-set_other, get_or-replicate, get_or-drop, length-drop}
+use Rattle.tva_index.specs.Lowest.{IsLeastPlace}
+use Rattle.tva_index.specs.Tree.{IsNode, AreNodes, AreNodesBut}
+
+-- a 0 everywhere
+pub nodes_zero : (n m : ℕ) (xs : List ℕ) → m ≡ 2 * n → xs ≡ replicate m 0 → AreNodes n xs
+nodes_zero n m xs e f i a b =
+    let zero_at : (j : ℕ) → j < m → get_or xs j 0 ≡ 0 = λ j l. subst (λ (z : List ℕ). get_or z j 0 ≡ 0) (sym f) (get_or-replicate m j 0 0 l) in
+    omega (arith, zero_at i (omega arith), zero_at (2 * i) (omega arith), zero_at (2 * i + 1) (omega arith))
+
+-- a number is written below all inner nodes
+pub nodes-leaf : (n leaf v : ℕ) (xs : List ℕ) → AreNodes n xs → n ≤ leaf → AreNodesBut n (set xs leaf v) (leaf / 2)
+nodes-leaf n leaf v xs t l i a b d =
+    omega (
+      arith,
+      t i a b,
+      get_or-set_other xs leaf i v 0 (λ e. absurd (omega (arith, e, b, l))),
+      get_or-set_other xs leaf (2 * i) v 0 (λ e. d (omega (arith, e))),
+      get_or-set_other xs leaf (2 * i + 1) v 0 (λ e. d (omega (arith, e))),
+    )
+
+-- a node is mended
+pub nodes-mend : (n at v : ℕ) (xs : List ℕ) → AreNodesBut n xs at → 0 < at → at < n → length xs ≡ 2 * n → v ≡ min (get_or xs (2 * at) 0) (get_or xs (2 * at + 1) 0) → AreNodesBut n (set xs at v) (at / 2)
+nodes-mend n at v xs t p l s e i a b d =
+    let left = get_or-set_other xs at (2 * i) v 0 (λ q. d (omega (arith, q))) in
+    let right = get_or-set_other xs at (2 * i + 1) v 0 (λ q. d (omega (arith, q))) in
+    elim (cases_eq i at) [
+      | inl q ↦ (
+          let here : get_or (set xs at v) i 0 ≡ v = subst (λ z. get_or (set xs at v) z 0 ≡ v) (sym q) (get_or-set_same xs at v 0 (omega (arith, s, l))) in
+          let low : get_or xs (2 * i) 0 ≡ get_or xs (2 * at) 0 = ap (λ (z : ℕ). get_or xs (2 * z) 0) q in
+          let high : get_or xs (2 * i + 1) 0 ≡ get_or xs (2 * at + 1) 0 = ap (λ (z : ℕ). get_or xs (2 * z + 1) 0) q in
+          omega (arith, here, e, low, high, left, right))
+      | inr q ↦ omega (arith, t i a b q, get_or-set_other xs at i v 0 q, left, right)
+    ]
+
+-- where the one node is right, all are
+pub nodes_all : (n at : ℕ) (xs : List ℕ) → AreNodesBut n xs at → (1 ≤ at → IsNode xs at) → AreNodes n xs
+nodes_all n at xs t k i a b = elim (cases_eq i at) [ inl q ↦ subst (IsNode xs) (sym q) (k (omega (arith, q, a))) | inr q ↦ t i a b q ]
+
+-- the root has at most each number
+child : (n : ℕ) (xs : List ℕ) → AreNodes n xs → (j : ℕ) → 2 ≤ j → j < 2 * n → get_or xs (j / 2) 0 ≤ get_or xs j 0
+child n xs t j a b =
+    let k = t (j / 2) (omega arith) (omega arith) in
+    elim (cases_eq j (2 * (j / 2))) [
+      | inl e ↦ omega (arith, k, ap (λ (z : ℕ). get_or xs z 0) e)
+      | inr e ↦ (let f : j ≡ 2 * (j / 2) + 1 = omega arith in omega (arith, k, ap (λ (z : ℕ). get_or xs z 0) f))
+    ]
+
+root_within : (n : ℕ) (xs : List ℕ) → AreNodes n xs → (k j : ℕ) → j ≤ k → 1 ≤ j → j < 2 * n → get_or xs 1 0 ≤ get_or xs j 0
+root_within n xs t zero j l a b = absurd (omega arith)
+root_within n xs t (suc k) j l a b =
+    elim (cases_lt j 2) [
+      | inl h ↦ (let e : 1 ≡ j = omega arith in omega (arith, ap (λ (z : ℕ). get_or xs z 0) e))
+      | inr h ↦ omega (arith, root_within n xs t k (j / 2) (omega arith) (omega arith) (omega arith), child n xs t j h b)
+    ]
+
+pub root-le : (n : ℕ) (xs : List ℕ) → AreNodes n xs → (j : ℕ) → 1 ≤ j → j < 2 * n → get_or xs 1 0 ≤ get_or xs j 0
+root-le n xs t j a b = root_within n xs t j j (omega arith) a b
+
+-- so the leaf that has the root's number has a least one
+pub least_at : (n leaf p : ℕ) (xs : List ℕ) → AreNodes n xs → length xs ≡ 2 * n → n ≤ leaf → leaf < 2 * n → get_or xs leaf 0 ≡ get_or xs 1 0 → n + p ≡ leaf → IsLeastPlace (drop n xs) (Some p)
+least_at n leaf p xs t s a b e w = (
+  omega (arith, length-drop n xs),
+  λ q l.
+      let r = root-le n xs t (n + q) (omega arith) (omega (arith, l, length-drop n xs)) in
+      let f : get_or xs (n + p) 0 ≡ get_or xs leaf 0 = ap (λ (z : ℕ). get_or xs z 0) w in
+      omega (arith, get_or-drop n xs p 0, get_or-drop n xs q 0, r, f, e),
+)

@@ -1,0 +1,14 @@
+use Rattle.std.proofs.Common.{◌≡◌, ◌<◌, Some, None, get_or, length, ap, sym, subst, arith}
+use Rattle.tva_index.specs.Buckets.{Placed, IsLastBelow}
+use Rattle.tva_index.proofs.Chains.{step_read}
+use Rattle.tva_index.proofs.buckets.Buckets.before.Goals as goal
+
+pub index-requires : goal.index-requires
+index-requires c = omega (arith, ap (λ (v : Placed). length v.homes) c.self.view_is, c.requires, c.self.invariant.same)
+
+pub returns : goal.returns
+returns c b h =
+    let k = c.self.inside.links in
+    let l : c.args.place < length k.homes.items = omega (arith, ap (λ (v : Placed). length v.homes) c.self.view_is, c.requires) in
+    subst (λ (v : Placed). IsLastBelow v.homes c.args.place b c.index.result.now) c.self.view_is
+    (step_read k.last.items k.before.items k.homes.items c.args.place b c.index.result.now c.self.invariant l c.index.ensures (subst (λ (v : Placed). get_or v.homes c.args.place None ≡ Some b) (sym c.self.view_is) h))

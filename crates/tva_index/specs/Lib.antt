@@ -1,0 +1,4 @@
+pub mod Buckets
+pub mod Lowest
+pub mod Links
+pub mod Tree

@@ -1,0 +1,15 @@
+//! Fixed tables by which a router finds what it keeps without a search through all of it: places in
+//! buckets, each bucket's from the last on, and numbers at places with the place of a least one. The
+//! contracts say of each call exactly what it answers and leaves. All memory is taken when a table is
+//! made.
+#![tactic(auto)]
+
+mod buckets;
+mod links;
+mod lowest;
+#[cfg(test)]
+mod tests;
+mod tree;
+
+pub use buckets::Buckets;
+pub use lowest::Lowest;

@@ -1,0 +1,63 @@
+// Numbers at places, and the place of a least one.
+ghost use Rattle.std.specs.Prelude.{◌≡◌, ◌<◌, ◌*◌, ◌^◌, length, replicate, slice_set, IfOk};
+ghost use Rattle.tva_index.specs.Lowest.{IsLeastPlace};
+
+use crate::tree::{least_leaf, mend};
+use std::alloc::{AllocError, Global};
+use std::marker::Model;
+
+/// A number at each of some places, by default 0: contracts see the list of them. The place of a
+/// least one is found in as many steps as the places have binary digits, and a write takes at most as
+/// many, and mostly few: a step each for as long as the number is the least of those beside it. All
+/// memory is taken when it is made.
+#[derive(Drop)]
+pub struct Lowest {
+    places: usize,
+    nodes: Vec<u128>,
+}
+
+impl Model for Lowest {
+    ghost use Rattle.std.specs.Prelude.{◌≡◌, ◌*◌, ◌^◌, ◌<◌, ℕ, List, length, drop};
+    ghost use Rattle.tva_index.specs.Tree.{AreNodes};
+
+    ghost Value = { List ℕ };
+
+    ghost view = { λ a. drop a.places a.nodes.items };
+
+    ghost invariant = { λ a. (length a.nodes.items ≡ 2 * a.places) × (a.places < 2 ^ 32)
+        × AreNodes a.places a.nodes.items };
+}
+
+impl Lowest {
+    /// A 0 at each of so many places. The error is want of memory.
+    pub fn with_places(alloc: Global, places: u32) -> Result<Lowest, AllocError>
+        ensures { IfOk result (λ v. v ≡ replicate places 0) }
+    {
+        let places = places as usize;
+        let mut nodes = Vec::with_capacity(alloc, 2 * places)?;
+        nodes.resize(2 * places, 0)?;
+        Ok(Lowest { places, nodes })
+    }
+
+    /// The place of a least number: none where there are no places.
+    pub fn least(&self) -> Option<u32>
+        ensures { IsLeastPlace self.now result }
+    {
+        if self.places == 0 {
+            return None;
+        }
+        let leaf = least_leaf(&self.nodes, self.places);
+        Some((leaf - self.places) as u32)
+    }
+
+    /// Writes the number at a place.
+    pub fn put(&mut self, place: u32, number: u128)
+        requires { place < length self.old }
+        ensures { self.new ≡ slice_set self.old place number }
+    {
+        let places = self.places;
+        let leaf = places + place as usize;
+        self.nodes[leaf] = number;
+        mend(&mut self.nodes, places, leaf / 2);
+    }
+}
