@@ -2,4 +2,34 @@
 mod edges;
 mod halves;
 mod makers;
+mod notice;
+mod playing;
+mod renewal;
 mod walk;
+
+use edges::EDGES;
+use notice::NOTICES;
+use playing::play;
+use renewal::RENEWALS;
+use std::test::Fail;
+use walk::WALK;
+
+/// The router and the hosts of the worked runs have their logs, each by itself.
+#[test]
+fn nodes_of_worked_runs(rt: HostRuntime) -> Result<(), Fail> {
+    for cases in [&WALK, &RENEWALS, &NOTICES] {
+        for case in cases {
+            play(&rt, rt.alloc(), case)?;
+        }
+    }
+    Ok(())
+}
+
+/// A wait that is overtaken, two links at one time, a host that sends to itself, and the horizon.
+#[test]
+fn nodes_at_their_edges(rt: HostRuntime) -> Result<(), Fail> {
+    for case in &EDGES {
+        play(&rt, rt.alloc(), case)?;
+    }
+    Ok(())
+}

@@ -84,23 +84,44 @@ fn edge(alloc: Global, number: u16) -> Result<Node, AllocError>
     Node::build(alloc, Time(1000), number, &plan, &[])
 }
 
+// Three of them.
+fn edges(alloc: Global) -> Result<Vec<Node>, AllocError>
+    ensures { IfOk result (λ nodes. AllByRecursion Stands nodes.items) }
+{
+    let mut nodes = Vec::with_capacity(alloc, 3)?;
+    for number in 0..3 {
+        nodes.push(edge(alloc, number)?)?;
+    }
+    Ok(nodes)
+}
+
+// Works ten windows, and tells how often halves did not meet, and how often each node was started.
+fn meet<R: Threads + Sync>(
+    rt: &R,
+    gate: &Meeting,
+    nodes: &mut [Node],
+) -> Result<[u64; 4], AllocError>
+    requires { AllByRecursion Stands nodes.old }
+{
+    ten_windows(rt, gate, nodes)?;
+    Ok([
+        gate.late.load(Ordering::SeqCst),
+        gate.first.load(Ordering::SeqCst),
+        gate.second.load(Ordering::SeqCst),
+        gate.third.load(Ordering::SeqCst),
+    ])
+}
+
 #[test]
 fn halves_run_at_once(rt: HostRuntime) -> Result<(), Fail> {
-    let mut nodes = vec![in rt.alloc();
-        edge(rt.alloc(), 0)?,
-        edge(rt.alloc(), 1)?,
-        edge(rt.alloc(), 2)?,
-    ]?;
     let gate = Meeting {
         first: AtomicU64::new(0),
         second: AtomicU64::new(0),
         third: AtomicU64::new(0),
         late: AtomicU64::new(0),
     };
-    ten_windows(&rt, &gate, nodes.as_mut_slice())?;
-    assert_eq!(rt; gate.late.load(Ordering::SeqCst), 0);
-    assert_eq!(rt; gate.first.load(Ordering::SeqCst), 10);
-    assert_eq!(rt; gate.second.load(Ordering::SeqCst), 10);
-    assert_eq!(rt; gate.third.load(Ordering::SeqCst), 10);
+    let mut nodes = edges(rt.alloc())?;
+    let counts = meet(&rt, &gate, nodes.as_mut_slice())?;
+    assert_eq!(rt; counts, [0, 10, 10, 10]);
     Ok(())
 }

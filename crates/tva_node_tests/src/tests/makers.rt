@@ -1,15 +1,15 @@
-// Nodes of one small network, each by itself, what comes to them and what happens there. Nodes are R1, A
-// and B, and the links are A's to R1, R1's to A, R1's to B, and B's to R1.
+// Nodes of one small network, each by itself, and what comes to them. Nodes are R1, A and B, and the links
+// are A's to R1, R1's to A, R1's to B, and B's to R1.
 ghost use Rattle.std.specs.Prelude.{◌≡◌, ◌≤◌, IfOk, OnOk};
 ghost use Rattle.tva_base.specs.Plan.{AreClassLimits, AreLinkLimits};
 ghost use Rattle.tva_node.specs.States.{Stands};
 ghost use Rattle.tva_node_tests.specs.Ready.{IsHost, IsReady};
+ghost use Rattle.tva_shim.specs.Packets.{IsCarried};
 
 use std::alloc::{AllocError, Global};
 use tva_base::{
-    Address, BackKind, Class, DrrLimits, Event, Fate, Flow, Grant, Happened, HostPlan, LinkLimits,
-    LinkPlan, Listed, Name, Outcome, PacketId, PolicyKind, PolicyPlan, Prefix, ReplyLine, Rights,
-    Route, RouterPlan, ShapeKind, Time, WhatKind,
+    Address, DrrLimits, Flow, HostPlan, LinkLimits, LinkPlan, Listed, Name, PacketId, PolicyKind,
+    PolicyPlan, Prefix, Rights, Route, RouterPlan, Time,
 };
 use tva_config::NodePlan;
 use tva_log::Input;
@@ -26,40 +26,6 @@ pub const B: Address = Address(0x0a00_0101);
 pub const THERE: Flow = Flow { src: A, dst: B };
 
 pub const BACK: Flow = Flow { src: B, dst: A };
-
-pub const A1: PacketId = PacketId {
-    node: 1,
-    ordinal: 1,
-};
-
-pub const A2: PacketId = PacketId {
-    node: 1,
-    ordinal: 2,
-};
-
-pub const A3: PacketId = PacketId {
-    node: 1,
-    ordinal: 3,
-};
-
-pub const B1: PacketId = PacketId {
-    node: 2,
-    ordinal: 1,
-};
-
-// A's request, before the router.
-pub const REQUEST: [u8; 3] = [0x10, 6, 0];
-
-// B's request with its grant, before the router.
-pub const GRANT: [u8; 15] = [
-    0x14, 6, 0, 2, 1, 0x08, 0x0a, 0x00, 0x37, 0xc8, 0xbc, 0x80, 0x5a, 0xbd, 0x1b,
-];
-
-// A's list with its grant for B, before the router.
-pub const LIST: [u8; 32] = [
-    0x15, 6, 0, 0, 0, 0, 0, 2, 1, 0, 0x08, 0x0a, 0x00, 0x37, 0xc8, 0xbc, 0x80, 0x5a, 0xbd, 0x1b, 2,
-    1, 0x08, 0x0a, 0x00, 8, 9, 10, 11, 12, 13, 14,
-];
 
 fn queues() -> DrrLimits
     ensures { AreClassLimits result }
@@ -184,6 +150,43 @@ pub fn send(node: &mut Node, time: u64, dst: Address, payload: u16) -> Result<()
     }))
 }
 
+// What a packet carries that has those bytes as its shim.
+fn carried(bytes: &[u8]) -> Carried
+    ensures { IsCarried result }
+{
+    match decode(bytes) {
+        Some(shim) => Carried::Shim(shim),
+        None => Carried::Nothing,
+    }
+}
+
+// A row that injects a packet with those bytes as its shim.
+pub fn inject(
+    node: &mut Node,
+    time: u64,
+    flow: Flow,
+    payload: u16,
+    bytes: &[u8],
+) -> Result<(), AllocError>
+    requires ready { IsReady node.old }
+    requires time { time ≤ 10000000000 }
+    requires payload { payload ≤ 1600 }
+    ensures ready { OnOk result (IsReady node.new) }
+    ensures host { IsHost node.old.site.plan → OnOk result (IsHost node.new.site.plan) }
+    ensures stands { Stands node.old → OnOk result (Stands node.new) }
+{
+    let carried = carried(bytes);
+    node.post(Input::FromTrace(Row {
+        time: Time(time),
+        node: node.number(),
+        what: RowWhat::Inject {
+            flow,
+            payload,
+            carried,
+        },
+    }))
+}
+
 // A packet that arrives with those bytes as its shim.
 pub fn arrive(
     node: &mut Node,
@@ -201,110 +204,10 @@ pub fn arrive(
     ensures host { IsHost node.old.site.plan → OnOk result (IsHost node.new.site.plan) }
     ensures stands { Stands node.old → OnOk result (Stands node.new) }
 {
-    let carried = match decode(bytes) {
-        Some(shim) => Carried::Shim(shim),
-        None => Carried::Nothing,
-    };
+    let carried = carried(bytes);
     node.post(Input::Arrival {
         time: Time(time),
         link,
         packet: Packet::new(id, flow, 0, payload, carried),
     })
-}
-
-pub fn sent(time: u64, id: PacketId, length: u32, shape: ShapeKind, link: u16) -> Event {
-    Event {
-        time: Time(time),
-        node: id.node,
-        happened: Happened::Sent {
-            id,
-            length,
-            shape,
-            outcome: Outcome::Queued(link),
-        },
-    }
-}
-
-pub fn started(
-    time: u64,
-    node: u16,
-    id: PacketId,
-    length: u32,
-    link: u16,
-    class: Class,
-    end: u64,
-) -> Event {
-    Event {
-        time: Time(time),
-        node,
-        happened: Happened::Started {
-            id,
-            length,
-            link,
-            class,
-            end: Time(end),
-        },
-    }
-}
-
-pub fn received(
-    time: u64,
-    node: u16,
-    id: PacketId,
-    length: u32,
-    from: u16,
-    payload: u16,
-    what: WhatKind,
-    back: BackKind,
-    reply: Option<ReplyLine>,
-) -> Event {
-    Event {
-        time: Time(time),
-        node,
-        happened: Happened::Received {
-            id,
-            length,
-            from,
-            payload,
-            what,
-            back,
-            reply,
-        },
-    }
-}
-
-pub fn reply(id: PacketId, length: u32, shape: ShapeKind, link: u16) -> Option<ReplyLine> {
-    Some(ReplyLine {
-        id,
-        length,
-        shape,
-        back: BackKind::Grant,
-        outcome: Outcome::Queued(link),
-    })
-}
-
-pub fn arrived(
-    time: u64,
-    id: PacketId,
-    length: u32,
-    from: u16,
-    class: Class,
-    charge: Option<Grant>,
-    link: u16,
-) -> Event {
-    Event {
-        time: Time(time),
-        node: 0,
-        happened: Happened::Arrived {
-            id,
-            length,
-            from: Some(from),
-            fate: Fate {
-                class,
-                cause: None,
-                charge,
-                outcome: Outcome::Queued(link),
-            },
-        },
-    }
 }
