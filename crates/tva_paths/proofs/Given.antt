@@ -1,0 +1,57 @@
+-- What is known of the rows of a trace and of the nodes of its runs.
+use Rattle.std.proofs.Common.{◌≡◌, ◌≤◌, ℕ, Bool, List, [], ◌∷◌, length, All, Some}
+use Rattle.std.specs.List.{AllByRecursion}
+use Rattle.std.proofs.lemmas.List.Elements.{All-head, All-tail}
+use Rattle.tva_shim.specs.declared.packets.Carried.{Carried}
+use Rattle.tva_shim.specs.declared.packets.Carried.TheVariants as carried
+use Rattle.tva_shim.specs.Shims.{IsReturn}
+use Rattle.tva_shim.specs.Shows.{back_in}
+use Rattle.tva_config.specs.declared.config.Config.{Config}
+use Rattle.tva_config.specs.Names.{is_host}
+use Rattle.tva_config.specs.Valid.{IsConfig}
+use Rattle.tva_trace.specs.declared.rows.Row.{Row}
+use Rattle.tva_trace.specs.declared.rows.RowWhat.{RowWhat}
+use Rattle.tva_trace.specs.declared.rows.RowWhat.TheVariants.{Send, Inject}
+use Rattle.tva_trace.specs.Valid.{IsWithinWidths, IsRowWhat, IsRow, AreTraceRows}
+use Rattle.tva_log.specs.Sites.{Site}
+use Rattle.tva_run.specs.Reaching.{Logs, log_at, site_at}
+use Rattle.tva_run.specs.Run.{IsRunTo}
+use Rattle.tva_promises.specs.Promises.{KeepsPromises}
+use Rattle.tva_promises.proofs.Runs.{run_keeps}
+
+-- a shim can carry the return info of what a row injects
+abbrev pub RowReturns : RowWhat → Type 0
+RowReturns (Send dst payload) = Unit {0}
+RowReturns (Inject flow payload carries) = IsReturn (back_in carries)
+
+-- there are few rows, whose return info a shim can carry, and each node keeps its promises
+pub record AreGiven (config : Config) (rows : List Row) (until : ℕ) (logs : Logs) : Type 0 where
+  pub few : length rows ≤ 1000000
+  pub back : AllByRecursion (λ (row : Row). RowReturns row.what) rows
+  pub keeps : (node : ℕ) (site : Site) → site_at config node ≡ Some site → KeepsPromises site until (log_at logs node)
+
+carried_returns : (c : Carried) → IsWithinWidths c → IsReturn (back_in c)
+carried_returns carried.Nothing w = tt
+carried_returns (carried.Shim shim) w = w.back
+carried_returns (carried.Malformed size) w = tt
+
+what_returns : (at_host : Bool) (what : RowWhat) → IsRowWhat at_host what → RowReturns what
+what_returns at_host (Send dst payload) w = tt
+what_returns at_host (Inject flow payload carries) w = carried_returns carries w.1
+
+rows_return : (config : Config) (rows : List Row) → All (IsRow config) rows → AllByRecursion (λ (row : Row). RowReturns row.what) rows
+rows_return config [] a = tt
+rows_return config (row ∷ rows) a = (
+  what_returns (is_host config.nodes row.node) row.what (All-head (IsRow config) row rows a).what,
+  rows_return config rows
+      (All-tail (IsRow config) row rows a),
+)
+
+-- so it is with the rows of a trace
+pub given : (config : Config) (rows : List Row) (until : ℕ) (logs : Logs) → IsConfig config → AreTraceRows config rows
+    → IsRunTo config rows until logs → AreGiven config rows until logs
+given config rows until logs valid trace run = record {
+  few = trace.few;
+  back = rows_return config rows trace.each;
+  keeps = λ node site is. run_keeps config rows until logs valid trace run node site is;
+}

@@ -1,0 +1,15 @@
+pub mod Lists
+pub mod Walks
+pub mod Origins
+pub mod Dealt
+pub mod Hosts
+pub mod Given
+pub mod Returns
+pub mod Counts
+pub mod Matching
+pub mod Asks
+pub mod Comings
+pub mod Miles
+pub mod Kept
+pub mod Steady
+pub mod Walked

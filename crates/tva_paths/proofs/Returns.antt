@@ -1,0 +1,185 @@
+-- What a packet brings as return info can be carried by a shim, in each run of a trace.
+use Rattle.std.proofs.Common.{◌≡◌, ℕ, true, false, ◌&&◌, cond, eqb, List, ◌∷◌, ◌++◌, Option, Some, None, refl, sym, subst}
+use Rattle.std.specs.Option.{option_map, IfSome}
+use Rattle.std.specs.List.{AllByRecursion}
+use Rattle.tva_base.specs.declared.addresses.Address.{Address}
+use Rattle.tva_base.specs.declared.packet.Outcome.{Outcome}
+use Rattle.tva_base.specs.declared.packet.Rights.{Rights}
+use Rattle.tva_base.specs.declared.plan.HostPlan.{HostPlan}
+use Rattle.tva_base.specs.declared.plan.RouterPlan.{RouterPlan}
+use Rattle.tva_base.specs.Plan.{AreRights}
+use Rattle.tva_shim.specs.declared.kinds.ReturnInfo.{ReturnInfo}
+use Rattle.tva_shim.specs.declared.kinds.ReturnInfo.TheVariants as backs
+use Rattle.tva_shim.specs.declared.packets.Carried.{Carried}
+use Rattle.tva_shim.specs.declared.packets.Carried.TheVariants as carried
+use Rattle.tva_shim.specs.Shims.{IsReturn}
+use Rattle.tva_shim.specs.Packets.{PacketData}
+use Rattle.tva_shim.specs.Shows.{back_in}
+use Rattle.tva_flow.specs.Charges.{Charge}
+use Rattle.tva_policy.specs.Grants.{Deed, is_granted, decision}
+use Rattle.tva_sender.specs.declared.shape.Shape.{Shape}
+use Rattle.tva_router.specs.Handling as handling
+use Rattle.tva_router.specs.Handling.{handle}
+use Rattle.tva_host.specs.declared.made.Made.{Made}
+use Rattle.tva_host.specs.declared.made.Receipt.{Receipt}
+use Rattle.tva_host.specs.History.{History}
+use Rattle.tva_host.specs.Calls.{history_of}
+use Rattle.tva_host.specs.Sending.{is_legacy, shim_of, carried_by, next_shape, intended}
+use Rattle.tva_host.specs.Receiving as receiving
+use Rattle.tva_host.specs.Receiving.{ClaimData, shows_grant, is_nothing, notice_for, granted, answer_to, claim_in, reply_of, before_reply, stray, receipt_of}
+use Rattle.tva_config.specs.declared.config.Config.{Config}
+use Rattle.tva_config.specs.declared.config.NodePlan.{NodePlan}
+use Rattle.tva_config.specs.declared.config.NodePlan.TheVariants as plans
+use Rattle.tva_config.specs.Valid.{IsConfig}
+use Rattle.tva_trace.specs.declared.rows.Row.{Row}
+use Rattle.tva_trace.specs.declared.rows.RowWhat.{RowWhat}
+use Rattle.tva_trace.specs.declared.rows.RowWhat.TheVariants.{Send, Inject}
+use Rattle.tva_log.specs.declared.kinds.Input.{Input}
+use Rattle.tva_log.specs.declared.kinds.Input.TheVariants.{FromTrace, Arrival}
+use Rattle.tva_log.specs.Sites.{Site, IsPlanned}
+use Rattle.tva_log.specs.Entries.{Content, Received, Entry, Took}
+use Rattle.tva_log.specs.Parts.{calls}
+use Rattle.tva_log.specs.Contents.{arrived, content, content_by, hosted, made_for, next_id, packet_of_row, routed}
+use Rattle.tva_run.specs.Reaching.{Logs, log_at, site_at}
+use Rattle.tva_run.specs.Run.{IsRunTo}
+use Rattle.tva_run.proofs.Sites.{site_is}
+use Rattle.tva_paths.specs.Origins.{KeepsCarried, made_in}
+use Rattle.tva_paths.proofs.Lists.{some_same}
+use Rattle.tva_paths.proofs.Given.{RowReturns, AreGiven}
+use Rattle.tva_paths.proofs.Walks.{IsInputGood, IsEntryGood, all_good, at_place}
+use Rattle.tva_paths.proofs.Origins.{onward_keeps}
+
+abbrev pub Returns : PacketData → Type 0
+Returns p = IsReturn (back_in p.carried)
+
+-- ## what is handed on
+
+pub same_back : (a b : Carried) → KeepsCarried a b → back_in b ≡ back_in a
+same_back carried.Nothing carried.Nothing k = refl
+same_back carried.Nothing _ k = absurd k
+same_back (carried.Shim a) (carried.Shim b) k = k.back
+same_back (carried.Shim a) _ k = absurd k
+same_back (carried.Malformed a) (carried.Malformed b) k = refl
+same_back (carried.Malformed a) _ k = absurd k
+
+hands_on : (plan : RouterPlan) (h : List Charge) (logs : handling.Logs) (now : ℕ) (from : Option ℕ) (p : PacketData) → Returns p
+    → Returns (handle plan h logs now from p).onward
+hands_on plan h logs now from p k =
+    subst IsReturn (sym
+    (same_back p.carried (handle plan h logs now from p).onward.carried (onward_keeps plan h logs now from p).carried)) k
+
+-- ## what is made
+
+abbrev Makes : Content → Type 0
+Makes c = (p : PacketData) → made_in c ≡ Some p → Returns p
+
+row_made : (number : ℕ) (plan : RouterPlan) (before : List Entry) (now : ℕ) (w : RowWhat) (c : Content) → RowReturns w
+    → option_map (arrived plan before now None) (packet_of_row (next_id number before) w) ≡ Some c → Makes c
+unfolding arrived
+row_made number plan before now (Send dst payload) c k e = absurd (cc)
+row_made number plan before now (Inject flow payload carries) c k e =
+    let p : PacketData = record { id = next_id number before; flow = flow; hops = 0; payload = payload; carried = carries } in
+    subst Makes (some_same (arrived plan before now None p) c e) (λ q i. subst Returns (some_same p q i) k)
+
+came_made : (plan : RouterPlan) (before : List Entry) (now link : ℕ) (p : PacketData) → Makes (arrived plan before now (Some link) p)
+unfolding arrived
+came_made plan before now link p q i = absurd (cc)
+
+routed_made : (number : ℕ) (plan : RouterPlan) (before : List Entry) (i : Input) (c : Content) → IsInputGood Returns RowReturns i
+    → routed number plan before i ≡ Some c → Makes c
+routed_made number plan before (FromTrace row) c k e = row_made number plan before row.time.0 row.what c k e
+routed_made number plan before (Arrival time link packet) c k e =
+    subst Makes (some_same (arrived plan before time.0 (Some link) packet) c e) (came_made plan before time.0 link packet)
+
+sent_returns : (s : Shape) → IsReturn (back_in (carried_by s))
+sent_returns s =
+    elim (is_legacy s) as (λ b. IsReturn
+    (back_in (cond b carried.Nothing (carried.Shim (shim_of s backs.Nothing))))) [ true ↦ tt | false ↦ tt ]
+
+made_returns : (number : ℕ) (plan : HostPlan) (h : History) (now : ℕ) (w : RowWhat) → RowReturns w
+    → Returns (made_for number plan h now w).packet
+unfolding intended
+made_returns number plan h now (Send dst payload) k = sent_returns (next_shape plan h now dst payload)
+made_returns number plan h now (Inject flow payload carries) k = k
+
+granted_returns : (rights : Option Rights) (precaps : List ℕ) → IfSome rights AreRights → IfSome (granted rights precaps) IsReturn
+granted_returns None precaps k = tt
+granted_returns (Some rights) precaps k = k
+
+notice_returns : (c : Carried) → IfSome (notice_for c) IsReturn
+notice_returns carried.Nothing = tt
+notice_returns (carried.Shim shim) =
+    elim (shim.demoted && shows_grant shim.kind && is_nothing shim.back) as
+    (λ b. IfSome (cond b (Some backs.Notice) None) IsReturn) [ true ↦ tt | false ↦ tt ]
+notice_returns (carried.Malformed size) = tt
+
+decided_rights : (plan : HostPlan) (deeds : List Deed) (src : Address) (tags : List ℕ) → AreRights plan.policy.rights
+    → IfSome (decision plan.policy deeds src tags) AreRights
+decided_rights plan deeds src tags k =
+    elim (is_granted plan.policy deeds src tags) as (λ b. IfSome
+    (cond b (Some plan.policy.rights) None) AreRights) [ true ↦ k | false ↦ tt ]
+
+answer_returns : (plan : HostPlan) (deeds : List Deed) (src : Address) (c : Carried) (claim : Option ClaimData)
+    → AreRights plan.policy.rights → IfSome (answer_to plan deeds src c claim) IsReturn
+answer_returns plan deeds src c None k = notice_returns c
+answer_returns plan deeds src c (Some claim) k =
+    granted_returns (decision plan.policy deeds src claim.tags) claim.precaps (decided_rights plan deeds src claim.tags k)
+
+reply_returns : (number : ℕ) (plan : HostPlan) (h : History) (now : ℕ) (src : Address) (answer : Option ReturnInfo)
+    → IfSome answer IsReturn → IfSome (reply_of number plan h now src answer) (λ (made : Made). Returns made.packet)
+reply_returns number plan h now src None k = tt
+reply_returns number plan h now src (Some back) k = k
+
+receipt_returns : (number : ℕ) (plan : HostPlan) (h : History) (now : ℕ) (p : PacketData) → AreRights plan.policy.rights
+    → IfSome (receipt_of number plan h now p).reply (λ (made : Made). Returns made.packet)
+unfolding receipt_of
+receipt_returns number plan h now p k =
+    let src : Address = p.flow.src in
+    elim (eqb p.flow.dst.0 plan.address.0) as (λ b. IfSome (cond b (receiving.received number plan h now src p.carried) stray).reply
+    (λ (made : Made). Returns made.packet)) [
+      | true ↦ reply_returns number plan (before_reply plan src p.carried h) now src
+          (answer_to plan h.deeds src p.carried (claim_in p.carried)) (answer_returns plan h.deeds src p.carried (claim_in p.carried) k)
+      | false ↦ tt
+    ]
+
+reply_made : (reply : Option Made) → IfSome reply (λ (made : Made). Returns made.packet) → (p : PacketData)
+    → option_map (λ (made : Made). made.packet) reply ≡ Some p → Returns p
+reply_made None k p e = absurd (cc)
+reply_made (Some made) k p e = subst Returns (some_same made.packet p e) k
+
+hosted_made : (site : Site) (plan : HostPlan) (before : List Entry) (i : Input) → AreRights plan.policy.rights
+    → IsInputGood Returns RowReturns i → Makes (hosted site plan before i)
+hosted_made site plan before (FromTrace row) rights k p e =
+    let h : History = history_of plan (calls before) in
+    subst Returns (some_same (made_for site.number plan h row.time.0 row.what).packet p e)
+    (made_returns site.number plan h row.time.0 row.what k)
+hosted_made site plan before (Arrival time link packet) rights k p e =
+    let h : History = history_of plan (calls before) in
+    reply_made (receipt_of site.number plan h time.0 packet).reply (receipt_returns site.number plan h time.0 packet rights) p e
+
+made_by : (site : Site) (plan : NodePlan) (before : List Entry) (i : Input) (c : Content) → IsPlanned plan site.links
+    → IsInputGood Returns RowReturns i → content_by site plan before i ≡ Some c → Makes c
+made_by site (plans.Router plan) before i c planned k e = routed_made site.number plan before i c k e
+made_by site (plans.Host plan) before i c planned k e =
+    subst Makes (some_same (hosted site plan before i) c e) (hosted_made site plan before i planned.0.rights k)
+
+-- ## in a run
+
+module _ (config : Config) (rows : List Row) (until : ℕ) (logs : Logs) (valid : IsConfig config)
+    (given : AreGiven config rows until logs) (run : IsRunTo config rows until logs) where
+  made_in_run : (node : ℕ) (site : Site) → site_at config node ≡ Some site → (before : List Entry) (input : Input) (c : Content)
+      (rest : List Entry) → log_at logs node ≡ before ++ Took input c ∷ rest
+      → content site before input ≡ Some c → IsInputGood Returns RowReturns input → Makes c
+  made_in_run node site is before input c rest here e k =
+      made_by site site.plan before input c (site_is config node site valid is).1.planned k e
+
+  pub all_return : (node : ℕ) (site : Site) → site_at config node ≡ Some site → AllByRecursion (IsEntryGood Returns RowReturns)
+      (log_at logs node)
+  all_return node site is = all_good Returns RowReturns hands_on config rows until logs valid run given.back made_in_run node site is
+
+  pub received_returns : (node : ℕ) (site : Site) → site_at config node ≡ Some site → (before : List Entry) (input : Input) (from : ℕ)
+      (p : PacketData) (receipt : Receipt) (went : Option Outcome) (rest : List Entry)
+      → log_at logs node ≡ before ++ Took input (Received from p receipt went) ∷ rest → IsReturn (back_in p.carried)
+  received_returns node site is before input from p receipt went rest here =
+      (at_place (IsEntryGood Returns RowReturns) (log_at logs node) before (Took input (Received from p receipt went)) rest here
+      (all_return node site is)).1.0

@@ -1,0 +1,504 @@
+-- In each run what comes on a steady path and shows a grant is charged and goes on as regular.
+use Rattle.std.proofs.Common.{◌≡◌, ◌≤◌, ◌<◌, ◌⊎◌, inl, inr, ℕ, Bool, true, false, cond, List, [], ◌∷◌, ◌++◌, map, filter, is_some, Option, Some, None, refl, ap, ap₂, sym, subst, ◌∙◌, arith, append_assoc}
+use Rattle.std.specs.Option.{option_map, IfSome}
+use Rattle.std.specs.List.{AllByRecursion, filter_map, cons_option}
+use Rattle.std.proofs.lemmas.List.Elements.{filter_map-append}
+use Rattle.tva_base.specs.declared.packet.Class.TheVariants.{Regular}
+use Rattle.tva_base.specs.declared.packet.Fate.{Fate}
+use Rattle.tva_base.specs.declared.packet.Flow.{Flow}
+use Rattle.tva_base.specs.declared.packet.Grant.{Grant}
+use Rattle.tva_base.specs.declared.packet.Outcome.{Outcome}
+use Rattle.tva_base.specs.declared.packet.PacketId.{PacketId}
+use Rattle.tva_base.specs.declared.packet.Time.{Time}
+use Rattle.tva_base.specs.declared.plan.HostPlan.{HostPlan}
+use Rattle.tva_base.specs.declared.plan.RouterPlan.{RouterPlan}
+use Rattle.tva_base.specs.Plan.{IsHostPlan}
+use Rattle.tva_shim.specs.Shims.{IsReturn}
+use Rattle.tva_shim.specs.Packets.{PacketData, packet_length}
+use Rattle.tva_shim.specs.Shows.{back_in}
+use Rattle.tva_flow.specs.Charges.{Charge, same_flow, of_flow, last_charge, holder}
+use Rattle.tva_flow.proofs.Same.{flow_is}
+use Rattle.tva_sender.specs.Contacts as contact
+use Rattle.tva_sender.specs.Contacts.{Contact, asked_at, time}
+use Rattle.tva_sender.specs.Played.{AreNext, IsPlayed}
+use Rattle.tva_router.specs.Handling.{arrival}
+use Rattle.tva_router.specs.Marks.{is_marked}
+use Rattle.tva_host.specs.declared.made.Receipt.{Receipt}
+use Rattle.tva_host.specs.Calls.{NeverFall}
+use Rattle.tva_host.proofs.Played as players
+use Rattle.tva_steady.specs.Miles.{Mile, contacts, charges_in, last_came}
+use Rattle.tva_steady.specs.Steady.{Way, ComesIn, IsPaid, IsSteady}
+use Rattle.tva_config.specs.declared.config.Config.{Config}
+use Rattle.tva_config.specs.declared.config.NodePlan.{NodePlan}
+use Rattle.tva_config.specs.declared.config.NodePlan.TheVariants as plans
+use Rattle.tva_config.specs.Valid.{IsConfig}
+use Rattle.tva_trace.specs.declared.rows.Row.{Row}
+use Rattle.tva_trace.specs.declared.rows.RowWhat.{RowWhat}
+use Rattle.tva_trace.specs.declared.rows.RowWhat.TheVariants.{Send, Inject}
+use Rattle.tva_joins.specs.Joins.{IsInOrder}
+use Rattle.tva_joins.proofs.Joins.{each-weaker, times_from}
+use Rattle.tva_log.specs.declared.kinds.Input.{Input}
+use Rattle.tva_log.specs.declared.kinds.Input.TheVariants.{FromTrace, Arrival}
+use Rattle.tva_log.specs.Sites.{Site, IsPlanned}
+use Rattle.tva_log.specs.Entries.{Arrived, Received, Entry, Took, Started, input_time, entry_time, entry_rank}
+use Rattle.tva_log.specs.Parts.{charged, charges, call_of_row, calls}
+use Rattle.tva_log.specs.NodeLog.{due}
+use Rattle.tva_run.specs.Reaching.{Logs, log_at, site_at}
+use Rattle.tva_run.specs.Run.{IsRunTo}
+use Rattle.tva_run.proofs.Sites.{site_is}
+use Rattle.tva_promises.specs.Honest.{ShowsGrant}
+use Rattle.tva_promises.specs.Promises.{KeepsPromises}
+use Rattle.tva_paths.specs.Origins.{made_in, Keeps, HasOrigin}
+use Rattle.tva_paths.specs.Deals.{Deal, Prepared, Granted, Noticed, Coming, coming, deals, comings}
+use Rattle.tva_paths.specs.Paths.{shows, ask_came, grant_came, ShowsMinted, ComesSteadily, IsSteadyPath, AreHonestRegular}
+use Rattle.tva_paths.proofs.Given.{AreGiven}
+use Rattle.tva_paths.proofs.Lists.{some_same, Rises, rises_from, rises_rest, rises_front, each_front, one_place}
+use Rattle.tva_paths.proofs.Walks.{at_place}
+use Rattle.tva_paths.proofs.Origins.{origin_at}
+use Rattle.tva_paths.proofs.Dealt.{shape_in, counted, contact_of}
+use Rattle.tva_paths.proofs.Hosts.{ordinal_of, made_at, entry_key, deal_key, takes, IsMadeIn, IsTrue, Told, told}
+use Rattle.tva_paths.proofs.Returns.{received_returns}
+use Rattle.tva_paths.proofs.Counts.{few_inputs}
+use Rattle.tva_paths.proofs.Matching.{In, come_key, keys, AreIn, Matches, in_place, in_append, in_behind, matched}
+use Rattle.tva_paths.proofs.Asks.{Asked, last_time, asked_place, come_is, ask_is}
+use Rattle.tva_paths.proofs.Comings.{paid_of, paid, claim, fate_at, claim_at, flow_charges, CameAt, came_place, paid_only, paid_place, each_paid}
+use Rattle.tva_paths.proofs.Miles.{Run, miles_of, authorised_since}
+use Rattle.tva_paths.proofs.Kept.{AreShims, are_shims, same_length, at_router, shown_as_made, shows_as_made}
+
+-- ## the times of a host's calls
+
+row_falls : (from now : ℕ) (what : RowWhat) (es : List Entry) → from ≤ now → NeverFall now (calls es)
+    → ((t : ℕ) → t ≤ now → NeverFall t (calls es)) → NeverFall from (call_of_row now what ∷ calls es)
+row_falls from now (Send dst payload) es l k all = (l, k)
+row_falls from now (Inject flow payload carries) es l k all = all from l
+
+never_fall : (from : ℕ) (es : List Entry) → AllByRecursion (λ e. from ≤ entry_time e) es → IsInOrder entry_time entry_rank es
+    → NeverFall from (calls es)
+never_fall from [] a o = tt
+never_fall from (Took (FromTrace row) c ∷ es) a o =
+    let later = (times_from entry_time entry_rank (Took (FromTrace row) c) es o).1 in
+    row_falls from row.time.0 row.what es a.0 (never_fall row.time.0 es later o.1)
+    (λ t l. never_fall t es (each-weaker (λ (e : Entry). row.time.0 ≤ entry_time e) (λ (e : Entry). t ≤ entry_time e)
+    (λ e k. omega arith) es later) o.1)
+never_fall from (Took (Arrival at link packet) c ∷ es) a o =
+    (a.0, never_fall at.0 es (times_from entry_time entry_rank (Took (Arrival at link packet) c) es o).1 o.1)
+never_fall from (Started at link class packet ∷ es) a o = never_fall from es a.1 o.1
+
+from_zero : (es : List Entry) → AllByRecursion (λ e. 0 ≤ entry_time e) es
+from_zero [] = tt
+from_zero (e ∷ es) = (omega arith, from_zero es)
+
+-- ## what is played begins with what is played
+
+played_front : (margin retry : ℕ) (before cs : List Contact) (c : Contact) (ds : List Contact)
+    → AreNext margin retry before (cs ++ c ∷ ds) → AreNext margin retry before (cs ++ c ∷ [])
+played_front margin retry before [] c ds k = (k.0, tt)
+played_front margin retry before (x ∷ cs) c ds k = (k.0, played_front margin retry (before ++ x ∷ []) cs c ds k.1)
+
+map_place : (before : List Deal) (d : Deal) (after : List Deal)
+    → map contact_of (before ++ d ∷ after) ≡ map contact_of before ++ contact_of d ∷ map contact_of after
+map_place [] d after = refl
+map_place (x ∷ xs) d after = ap (λ (cs : List Contact). contact_of x ∷ cs) (map_place xs d after)
+
+-- ## places
+
+each_by_place : (P : Coming → Type 0) (seen front ys : List Coming) → seen ≡ front ++ ys
+    → ((before : List Coming) (y : Coming) (after : List Coming) → seen ≡ before ++ y ∷ after → P y) → AllByRecursion P ys
+each_by_place P seen front [] e k = tt
+each_by_place P seen front (y ∷ ys) e k =
+    (k front y ys e, each_by_place P seen (front ++ y ∷ []) ys (e ∙ sym (append_assoc front (y ∷ []) ys)) k)
+
+abbrev deal_time : Deal → ℕ
+deal_time (Prepared t p) = t
+deal_time (Granted rights caps) = 0
+deal_time Noticed = 0
+
+-- ## those that were charged show grants, so they came in order
+
+abbrev shown_in : Coming → Bool
+shown_in y = shows y.packet.carried
+
+abbrev ShowsPaid : Coming → Type 0
+ShowsPaid y = is_some y.charge ≡ true → shows y.packet.carried ≡ true
+
+each_sub_by : (Q : ℕ → Type 0) (x y : Coming) (ys : List Coming) (s c : Bool) → (c ≡ true → s ≡ true)
+    → (AllByRecursion Q (map come_key (filter shown_in ys ++ x ∷ [])) → AllByRecursion Q (map come_key (paid ys)) × Q (come_key x))
+    → AllByRecursion Q (map come_key (cond s (y ∷ filter shown_in ys) (filter shown_in ys) ++ x ∷ []))
+    → AllByRecursion Q (map come_key (cons_option (cond c (Some y) None) (paid ys))) × Q (come_key x)
+each_sub_by Q x y ys true true k rest a = let r = rest a.1 in ((a.0, r.0), r.1)
+each_sub_by Q x y ys true false k rest a = rest a.1
+each_sub_by Q x y ys false true k rest a = (let e = k refl in absurd (cc))
+each_sub_by Q x y ys false false k rest a = rest a
+
+each_sub : (Q : ℕ → Type 0) (x : Coming) (ys : List Coming) → AllByRecursion ShowsPaid ys
+    → AllByRecursion Q (map come_key (filter shown_in ys ++ x ∷ [])) → AllByRecursion Q (map come_key (paid ys)) × Q (come_key x)
+each_sub Q x [] f a = (tt, a.0)
+each_sub Q x (y ∷ ys) f a = each_sub_by Q x y ys (shown_in y) (is_some y.charge) f.0 (λ b. each_sub Q x ys f.1 b) a
+
+-- in order, and before the last
+abbrev AreBefore : Coming → List ℕ → Type 0
+AreBefore x ns = Rises ns × AllByRecursion (λ n. n < come_key x) ns
+
+rises_sub_by : (x y : Coming) (ys : List Coming) (s c : Bool) → (c ≡ true → s ≡ true) → AllByRecursion ShowsPaid ys
+    → (Rises (map come_key (filter shown_in ys ++ x ∷ [])) → AreBefore x (map come_key (paid ys)))
+    → Rises (map come_key (cond s (y ∷ filter shown_in ys) (filter shown_in ys) ++ x ∷ []))
+    → AreBefore x (map come_key (cons_option (cond c (Some y) None) (paid ys)))
+rises_sub_by x y ys true true k f rest a =
+    let r = rest a.1 in
+    let sub = each_sub (λ n. come_key y < n) x ys f a.0 in
+    ((sub.0, r.0), (sub.1, r.1))
+rises_sub_by x y ys true false k f rest a = rest a.1
+rises_sub_by x y ys false true k f rest a = (let e = k refl in absurd (cc))
+rises_sub_by x y ys false false k f rest a = rest a
+
+rises_sub : (x : Coming) (ys : List Coming) → AllByRecursion ShowsPaid ys → Rises (map come_key (filter shown_in ys ++ x ∷ []))
+    → AreBefore x (map come_key (paid ys))
+rises_sub x [] f a = (tt, tt)
+rises_sub x (y ∷ ys) f a = rises_sub_by x y ys (shown_in y) (is_some y.charge) f.0 f.1 (λ b. rises_sub x ys f.1 b) a
+
+-- those that came before were prepared before
+prepared_before : (earlier : List Deal) (t : ℕ) (q : PacketData) (after : List Deal) (x : Coming) (ys : List Coming)
+    → q.id ≡ x.packet.id → Rises (keys (Prepared t q ∷ after))
+    → AllByRecursion (λ y. In (earlier ++ Prepared t q ∷ after) y.packet.id) ys → AllByRecursion (λ n. n < come_key x) (map come_key ys)
+    → AreIn earlier ys
+prepared_before earlier t q after x [] same r a b = tt
+prepared_before earlier t q after x (y ∷ ys) same r a b =
+    (by (in_append earlier (Prepared t q ∷ after) y.packet.id a.0), prepared_before earlier t q after x ys same r a.1 b.1)
+  where
+    less : come_key y < come_key x
+    less = b.0
+
+    own : q.id.ordinal ≡ x.packet.id.ordinal
+    own = ap (λ (i : PacketId). i.ordinal) same
+
+    by : In earlier y.packet.id ⊎ In (Prepared t q ∷ after) y.packet.id → In earlier y.packet.id
+    by (inl k) = k
+    by (inr (inl k)) =
+        absurd (let here : q.id.ordinal ≡ y.packet.id.ordinal = ap (λ (i : PacketId). i.ordinal) k in omega (arith, less, own, here))
+    by (inr (inr k)) = absurd (let more = in_behind (Prepared t q) after q.id y.packet.id r refl k in omega (arith, less, own, more))
+
+rises_behind : (before ds : List Deal) → Rises (keys (before ++ ds)) → Rises (keys ds)
+rises_behind [] ds r = r
+rises_behind (b ∷ bs) ds r = rises_behind bs ds (rises_rest (deal_key b) (keys (bs ++ ds)) r)
+
+-- a charge of what came
+charge_parts : (x : Coming) (o : Option Grant) (c : Charge) → x.charge ≡ o → option_map (charged x.time x.packet) o ≡ Some c
+    → (g : Grant) × (x.charge ≡ Some g) × (charged x.time x.packet g ≡ c)
+charge_parts x None c e k = absurd (cc)
+charge_parts x (Some g) c e k = (g, e, some_same (charged x.time x.packet g) c k)
+
+paying_by : (x : Coming) (xs : List Coming) (o : Option Grant) → x.charge ≡ o → AllByRecursion (λ y. is_some (paid_of y) ≡ true) xs
+    → AllByRecursion (λ y. is_some (paid_of y) ≡ true) (cons_option (cond (is_some o) (Some x) None) xs)
+paying_by x xs None e a = a
+paying_by x xs (Some g) e a = (ap (λ (o : Option Grant). is_some (option_map (charged x.time x.packet) o)) e, a)
+
+paying_all : (seen : List Coming) → AllByRecursion (λ y. is_some (paid_of y) ≡ true) (paid seen)
+paying_all [] = tt
+paying_all (x ∷ xs) = paying_by x (paid xs) x.charge refl (paying_all xs)
+
+-- ## in a run
+
+module _ (config : Config) (rows : List Row) (until : ℕ) (logs : Logs) (valid : IsConfig config)
+    (given : AreGiven config rows until logs) (run : IsRunTo config rows until logs)
+    (sender node : ℕ) (from to : Site) (host : HostPlan) (router : RouterPlan) (is_from : site_at config sender ≡ Some from)
+    (from_plan : from.plan ≡ plans.Host host)
+    (is_to : site_at config node ≡ Some to) (to_plan : to.plan ≡ plans.Router router)
+    (past : List Entry) (input : Input) (on : Option ℕ) (packet : PacketData) (fate : Fate) (onward : PacketData) (rest : List Entry)
+    (here : log_at logs node ≡ past ++ Took input (Arrived on packet fate onward) ∷ rest)
+    (unmarked : is_marked packet.carried ≡ false) (below : packet.hops < 32) (shown : shows packet.carried ≡ true) (delay : ℕ) where
+  abbrev own : List Deal
+  own = deals packet.flow.dst (log_at logs sender)
+
+  abbrev seen : List Coming
+  seen = comings packet.flow past
+
+  abbrev last : Coming
+  last = coming input packet fate
+
+  abbrev way : Way
+  way = record {
+    margin = host.margin;
+    retry = host.retry;
+    delay = delay;
+    flow = packet.flow;
+    master = router.master;
+    offset = router.clock_offset;
+    slots = router.slots;
+  }
+
+  abbrev Steadily : Coming → Type 0
+  Steadily y = ComesSteadily host router delay own seen y
+
+  -- ## the host
+
+  number : from.number ≡ sender
+  number = (site_is config sender from valid is_from).0
+
+  few : takes (log_at logs sender) < 18446744073709551615
+  few = few_inputs config rows until logs valid given run sender from is_from number
+
+  returns : (before : List Entry) (i : Input) (link : ℕ) (p : PacketData) (receipt : Receipt) (went : Option Outcome)
+      (after : List Entry) → log_at logs sender ≡ before ++ Took i (Received link p receipt went) ∷ after → IsReturn (back_in p.carried)
+  returns before i link p receipt went after e =
+      received_returns config rows until logs valid given run sender from is_from before i link p receipt went after e
+
+  told_all : Told from host from_plan packet.flow.dst (log_at logs sender) few returns (log_at logs sender)
+  told_all =
+      told from host from_plan packet.flow.dst (log_at logs sender) few returns (due until (run.each sender from is_from).inputs)
+      (run.each sender from is_from).is_log.steps
+
+  rises : Rises (keys own)
+  rises = told_all.dealt
+
+  planned : IsHostPlan host
+  planned =
+      (let k : IsPlanned (plans.Host host) from.links = subst (λ (p : NodePlan). IsPlanned p from.links) from_plan
+      (site_is config sender from valid is_from).1.planned in k.0)
+
+  is_played : IsPlayed host.margin host.retry (map contact_of own)
+  is_played =
+      let log : List Entry = log_at logs sender in
+      let falls : NeverFall 0 (calls log) = never_fall 0 log (from_zero log) (run.each sender from is_from).is_log.in_order in
+      subst (IsPlayed host.margin host.retry) told_all.contacts ((players.played host (calls log) falls).played packet.flow.dst)
+
+  -- ## the router
+
+  keeps : KeepsPromises to until (log_at logs node)
+  keeps = given.keeps node to is_to
+
+  came : (front : List Coming) (y : Coming) (back : List Coming) → seen ≡ front ++ y ∷ back
+      → CameAt to router to_plan until (log_at logs node) keeps packet.flow front y
+  came front y back e =
+      came_place to router to_plan until (log_at logs node) keeps packet.flow past
+      (Took input (Arrived on packet fate onward) ∷ rest) here front y back e
+
+  -- what came is as it was prepared
+  kept_at : (b : List Entry) (i : Input) (o : Option ℕ) (p : PacketData) (ft : Fate) (ow : PacketData) (r : List Entry)
+      → log_at logs node ≡ b ++ Took i (Arrived o p ft ow) ∷ r → (before : List Deal) (t : ℕ) (q : PacketData) (after : List Deal)
+      → own ≡ before ++ Prepared t q ∷ after → q.id ≡ p.id → Keeps q p
+  kept_at b i o p ft ow r h before t q after place same =
+      let log : List Entry = log_at logs sender in
+      let from_origin : HasOrigin logs p = origin_at config rows until logs valid run node to is_to b i (Arrived o p ft ow) r h p refl in
+      let m : IsMadeIn log q = at_place (IsTrue log) own before (Prepared t q) after place told_all.each in
+      let numbered : IfSome (made_in m.content) (λ (z : PacketData). z.id.node ≡ from.number) =
+      at_place (λ (e : Entry). IfSome (made_at e) (λ (z : PacketData). z.id.node ≡ from.number)) log m.before
+      (Took m.input m.content) m.rest m.here told_all.numbers in
+      let q_node : q.id.node ≡ from.number =
+      subst (λ (z : Option PacketData). IfSome z (λ (y : PacketData). y.id.node ≡ from.number)) m.makes numbered in
+      let p_node : p.id.node ≡ sender = ap (λ (z : PacketId). z.node) (sym same) ∙ (q_node ∙ number) in
+      let there : log ≡ from_origin.before ++ Took from_origin.input from_origin.content ∷ from_origin.rest = sym
+      (ap (log_at logs) p_node) ∙ from_origin.here in
+      let key : entry_key (Took m.input m.content) ≡ Some q.id.ordinal = ap (option_map ordinal_of) m.makes in
+      let other : entry_key (Took from_origin.input from_origin.content) ≡ Some q.id.ordinal =
+      ap (option_map ordinal_of) from_origin.makes ∙ ap (λ (z : PacketId). Some z.ordinal) (sym from_origin.keeps.id ∙ sym same) in
+      let s =
+      one_place entry_key m.before (Took m.input m.content) m.rest from_origin.before
+      (Took from_origin.input from_origin.content) from_origin.rest q.id.ordinal (sym m.here ∙ there) key other
+      (subst (λ (es : List Entry). Rises (filter_map entry_key es)) m.here told_all.entries) in
+      let made : q ≡ from_origin.made = some_same q from_origin.made (sym m.makes ∙ (ap made_at s.here ∙ from_origin.makes)) in
+      subst (λ (z : PacketData). Keeps z p) (sym made) from_origin.keeps
+
+  -- the place at which it was prepared is that of the steady path
+  one_deal : (before : List Deal) (t : ℕ) (q : PacketData) (after : List Deal) (c : List Deal) (u : ℕ) (p : PacketData) (d : List Deal)
+      → own ≡ before ++ Prepared t q ∷ after → own ≡ c ++ Prepared u p ∷ d → p.id ≡ q.id → (before ≡ c) × (t ≡ u)
+  one_deal before t q after c u p d place other same =
+      let s =
+      one_place deal_key before (Prepared t q) after c (Prepared u p) d q.id.ordinal (sym place ∙ other) refl
+      (ap (λ (z : PacketId). Some z.ordinal) same) (subst (λ (ds : List Deal). Rises (keys ds)) place rises) in
+      (s.before, ap deal_time s.here)
+
+  shows_charged : (b : List Entry) (i : Input) (o : Option ℕ) (p : PacketData) (ft : Fate) (ow : PacketData) (r : List Entry)
+      → log_at logs node ≡ b ++ Took i (Arrived o p ft ow) ∷ r → (k : Option Grant) → ft.charge ≡ k → is_some k ≡ true
+      → shows p.carried ≡ true
+  shows_charged b i o p ft ow r h None e s = absurd (cc)
+  shows_charged b i o p ft ow r h (Some g) e s =
+      (claim router (charges b) (arrival (input_time i) o p) p.carried g
+      (claim_at to router to_plan until (log_at logs node) keeps b i o p ft ow r h g e)).shown
+
+  shows_paid : AllByRecursion ShowsPaid seen
+  shows_paid = each_by_place ShowsPaid seen [] seen refl (λ front y back e.
+      (let c = came front y back e in subst ShowsPaid c.is
+      (λ s. shows_charged c.before c.input c.from c.packet c.fate c.onward c.rest c.here c.fate.charge refl s)))
+
+  -- the charge of what came steadily
+  pays_at : (b : List Entry) (i : Input) (o : Option ℕ) (p : PacketData) (ft : Fate) (ow : PacketData) (r : List Entry)
+      → log_at logs node ≡ b ++ Took i (Arrived o p ft ow) ∷ r → same_flow p.flow packet.flow ≡ true → is_marked p.carried ≡ false
+      → (before : List Deal) (t : ℕ) (q : PacketData) (after : List Deal) → own ≡ before ++ Prepared t q ∷ after → (front : List Coming)
+      → filter_map paid_of (comings packet.flow b) ≡ filter_map paid_of front
+      → q.id ≡ p.id → Steadily (coming i p ft) → (g : Grant) → ft.charge ≡ Some g → (ms : List Mile)
+      → last_came ms ≡ grant_came seen [] before → charges_in ms ≡ filter_map paid_of front
+      → IsPaid way ms t (shape_in q.carried) (counted q) (charged (input_time i) p g)
+  pays_at b i o p ft ow r h flow plain before t q after place front fr same cs g e ms lc ce =
+      let k = kept_at b i o p ft ow r h before t q after place same in
+      let cl = claim_at to router to_plan until (log_at logs node) keeps b i o p ft ow r h g e in
+      let ic = claim router (charges b) (arrival (input_time i) o p) p.carried g cl in
+      let v = are_shims q.carried p.carried k.carried plain ic.shown in
+      let s = one_deal before t q after cs.before cs.sent cs.packet cs.after place cs.place (cs.same ∙ sym same) in
+      let sent : t ≡ cs.sent = s.1 in
+      let came_eq : last_came ms ≡ grant_came seen [] cs.before = lc ∙ ap (grant_came seen []) s.0 in
+      let fl : packet.flow ≡ p.flow = sym (flow_is p.flow packet.flow flow) in
+      let hold : last_charge (charges_in ms) ≡ holder (charges b) p.flow =
+      ap last_charge (ce ∙
+      (sym fr ∙ sym (flow_charges to router to_plan until (log_at logs node) keeps packet.flow b (Took i (Arrived o p ft ow) ∷ r) h)))
+      ∙ ap (λ (z : Flow). last_charge (of_flow z (charges b))) fl in
+      let a = at_router way router p ms (charges b) (input_time i) fl refl refl hold in
+      let minted : IfSome (last_came ms) (λ u. ShowsMinted router p p.carried u) =
+      subst (λ (z : Option ℕ). IfSome z (λ u. ShowsMinted router p p.carried u)) (sym came_eq) cs.minted in
+      let after_delay = cs.from in
+      let within = cs.until in
+      record {
+        comes = record { from = omega (arith, sent, after_delay); until = omega (arith, sent, within) };
+        behind = subst (λ (z : Option ℕ). IfSome z (λ u. u ≤ input_time i)) (sym came_eq) (cs.behind ic.shown);
+        length = same_length q p k v;
+        shown = shown_as_made way router q p ms (charges b) (input_time i) a o (charged (input_time i) p g) v refl refl cl minted;
+      }
+
+  module _ (steady : IsSteadyPath host router delay own seen (charges past) last) where
+    abbrev earlier : List Deal
+    earlier = steady.last.before
+
+    abbrev tail : List Deal
+    tail = Prepared steady.last.sent steady.last.packet ∷ steady.last.after
+
+    comes_for : (before after : List Deal) (at : ℕ) → earlier ≡ before ++ after → ask_came seen before ≡ Some at → (ms : List Mile)
+        → contacts ms ≡ map contact_of before → IfSome (asked_at (contacts ms)) (λ (t : Time). ComesIn way t.0 at)
+    comes_for before after at front e ms same =
+        let c = ask_is seen before at e in
+        let i = come_is Steadily seen c.asked.id c.coming steady.each c.found in
+        let cs : Steadily c.coming = i.0 in
+        let p = asked_place before c.asked c.last in
+        let ask : Deal = Prepared c.asked.time p.packet in
+        let whole : own ≡ p.before ++ ask ∷ (p.after ++ (after ++ tail)) =
+        steady.last.place ∙ (ap (λ (ds : List Deal). ds ++ tail) (front ∙ ap (λ (ds : List Deal). ds ++ after) p.is) ∙
+        (append_assoc (p.before ++ ask ∷ p.after) after tail ∙ append_assoc p.before (ask ∷ p.after) (after ++ tail))) in
+        let s =
+        one_deal p.before c.asked.time p.packet (p.after ++ (after ++ tail)) cs.before cs.sent cs.packet cs.after whole cs.place
+        (cs.same ∙ (i.1 ∙ sym p.same)) in
+        let sent : c.asked.time ≡ cs.sent = s.1 in
+        let came_at : c.coming.time ≡ at = c.time in
+        let after_delay = cs.from in
+        let within = cs.until in
+        let asked : asked_at (contacts ms) ≡ Some (time c.asked.time) =
+        ap asked_at same ∙ (last_time before ∙ ap (option_map (λ (a : Asked). time a.time)) c.last) in
+        let comes : ComesIn way c.asked.time at =
+        record { from = omega (arith, sent, came_at, after_delay); until = omega (arith, sent, came_at, within) } in
+        subst (λ (o : Option Time). IfSome o (λ (t : Time). ComesIn way t.0 at)) (sym asked) comes
+
+    pays_for : (before : List Deal) (t : ℕ) (p : PacketData) (after : List Deal) (front : List Coming) (x : Coming) (back : List Coming)
+        → own ≡ before ++ Prepared t p ∷ after → paid seen ≡ front ++ x ∷ back
+        → p.id ≡ x.packet.id → (c : Charge) → paid_of x ≡ Some c → (ms : List Mile) → last_came ms ≡ grant_came seen [] before
+        → charges_in ms ≡ filter_map paid_of front
+        → IsPaid way ms t (shape_in p.carried) (counted p) c
+    pays_for before t p after front x back place picked same c pays ms lc ce =
+        let pa = paid_place seen front x back picked in
+        let ca = came pa.before x pa.after pa.is in
+        let cs = at_place Steadily seen pa.before x pa.after pa.is steady.each in
+        let parts = charge_parts x x.charge c refl pays in
+        let g : Grant = parts.0 in
+        let fr : filter_map paid_of (comings packet.flow ca.before) ≡ filter_map paid_of front =
+        ap (filter_map paid_of) ca.front_is ∙ (paid_only pa.before ∙ ap (filter_map paid_of) pa.front_is) in
+        let pay : p.id ≡ x.packet.id → Steadily x → x.charge ≡ Some g → IsPaid way ms t (shape_in p.carried) (counted p)
+        (charged x.time x.packet g) =
+        subst (λ (y : Coming). p.id ≡ y.packet.id → Steadily y → y.charge ≡ Some g → IsPaid way ms t (shape_in p.carried) (counted p)
+        (charged y.time y.packet g)) ca.is
+        (λ k s e. pays_at ca.before ca.input ca.from ca.packet ca.fate ca.onward ca.rest ca.here ca.flow ca.unmarked
+        before t p after place front fr k s g e ms lc ce) in
+        subst (IsPaid way ms t (shape_in p.carried) (counted p)) parts.2 (pay same cs parts.1)
+
+    in_order : AreBefore last (map come_key (paid seen))
+    in_order = rises_sub last seen shows_paid (rises_from (map come_key (filter shown_in seen ++ last ∷ [])) steady.order)
+
+    whole_rises : Rises (keys (earlier ++ tail))
+    whole_rises = subst (λ (ds : List Deal). Rises (keys ds)) steady.last.place rises
+
+    ins : AreIn earlier (paid seen)
+    ins =
+        prepared_before earlier steady.last.sent steady.last.packet steady.last.after last (paid seen) steady.last.same
+        (rises_behind earlier tail whole_rises)
+        (each_paid (λ (y : Coming). In (earlier ++ tail) y.packet.id) seen
+        (each-weaker Steadily (λ (y : Coming). In (earlier ++ tail) y.packet.id)
+        (λ y cs. subst (λ (ds : List Deal). In ds y.packet.id) (sym cs.place ∙ steady.last.place)
+        (in_place cs.before cs.sent cs.packet cs.after y.packet.id cs.same)) seen steady.each))
+        in_order.1
+
+    fine : AllByRecursion (IsTrue (log_at logs sender)) earlier
+    fine =
+        each_front (IsTrue (log_at logs sender)) earlier tail
+        (subst (AllByRecursion (IsTrue (log_at logs sender))) steady.last.place told_all.each)
+
+    match : Matches earlier (paid seen)
+    match =
+        matched earlier (paid seen) (rises_front (keys earlier) (keys tail)
+        (subst Rises (filter_map-append deal_key earlier tail) whole_rises)) in_order.0 ins
+
+    miles : Run way seen (log_at logs sender) own earlier tail steady.last.place rises comes_for steady.asked pays_for
+        (paying_all seen) earlier (paid seen)
+    miles =
+        miles_of way seen (log_at logs sender) own earlier tail steady.last.place rises comes_for steady.asked pays_for
+        (paying_all seen) fine match
+
+    kept : Keeps steady.last.packet packet
+    kept =
+        kept_at past input on packet fate onward rest here
+        steady.last.before steady.last.sent steady.last.packet steady.last.after steady.last.place steady.last.same
+
+    shims : AreShims steady.last.packet.carried packet.carried
+    shims = are_shims steady.last.packet.carried packet.carried kept.carried unmarked shown
+
+    played_here : IsPlayed host.margin host.retry (contacts miles.miles ++ contact.Prepared steady.last.sent
+        (shape_in steady.last.packet.carried) (packet_length packet) ∷ [])
+    played_here =
+        let q : PacketData = steady.last.packet in
+        let split : map contact_of own ≡ map contact_of earlier ++ contact_of
+        (Prepared steady.last.sent q) ∷ map contact_of steady.last.after = ap (map contact_of) steady.last.place ∙ map_place earlier
+        (Prepared steady.last.sent q) steady.last.after in
+        let front =
+        played_front host.margin host.retry [] (map contact_of earlier) (contact_of (Prepared steady.last.sent q))
+        (map contact_of steady.last.after) (subst (IsPlayed host.margin host.retry) split is_played) in
+        let size : counted q ≡ packet_length packet = sym (same_length q packet kept shims) in
+        subst (IsPlayed host.margin host.retry)
+        (ap₂ (λ (cs : List Contact) (n : ℕ). cs ++ contact.Prepared steady.last.sent (shape_in q.carried) n ∷ [])
+        (sym miles.contacts_are) size)
+        front
+
+    charged_so : of_flow packet.flow (charges past) ≡ charges_in miles.miles
+    charged_so =
+        flow_charges to router to_plan until (log_at logs node) keeps packet.flow past
+        (Took input (Arrived on packet fate onward) ∷ rest) here ∙ (paid_only seen ∙ sym miles.charges_are)
+
+    is_steady : IsSteady way (charges past) miles.miles steady.last.sent (shape_in steady.last.packet.carried) (packet_length packet)
+        (input_time input)
+    is_steady = record {
+      rules = planned.retry.0;
+      played = played_here;
+      miles = miles.are;
+      charges = charged_so;
+      comes = record { from = steady.last.from; until = steady.last.until };
+      behind = subst (λ (o : Option ℕ). IfSome o (λ u. u ≤ input_time input)) (sym miles.came) (steady.last.behind shown);
+      authorised = authorised_since way seen
+          (log_at logs sender) own earlier tail steady.last.place rises comes_for steady.asked pays_for
+          (paying_all seen) miles steady.paid;
+      room = steady.room;
+    }
+
+    shows_it : ShowsGrant way miles.miles (shape_in steady.last.packet.carried) packet.carried
+    shows_it =
+        let a =
+        at_router way router packet miles.miles (charges past) (input_time input) refl refl refl (ap last_charge (sym charged_so)) in
+        shows_as_made way router steady.last.packet packet miles.miles (charges past) (input_time input) a shims
+        (subst (λ (o : Option ℕ). IfSome o (λ u. ShowsMinted router packet packet.carried u)) (sym miles.came) steady.last.minted)
+
+    pub regular : (is_some fate.charge ≡ true) × (fate.class ≡ Regular)
+    regular =
+        (fate_at to router to_plan until
+        (log_at logs node) keeps past input on packet fate onward rest here).honest way miles.miles steady.last.sent
+        (shape_in steady.last.packet.carried) below
+        (record { flow_is = refl; master_is = refl; offset_is = refl; slots_are = refl }) is_steady shows_it
+
+-- so it is in each run
+pub honest_regular : (config : Config) (rows : List Row) (until : ℕ) (logs : Logs) → IsConfig config → AreGiven config rows until logs
+    → IsRunTo config rows until logs → AreHonestRegular config logs
+honest_regular config rows until logs valid given run sender node from to host router is_from from_plan is_to to_plan
+    past input on packet fate onward rest here unmarked below shown delay steady =
+    regular config rows until logs valid given run sender node from to host router is_from from_plan is_to to_plan
+    past input on packet fate onward rest here unmarked below shown delay steady

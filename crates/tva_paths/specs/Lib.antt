@@ -1,0 +1,4 @@
+pub mod Origins
+pub mod Deals
+pub mod Paths
+pub mod Walk
