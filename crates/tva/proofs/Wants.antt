@@ -16,11 +16,13 @@ use Rattle.tva_trace.proofs.OneList.{rows_are_one}
 use Rattle.tva_run.proofs.Runs.{are_delayed}
 use Rattle.tva_run.proofs.Reports.{no_more_events}
 use Rattle.tva_promises.proofs.Runs.{read_run_keeps}
+use Rattle.tva_paths.proofs.Read.{read_given}
+use Rattle.tva_paths.proofs.Steady.{honest_regular}
 use Rattle.tva_gen.specs.Text.{generated}
 use Rattle.tva.specs.Check.{check_line}
 use Rattle.tva.specs.Command.{Command, command_of, replay, check, shim, gen}
 use Rattle.tva.specs.Expected.{Expected, writes, shows, replays, lacks, exceeds, misconfigured, mistraced, Found, followed, ◌>>=◌, within_limit, plan_at, plan_or_fault, trace_or_fault, of_plan, told, EndsReplay}
-use Rattle.tva.specs.Network.{ArePromisesKept}
+use Rattle.tva.specs.Network.{ArePromisesKept, AreHonestTaken}
 use Rattle.tva.specs.Replayed.{IsPastLimit, IsWithinLimit}
 use Rattle.tva.specs.Wanted.{wanted, HasOneEnd}
 use Rattle.tva.specs.declared.status.Status as status
@@ -107,6 +109,24 @@ kept_of_each = record {
 -- every run of a trace that is to be replayed keeps its promises
 pub kept_of_wanted : (held : Option Held) (words : List (List ℕ)) → IfSome (wanted held words) ArePromisesKept
 kept_of_wanted held words = of_wanted ArePromisesKept kept_of_each held words
+
+-- ## honest senders
+
+honest_of_each : HoldsOfEach AreHonestTaken
+honest_of_each = record {
+  of_text = λ text. tt;
+  of_shim = λ bytes. tt;
+  of_trace =
+      λ plan trace valid rows are until logs run. honest_regular plan rows until logs valid (read_given plan trace rows until logs valid are run) run;
+  of_nothing = tt;
+  of_size = λ k. tt;
+  of_config_fault = λ fault. tt;
+  of_trace_fault = λ fault. tt;
+}
+
+-- and takes what honest senders show
+pub honest_of_wanted : (held : Option Held) (words : List (List ℕ)) → IfSome (wanted held words) AreHonestTaken
+honest_of_wanted held words = of_wanted AreHonestTaken honest_of_each held words
 
 -- ## one end
 

@@ -7,6 +7,7 @@ use Rattle.tva_log.specs.Sites.{Site}
 use Rattle.tva_run.specs.Reaching.{Logs, log_at, site_at}
 use Rattle.tva_run.specs.Run.{IsRunTo}
 use Rattle.tva_promises.specs.Promises.{KeepsPromises}
+use Rattle.tva_paths.specs.Paths.{AreHonestRegular}
 use Rattle.tva.specs.Expected.{Expected, replays}
 
 -- in every run up to any time the log of each node keeps its promises
@@ -19,3 +20,10 @@ EachKeepsPromises plan rows =
 abbrev pub ArePromisesKept : Expected → Type 0
 ArePromisesKept (replays plan trace) = (rows : List Row) → AreRows plan trace rows → EachKeepsPromises plan rows
 ArePromisesKept x = Unit {0}
+
+-- in every run of a trace that is to be replayed, up to any time, what an honest sender shows is regular at each router to
+-- which its path is steady
+abbrev pub AreHonestTaken : Expected → Type 0
+AreHonestTaken (replays plan trace) = (rows : List Row) → AreRows plan trace rows
+    → (until : ℕ) (logs : Logs) → IsRunTo plan rows until logs → AreHonestRegular plan logs
+AreHonestTaken x = Unit {0}

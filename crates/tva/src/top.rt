@@ -7,7 +7,7 @@ ghost use Rattle.tva.specs.Asked.{asked};
 ghost use Rattle.tva.specs.Command.{command_of, texts, replay, check, shim, gen};
 ghost use Rattle.tva.specs.Expected.{told, shows, lacks, exceeds, misconfigured, mistraced};
 ghost use Rattle.tva.specs.Answer.{Answers, BeginsEach, WroteAll, WroteEach, WroteLines, WrotePart};
-ghost use Rattle.tva.specs.Network.{ArePromisesKept};
+ghost use Rattle.tva.specs.Network.{AreHonestTaken, ArePromisesKept};
 ghost use Rattle.tva.specs.Wanted.{wanted, HasOneEnd, IsRefusal, Settles, SettlesRefusal};
 
 use crate::check::put_check_line;
@@ -72,6 +72,10 @@ pub fn run<R: Threads + Sync, S: Shelf, W: Sink, G: Gate>(
     // The network, whatever the answer: in every run of a trace that is to be replayed, up to any
     // time, the log of each node keeps its promises at each of its places.
     ensures network { IfSome (wanted (S.held shelf.old) (texts words.now)) ArePromisesKept }
+
+    // Honest senders, in each such run: what shows a grant is charged and regular at each router to
+    // which the path of its host is steady.
+    ensures honest { IfSome (wanted (S.held shelf.old) (texts words.now)) AreHonestTaken }
 
     // What stays. Usage leaves the shelf and the sink as they were, whatever they are.
     ensures held { S.held shelf.new ≡ S.held shelf.old }

@@ -12,4 +12,5 @@ pub mod Comings
 pub mod Miles
 pub mod Kept
 pub mod Steady
+pub mod Read
 pub mod Walked

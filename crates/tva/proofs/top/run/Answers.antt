@@ -1,5 +1,5 @@
 use Rattle.tva.specs.Command.{texts}
-use Rattle.tva.proofs.Wants.{kept_of_wanted, one_end_of_wanted}
+use Rattle.tva.proofs.Wants.{kept_of_wanted, honest_of_wanted, one_end_of_wanted}
 use Rattle.tva.proofs.top.run.Goals as goal
 
 pub returns-in-Some-clause-one_end : goal.returns-in-Some-clause-one_end
@@ -7,3 +7,6 @@ returns-in-Some-clause-one_end g c = one_end_of_wanted (g.S.Shelf.held c.args.sh
 
 pub returns-in-Some-clause-network : goal.returns-in-Some-clause-network
 returns-in-Some-clause-network g c = kept_of_wanted (g.S.Shelf.held c.args.shelf.now) (texts c.args.words.now)
+
+pub returns-in-Some-clause-honest : goal.returns-in-Some-clause-honest
+returns-in-Some-clause-honest g c = honest_of_wanted (g.S.Shelf.held c.args.shelf.now) (texts c.args.words.now)
