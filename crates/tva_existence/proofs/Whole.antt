@@ -1,0 +1,44 @@
+-- A configuration and a trace have a run up to each time, its events, and a report.
+use Rattle.std.proofs.Common.{ℕ, ◌+◌, ◌≤◌, List, refl, arith}
+use Rattle.tva_base.specs.declared.event.Event.{Event}
+use Rattle.tva_config.specs.declared.config.Config.{Config}
+use Rattle.tva_config.specs.Valid.{IsConfig}
+use Rattle.tva_trace.specs.declared.rows.Row.{Row}
+use Rattle.tva_trace.specs.Meaning.{AreRows}
+use Rattle.tva_trace.specs.Valid.{AreTraceRows}
+use Rattle.tva_run.specs.Reaching.{Logs}
+use Rattle.tva_run.specs.Run.{IsRunTo}
+use Rattle.tva_run.specs.Report.{AreEventsTo, IsReport, report_of}
+use Rattle.tva_existence.proofs.Placed.{read_placed, traced_placed}
+use Rattle.tva_existence.proofs.There.{run_to, told}
+
+module _ (config : Config) (rows : List Row) (valid : IsConfig config) where
+  events_of : (until : ℕ) → (logs : Logs) × IsRunTo config rows until logs → (es : List Event) × AreEventsTo config rows until es
+  events_of until (logs, run) =
+      let t = told config rows until logs run in
+      (t.0, record { logs = logs; run = run; events = t.1 })
+
+  report_there : (logs : Logs) × IsRunTo config rows (config.horizon.0 + 1) logs → (text : List ℕ) × IsReport config rows text
+  report_there run =
+      let es = events_of (config.horizon.0 + 1) run in
+      (report_of config es.0, record { told = es.0; events = es.1; whole = refl })
+
+  -- the rows of a trace
+  pub traced_run : AreTraceRows config rows → (until : ℕ) → until ≤ config.horizon.0 + 1 → (logs : Logs) × IsRunTo config rows until logs
+  traced_run trace until within = run_to config rows valid trace.order (traced_placed config rows trace.each) until within
+
+  pub traced_report : AreTraceRows config rows → (text : List ℕ) × IsReport config rows text
+  traced_report trace = report_there (traced_run trace (config.horizon.0 + 1) (omega arith))
+
+  -- the rows that a text stands for
+  pub read_run : (text : List ℕ) → AreRows config text rows → (until : ℕ) → until ≤ config.horizon.0 + 1
+      → (logs : Logs) × IsRunTo config rows until logs
+  read_run text are until within =
+      let placed = read_placed config text rows are in
+      run_to config rows valid placed.0 placed.1 until within
+
+  pub read_events : (text : List ℕ) → AreRows config text rows → (es : List Event) × AreEventsTo config rows (config.horizon.0 + 1) es
+  read_events text are = events_of (config.horizon.0 + 1) (read_run text are (config.horizon.0 + 1) (omega arith))
+
+  pub read_report : (text : List ℕ) → AreRows config text rows → (report : List ℕ) × IsReport config rows report
+  read_report text are = report_there (read_run text are (config.horizon.0 + 1) (omega arith))
