@@ -1,5 +1,5 @@
--- What holds of all that words can come to: its runs keep their promises, and it is to end in one way at most.
-use Rattle.std.proofs.Common.{◌≡◌, ℕ, ◌+◌, Bool, true, false, cond, List, length, Result, Ok, Err, Some, None, IfSome, refl, sym, ap, subst, ◌∙◌, arith}
+-- What holds of all that words can come to: its runs keep their promises, and it is to end in just one way.
+use Rattle.std.proofs.Common.{◌≡◌, ℕ, ◌+◌, Bool, true, false, cond, List, length, Result, Ok, Err, Some, None, IfSome, refl, ap, inl, inr, arith}
 use Rattle.std.specs.declared.option.Option.{Option}
 use Rattle.std.specs.Prelude.{nat_lt, option_and_then}
 use Rattle.tva_outside.specs.Held.{Held, bytes_at}
@@ -12,19 +12,22 @@ use Rattle.tva_trace.specs.declared.rows.Row.{Row}
 use Rattle.tva_trace.specs.declared.rows.TraceFault.{TraceFault}
 use Rattle.tva_trace.specs.declared.said.SaidRow.{SaidRow}
 use Rattle.tva_trace.specs.Rows.{rows_of}
-use Rattle.tva_trace.proofs.OneList.{rows_are_one}
+use Rattle.std.proofs.lemmas.Bool.{cases_lt}
+use Rattle.tva_base.specs.declared.event.Event.{Event}
+use Rattle.tva_run.specs.Report.{AreEventsTo, report_of}
 use Rattle.tva_run.proofs.Runs.{are_delayed}
 use Rattle.tva_run.proofs.Reports.{no_more_events}
 use Rattle.tva_promises.proofs.Runs.{read_run_keeps}
 use Rattle.tva_paths.proofs.Read.{read_given}
 use Rattle.tva_paths.proofs.Steady.{honest_regular}
+use Rattle.tva_existence.proofs.Whole.{read_events}
 use Rattle.tva_gen.specs.Text.{generated}
 use Rattle.tva.specs.Check.{check_line}
 use Rattle.tva.specs.Command.{Command, command_of, replay, check, shim, gen}
 use Rattle.tva.specs.Expected.{Expected, writes, shows, replays, lacks, exceeds, misconfigured, mistraced, Found, followed, ◌>>=◌, within_limit, plan_at, plan_or_fault, trace_or_fault, of_plan, told, EndsReplay}
 use Rattle.tva.specs.Network.{ArePromisesKept, AreHonestTaken}
 use Rattle.tva.specs.Replayed.{IsPastLimit, IsWithinLimit}
-use Rattle.tva.specs.Wanted.{wanted, HasOneEnd}
+use Rattle.tva.specs.Wanted.{wanted, HasOneEnd, IsOneEnd}
 use Rattle.tva.specs.declared.status.Status as status
 use Rattle.tva.specs.declared.status.Status.TheVariants.{Done, Usage, ReadFault, WriteFault, TooLarge, BadConfig, BadTrace, EventLimit, OutOfMemory}
 
@@ -158,33 +161,33 @@ module _ (plan : Config) (rows : List Row) (valid : IsConfig plan) where
   past_ends (EventLimit m) p o = ap EventLimit o.0
   past_ends OutOfMemory p o = absurd o
 
-  replay_ends : (s other : status.Status) → EndsReplay plan rows s → EndsReplay plan rows other → other ≡ s
-  replay_ends Done other e o = within_ends other e o
-  replay_ends Usage other e o = absurd e
-  replay_ends ReadFault other e o = absurd e
-  replay_ends WriteFault other e o = absurd e
-  replay_ends (TooLarge k) other e o = absurd e
-  replay_ends (BadConfig fault) other e o = absurd e
-  replay_ends (BadTrace fault) other e o = absurd e
-  replay_ends (EventLimit m) other e o = past_ends other e.1 o ∙ sym (ap EventLimit e.0)
-  replay_ends OutOfMemory other e o = absurd e
+  -- how many events the whole run has decides it
+  one_end : (told : List Event) → AreEventsTo plan rows (plan.horizon.0 + 1) told → IsOneEnd (EndsReplay plan rows)
+  one_end told events = elim (cases_lt plan.max_events (length told)) [
+    | inl more ↦
+        let past : IsPastLimit plan rows = record { until = plan.horizon.0 + 1; told = told; events = events; more = more } in
+        (EventLimit plan.max_events, (refl, past), λ other o. past_ends other past o)
+    | inr few ↦
+        let within : IsWithinLimit plan rows = (report_of plan told, record { told = told; events = events; few = few; whole = refl }) in
+        (Done, within, λ other o. within_ends other within o)
+  ]
 
 end_of_trace : (plan : Config) (trace : List ℕ) → IsConfig plan → HasOneEnd (replays plan trace)
-end_of_trace plan trace valid s other (rows, are, ends) (others, theirs, o) =
-    replay_ends plan rows valid s other ends
-    (subst (λ (rs : List Row). EndsReplay plan rs other) (rows_are_one plan trace others rows theirs are) o)
+end_of_trace plan trace valid rows are =
+    let events = read_events plan rows valid trace are in
+    one_end plan rows valid events.0 events.1
 
 one_end_of_each : HoldsOfEach HasOneEnd
 one_end_of_each = record {
-  of_text = λ text s other e o. o ∙ sym e;
-  of_shim = λ bytes s other e o. o ∙ sym e;
+  of_text = λ text. (Done, refl, λ other o. o);
+  of_shim = λ bytes. (Done, refl, λ other o. o);
   of_trace = end_of_trace;
-  of_nothing = λ s other e o. o ∙ sym e;
-  of_size = λ k s other e o. o ∙ sym e;
-  of_config_fault = λ fault s other e o. o ∙ sym e;
-  of_trace_fault = λ fault s other e o. o ∙ sym e;
+  of_nothing = (ReadFault, refl, λ other o. o);
+  of_size = λ k. (TooLarge k, refl, λ other o. o);
+  of_config_fault = λ fault. (BadConfig fault, refl, λ other o. o);
+  of_trace_fault = λ fault. (BadTrace fault, refl, λ other o. o);
 }
 
--- what words come to ends in one way at most
+-- what words come to ends in just one way
 pub one_end_of_wanted : (held : Option Held) (words : List (List ℕ)) → IfSome (wanted held words) HasOneEnd
 one_end_of_wanted held words = of_wanted HasOneEnd one_end_of_each held words

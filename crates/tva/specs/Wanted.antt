@@ -2,8 +2,10 @@
 use Rattle.std.specs.Prelude.{◌≡◌, ◌⊎◌, ℕ, List, option_and_then}
 use Rattle.std.specs.declared.option.Option.{Option}
 use Rattle.tva_outside.specs.Held.{Held}
+use Rattle.tva_trace.specs.declared.rows.Row.{Row}
+use Rattle.tva_trace.specs.Meaning.{AreRows}
 use Rattle.tva.specs.Command.{command_of}
-use Rattle.tva.specs.Expected.{Expected, writes, shows, replays, lacks, exceeds, misconfigured, mistraced, told, Ends}
+use Rattle.tva.specs.Expected.{Expected, writes, shows, replays, lacks, exceeds, misconfigured, mistraced, told, Ends, EndsReplay}
 use Rattle.tva.specs.declared.status.Status as status
 use Rattle.tva.specs.declared.status.Status.TheVariants.{Done, WriteFault, EventLimit, OutOfMemory}
 
@@ -33,7 +35,11 @@ SettlesRefusal s (exceeds k) = Settles s (exceeds k)
 SettlesRefusal s (misconfigured fault) = Settles s (misconfigured fault)
 SettlesRefusal s (mistraced fault) = Settles s (mistraced fault)
 
--- it is to end in one way at most: the run of a trace is within the number of events that it may have, or passes it,
--- and never both
+-- there is one way to end so, and no other
+abbrev pub IsOneEnd : (status.Status → Type 0) → Type 0
+IsOneEnd ends = (s : status.Status) × ends s × ((other : status.Status) → ends other → other ≡ s)
+
+-- it is to end in just one way: the run of a trace is within the number of events that it may have, or passes it
 abbrev pub HasOneEnd : Expected → Type 0
-HasOneEnd x = (s other : status.Status) → Ends s x → Ends other x → other ≡ s
+HasOneEnd (replays plan trace) = (rows : List Row) → AreRows plan trace rows → IsOneEnd (EndsReplay plan rows)
+HasOneEnd x = IsOneEnd (λ s. Ends s x)

@@ -61,8 +61,8 @@ pub fn run<R: Threads + Sync, S: Shelf, W: Sink, G: Gate>(
     ensures nothing { IsRefusal result → W.written out.new ≡ W.written out.old }
 
     // Where no count rises it comes to what is wanted, unless memory runs out; and to each refusal
-    // of what is read where no load fails. What is wanted is one: no run is within its number of
-    // events and past it.
+    // of what is read where no load fails. There is just one way in which it is to end: the run of a
+    // trace is within its number of events, or passes it.
     ensures complete { ¬ Rose (S.faults shelf.old) (S.faults shelf.new) → ¬ Rose (W.faults out.old) (W.faults out.new) →
         IfSome (wanted (S.held shelf.old) (texts words.now)) (Settles result) }
     ensures refused { ¬ Rose (S.faults shelf.old) (S.faults shelf.new) →
