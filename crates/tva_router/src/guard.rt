@@ -13,6 +13,7 @@ ghost use Rattle.tva_router.specs.Steps.{IsGuard, MayJudge, Keeps, grant_in};
 ghost use Rattle.tva_router.specs.Tables.{ArePlaces};
 
 use crate::judged::{Arrival, Judged};
+use crate::key::flow_key;
 use crate::places::{place_of, places_of};
 use std::alloc::{AllocError, Global};
 use std::collections::HashMap;
@@ -36,9 +37,10 @@ impl Guard {
         ensures guard { IfOk result (λ guard. IsGuard plan.now 0 guard) }
         ensures stands { IfOk result (λ guard. StandsFor guard.cache []) }
     {
+        let key = flow_key(&plan.master);
         Ok(Guard {
             minter: Minter::new(plan.master, plan.clock_offset),
-            cache: FlowCache::with_slots(alloc, plan.slots, plan.clock_offset)?,
+            cache: FlowCache::with_slots_keyed(alloc, plan.slots, plan.clock_offset, key)?,
             incoming: places_of(alloc, plan.incoming.as_slice())?,
         })
     }

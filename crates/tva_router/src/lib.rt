@@ -6,6 +6,7 @@
 mod finding;
 mod guard;
 mod judged;
+mod key;
 mod laws;
 mod places;
 mod router;

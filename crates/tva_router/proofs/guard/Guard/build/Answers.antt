@@ -8,9 +8,9 @@ pub returns-clause-guard : goal.returns-clause-guard
 returns-clause-guard c = record {
   master = ap (λ (z : MinterState). z.master) c.new.ensures;
   clock = ap (λ (z : MinterState). z.clock_offset) c.new.ensures;
-  slots = ap (λ (z : Cache). z.slots) c.in_ok-with_slots.ensures.value;
-  offset = ap (λ (z : Cache). z.offset) c.in_ok-with_slots.ensures.value;
+  slots = ap (λ (z : Cache). z.slots) c.in_ok-with_slots_keyed.ensures.value;
+  offset = ap (λ (z : Cache). z.offset) c.in_ok-with_slots_keyed.ensures.value;
   minted = omega (arith, ap (λ (z : MinterState). z.last) c.new.ensures);
-  charged = omega (arith, ap (λ (z : Cache). z.last) c.in_ok-with_slots.ensures.value);
+  charged = omega (arith, ap (λ (z : Cache). z.last) c.in_ok-with_slots_keyed.ensures.value);
   incoming = subst (λ (z : List (ℕ × ℕ)). ArePlaces z c.in_ok-places_of.field-0) c.as_slice.ensures c.in_ok-places_of.ensures;
 }
