@@ -2,3 +2,4 @@ pub mod Digits
 pub mod Dotted
 pub mod Lives
 pub mod Prefixes
+pub mod Widths

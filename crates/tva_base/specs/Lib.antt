@@ -6,3 +6,4 @@ pub mod Lives
 pub mod Options
 pub mod Ordinals
 pub mod Plan
+pub mod Versions

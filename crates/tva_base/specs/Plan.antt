@@ -1,16 +1,11 @@
 -- Which plans and limits are valid.
 use Rattle.std.specs.Prelude.{◌≡◌, ◌<◌, ◌≤◌, ℕ, ◌+◌, ◌-◌, ◌^◌, ◌%◌, List, [], ◌∷◌, All, Contains, map}
-use Rattle.tva_base.specs.declared.packet.Rights.{Rights}
 use Rattle.tva_base.specs.declared.addresses.Prefix.{Prefix}
 use Rattle.tva_base.specs.declared.limits.DrrLimits.{DrrLimits}
 use Rattle.tva_base.specs.declared.limits.LinkLimits.{LinkLimits}
 use Rattle.tva_base.specs.declared.plan.RouterPlan.{RouterPlan}
 use Rattle.tva_base.specs.declared.plan.HostPlan.{HostPlan}
-
--- rights that a shim can carry
-pub record AreRights (r : Rights) : Type 0 where
-  pub units : r.n ≤ 1023
-  pub seconds : r.t ≤ 63
+use Rattle.tva_base.specs.Versions.{AreRights, IsVersion}
 
 -- limits under which there may be fair queues
 pub record AreDrrLimits (l : DrrLimits) : Type 0 where
@@ -70,4 +65,5 @@ pub record IsHostPlan (p : HostPlan) : Type 0 where
   pub nonce : p.nonce < 2 ^ 48
   pub margin : p.margin ≤ 1000000000000
   pub retry : (1000000000 + p.margin ≤ p.retry) × (p.retry ≤ 10000000000000)
-  pub rights : AreRights p.policy.rights
+  pub version : IsVersion p.version
+  pub rights : AreRights p.version p.policy.rights

@@ -1,6 +1,7 @@
 //! The plain types that all layers share: addresses, times, rights, grants, events, plans and limits,
-//! with the readers of numbers, addresses and prefixes and the credit of a packet. Its contract
-//! promises that each reader is exact on both sides, and that a credit is rounded up.
+//! with the readers of numbers, addresses and prefixes, the credit of a packet, and the rights that the
+//! shims of each version can carry. Its contract promises that each reader is exact on both sides, that
+//! a credit is rounded up, and that rights have one number in a version.
 #![tactic(auto)]
 
 mod addresses;
@@ -14,6 +15,7 @@ mod packet;
 mod plan;
 mod readers;
 mod texts;
+mod versions;
 
 pub use addresses::{Address, Prefix};
 pub use constants::{LENGTH_MAX, SECOND, TIME_MAX, UNIT, constants_hold};
@@ -26,6 +28,9 @@ pub use packet::{Cause, Class, DropCause, Fate, Flow, Grant, Outcome, PacketId, 
 pub use plan::{HostPlan, LinkPlan, PolicyKind, PolicyPlan, Route, RouterPlan};
 pub use readers::{address, addresses_are_four_numbers, prefix};
 pub use texts::{Key, Line, Name};
+pub use versions::{
+    carries, rights_in, rights_number, rights_size, seconds_max, units_max, version_for,
+};
 
 #[cfg(test)]
 mod tests;

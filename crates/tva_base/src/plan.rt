@@ -57,7 +57,8 @@ pub struct PolicyPlan {
 }
 
 /// A host: its name and address, the first nonce that it offers, the nanoseconds that it stays
-/// clear of the end of a grant, those before it asks again, its policy, and its link out.
+/// clear of the end of a grant, those before it asks again, the version of its shims, its policy,
+/// and its link out.
 #[derive(Debug, Drop)]
 pub struct HostPlan {
     pub name: Name,
@@ -65,6 +66,7 @@ pub struct HostPlan {
     pub nonce: u64,
     pub margin: u64,
     pub retry: u64,
+    pub version: u8,
     pub policy: PolicyPlan,
     pub uplink: u16,
 }

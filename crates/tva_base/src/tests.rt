@@ -1,7 +1,7 @@
 use super::*;
 
 // Lengths, rights and credits in nanoseconds.
-const CREDITS: [(u32, u32, u8, u64); 28] = [
+const CREDITS: [(u32, u32, u8, u64); 32] = [
     (512, 1, 2, 1_000_000_000),
     (1_024, 32, 10, 312_500_000),
     (64, 1, 16, 1_000_000_000),
@@ -30,6 +30,30 @@ const CREDITS: [(u32, u32, u8, u64); 28] = [
     (1_040, 32, 10, 317_382_813),
     (1_500, 7, 13, 2_720_424_108),
     (1_501, 1021, 61, 87_575_945),
+    (514, 1024, 64, 31_372_071),
+    (28, 1024, 64, 1_708_985),
+    (20, 1_048_575, 127, 2_366),
+    (2_048, 1_048_575, 127, 242_234),
+];
+
+// Versions, rights, and their number, where a shim of the version can carry them.
+const RIGHTS: [(u8, u32, u8, Option<u32>); 16] = [
+    (1, 0, 0, Some(0)),
+    (1, 32, 10, Some(0x080a)),
+    (1, 1, 2, Some(0x0042)),
+    (1, 1_023, 63, Some(0xffff)),
+    (1, 1_024, 63, None),
+    (1, 1_023, 64, None),
+    (1, 1_048_575, 127, None),
+    (2, 0, 0, Some(0)),
+    (2, 32, 10, Some(0x0000_100a)),
+    (2, 1_023, 63, Some(0x0001_ffbf)),
+    (2, 1_024, 64, Some(0x0002_0040)),
+    (2, 1_048_575, 127, Some(0x07ff_ffff)),
+    (2, 1_048_576, 0, None),
+    (2, 0, 128, None),
+    (2, 1_049_600, 64, None),
+    (2, 4_294_967_295, 255, None),
 ];
 
 const ADDRESSES: [(&str, Option<u32>); 31] = [
@@ -159,6 +183,36 @@ fn credits_round_up(rt: HostRuntime) {
         assert!(rt; n >= 1 && length <= 2048);
         assert_eq!(rt; credit(length, Rights { n, t }), want, "{length} {n} {t}");
     }
+}
+
+#[test]
+fn rights_have_numbers(rt: HostRuntime) {
+    for (version, n, t, want) in RIGHTS {
+        let rights = Rights { n, t };
+        assert_eq!(rt;
+            carries(version, rights),
+            want.is_some(),
+            "{version} {n} {t}"
+        );
+        if let Some(number) = want {
+            assert!(rt; carries(version, rights));
+            assert_eq!(rt; rights_number(version, rights), number, "{version} {n} {t}");
+            assert_eq!(rt;
+                rights_in(version, number),
+                Some(rights),
+                "{version} {n} {t}"
+            );
+        }
+    }
+    for number in [0x0800_0000, 0x0802_0040, u32::MAX] {
+        assert_eq!(rt; rights_in(2, number), None, "{number}");
+    }
+    for (n, t, version) in [(0, 0, 1), (1_023, 63, 1), (1_024, 63, 2), (1_023, 64, 2)] {
+        let rights = Rights { n, t };
+        assert!(rt; carries(2, rights));
+        assert_eq!(rt; version_for(rights), version, "{n} {t}");
+    }
+    assert_eq!(rt; (rights_size(1), rights_size(2)), (2, 4));
 }
 
 #[test]

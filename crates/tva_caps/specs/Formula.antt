@@ -1,10 +1,11 @@
 -- How a router makes secrets, pre-capabilities and capabilities. A number in what is hashed stands
 -- as so many bytes, the highest first, and the digest is SHA-256's (FIPS 180-4).
-use Rattle.std.specs.Prelude.{ℕ, ◌+◌, ◌-◌, ◌/◌, ◌%◌, ◌^◌, List, [], ◌∷◌, ◌++◌, take}
+use Rattle.std.specs.Prelude.{ℕ, ◌+◌, ◌-◌, ◌/◌, ◌%◌, ◌^◌, List, [], ◌∷◌, ◌++◌, take, if◌then◌else◌}
 use Rattle.byteorder.specs.Endian.{big_bytes, big_number}
 use Rattle.sha2.specs.Sha256.{sha256}
 use Rattle.tva_base.specs.declared.packet.Flow.{Flow}
 use Rattle.tva_base.specs.declared.packet.Rights.{Rights}
+use Rattle.tva_base.specs.Versions.{carries}
 
 -- the epoch of a router second
 abbrev pub epoch_of : ℕ → ℕ
@@ -36,10 +37,16 @@ precap_under secret flow second =
 unfoldable pub precap_of : List ℕ → Flow → ℕ → ℕ
 precap_of master flow second = precap_under (secret_of master (epoch_of second)) flow second
 
--- the capability that a destination makes of a pre-capability, with the rights that it grants
+-- the units as they are hashed: in 2 bytes where a shim of version 1 can carry the rights, and else in
+-- 4 behind a byte 2
+abbrev pub hashed_units : Rights → List ℕ
+hashed_units rights = if carries 1 rights then big_bytes 2 rights.n else 2 ∷ big_bytes 4 rights.n
+
+-- the capability that a destination makes of a pre-capability, with the rights that it grants. It depends
+-- on the rights alone, whichever version of shim asks for it or shows it
 unfoldable pub capability_of : ℕ → Rights → ℕ
 capability_of precap rights =
-    stamped (stamp_of precap) (big_bytes 8 precap ++ big_bytes 2 rights.n ++ rights.t ∷ [])
+    stamped (stamp_of precap) (big_bytes 8 precap ++ hashed_units rights ++ rights.t ∷ [])
 
 -- the age of a shown value in a router second: the seconds since the last one with its stamp
 unfoldable pub age_of : ℕ → ℕ → ℕ

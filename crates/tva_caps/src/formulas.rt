@@ -1,12 +1,12 @@
 // The formulas of secrets, pre-capabilities and capabilities, over SHA-256 (FIPS 180-4).
-ghost use Rattle.std.specs.Prelude.{◌≡◌, ◌≤◌, ℕ, List};
+ghost use Rattle.std.specs.Prelude.{◌≡◌, ◌≤◌, ◌++◌, ℕ, List};
 ghost use Rattle.sha2.specs.Hashers.{Holds256};
-ghost use Rattle.tva_base.specs.Plan.{AreRights};
-ghost use Rattle.tva_caps.specs.Formula.{capability_of, precap_of, precap_under, secret_of, stamp_at, stamp_of, stamped};
+ghost use Rattle.tva_base.specs.Versions.{AreSomeRights};
+ghost use Rattle.tva_caps.specs.Formula.{capability_of, hashed_units, precap_of, precap_under, secret_of, stamp_at, stamp_of, stamped};
 
 use byteorder::{BigEndian, ByteOrder};
 use sha2::{Digest, Sha256};
-use tva_base::{Flow, Rights};
+use tva_base::{Flow, Rights, carries};
 
 /// The seconds of an epoch, in which a secret stays the same.
 pub const EPOCH: u64 = 128;
@@ -83,19 +83,33 @@ pub fn precap_at(master: [u8; 32], second: u64, flow: Flow) -> u64
 
 /// The capability that a destination makes of a pre-capability, with the rights that it grants. Its
 /// 8 bytes, the highest first, are the first of the pre-capability and the first 7 of the SHA-256
-/// digest of the pre-capability (8 bytes), the units of 1,024 bytes (2) and the seconds (1).
+/// digest of the pre-capability (8 bytes), the units of 1,024 bytes and the seconds (1). The units
+/// have 2 bytes where a shim of version 1 can carry the rights, and else 4 behind a byte 2.
 #[tactic(auto, unfolding(crate::specs::Formula::capability_of))]
 pub fn capability(precap: u64, rights: Rights) -> u64
-    requires { AreRights rights }
+    requires { AreSomeRights rights }
     ensures { result ≡ capability_of precap rights }
 {
     let mut value = [0; 8];
-    let mut units = [0; 2];
     BigEndian::write_u64(&mut value, precap);
-    BigEndian::write_u16(&mut units, rights.n as u16);
     let mut hasher = Sha256::new();
     hasher.update(value);
-    hasher.update(units);
+    hash_units(&mut hasher, rights);
     hasher.update([rights.t]);
     stamped_value(stamp_shown(precap), hasher)
+}
+
+// The units of rights, behind what was hashed.
+fn hash_units(hasher: &mut Sha256, rights: Rights)
+    ensures { (m : List ℕ) → Holds256 hasher.old m → Holds256 hasher.new (m ++ hashed_units rights) }
+{
+    if carries(1, rights) {
+        let mut units = [0; 2];
+        BigEndian::write_u16(&mut units, rights.n as u16);
+        hasher.update(units);
+    } else {
+        let mut units = [2, 0, 0, 0, 0];
+        BigEndian::write_u32(&mut units[1..], rights.n);
+        hasher.update(units);
+    }
 }

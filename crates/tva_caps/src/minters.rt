@@ -1,6 +1,6 @@
 // The minter of a router: it mints pre-capabilities and checks what is shown.
 ghost use Rattle.std.specs.Prelude.{◌≡◌, ◌≤◌, ◌<◌, ◌+◌};
-ghost use Rattle.tva_base.specs.Plan.{AreRights};
+ghost use Rattle.tva_base.specs.Versions.{AreSomeRights};
 ghost use Rattle.tva_caps.specs.Formula.{age_of, precap_of};
 ghost use Rattle.tva_caps.specs.Minting.{MayCall, second_at};
 
@@ -76,7 +76,7 @@ impl Minter {
     #[tactic(auto, unfolding(crate::specs::Check::check_of, crate::specs::Check::checked_at))]
     pub fn check(&mut self, now: Time, flow: Flow, cap: u64, rights: Rights) -> Checked
         requires time { MayCall self.old now.0 }
-        requires granted { AreRights rights }
+        requires granted { AreSomeRights rights }
         ensures answer { result ≡ check_of self.old.master (second_at self.old now.0) flow cap rights }
         ensures grant { IfValid result (λ g. (g.flow ≡ flow) × (g.rights ≡ rights)) }
         ensures seconds { IfValid result (λ g. IsSecondOf g (second_at self.old now.0)) }

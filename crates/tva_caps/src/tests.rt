@@ -3,11 +3,12 @@
 //   secret(e)     = sha(master + be(e, 8))
 //   precap(m)     = stamp + sha(secret(m // 128) + be(src, 4) + be(dst, 4) + stamp)[:7]
 //                   where stamp = be(m % 256, 1)
-//   capability(p) = p[:1] + sha(p + be(n, 2) + be(t, 1))[:7]
+//   capability(p) = p[:1] + sha(p + be(n, 2) + be(t, 1))[:7] where n <= 1023 and t <= 63,
+//                   and else p[:1] + sha(p + be(2, 1) + be(n, 4) + be(t, 1))[:7]
 use crate::formulas::secret_at;
 use crate::{Checked, Minter, capability, precap_at};
 use std::process::Abort;
-use tva_base::{Address, Flow, Grant, Rights, SECOND, TIME_MAX, Time};
+use tva_base::{Address, Flow, Grant, Rights, SECOND, TIME_MAX, Time, carries};
 
 const COUNTING: [u8; 32] = [
     0x00, 0x01, 0x02, 0x03, 0x04, 0x05, 0x06, 0x07, 0x08, 0x09, 0x0a, 0x0b, 0x0c, 0x0d, 0x0e, 0x0f,
@@ -92,8 +93,7 @@ fn expect(rt: &impl Abort, shown: Shown, want: Want) {
     } = shown;
     assert!(rt; offset <= TIME_MAX);
     assert!(rt; now <= TIME_MAX);
-    assert!(rt; rights.n <= 1023);
-    assert!(rt; rights.t <= 63);
+    assert!(rt; carries(2, rights));
     let mut minter = Minter::new(master, offset);
     let answer = minter.check(Time(now), flow, cap, rights);
     let wanted = match want {
@@ -192,11 +192,21 @@ fn capabilities_of_rights(rt: HostRuntime) {
         (0xffffffffffffffff, 1_023, 63, 0xff9f0e4a9e51457f),
         (0x0011223344556677, 1, 1, 0x00206510b2bfea42),
         (0x8000000000000000, 512, 32, 0x800e6dfb1b4cd7e0),
+        (0x05c8ff0b85007534, 1_024, 64, 0x050348067d6057ff),
+        (0x05c8ff0b85007534, 1_048_575, 127, 0x05bfef5d964227dd),
+        (0x05c8ff0b85007534, 1_023, 64, 0x05533ff4e740d03b),
+        (0x05c8ff0b85007534, 1_024, 63, 0x05413cc75b908ce9),
+        (0x05c8ff0b85007534, 1_056, 10, 0x05e3b3579282b918),
+        (0x05c8ff0b85007534, 0, 127, 0x05e9922086a50a35),
+        (0x05c8ff0b85007534, 32, 74, 0x0509460b1fce19f6),
+        (0xffffffffffffffff, 1_048_575, 127, 0xff5a49916e8f9444),
+        (0x0000000000000000, 0, 64, 0x000d5f1f73951513),
+        (0x0011223344556677, 65_536, 1, 0x002123a4fb7da989),
     ];
     for (precap, n, t, cap) in cases {
-        assert!(rt; n <= 1023);
-        assert!(rt; t <= 63);
-        assert_eq!(rt; capability(precap, Rights { n, t }), cap, "at {n} {t}");
+        let rights = Rights { n, t };
+        assert!(rt; carries(2, rights));
+        assert_eq!(rt; capability(precap, rights), cap, "at {n} {t}");
     }
 }
 
@@ -226,6 +236,21 @@ fn checks_of_shown_values(rt: HostRuntime) {
         (0, 0x0000000000000000, 1, 1, BadHash),
         (0, 0x0100000000000000, 1, 63, Expired),
         (5_000_000_000, 0x05c8ff0b85007534, 1, 10, BadHash),
+        (5_000_000_000, 0x050348067d6057ff, 1_024, 64, Valid(5)),
+        (68_999_999_999, 0x050348067d6057ff, 1_024, 64, Valid(5)),
+        (69_000_000_000, 0x050348067d6057ff, 1_024, 64, Expired),
+        (5_000_000_000, 0x050348067d6057ff, 1_024, 63, BadHash),
+        (5_000_000_000, 0x050348067d6057ff, 0, 64, BadHash),
+        (256_999_999_999, 0x828e7ddcfc8a2dd9, 1_024, 127, Valid(130)),
+        (257_000_000_000, 0x828e7ddcfc8a2dd9, 1_024, 127, Expired),
+        (
+            376_999_999_999,
+            0xfa306297775eb5cd,
+            1_048_575,
+            127,
+            Valid(250),
+        ),
+        (377_000_000_000, 0xfa306297775eb5cd, 1_048_575, 127, Expired),
     ];
     for (now, cap, n, t, want) in cases {
         let shown = Shown {

@@ -1,10 +1,11 @@
 -- What the entries of the tables keep that were read.
-use Rattle.std.proofs.Common.{◌≡◌, ◌≤◌, ◌<◌, ◌^◌, ◌&&◌, nat_le, true, ℕ, List, [], Ok, All, codes, refl, subst, arith}
+use Rattle.std.proofs.Common.{◌≡◌, ◌≤◌, ◌<◌, ◌^◌, ◌&&◌, nat_le, Bool, true, false, cond, eqb, ℕ, List, [], Ok, All, codes, refl, subst, arith}
 use Rattle.std.proofs.lemmas.Bool.{and_parts, leb-true}
 use Rattle.std.proofs.lemmas.List.Elements.{All-nil}
 use Rattle.toml.specs.Data.{Members}
 use Rattle.tva_base.specs.declared.limits.LinkLimits.{LinkLimits}
 use Rattle.tva_base.specs.Plan.{AreClassLimits, AreLinkLimits, IsPrefix}
+use Rattle.tva_base.specs.Versions.{IsVersion, seconds_max, units_max}
 use Rattle.tva_base.specs.declared.plan.PolicyKind.TheVariants as policy
 use Rattle.tva_config.specs.declared.place.Place.{Place}
 use Rattle.tva_config.specs.declared.fault.ConfigTable as tables
@@ -31,10 +32,14 @@ decided low high n both =
     let (least, most) = and_parts (nat_le low n) (nat_le n high) both in
     (leb-true low n least, leb-true n high most)
 
-number_or : (low high default : ℕ) (p : Place) (ms : Members) (key : List ℕ) (n : ℕ) → (nat_le low default && nat_le default high) ≡ true
+pub number_or : (low high default : ℕ) (p : Place) (ms : Members) (key : List ℕ) (n : ℕ) → (nat_le low default && nat_le default high) ≡ true
     → optional p ms key (value.number low high) default ≡ Ok n → IsWithin low high n
 number_or low high default p ms key n usual gave =
     optional_valid (IsWithin low high) (value.number low high) p ms key default n (number_valid low high) (decided low high default usual) gave
+
+at_least : (n : ℕ) (b : Bool) (x y : ℕ) → (nat_le 0 n && nat_le n x) ≡ true → (nat_le 0 n && nat_le n y) ≡ true → (nat_le 0 n && nat_le n (cond b x y)) ≡ true
+at_least n true x y p q = p
+at_least n false x y p q = q
 
 one_below : 1 < 2 ^ 48
 one_below = omega arith
@@ -60,9 +65,16 @@ router_valid p ms r gave =
     } in
     subst IsRouterEntry same valid))))))
 
-pub host_valid : (p : Place) (ms : Members) (h : HostEntry) → host_of p ms ≡ Ok h → IsHostEntry h
+-- the usual units and seconds are within the rights of each version
+units_usual : (version : ℕ) → (nat_le 0 32 && nat_le 32 (units_max version)) ≡ true
+units_usual version = at_least 32 (eqb version 1) 1023 1048575 refl refl
+
+seconds_usual : (version : ℕ) → (nat_le 0 10 && nat_le 10 (seconds_max version)) ≡ true
+seconds_usual version = at_least 10 (eqb version 1) 63 127 refl refl
+
+pub host_valid : (version : ℕ) → IsVersion version → (p : Place) (ms : Members) (h : HostEntry) → host_of version p ms ≡ Ok h → IsHostEntry h
 unfolding host_of
-host_valid p ms h gave =
+host_valid version is p ms h gave =
     when_gave IsHostEntry (only_listed p host_keys ms) _ h gave (λ u known g1.
     when_gave IsHostEntry (required p ms (codes "name") value.name) _ h g1 (λ name k1 g2.
     when_gave IsHostEntry (required p ms (codes "address") value.address) _ h g2 (λ address k2 g3.
@@ -70,8 +82,8 @@ host_valid p ms h gave =
     when_gave IsHostEntry (optional p ms (codes "margin_ns") (value.number 0 1000000000000) 1000000) _ h g4 (λ margin k4 g5.
     when_gave IsHostEntry (optional p ms (codes "retry_ns") (value.number 0 10000000000000) 2000000000) _ h g5 (λ retry k5 g6.
     when_gave IsHostEntry (optional p ms (codes "policy") value.policy_kind policy.DenyAll) _ h g6 (λ kind k6 g7.
-    when_gave IsHostEntry (optional p ms (codes "n") (value.number 0 1023) 32) _ h g7 (λ n k7 g8.
-    when_gave IsHostEntry (optional p ms (codes "t") (value.number 0 63) 10) _ h g8 (λ t k8 g9.
+    when_gave IsHostEntry (optional p ms (codes "n") (value.number 0 (units_max version)) 32) _ h g7 (λ n k7 g8.
+    when_gave IsHostEntry (optional p ms (codes "t") (value.number 0 (seconds_max version)) 10) _ h g8 (λ t k8 g9.
     when_gave IsHostEntry (optional p ms (codes "grants") (value.number 0 1000000) 1000) _ h g9 (λ grants k9 g10.
     when_gave IsHostEntry (optional p ms (codes "deny") value.addresses []) _ h g10 (λ deny k10 g11.
     when_gave IsHostEntry (optional p ms (codes "deny_tags") value.tags []) _ h g11 (λ deny_tags k11 g12.
@@ -81,6 +93,7 @@ host_valid p ms h gave =
       nonce = nonce;
       margin = margin;
       retry = retry;
+      version = version;
       policy = record { kind = kind; rights = record { n = n; t = t }; grants = grants; deny = deny; deny_tags = deny_tags };
     } in
     let same : made ≡ h = gave_one made h g12 in
@@ -89,9 +102,10 @@ host_valid p ms h gave =
       nonce = optional_valid (λ k. k < 2 ^ 48) value.nonce p ms (codes "nonce") 1 nonce nonce_valid one_below k3;
       margin = (number_or 0 1000000000000 1000000 p ms (codes "margin_ns") margin refl k4).1;
       retry = (number_or 0 10000000000000 2000000000 p ms (codes "retry_ns") retry refl k5).1;
+      version = is;
       rights = record {
-        units = (number_or 0 1023 32 p ms (codes "n") n refl k7).1;
-        seconds = (number_or 0 63 10 p ms (codes "t") t refl k8).1;
+        units = (number_or 0 (units_max version) 32 p ms (codes "n") n (units_usual version) k7).1;
+        seconds = (number_or 0 (seconds_max version) 10 p ms (codes "t") t (seconds_usual version) k8).1;
       };
     } in
     subst IsHostEntry same valid))))))))))))

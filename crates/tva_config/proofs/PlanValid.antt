@@ -138,4 +138,4 @@ router_valid count links routes n r entry known owned = record {
 -- the plan of a host is valid
 pub host_valid : (h : HostEntry) (uplink : ℕ) → IsHostEntry h → 1000000000 + h.margin ≤ h.retry → IsHostPlan (host_plan h uplink)
 unfolding host_plan
-host_valid h uplink entry late = record { nonce = entry.nonce; margin = entry.margin; retry = (late, entry.retry); rights = entry.rights }
+host_valid h uplink entry late = record { nonce = entry.nonce; margin = entry.margin; retry = (late, entry.retry); version = entry.version; rights = entry.rights }

@@ -1,8 +1,9 @@
 -- What is read of a text is valid.
-use Rattle.std.proofs.Common.{◌≡◌, ◌≤◌, ℕ, ◌+◌, nat_lt, List, [], length, Result, Ok, Err, Option, Some, None, IfOk, All, codes, subst, arith}
+use Rattle.std.proofs.Common.{◌≡◌, ◌≤◌, ℕ, ◌+◌, nat_lt, List, [], length, Result, Ok, Err, Option, Some, None, IfOk, All, codes, refl, subst, arith}
 use Rattle.std.proofs.lemmas.Bool.{ltb-false}
 use Rattle.toml.specs.Data.{Members}
 use Rattle.tva_base.specs.Plan.{AreDistinct}
+use Rattle.tva_base.specs.Versions.{IsVersion}
 use Rattle.tva_config.specs.declared.config.Config.{Config}
 use Rattle.tva_config.specs.declared.fault.ConfigTable.TheVariants as table
 use Rattle.tva_config.specs.declared.fault.ConfigRule.TheVariants as rule
@@ -18,12 +19,12 @@ use Rattle.tva_config.specs.Routes.{route_step, routes_of}
 use Rattle.tva_config.specs.Read.{config_of, Joined, joined_of, plan_of, members_read, document_of, document_read, read_of}
 use Rattle.tva_config.specs.Valid.{IsRouterEntry, IsHostEntry, IsLinkEntry, IsRouteEntry, IsConfig}
 use Rattle.tva_config.proofs.ConfigValid.{Passed, config_valid}
-use Rattle.tva_config.proofs.EntriesValid.{number_needed, router_valid, host_valid, link_valid, route_valid, entries_valid}
+use Rattle.tva_config.proofs.EntriesValid.{number_needed, number_or, router_valid, host_valid, link_valid, route_valid, entries_valid}
 use Rattle.tva_config.proofs.StepsKeep.{names_are, names_distinct, addresses_are, addresses_distinct, retries_late}
 use Rattle.tva_config.proofs.Turns.{first_gave, when_gave, gave_one, unless_gave, in_turn_long}
 
 abbrev AreTimes : Top → Type 0
-AreTimes t = (t.horizon ≤ 1000000000000000) × (1 ≤ t.max_events) × (t.max_events ≤ 4000000)
+AreTimes t = (t.horizon ≤ 1000000000000000) × (1 ≤ t.max_events) × (t.max_events ≤ 4000000) × IsVersion t.version
 
 top_valid : (ms : Members) (t : Top) → top_of ms ≡ Ok t → AreTimes t
 unfolding top_of
@@ -31,15 +32,17 @@ top_valid ms t gave =
     when_gave AreTimes (only_listed top top_keys ms) _ t gave (λ u known g1.
     when_gave AreTimes (required top ms (codes "horizon_ns") (value.number 0 1000000000000000)) _ t g1 (λ horizon k1 g2.
     when_gave AreTimes (required top ms (codes "max_events") (value.number 1 4000000)) _ t g2 (λ events k2 g3.
-    when_gave AreTimes (optional top ms (codes "router") value.tables []) _ t g3 (λ routers k3 g4.
+    when_gave AreTimes (optional top ms (codes "version") (value.number 1 2) 1) _ t g3 (λ version kv gv.
+    when_gave AreTimes (optional top ms (codes "router") value.tables []) _ t gv (λ routers k3 g4.
     when_gave AreTimes (optional top ms (codes "host") value.tables []) _ t g4 (λ hosts k4 g5.
     when_gave AreTimes (optional top ms (codes "link") value.tables []) _ t g5 (λ links k5 g6.
     when_gave AreTimes (optional top ms (codes "route") value.tables []) _ t g6 (λ routes k6 g7.
-    let made : Top = record { horizon = horizon; max_events = events; routers = routers; hosts = hosts; links = links; routes = routes } in
+    let made : Top = record { horizon = horizon; max_events = events; version = version; routers = routers; hosts = hosts; links = links; routes = routes } in
     let same : made ≡ t = gave_one made t g7 in
     let most = number_needed 0 1000000000000000 top ms (codes "horizon_ns") horizon k1 in
     let some = number_needed 1 4000000 top ms (codes "max_events") events k2 in
-    subst AreTimes same (most.1, some.0, some.1))))))))
+    let known = number_or 1 2 1 top ms (codes "version") version refl kv in
+    subst AreTimes same (most.1, some.0, some.1, record { from = known.0; to = known.1 })))))))))
 
 counts_valid : (nodes links routes : ℕ) → counts_of nodes links routes ≡ Ok tt → (nodes ≤ 1024) × (links ≤ 4096) × (routes ≤ 65536)
 unfolding counts_of
@@ -61,22 +64,22 @@ record AreRead (t : Top) (e : Entries) : Type 0 where
   links_long : length e.links ≡ length t.links
   routes_long : length e.routes ≡ length t.routes
 
-entries_read : (t : Top) (e : Entries) → all_entries_of t ≡ Ok e → AreRead t e
+entries_read : (t : Top) (e : Entries) → IsVersion t.version → all_entries_of t ≡ Ok e → AreRead t e
 unfolding all_entries_of entries_of
-entries_read t e gave =
+entries_read t e known gave =
     when_gave (AreRead t) (entries_of table.Router router_of t.routers) _ e gave (λ routers k1 g1.
-    when_gave (AreRead t) (entries_of table.Host host_of t.hosts) _ e g1 (λ hosts k2 g2.
+    when_gave (AreRead t) (entries_of table.Host (host_of t.version) t.hosts) _ e g1 (λ hosts k2 g2.
     when_gave (AreRead t) (entries_of table.Link link_of t.links) _ e g2 (λ links k3 g3.
     when_gave (AreRead t) (entries_of table.Route route_of t.routes) _ e g3 (λ routes k4 g4.
     let made : Entries = record { routers = routers; hosts = hosts; links = links; routes = routes } in
     let same : made ≡ e = gave_one made e g4 in
     let n1 = in_turn_long (entry_step table.Router router_of) [] t.routers routers k1 in
-    let n2 = in_turn_long (entry_step table.Host host_of) [] t.hosts hosts k2 in
+    let n2 = in_turn_long (entry_step table.Host (host_of t.version)) [] t.hosts hosts k2 in
     let n3 = in_turn_long (entry_step table.Link link_of) [] t.links links k3 in
     let n4 = in_turn_long (entry_step table.Route route_of) [] t.routes routes k4 in
     let valid : AreRead t made = record {
       routers = entries_valid IsRouterEntry table.Router router_of router_valid t.routers routers k1;
-      hosts = entries_valid IsHostEntry table.Host host_of host_valid t.hosts hosts k2;
+      hosts = entries_valid IsHostEntry table.Host (host_of t.version) (host_valid t.version known) t.hosts hosts k2;
       links = entries_valid IsLinkEntry table.Link link_of link_valid t.links links k3;
       routes = entries_valid IsRouteEntry table.Route route_of route_valid t.routes routes k4;
       nodes_long = omega (arith, n1, n2);
@@ -150,7 +153,8 @@ members_valid ms c gave =
     when_gave IsConfig (top_of ms) _ c gave (λ t k1 g1.
     when_gave IsConfig (counts_of (length t.routers + length t.hosts) (length t.links) (length t.routes)) _ c g1 (λ few k2 g2.
     when_gave IsConfig (all_entries_of t) _ c g2 (λ e k3 g3.
-    plan_valid t e c (top_valid ms t k1) (counts_valid _ _ _ k2) (entries_read t e k3) g3)))
+    let times = top_valid ms t k1 in
+    plan_valid t e c times (counts_valid _ _ _ k2) (entries_read t e times.3 k3) g3)))
 
 document_valid : (o : Option Members) (c : Config) → document_read o ≡ Ok c → IsConfig c
 document_valid None c gave = absurd (cc)

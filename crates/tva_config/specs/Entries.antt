@@ -4,6 +4,7 @@ use Rattle.toml.specs.Data.{Members}
 use Rattle.tva_base.specs.declared.limits.DrrLimits.{DrrLimits}
 use Rattle.tva_base.specs.declared.limits.LinkLimits.{LinkLimits}
 use Rattle.tva_base.specs.declared.plan.PolicyKind.TheVariants as policy
+use Rattle.tva_base.specs.Versions.{seconds_max, units_max}
 use Rattle.tva_config.specs.declared.place.Place.{Place}
 use Rattle.tva_config.specs.declared.entries.RouterEntry.{RouterEntry}
 use Rattle.tva_config.specs.declared.entries.HostEntry.{HostEntry}
@@ -32,8 +33,9 @@ abbrev pub host_keys : List (List ℕ)
 host_keys = codes "name" ∷ codes "address" ∷ codes "nonce" ∷ codes "margin_ns" ∷ codes "retry_ns" ∷ codes "policy"
     ∷ codes "n" ∷ codes "t" ∷ codes "grants" ∷ codes "deny" ∷ codes "deny_tags" ∷ []
 
-unfoldable pub host_of : Place → Members → Read HostEntry
-host_of p ms = do
+-- a host whose shims have that version
+unfoldable pub host_of : ℕ → Place → Members → Read HostEntry
+host_of version p ms = do
   known ← only_listed p host_keys ms
   name ← required p ms (codes "name") value.name
   address ← required p ms (codes "address") value.address
@@ -41,8 +43,8 @@ host_of p ms = do
   margin ← optional p ms (codes "margin_ns") (value.number 0 1000000000000) 1000000
   retry ← optional p ms (codes "retry_ns") (value.number 0 10000000000000) 2000000000
   kind ← optional p ms (codes "policy") value.policy_kind policy.DenyAll
-  n ← optional p ms (codes "n") (value.number 0 1023) 32
-  t ← optional p ms (codes "t") (value.number 0 63) 10
+  n ← optional p ms (codes "n") (value.number 0 (units_max version)) 32
+  t ← optional p ms (codes "t") (value.number 0 (seconds_max version)) 10
   grants ← optional p ms (codes "grants") (value.number 0 1000000) 1000
   deny ← optional p ms (codes "deny") value.addresses []
   deny_tags ← optional p ms (codes "deny_tags") value.tags []
@@ -52,6 +54,7 @@ host_of p ms = do
     nonce = nonce;
     margin = margin;
     retry = retry;
+    version = version;
     policy = record {
       kind = kind;
       rights = record { n = n; t = t };
@@ -63,7 +66,8 @@ host_of p ms = do
 
 -- the keys of `link`
 abbrev pub link_keys : List (List ℕ)
-link_keys = codes "from" ∷ codes "to" ∷ codes "ns_per_byte" ∷ codes "delay_ns" ∷ codes "tag" ∷ codes "share" ∷ codes "burst" ∷ codes "quantum"
+link_keys = codes "from" ∷ codes "to" ∷ codes "ns_per_byte" ∷ codes "delay_ns" ∷ codes "tag"
+    ∷ codes "share" ∷ codes "burst" ∷ codes "quantum"
     ∷ codes "request_queues" ∷ codes "regular_queues" ∷ codes "request_ring" ∷ codes "regular_ring"
     ∷ codes "request_queue_bytes" ∷ codes "regular_queue_bytes" ∷ codes "request_bytes" ∷ codes "regular_bytes"
     ∷ codes "legacy_ring" ∷ codes "legacy_bytes" ∷ []

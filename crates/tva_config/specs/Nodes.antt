@@ -1,5 +1,6 @@
 -- What the nodes must be to one another: names, addresses, times, and the sum of slots.
-use Rattle.std.specs.Prelude.{ℕ, ◌+◌, ◌-◌, ◌==◌, List, [], ◌++◌, map, length, nat_lt, sum_by, if◌then◌else◌, Ok, Option, codes}
+use Rattle.std.specs.Prelude.{ℕ, ◌+◌, ◌-◌, ◌==◌, List, [], ◌++◌, map, length, nat_lt, sum_by}
+use Rattle.std.specs.Prelude.{if◌then◌else◌, Ok, Option, codes}
 use Rattle.std.specs.List.{list_any, position_from}
 use Rattle.std.specs.Str.{bytes_eq}
 use Rattle.tva_base.specs.declared.addresses.Address.{Address}
@@ -25,7 +26,8 @@ node_place routers node = if nat_lt node routers then at table.Router node else 
 -- a name that no earlier node has
 abbrev pub name_step : ℕ → List (List ℕ) → List ℕ → Read (List ℕ)
 name_step routers earlier name = do
-  apart ← unless (list_any (bytes_eq name) earlier) (fault_at (node_place routers (length earlier)) rule.Names (codes "name"))
+  apart ← unless (list_any (bytes_eq name) earlier)
+      (fault_at (node_place routers (length earlier)) rule.Names (codes "name"))
   Ok name
 
 unfoldable pub names_of : List RouterEntry → List HostEntry → Read (List (List ℕ))
@@ -34,7 +36,8 @@ names_of routers hosts = in_turn (name_step (length routers)) [] (node_names rou
 -- an address that no earlier host has
 abbrev pub address_step : List Address → HostEntry → Read Address
 address_step earlier host = do
-  apart ← unless (list_any (λ a. a.0 == host.address.0) earlier) (fault_at (at table.Host (length earlier)) rule.Addresses (codes "address"))
+  apart ← unless (list_any (λ a. a.0 == host.address.0) earlier)
+      (fault_at (at table.Host (length earlier)) rule.Addresses (codes "address"))
   Ok host.address
 
 unfoldable pub addresses_of : List HostEntry → Read (List Address)
@@ -43,7 +46,8 @@ addresses_of hosts = in_turn address_step [] hosts
 -- a host asks again only a second and its margin later
 abbrev pub retry_step : List ℕ → HostEntry → Read ℕ
 retry_step earlier host = do
-  late ← unless (nat_lt host.retry (1000000000 + host.margin)) (fault_at (at table.Host (length earlier)) rule.Retry (codes "retry_ns"))
+  late ← unless (nat_lt host.retry (1000000000 + host.margin))
+      (fault_at (at table.Host (length earlier)) rule.Retry (codes "retry_ns"))
   Ok host.retry
 
 unfoldable pub retries_of : List HostEntry → Read (List ℕ)

@@ -18,24 +18,35 @@ use Rattle.tva_config.specs.Entries.{router_of, host_of, link_of, route_of}
 pub record Top : Type 0 where
   pub horizon : ℕ
   pub max_events : ℕ
+  pub version : ℕ
   pub routers : List Members
   pub hosts : List Members
   pub links : List Members
   pub routes : List Members
 
 abbrev pub top_keys : List (List ℕ)
-top_keys = codes "horizon_ns" ∷ codes "max_events" ∷ codes "router" ∷ codes "host" ∷ codes "link" ∷ codes "route" ∷ []
+top_keys = codes "horizon_ns" ∷ codes "max_events" ∷ codes "version"
+    ∷ codes "router" ∷ codes "host" ∷ codes "link" ∷ codes "route" ∷ []
 
 unfoldable pub top_of : Members → Read Top
 top_of ms = do
   known ← only_listed top top_keys ms
   horizon ← required top ms (codes "horizon_ns") (value.number 0 1000000000000000)
   max_events ← required top ms (codes "max_events") (value.number 1 4000000)
+  version ← optional top ms (codes "version") (value.number 1 2) 1
   routers ← optional top ms (codes "router") value.tables []
   hosts ← optional top ms (codes "host") value.tables []
   links ← optional top ms (codes "link") value.tables []
   routes ← optional top ms (codes "route") value.tables []
-  Ok (record { horizon = horizon; max_events = max_events; routers = routers; hosts = hosts; links = links; routes = routes })
+  Ok (record {
+    horizon = horizon;
+    max_events = max_events;
+    version = version;
+    routers = routers;
+    hosts = hosts;
+    links = links;
+    routes = routes;
+  })
 
 -- there are not too many entries
 unfoldable pub counts_of : ℕ → ℕ → ℕ → Read (Unit {0})
@@ -48,7 +59,8 @@ counts_of nodes links routes = do
 abbrev pub entry_step : {A : Type 0} → tables.ConfigTable → (Place → Members → Read A) → List A → Members → Read A
 entry_step t entry_of done members = entry_of (at t (length done)) members
 
-unfoldable pub entries_of : {A : Type 0} → tables.ConfigTable → (Place → Members → Read A) → List Members → Read (List A)
+unfoldable pub entries_of : {A : Type 0} → tables.ConfigTable → (Place → Members → Read A) → List Members
+    → Read (List A)
 entries_of t entry_of tables = in_turn (entry_step t entry_of) [] tables
 
 -- the entries of all tables
@@ -61,7 +73,7 @@ pub record Entries : Type 0 where
 unfoldable pub all_entries_of : Top → Read Entries
 all_entries_of t = do
   routers ← entries_of table.Router router_of t.routers
-  hosts ← entries_of table.Host host_of t.hosts
+  hosts ← entries_of table.Host (host_of t.version) t.hosts
   links ← entries_of table.Link link_of t.links
   routes ← entries_of table.Route route_of t.routes
   Ok (record { routers = routers; hosts = hosts; links = links; routes = routes })

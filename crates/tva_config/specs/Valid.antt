@@ -3,7 +3,8 @@ use Rattle.std.specs.Prelude.{◌≡◌, ◌<◌, ◌≤◌, ◌+◌, ◌^◌, �
 use Rattle.std.specs.List.{list_all}
 use Rattle.tva_base.specs.declared.addresses.Address.{Address}
 use Rattle.tva_base.specs.declared.plan.LinkPlan.{LinkPlan}
-use Rattle.tva_base.specs.Plan.{AreRights, AreLinkLimits, AreDistinct, IsPrefix, IsRouterPlan, IsHostPlan}
+use Rattle.tva_base.specs.Plan.{AreLinkLimits, AreDistinct, IsPrefix, IsRouterPlan, IsHostPlan}
+use Rattle.tva_base.specs.Versions.{AreRights, IsVersion}
 use Rattle.tva_config.specs.declared.config.Config.{Config}
 use Rattle.tva_config.specs.declared.config.NodePlan as nodes
 use Rattle.tva_config.specs.declared.config.NodePlan.TheVariants as node
@@ -33,7 +34,8 @@ pub record IsHostEntry (h : HostEntry) : Type 0 where
   pub nonce : h.nonce < 2 ^ 48
   pub margin : h.margin ≤ 1000000000000
   pub retry : h.retry ≤ 10000000000000
-  pub rights : AreRights h.policy.rights
+  pub version : IsVersion h.version
+  pub rights : AreRights h.version h.policy.rights
 
 pub record IsLinkEntry (l : LinkEntry) : Type 0 where
   pub delay : (1 ≤ l.delay) × (l.delay ≤ 1000000000000)

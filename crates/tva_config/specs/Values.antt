@@ -1,6 +1,7 @@
 -- The kinds of values of keys: what a value of the document is read as, or nothing where it isn't of
 -- the kind.
-use Rattle.std.specs.Prelude.{ℕ, ◌+◌, ◌*◌, ◌==◌, ◌&&◌, ◌||◌, pos, negsuc, ℤ, List, [], ◌∷◌, length, Bool, nat_le, if◌then◌else◌, codes, option_and_then, fold, Result, Ok, Err, Option, Some, None}
+use Rattle.std.specs.Prelude.{ℕ, ◌+◌, ◌*◌, ◌==◌, ◌&&◌, ◌||◌, pos, negsuc, ℤ, Bool, nat_le, if◌then◌else◌}
+use Rattle.std.specs.Prelude.{List, [], ◌∷◌, length, fold, codes, Result, Ok, Err, Option, Some, None, option_and_then}
 use Rattle.std.specs.Option.{option_map}
 use Rattle.std.specs.List.{list_all}
 use Rattle.std.specs.Str.{bytes_eq}
@@ -23,11 +24,14 @@ number low high d = option_and_then (within low high) (as_integer d)
 
 -- a letter, a digit, `_` or `-`
 abbrev pub is_name_byte : ℕ → Bool
-is_name_byte b = (nat_le 65 b && nat_le b 90) || (nat_le 97 b && nat_le b 122) || (nat_le 48 b && nat_le b 57) || (b == 95) || (b == 45)
+is_name_byte b =
+    (nat_le 65 b && nat_le b 90) || (nat_le 97 b && nat_le b 122) || (nat_le 48 b && nat_le b 57)
+    || (b == 95) || (b == 45)
 
 -- a name: 1 to 16 of these
 abbrev pub name_of : List ℕ → Option (List ℕ)
-name_of text = if nat_le 1 (length text) && nat_le (length text) 16 && list_all is_name_byte text then Some text else None
+name_of text =
+    if nat_le 1 (length text) && nat_le (length text) 16 && list_all is_name_byte text then Some text else None
 
 abbrev pub name : Data → Option (List ℕ)
 name d = option_and_then name_of (as_str d)

@@ -22,6 +22,7 @@ abbrev pub seen_top : TopTable → Top
 seen_top t = record {
   horizon = t.horizon;
   max_events = t.max_events;
+  version = t.version;
   routers = map (λ m. table_view m.now) t.routers.items;
   hosts = map (λ m. table_view m.now) t.hosts.items;
   links = map (λ m. table_view m.now) t.links.items;
@@ -29,7 +30,12 @@ seen_top t = record {
 }
 
 abbrev pub seen_entries : EntryLists → Entries
-seen_entries e = record { routers = e.routers.items; hosts = e.hosts.items; links = e.links.items; routes = e.routes.items }
+seen_entries e = record {
+  routers = e.routers.items;
+  hosts = e.hosts.items;
+  links = e.links.items;
+  routes = e.routes.items;
+}
 
 abbrev pub seen_joined : JoinedLists → Joined
 seen_joined j = record { links = j.links.items; uplinks = j.uplinks.items; routes = j.routes.items }

@@ -2,7 +2,7 @@
 use tva_base::{HostPlan, LinkPlan, Listed, RouterPlan, Time};
 
 /// What a configuration lays down for a node.
-#[derive(Debug, Drop)]
+#[derive(Drop)]
 pub enum NodePlan {
     Router(RouterPlan),
     Host(HostPlan),
@@ -11,7 +11,7 @@ pub enum NodePlan {
 /// A configuration: the last time at which anything happens, the greatest number of events, the
 /// nodes (routers in the order of the file, then hosts) and the links in the order of the file.
 /// Nodes and links are numbered by their places, from 0.
-#[derive(Debug, Drop)]
+#[derive(Drop)]
 pub struct Config {
     pub horizon: Time,
     pub max_events: u64,

@@ -1,5 +1,5 @@
 // What a configuration holds.
-ghost use Rattle.std.specs.Prelude.{◌≡◌, sum_by};
+ghost use Rattle.std.specs.Prelude.{◌≡◌};
 ghost use Rattle.std.specs.List.{list_any};
 ghost use Rattle.tva_config.specs.Counts.{routes_in, slots_in};
 ghost use Rattle.tva_config.specs.Counts.{node_count, link_count, route_count, slot_count, has_some, has_host_or_link};
@@ -26,14 +26,8 @@ pub fn link_count(config: &Config) -> usize
 pub fn route_count(config: &Config) -> u128
     ensures { result ≡ route_count config.now }
 {
-    all_routes(config.nodes.as_slice())
-}
-
-fn all_routes(nodes: &[NodePlan]) -> u128
-    ensures { result ≡ sum_by routes_in nodes.now }
-{
     let mut total = 0;
-    for node in nodes {
+    for node in config.nodes.as_slice() {
         total += u128::from(routes_at(node));
     }
     total
@@ -52,14 +46,8 @@ fn routes_at(node: &NodePlan) -> u64
 pub fn slot_count(config: &Config) -> u128
     ensures { result ≡ slot_count config.now }
 {
-    all_slots(config.nodes.as_slice())
-}
-
-fn all_slots(nodes: &[NodePlan]) -> u128
-    ensures { result ≡ sum_by slots_in nodes.now }
-{
     let mut total = 0;
-    for node in nodes {
+    for node in config.nodes.as_slice() {
         total += u128::from(slots_at(node));
     }
     total

@@ -12,7 +12,8 @@ pub struct RouterEntry {
     pub edge_tag: u16,
 }
 
-/// A host: its name, address, first nonce, margin and retry time in nanoseconds, and policy.
+/// A host: its name, address, first nonce, margin and retry time in nanoseconds, the version of its
+/// shims, and policy.
 #[derive(Drop)]
 pub struct HostEntry {
     pub name: Name,
@@ -20,6 +21,7 @@ pub struct HostEntry {
     pub nonce: u64,
     pub margin: u64,
     pub retry: u64,
+    pub version: u8,
     pub policy: PolicyPlan,
 }
 

@@ -9,7 +9,7 @@ use std::fmt::{Display, Formatter, Write};
 use tva_base::Key;
 
 /// The part of a configuration that a fault stands in.
-#[derive(Clone, Copy, Debug, PartialEq, Eq)]
+#[derive(Clone, Copy, Debug)]
 pub enum ConfigTable {
     Top,
     Router,
@@ -19,7 +19,7 @@ pub enum ConfigTable {
 }
 
 /// The rule that a fault breaks.
-#[derive(Clone, Copy, Debug, PartialEq, Eq)]
+#[derive(Clone, Copy, Debug)]
 pub enum ConfigRule {
     Syntax,
     Unknown,
@@ -50,7 +50,7 @@ pub struct ConfigFault {
 }
 
 /// Why a configuration isn't given.
-#[derive(Debug, Drop)]
+#[derive(Drop)]
 pub enum ConfigError {
     Fault(ConfigFault),
     OutOfMemory,

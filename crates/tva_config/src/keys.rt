@@ -218,14 +218,21 @@ pub fn tag(place: Place, table: &Table, key: &str) -> Result<u16, ConfigFault>
     }
 }
 
-/// Seconds from 0 to 63, or 10.
-pub fn seconds(place: Place, table: &Table, key: &str) -> Result<u8, ConfigFault>
+/// A number from `low` to `high`, of at most 8 bits, or the default.
+pub fn small_or(
+    place: Place,
+    table: &Table,
+    key: &str,
+    low: u8,
+    high: u8,
+    default: u8,
+) -> Result<u8, ConfigFault>
     requires { length key.now ≤ 24 }
-    ensures { result ≡ optional place (table_view table.now) key.now (kind.number 0 63) 10 }
+    ensures { result ≡ optional place (table_view table.now) key.now (kind.number low high) default }
 {
     match value_at(table, key) {
-        None => Ok(10),
-        Some(value) => value_or_fault(place, key, values::seconds(value)),
+        None => Ok(default),
+        Some(value) => value_or_fault(place, key, values::small(value, low, high)),
     }
 }
 

@@ -132,6 +132,7 @@ fn host_plan(host: HostEntry, uplink: u16) -> HostPlan
         nonce: host.nonce,
         margin: host.margin,
         retry: host.retry,
+        version: host.version,
         policy: host.policy,
         uplink,
     }

@@ -90,10 +90,10 @@ fn read_entries(alloc: Global, top: &TopTable) -> Result<EntryLists, ConfigError
     ensures links { IfOk result (λ e. length e.links.items ≤ 4096) }
     ensures routes { IfOk result (λ e. length e.routes.items ≤ 65536) }
 {
-    let routers = top::entries(alloc, ConfigTable::Router, &top.routers)?;
-    let hosts = top::entries(alloc, ConfigTable::Host, &top.hosts)?;
-    let links = top::entries(alloc, ConfigTable::Link, &top.links)?;
-    let routes = top::entries(alloc, ConfigTable::Route, &top.routes)?;
+    let routers = top::entries(alloc, ConfigTable::Router, top.version, &top.routers)?;
+    let hosts = top::entries(alloc, ConfigTable::Host, top.version, &top.hosts)?;
+    let links = top::entries(alloc, ConfigTable::Link, top.version, &top.links)?;
+    let routes = top::entries(alloc, ConfigTable::Route, top.version, &top.routes)?;
     Ok(EntryLists {
         routers,
         hosts,

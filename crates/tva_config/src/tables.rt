@@ -1,9 +1,12 @@
 // The entries of each table, by the keys in their order.
-ghost use Rattle.std.specs.Prelude.{◌≡◌, ◌≤◌, length};
+ghost use Rattle.std.specs.Prelude.{◌≡◌, ◌≤◌, ℕ, length, codes};
 ghost use Rattle.toml.specs.Data.{Members};
 ghost use Rattle.toml.specs.View.{table_view};
 ghost use Rattle.tva_config.specs.declared.place.Place.{Place};
+ghost use Rattle.tva_base.specs.Versions.{seconds_max, units_max};
 ghost use Rattle.tva_config.specs.Faults.{Answers, Read};
+ghost use Rattle.tva_config.specs.Keys.{optional};
+ghost use Rattle.tva_config.specs.Values.{number};
 ghost use Rattle.tva_config.specs.Entries.{router_of, host_of, link_of, row, class_limits, limits_of, route_of};
 
 use crate::entries::{HostEntry, LinkEntry, RouteEntry, RouterEntry};
@@ -12,15 +15,18 @@ use crate::keys;
 use crate::place::Place;
 use std::alloc::Global;
 use toml::Table;
-use tva_base::{DrrLimits, LENGTH_MAX, LinkLimits, PolicyKind, PolicyPlan, Rights, TIME_MAX};
+use tva_base::{
+    DrrLimits, LENGTH_MAX, LinkLimits, PolicyKind, PolicyPlan, Rights, TIME_MAX, seconds_max,
+    units_max,
+};
 
 /// What the entries of a table are read as.
 pub trait Entry: Drop {
-    /// What an entry at its place is read as, or its first fault.
-    ghost entry_of: { Place → Members → Read Self };
+    /// What an entry at its place is read as where shims have that version, or its first fault.
+    ghost entry_of: { ℕ → Place → Members → Read Self };
 
-    fn read(alloc: Global, place: Place, table: &Table) -> Result<Self, ConfigError>
-        ensures { Answers (entry_of place (table_view table.now)) result };
+    fn read(alloc: Global, version: u8, place: Place, table: &Table) -> Result<Self, ConfigError>
+        ensures { Answers (entry_of version place (table_view table.now)) result };
 }
 
 /// The greatest margin of a host, in nanoseconds.
@@ -32,17 +38,20 @@ const RETRY_MAX: u64 = 10_000_000_000_000;
 /// The greatest number of bytes in a queue or in the queues of a class.
 const BYTES_MAX: u32 = 1 << 30;
 
+const ROUTER_KEYS: [&str; 5] = ["name", "master", "slots", "clock_offset_ns", "edge_tag"];
+
 /// A router, or its first fault.
 impl Entry for RouterEntry {
-    ghost entry_of = { router_of };
+    ghost entry_of = { λ version. router_of };
 
     #[tactic(auto, unfolding(crate::specs::Entries::router_of))]
-    fn read(_alloc: Global, place: Place, table: &Table) -> Result<RouterEntry, ConfigError> {
-        keys::only_listed(
-            place,
-            table,
-            &["name", "master", "slots", "clock_offset_ns", "edge_tag"],
-        )?;
+    fn read(
+        _alloc: Global,
+        _version: u8,
+        place: Place,
+        table: &Table,
+    ) -> Result<RouterEntry, ConfigError> {
+        keys::only_listed(place, table, &ROUTER_KEYS)?;
         let name = keys::required(place, table, "name")?;
         let master = keys::required(place, table, "master")?;
         let slots = keys::count(place, table, "slots", 0, 1_000_000)?;
@@ -58,13 +67,20 @@ impl Entry for RouterEntry {
     }
 }
 
+const ROUTE_KEYS: [&str; 3] = ["router", "prefix", "via"];
+
 /// A route, or its first fault.
 impl Entry for RouteEntry {
-    ghost entry_of = { route_of };
+    ghost entry_of = { λ version. route_of };
 
     #[tactic(auto, unfolding(crate::specs::Entries::route_of))]
-    fn read(_alloc: Global, place: Place, table: &Table) -> Result<RouteEntry, ConfigError> {
-        keys::only_listed(place, table, &["router", "prefix", "via"])?;
+    fn read(
+        _alloc: Global,
+        _version: u8,
+        place: Place,
+        table: &Table,
+    ) -> Result<RouteEntry, ConfigError> {
+        keys::only_listed(place, table, &ROUTE_KEYS)?;
         let router = keys::required(place, table, "router")?;
         let prefix = keys::required(place, table, "prefix")?;
         let via = keys::required(place, table, "via")?;
@@ -99,10 +115,15 @@ const LINK_KEYS: [&str; 18] = [
 
 /// A link, or its first fault.
 impl Entry for LinkEntry {
-    ghost entry_of = { link_of };
+    ghost entry_of = { λ version. link_of };
 
     #[tactic(auto, unfolding(crate::specs::Entries::link_of))]
-    fn read(_alloc: Global, place: Place, table: &Table) -> Result<LinkEntry, ConfigError> {
+    fn read(
+        _alloc: Global,
+        _version: u8,
+        place: Place,
+        table: &Table,
+    ) -> Result<LinkEntry, ConfigError> {
         keys::only_listed(place, table, &LINK_KEYS)?;
         let from = keys::required(place, table, "from")?;
         let to = keys::required(place, table, "to")?;
@@ -215,6 +236,20 @@ fn class_limits(
     }
 }
 
+// The units that a host grants, within the version.
+fn units(version: u8, place: Place, table: &Table) -> Result<u32, ConfigFault>
+    ensures { result ≡ optional place (table_view table.now) (codes "n") (number 0 (units_max version)) 32 }
+{
+    keys::count_or(place, table, "n", 0, units_max(version), 32)
+}
+
+// The seconds in which it grants them.
+fn seconds(version: u8, place: Place, table: &Table) -> Result<u8, ConfigFault>
+    ensures { result ≡ optional place (table_view table.now) (codes "t") (number 0 (seconds_max version)) 10 }
+{
+    keys::small_or(place, table, "t", 0, seconds_max(version), 10)
+}
+
 const HOST_KEYS: [&str; 11] = [
     "name",
     "address",
@@ -234,7 +269,12 @@ impl Entry for HostEntry {
     ghost entry_of = { host_of };
 
     #[tactic(auto, unfolding(crate::specs::Entries::host_of))]
-    fn read(alloc: Global, place: Place, table: &Table) -> Result<HostEntry, ConfigError> {
+    fn read(
+        alloc: Global,
+        version: u8,
+        place: Place,
+        table: &Table,
+    ) -> Result<HostEntry, ConfigError> {
         keys::only_listed(place, table, &HOST_KEYS)?;
         let name = keys::required(place, table, "name")?;
         let address = keys::required(place, table, "address")?;
@@ -242,8 +282,8 @@ impl Entry for HostEntry {
         let margin = keys::number_or(place, table, "margin_ns", 0, MARGIN_MAX, 1_000_000)?;
         let retry = keys::number_or(place, table, "retry_ns", 0, RETRY_MAX, 2_000_000_000)?;
         let kind = keys::optional(place, table, "policy", PolicyKind::DenyAll)?;
-        let n = keys::count_or(place, table, "n", 0, 1023, 32)?;
-        let t = keys::seconds(place, table, "t")?;
+        let n = units(version, place, table)?;
+        let t = seconds(version, place, table)?;
         let grants = keys::count_or(place, table, "grants", 0, 1_000_000, 1000)?;
         let deny = keys::few_items(alloc, place, table, "deny")?;
         let deny_tags = keys::few_items(alloc, place, table, "deny_tags")?;
@@ -253,6 +293,7 @@ impl Entry for HostEntry {
             nonce,
             margin,
             retry,
+            version,
             policy: PolicyPlan {
                 kind,
                 rights: Rights { n, t },

@@ -14,12 +14,13 @@ use std::alloc::Global;
 use toml::Table;
 use tva_base::TIME_MAX;
 
-/// What the top level holds: the horizon in nanoseconds, the greatest number of events, and the
-/// entries of each table.
+/// What the top level holds: the horizon in nanoseconds, the greatest number of events, the version of
+/// the shims that hosts make, and the entries of each table.
 #[derive(Drop)]
 pub struct TopTable<'a> {
     pub horizon: u64,
     pub max_events: u64,
+    pub version: u8,
     pub routers: Vec<&'a Table>,
     pub hosts: Vec<&'a Table>,
     pub links: Vec<&'a Table>,
@@ -31,25 +32,25 @@ const TOP: Place = Place {
     entry: 0,
 };
 
+const TOP_KEYS: [&str; 7] = [
+    "horizon_ns",
+    "max_events",
+    "version",
+    "router",
+    "host",
+    "link",
+    "route",
+];
+
 /// The top level, or its first fault.
 #[tactic(auto, unfolding(crate::specs::Tables::top_of))]
 pub fn top<'a>(alloc: Global, table: &'a Table) -> Result<TopTable<'a>, ConfigError>
     ensures { AnswersBy seen_top (top_of (table_view table.now)) result }
 {
-    keys::only_listed(
-        TOP,
-        table,
-        &[
-            "horizon_ns",
-            "max_events",
-            "router",
-            "host",
-            "link",
-            "route",
-        ],
-    )?;
+    keys::only_listed(TOP, table, &TOP_KEYS)?;
     let horizon = keys::number(TOP, table, "horizon_ns", 0, TIME_MAX)?;
     let max_events = keys::number(TOP, table, "max_events", 1, 4_000_000)?;
+    let version = keys::small_or(TOP, table, "version", 1, 2, 1)?;
     let routers = keys::tables(alloc, TOP, table, "router")?;
     let hosts = keys::tables(alloc, TOP, table, "host")?;
     let links = keys::tables(alloc, TOP, table, "link")?;
@@ -57,6 +58,7 @@ pub fn top<'a>(alloc: Global, table: &'a Table) -> Result<TopTable<'a>, ConfigEr
     Ok(TopTable {
         horizon,
         max_events,
+        version,
         routers,
         hosts,
         links,
@@ -91,15 +93,16 @@ fn too_many(table: ConfigTable) -> ConfigFault
     keys::fault(Place { table, entry: 0 }, ConfigRule::Count, "-")
 }
 
-/// The entries of a table, or the first fault in them.
+/// The entries of a table where shims have that version, or the first fault in them.
 #[tactic(auto, unfolding(crate::specs::Tables::entries_of))]
 pub fn entries<T: Entry>(
     alloc: Global,
     kind: ConfigTable,
+    version: u8,
     tables: &[&Table],
 ) -> Result<Vec<T>, ConfigError>
     requires { length tables.now ≤ 65536 }
-    ensures answer { AnswersBy (λ v. v.items) (entries_of kind T.entry_of (map (λ t. table_view t.now) tables.now)) result }
+    ensures answer { AnswersBy (λ v. v.items) (entries_of kind (T.entry_of version) (map (λ t. table_view t.now) tables.now)) result }
     ensures count { IfOk result (λ v. length v.items ≡ length tables.now) }
 {
     let mut read = Vec::new(alloc);
@@ -108,7 +111,7 @@ pub fn entries<T: Entry>(
             table: kind,
             entry: i as u32,
         };
-        read.push(T::read(alloc, place, table)?)?;
+        read.push(T::read(alloc, version, place, table)?)?;
     }
     Ok(read)
 }

@@ -71,11 +71,11 @@ impl Kind for u16 {
     }
 }
 
-/// A number from 0 to 63.
-pub fn seconds(value: &Value) -> Option<u8>
-    ensures { result ≡ number 0 63 (view value.now) }
+/// A number from `low` to `high`, of at most 8 bits.
+pub fn small(value: &Value, low: u8, high: u8) -> Option<u8>
+    ensures { result ≡ number low high (view value.now) }
 {
-    match number(value, 0, 63) {
+    match number(value, u64::from(low), u64::from(high)) {
         Some(n) => Some(n as u8),
         None => None,
     }

@@ -64,33 +64,52 @@ prefix = \"10.0.1.0/24\"\n\
 via = \"B\"\n\
 ";
 
+/// The two numbers that the top level must have.
+const TOP: &str = "horizon_ns = 0\nmax_events = 1\n";
+
+const TABLES: [&str; 7] = [
+    texts::CASES,
+    keys::routers::CASES,
+    keys::hosts::CASES,
+    keys::links::CASES,
+    keys::routes::CASES,
+    steps::CASES,
+    sizes::CASES,
+];
+
 #[test]
-fn texts_and_the_top_level(rt: HostRuntime) {
-    check(&rt, rt.alloc(), texts::TEXTS);
-    check(&rt, rt.alloc(), texts::TOP);
+fn texts_have_their_answers(rt: HostRuntime) {
+    for cases in TABLES {
+        check(&rt, rt.alloc(), cases);
+    }
 }
 
 #[test]
-fn keys_of_each_table(rt: HostRuntime) {
-    check(&rt, rt.alloc(), keys::routers::CASES);
-    check(&rt, rt.alloc(), keys::hosts::CASES);
-    check(&rt, rt.alloc(), keys::links::CASES);
-    check(&rt, rt.alloc(), keys::routes::CASES);
+fn bytes_that_are_no_text(rt: HostRuntime) {
+    let alloc = rt.alloc();
+    let empty = "config nodes=0 links=0 routes=0 slots=0";
+    tells(
+        &rt,
+        alloc,
+        b"\xef\xbb\xbfhorizon_ns = 0\nmax_events = 1\n",
+        empty,
+    );
+    tells(&rt, alloc, b"horizon_ns = 0\r\nmax_events = 1\r\n", empty);
+    let refused = "bad config: syntax top 0 -";
+    tells(&rt, alloc, b"#\xff\n", refused);
+    tells(&rt, alloc, b"x = \"\xc3(\"\n", refused);
+    tells(&rt, alloc, b"#\xc0\x80\n", refused);
+    tells(&rt, alloc, b"\x00\n", refused);
 }
 
-#[test]
-fn steps_across_tables(rt: HostRuntime) {
-    check(&rt, rt.alloc(), steps::NAMES);
-    check(&rt, rt.alloc(), steps::RETRIES);
-    check(&rt, rt.alloc(), steps::ENDS);
-    check(&rt, rt.alloc(), steps::OWNERS);
-    check(&rt, rt.alloc(), steps::SUMS);
-    check(&rt, rt.alloc(), steps::ORDER);
+fn tells<R: Abort>(rt: &R, alloc: Global, text: &[u8], want: &str) {
+    let said = said(alloc, text).expect(rt, "memory");
+    assert_eq!(rt; said.as_str(), want);
 }
 
 // Cases stand apart by an empty line. The first line of a case is its name. Behind it stand, each
 // behind `^`, the text to begin with, changes to it, and the answer. A change is two fields: the
-// first place of the one gets the other, where `|` is a line feed.
+// first place of the one gets the other (`written` says how texts are written there).
 fn check<R: Abort>(rt: &R, alloc: Global, cases: &str) {
     for case in cases.split("\n\n") {
         check_case(rt, alloc, case);
@@ -110,6 +129,7 @@ fn text_of<R: Abort>(rt: &R, alloc: Global, fields: &[&str]) -> Result<String, A
     let base = match field(fields, 1) {
         "edge" => EDGE,
         "walk" => WALK,
+        "top" => TOP,
         _ => "",
     };
     let mut text = String::from_str(alloc, base)?;
@@ -136,21 +156,41 @@ fn changed<R: Abort>(
     old: &str,
     new: &str,
 ) -> Result<String, AllocError> {
-    let old = old.replace(alloc, "|", "\n")?;
-    let new = if new == "(nothing)" {
-        String::from_str(alloc, "")?
-    } else {
-        new.replace(alloc, "|", "\n")?
-    };
-    if old.as_str() == "(end)" {
+    let new = written(rt, alloc, new)?;
+    if old == "(end)" {
         return format!(in alloc; "{text}{new}");
     }
+    let old = old.replace(alloc, "|", "\n")?;
     assert!(rt; text.contains(old.as_str()), "{old} is not in the text");
     text.replacen(alloc, old.as_str(), new.as_str(), 1)
 }
 
+// A text of a case, where `|` is a line feed, and which may begin with a number of copies.
+fn written<R: Abort>(rt: &R, alloc: Global, text: &str) -> Result<String, AllocError> {
+    if text == "(nothing)" {
+        return String::from_str(alloc, "");
+    }
+    match text.split_once(" copies of ") {
+        Some((count, one)) => copies(alloc, count.parse().expect(rt, "a number of copies"), one),
+        None => text.replace(alloc, "|", "\n"),
+    }
+}
+
+// Copies of a text, in which `<` and `>` are the high and the low byte of the copy's number.
+fn copies(alloc: Global, count: u32, text: &str) -> Result<String, AllocError> {
+    let text = text.replace(alloc, "|", "\n")?;
+    let mut copies = String::new(alloc);
+    for i in 0..count {
+        let high = (i / 256).to_string(alloc)?;
+        let low = (i % 256).to_string(alloc)?;
+        let copy = text.replace(alloc, "<", high.as_str())?;
+        copies.push_str(copy.replace(alloc, ">", low.as_str())?.as_str())?;
+    }
+    Ok(copies)
+}
+
 // What the command `check` is to write for a text, or the text of the refusal.
-pub fn said(alloc: Global, text: &[u8]) -> Result<String, AllocError> {
+fn said(alloc: Global, text: &[u8]) -> Result<String, AllocError> {
     match read_config(alloc, text) {
         Ok(config) => format!(in alloc;
             "config nodes={} links={} routes={} slots={}",

@@ -24,7 +24,8 @@ module _ {T : Type 0} where
 
   -- what an offer answers
   abbrev pub offer_answer : (T → ℕ) → Fair T → ℕ → T → Offered T
-  offer_answer measure f key item = if lacks_queue f key then NoQueue item else (if lacks_room measure f key item then QueueFull item else Queued)
+  offer_answer measure f key item =
+      if lacks_queue f key then NoQueue item else (if lacks_room measure f key item then QueueFull item else Queued)
 
   -- what an offer leaves
   abbrev pub offer_leaves : (T → ℕ) → Fair T → ℕ → T → Fair T

@@ -6,4 +6,5 @@ module _ {T : Type 0} where
   -- the place of the key's queue
   abbrev pub IsPlace : ℕ → List (Queue T) → Option ℕ → Type 0
   IsPlace key qs None = has_key key qs ≡ false
-  IsPlace key qs (Some at) = (at < length qs) × (has_key key (take at qs) ≡ false) × ((q : Queue T) → q ≡ slice_index_or qs at q → q.key ≡ key)
+  IsPlace key qs (Some at) = (at < length qs) × (has_key key (take at qs) ≡ false)
+      × ((q : Queue T) → q ≡ slice_index_or qs at q → q.key ≡ key)

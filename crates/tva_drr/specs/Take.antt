@@ -23,7 +23,8 @@ module _ {T : Type 0} where
     abbrev pub settled : ℕ → ℕ → ℕ → List T → List (Queue T) → List (Queue T)
     settled quantum key deficit [] qs = refilled quantum qs
     settled quantum key deficit (x ∷ xs) qs =
-        if nat_lt deficit (measure x) then refilled quantum (qs ++ queue key deficit (x ∷ xs) ∷ []) else queue key deficit (x ∷ xs) ∷ qs
+        if nat_lt deficit (measure x) then refilled quantum (qs ++ queue key deficit (x ∷ xs) ∷ [])
+        else queue key deficit (x ∷ xs) ∷ qs
 
     abbrev pub front_settled : ℕ → List (Queue T) → List (Queue T)
     front_settled quantum [] = []

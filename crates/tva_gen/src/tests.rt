@@ -111,6 +111,7 @@ fn host(alloc: Global, name: Name, address: u32) -> NodePlan {
         nonce: 1,
         margin: 1_000_000,
         retry: 2_000_000_000,
+        version: 1,
         policy: PolicyPlan {
             kind: PolicyKind::DenyAll,
             rights: Rights { n: 32, t: 10 },

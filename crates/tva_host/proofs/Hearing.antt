@@ -55,10 +55,10 @@ told what back reply = record { what = what; back = back; reply = reply }
 
 -- the parts of a receipt, one by one
 pub receipt-received : (node : ℕ) (plan : HostPlan) (h : History) (now : ℕ) (src : Address) (carries : Carried) (what : WhatKind) (back : BackKind) (answer : Option ReturnInfo) (reply : Option Made)
-    → what ≡ what_of carries → back ≡ became_of h.contacts src (back_in carries) → answer ≡ answer_to plan h.deeds src carries (claim_in carries)
+    → what ≡ what_of carries → back ≡ became_of plan.version h.contacts src (back_in carries) → answer ≡ answer_to plan h.deeds src carries (claim_in carries)
     → reply ≡ reply_of node plan (before_reply plan src carries h) now src answer
     → told what back reply ≡ received node plan h now src carries
 receipt-received node plan h now src carries what back answer reply is became answers replies =
     ap (λ (w : WhatKind). told w back reply) is
     ∙ ap (λ (b : BackKind). told (what_of carries) b reply) became
-    ∙ ap (told (what_of carries) (became_of h.contacts src (back_in carries))) (replies ∙ ap (reply_of node plan (before_reply plan src carries h) now src) answers)
+    ∙ ap (told (what_of carries) (became_of plan.version h.contacts src (back_in carries))) (replies ∙ ap (reply_of node plan (before_reply plan src carries h) now src) answers)

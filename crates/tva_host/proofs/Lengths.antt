@@ -15,23 +15,23 @@ use Rattle.tva_sender.specs.Shapes.{length_of}
 use Rattle.tva_host.specs.History.{History}
 use Rattle.tva_host.specs.Sending.{is_legacy, shim_of, carried_by, next_shape, intended}
 
-shim-length : (shape : Shape) (back : ReturnInfo) (payload : ℕ) → is_legacy shape ≡ false
-    → 20 + length (layout (shim_of shape back)) + payload ≡ length_of shape (payload + return_size back)
-shim-length shapes.Request back payload counted = omega (arith, length-layout (shim_of shapes.Request back))
-shim-length (shapes.List held) back payload counted = omega (arith, length-layout (shim_of (shapes.List held) back))
-shim-length (shapes.NonceOnly nonce) back payload counted = omega (arith, length-layout (shim_of (shapes.NonceOnly nonce) back))
-shim-length (shapes.Renewal held) back payload counted = omega (arith, length-layout (shim_of (shapes.Renewal held) back))
-shim-length shapes.Legacy back payload counted = cc
+shim-length : (version : ℕ) (shape : Shape) (back : ReturnInfo) (payload : ℕ) → is_legacy shape ≡ false
+    → 20 + length (layout (shim_of version shape back)) + payload ≡ length_of version shape (payload + return_size version back)
+shim-length version shapes.Request back payload counted = omega (arith, length-layout (shim_of version shapes.Request back))
+shim-length version (shapes.List held) back payload counted = omega (arith, length-layout (shim_of version (shapes.List held) back))
+shim-length version (shapes.NonceOnly nonce) back payload counted = omega (arith, length-layout (shim_of version (shapes.NonceOnly nonce) back))
+shim-length version (shapes.Renewal held) back payload counted = omega (arith, length-layout (shim_of version (shapes.Renewal held) back))
+shim-length version shapes.Legacy back payload counted = cc
 
-pub made-length : (shape : Shape) (back : ReturnInfo) (p : PacketData) → is_legacy shape ≡ false → p.carried ≡ carried.Shim (shim_of shape back)
-    → packet_length p ≡ length_of shape (p.payload + return_size back)
-made-length shape back p counted carries = ap (λ (c : Carried). 20 + carried_bytes c + p.payload) carries ∙ shim-length shape back p.payload counted
+pub made-length : (version : ℕ) (shape : Shape) (back : ReturnInfo) (p : PacketData) → is_legacy shape ≡ false → p.carried ≡ carried.Shim (shim_of version shape back)
+    → packet_length p ≡ length_of version shape (p.payload + return_size version back)
+made-length version shape back p counted carries = ap (λ (c : Carried). 20 + carried_bytes c + p.payload) carries ∙ shim-length version shape back p.payload counted
 
 pub intended-length : (node : ℕ) (plan : HostPlan) (h : History) (now : ℕ) (dst : Address) (payload : ℕ) → is_legacy (next_shape plan h now dst payload) ≡ false
-    → packet_length (intended node plan h now dst payload).packet ≡ length_of (next_shape plan h now dst payload) payload
+    → packet_length (intended node plan h now dst payload).packet ≡ length_of plan.version (next_shape plan h now dst payload) payload
 unfolding intended
 intended-length node plan h now dst payload counted =
     let shape = next_shape plan h now dst payload in
-    let carries : carried_by shape ≡ carried.Shim (shim_of shape backs.Nothing) = rw counted refl in
-    let size : payload + return_size backs.Nothing ≡ payload = omega arith in
-    made-length shape backs.Nothing (intended node plan h now dst payload).packet counted carries ∙ ap (length_of shape) size
+    let carries : carried_by plan.version shape ≡ carried.Shim (shim_of plan.version shape backs.Nothing) = rw counted refl in
+    let size : payload + return_size plan.version backs.Nothing ≡ payload = omega arith in
+    made-length plan.version shape backs.Nothing (intended node plan h now dst payload).packet counted carries ∙ ap (length_of plan.version shape) size

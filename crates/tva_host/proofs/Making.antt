@@ -34,30 +34,32 @@ shape-by plan p h now dst body size shape here sized is = is ∙ ap (λ (q : Hos
 
 -- what a send row gives, by its shape
 pub made-intended : (node : ℕ) (plan p : HostPlan) (h : History) (now : ℕ) (dst : Address) (payload body : ℕ) (shape : Shape) (carries : Carried) (m : Made)
-    → p ≡ plan → body ≡ payload → shape ≡ next_shape p h now dst body → carries ≡ carried_by shape → m ≡ next_made node plan h dst payload carries shape → m ≡ intended node plan h now dst payload
+    → p ≡ plan → body ≡ payload → shape ≡ next_shape p h now dst body → carries ≡ carried_by plan.version shape → m ≡ next_made node plan h dst payload carries shape → m ≡ intended node plan h now dst payload
 unfolding intended
 made-intended node plan p h now dst payload body shape carries m here size e f is =
-    is ∙ ap (λ (c : Carried). next_made node plan h dst payload c shape) f ∙ ap (λ (s : Shape). next_made node plan h dst payload (carried_by s) s) (shape-by plan p h now dst body payload shape here size e)
+    is ∙ ap (λ (c : Carried). next_made node plan h dst payload c shape) f ∙ ap (λ (s : Shape). next_made node plan h dst payload (carried_by plan.version s) s) (shape-by plan p h now dst body payload shape here size e)
 
 pub keeps-intended : (plan p : HostPlan) (v : HostData) (h : History) (now : ℕ) (dst : Address) (payload body : ℕ) (shape : Shape)
-    → p ≡ plan → body ≡ payload → shape ≡ next_shape p h now dst body → Keeps v (with_packet (with_prepared now dst shape body (with_deed (Sent dst) h))) → Keeps v (after_intending plan h now dst payload)
+    → p ≡ plan → body ≡ payload → shape ≡ next_shape p h now dst body → Keeps v (with_packet (with_prepared p.version now dst shape body (with_deed (Sent dst) h))) → Keeps v (after_intending plan h now dst payload)
 unfolding after_intending
-keeps-intended plan p v h now dst payload body shape here size e k =
-    let sized : Keeps v (with_packet (with_prepared now dst shape payload (with_deed (Sent dst) h))) = subst (λ b. Keeps v (with_packet (with_prepared now dst shape b (with_deed (Sent dst) h)))) size k in
-    subst (λ (x : Shape). Keeps v (with_packet (with_prepared now dst x payload (with_deed (Sent dst) h)))) (shape-by plan p h now dst body payload shape here size e) sized
+keeps-intended plan p v h now dst payload body shape here size e was =
+    let k : Keeps v (with_packet (with_prepared plan.version now dst shape body (with_deed (Sent dst) h))) =
+    subst (λ (q : HostPlan). Keeps v (with_packet (with_prepared q.version now dst shape body (with_deed (Sent dst) h)))) here was in
+    let sized : Keeps v (with_packet (with_prepared plan.version now dst shape payload (with_deed (Sent dst) h))) = subst (λ b. Keeps v (with_packet (with_prepared plan.version now dst shape b (with_deed (Sent dst) h)))) size k in
+    subst (λ (x : Shape). Keeps v (with_packet (with_prepared plan.version now dst x payload (with_deed (Sent dst) h)))) (shape-by plan p h now dst body payload shape here size e) sized
 
 -- a reply, by its return info and its shape
 pub reply-made : (node : ℕ) (plan : HostPlan) (h : History) (now : ℕ) (src : Address) (answer : Option ReturnInfo) (back : ReturnInfo) (body : ℕ) (shape : Shape) (m : Made)
-    → answer ≡ Some back → body ≡ return_size back → shape ≡ next_shape plan h now src body → m ≡ next_made node plan h src 0 (carried.Shim (shim_of shape back)) shape
+    → answer ≡ Some back → body ≡ return_size plan.version back → shape ≡ next_shape plan h now src body → m ≡ next_made node plan h src 0 (carried.Shim (shim_of plan.version shape back)) shape
     → Some m ≡ reply_of node plan h now src answer
 reply-made node plan h now src answer back body shape m there size e is =
     let whole = e ∙ ap (next_shape plan h now src) size in
-    ap Some (is ∙ ap (λ (s : Shape). next_made node plan h src 0 (carried.Shim (shim_of s back)) s) whole) ∙ ap (reply_of node plan h now src) (sym there)
+    ap Some (is ∙ ap (λ (s : Shape). next_made node plan h src 0 (carried.Shim (shim_of plan.version s back)) s) whole) ∙ ap (reply_of node plan h now src) (sym there)
 
 pub keeps-reply : (plan : HostPlan) (v : HostData) (h : History) (now : ℕ) (src : Address) (answer : Option ReturnInfo) (back : ReturnInfo) (body : ℕ) (shape : Shape)
-    → answer ≡ Some back → body ≡ return_size back → shape ≡ next_shape plan h now src body → Keeps v (with_packet (with_prepared now src shape body h))
+    → answer ≡ Some back → body ≡ return_size plan.version back → shape ≡ next_shape plan h now src body → Keeps v (with_packet (with_prepared plan.version now src shape body h))
     → Keeps v (after_reply plan now src answer h)
 keeps-reply plan v h now src answer back body shape there size e k =
-    let sized : Keeps v (with_packet (with_prepared now src shape (return_size back) h)) = subst (λ b. Keeps v (with_packet (with_prepared now src shape b h))) size k in
-    let shaped : Keeps v (with_made plan now src (return_size back) h) = subst (λ (x : Shape). Keeps v (with_packet (with_prepared now src x (return_size back) h))) (e ∙ ap (next_shape plan h now src) size) sized in
+    let sized : Keeps v (with_packet (with_prepared plan.version now src shape (return_size plan.version back) h)) = subst (λ b. Keeps v (with_packet (with_prepared plan.version now src shape b h))) size k in
+    let shaped : Keeps v (with_made plan now src (return_size plan.version back) h) = subst (λ (x : Shape). Keeps v (with_packet (with_prepared plan.version now src x (return_size plan.version back) h))) (e ∙ ap (next_shape plan h now src) size) sized in
     subst (λ (o : Option ReturnInfo). Keeps v (after_reply plan now src o h)) (sym there) shaped

@@ -1,5 +1,6 @@
 -- Each peer's contacts in a host's history are such as a sender can have.
 use Rattle.std.proofs.Common.{◌≡◌, ℕ, ◌≤◌, Bool, true, false, cond, eqb, List, [], ◌∷◌, ◌++◌, Option, Some, None, refl, arith, append-nil}
+use Rattle.std.proofs.lemmas.Bool.{and_parts}
 use Rattle.std.proofs.lemmas.List.Elements.{All-nil}
 use Rattle.tva_base.specs.declared.addresses.Address.{Address}
 use Rattle.tva_base.specs.declared.packet.Rights.{Rights}
@@ -9,7 +10,7 @@ use Rattle.tva_shim.specs.declared.kinds.ReturnInfo.TheVariants as backs
 use Rattle.tva_shim.specs.Layout.{return_size}
 use Rattle.tva_shim.specs.Packets.{PacketData}
 use Rattle.tva_policy.specs.Grants.{Sent}
-use Rattle.tva_sender.specs.Contacts.{Contact, Prepared, Taken, Notice, awaits}
+use Rattle.tva_sender.specs.Contacts.{Contact, Prepared, Taken, Notice, awaits, is_within, takes}
 use Rattle.tva_sender.specs.Shapes.{length_of}
 use Rattle.tva_sender.specs.Played.{IsUpTo, NoneLater, IsNext, IsPlayed}
 use Rattle.tva_sender.specs.Book.{of_peer}
@@ -23,7 +24,7 @@ use Rattle.tva_host.specs.Calls.{Call, Intended, Injected, Received, after_call,
 
 -- each peer's contacts are played, and none is later than that
 pub record ArePlayed (plan : HostPlan) (time : ℕ) (contacts : List (Address × Contact)) : Type 0 where
-  pub played : (a : Address) → IsPlayed plan.margin plan.retry (of_peer a contacts)
+  pub played : (a : Address) → IsPlayed plan.margin plan.retry plan.version (of_peer a contacts)
   pub times : (a : Address) → NoneLater time (of_peer a contacts)
 
 later : (plan : HostPlan) (time now : ℕ) (contacts : List (Address × Contact)) → time ≤ now → ArePlayed plan time contacts → ArePlayed plan now contacts
@@ -31,9 +32,9 @@ later plan time now contacts l k = record { played = k.played; times = λ a. non
 
 -- one more contact
 more : (plan : HostPlan) (time : ℕ) (contacts : List (Address × Contact)) (a : Address) (c : Contact) → ArePlayed plan time contacts
-    → IsNext plan.margin plan.retry (of_peer a contacts) c → IsUpTo time c → ArePlayed plan time (contacts ++ (a, c) ∷ [])
+    → IsNext plan.margin plan.retry plan.version (of_peer a contacts) c → IsUpTo time c → ArePlayed plan time (contacts ++ (a, c) ∷ [])
 more plan time contacts a c k next up_to = record {
-  played = each-more (IsPlayed plan.margin plan.retry) contacts a c k.played (next-push plan.margin plan.retry [] (of_peer a contacts) c (k.played a) next);
+  played = each-more (IsPlayed plan.margin plan.retry plan.version) contacts a c k.played (next-push plan.margin plan.retry plan.version [] (of_peer a contacts) c (k.played a) next);
   times = each-more (NoneLater time) contacts a c k.times (none-push time (of_peer a contacts) c (k.times a) up_to);
 }
 
@@ -42,24 +43,25 @@ made : (plan : HostPlan) (h : History) (now : ℕ) (dst : Address) (body : ℕ) 
 made plan h now dst body k =
     let shape = next_shape plan h now dst body in
     let same : now ≤ now = omega arith in
-    more plan now h.contacts dst (Prepared now shape (length_of shape body)) k
-    (next-prepared plan.margin plan.retry now (of_peer dst h.contacts) now body (offered plan h) shape same (k.times dst) refl) same
+    more plan now h.contacts dst (Prepared now shape (length_of plan.version shape body)) k
+    (next-prepared plan.margin plan.retry plan.version now (of_peer dst h.contacts) now body (offered plan h) shape same (k.times dst) refl) same
 
 -- return info was taken or ignored
-taken : (plan : HostPlan) (time : ℕ) (contacts : List (Address × Contact)) (src : Address) (rights : Rights) (caps : List ℕ) (opens : Bool) → awaits (of_peer src contacts) ≡ opens
+taken : (plan : HostPlan) (time : ℕ) (contacts : List (Address × Contact)) (src : Address) (rights : Rights) (caps : List ℕ) (opens : Bool) → takes plan.version (of_peer src contacts) rights ≡ opens
     → ArePlayed plan time contacts → ArePlayed plan time (contacts ++ cond opens ((src, Taken rights caps) ∷ []) [])
-taken plan time contacts src rights caps true is k = more plan time contacts src (Taken rights caps) k is tt
+taken plan time contacts src rights caps true is k =
+    more plan time contacts src (Taken rights caps) k (and_parts (awaits (of_peer src contacts)) (is_within plan.version rights) is) tt
 taken plan time contacts src rights caps false is k = rw (append-nil contacts) k
 
 met : (plan : HostPlan) (time : ℕ) (contacts : List (Address × Contact)) (src : Address) (back : ReturnInfo) → ArePlayed plan time contacts
-    → ArePlayed plan time (contacts ++ met_by contacts src back)
+    → ArePlayed plan time (contacts ++ met_by plan.version contacts src back)
 met plan time contacts src backs.Nothing k = rw (append-nil contacts) k
 met plan time contacts src backs.Notice k = more plan time contacts src Notice k tt tt
-met plan time contacts src (backs.Grant rights caps) k = taken plan time contacts src rights caps (awaits (of_peer src contacts)) refl k
+met plan time contacts src (backs.Grant rights caps) k = taken plan time contacts src rights caps (takes plan.version (of_peer src contacts) rights) refl k
 
 replied : (plan : HostPlan) (h : History) (now : ℕ) (src : Address) (answer : Option ReturnInfo) → ArePlayed plan now h.contacts → ArePlayed plan now (after_reply plan now src answer h).contacts
 replied plan h now src None k = k
-replied plan h now src (Some back) k = made plan h now src (return_size back) k
+replied plan h now src (Some back) k = made plan h now src (return_size plan.version back) k
 
 intending : (plan : HostPlan) (h : History) (now : ℕ) (dst : Address) (payload : ℕ) → ArePlayed plan now h.contacts → ArePlayed plan now (after_intending plan h now dst payload).contacts
 unfolding after_intending

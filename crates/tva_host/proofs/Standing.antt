@@ -5,22 +5,29 @@ use Rattle.std.proofs.Math.Nat.{mod-add-mod}
 use Rattle.tva_base.specs.declared.addresses.Address.{Address}
 use Rattle.tva_base.specs.declared.packet.Rights.{Rights}
 use Rattle.tva_base.specs.declared.plan.PolicyPlan.{PolicyPlan}
-use Rattle.tva_base.specs.Plan.{IsHostPlan, AreRights}
+use Rattle.tva_base.specs.Plan.{IsHostPlan}
+use Rattle.tva_base.specs.Versions.{AreRights, AreSomeRights, IsVersion}
+use Rattle.tva_base.proofs.Widths.{some_rights}
+use Rattle.tva_sender.proofs.Taking.{taken_fits}
+use Rattle.tva_shim.specs.declared.kinds.ReturnInfo.{ReturnInfo}
+use Rattle.tva_shim.specs.declared.kinds.ReturnInfo.TheVariants as backs
+use Rattle.tva_shim.specs.Shims.{IsReturn}
 use Rattle.tva_policy.specs.Grants.{Deed, Sent, decision, is_granted}
 use Rattle.tva_policy.specs.Notes as policy
 use Rattle.tva_sender.specs.declared.shape.Shape.{Shape}
-use Rattle.tva_sender.specs.Contacts.{Contact, Prepared, Taken}
+use Rattle.tva_sender.specs.Contacts.{Contact, Prepared, Taken, takes}
 use Rattle.tva_sender.specs.Shapes.{length_of}
 use Rattle.tva_sender.specs.Showable.{IsShowableContact, AreShowable}
 use Rattle.tva_sender.specs.Book as sender
+use Rattle.tva_sender.specs.Book.{of_peer}
 use Rattle.tva_host.specs.History.{History, beginning, with_deed, with_packet, with_prepared}
 use Rattle.tva_host.specs.Stands.{HostData, host_data, Keeps}
 use Rattle.tva_host.specs.Sound.{HasHistory}
 
 -- one more contact that a shim could carry
-pub showable-push : (h : List (Address × Contact)) (a : Address) (c : Contact) → AreShowable h → IsShowableContact c → AreShowable (h ++ (a, c) ∷ [])
-showable-push [] a c k x = (x, tt)
-showable-push (d ∷ ds) a c k x = (k.0, showable-push ds a c k.1 x)
+pub showable-push : (version : ℕ) (h : List (Address × Contact)) (a : Address) (c : Contact) → AreShowable version h → IsShowableContact version c → AreShowable version (h ++ (a, c) ∷ [])
+showable-push version [] a c k x = (x, tt)
+showable-push version (d ∷ ds) a c k x = (k.0, showable-push version ds a c k.1 x)
 
 pub has-beginning : (v : HostData) → IsHostPlan v.plan → Keeps v beginning → v.sender.last ≤ v.last → HasHistory v
 has-beginning v valid keeps past = record { history = beginning; valid = valid; keeps = keeps; showable = tt; past = past }
@@ -53,6 +60,7 @@ keeps-timed v last h k = record {
   offered = k.offered;
   margin = k.margin;
   retry = k.retry;
+  version = k.version;
   policy = k.policy;
   sender = k.sender;
 }
@@ -72,6 +80,7 @@ keeps-packet v h k = record {
   offered = k.offered;
   margin = k.margin;
   retry = k.retry;
+  version = k.version;
   policy = k.policy;
   sender = k.sender;
 }
@@ -92,6 +101,7 @@ keeps-deed v notes deed h k more = record {
   offered = k.offered;
   margin = k.margin;
   retry = k.retry;
+  version = k.version;
   policy = more;
   sender = k.sender;
 }
@@ -120,58 +130,74 @@ pub keeps-sent : {A E : Type 0} (v : HostData) (notes : policy.Notes) (dst : Add
 keeps-sent v notes dst h (Ok x) k more = keeps-deed v notes (Sent dst) h k (more v.plan.policy h.deeds k.policy)
 keeps-sent v notes dst h (Err e) k more = tt
 
-pub rights-fit : (plan : PolicyPlan) (d : List Deed) (src : Address) (tags : List ℕ) (rights : Option Rights) → AreRights plan.rights → rights ≡ decision plan d src tags → IfSome rights AreRights
-rights-fit plan d src tags rights fits e =
-    subst (λ (o : Option Rights). IfSome o AreRights) (sym e) (elim (is_granted plan d src tags) as (λ b. IfSome (cond b (Some plan.rights) None) AreRights) [ true ↦ fits | false ↦ tt ])
+-- the rights that a policy decides on are those of its plan
+pub rights-fit : (version : ℕ) (plan : PolicyPlan) (d : List Deed) (src : Address) (tags : List ℕ) (rights : Option Rights) → AreRights version plan.rights → rights ≡ decision plan d src tags
+    → IfSome rights (AreRights version)
+rights-fit version plan d src tags rights fits e =
+    subst (λ (o : Option Rights). IfSome o (AreRights version)) (sym e) (elim (is_granted plan d src tags) as (λ b. IfSome (cond b (Some plan.rights) None) (AreRights version)) [ true ↦ fits | false ↦ tt ])
+
+pub some-fit : (version : ℕ) (rights : Option Rights) → IfSome rights (AreRights version) → IfSome rights AreSomeRights
+some-fit version None fits = tt
+some-fit version (Some rights) fits = some_rights version rights fits
+
+-- return info of a shim of some version
+pub back-some : (version : ℕ) (back : ReturnInfo) → IsReturn version back → IsReturn 2 back
+back-some version backs.Nothing fits = tt
+back-some version backs.Notice fits = tt
+back-some version (backs.Grant rights caps) fits = some_rights version rights fits
 
 -- the sender was told of one more contact
 pub keeps-book : (v : HostData) (book : sender.Book) (h : History) (contacts : List (Address × Contact)) → Keeps v h
-    → sender.StandsFor book contacts → book.margin ≡ v.sender.margin → book.retry ≡ v.sender.retry
+    → sender.StandsFor book contacts → book.margin ≡ v.sender.margin → book.retry ≡ v.sender.retry → book.version ≡ v.sender.version
     → Keeps (booked v.offered book v) (record h { contacts = contacts })
-keeps-book v book h contacts k more margin retry = record {
+keeps-book v book h contacts k more margin retry version = record {
   next = k.next;
   offered = k.offered;
   margin = margin ∙ k.margin;
   retry = retry ∙ k.retry;
+  version = version ∙ k.version;
   policy = k.policy;
   sender = more;
 }
 
 pub keeps-prepared : (v : HostData) (book : sender.Book) (h : History) (now : ℕ) (dst : Address) (shape : Shape) (body : ℕ) → Keeps v h
-    → sender.StandsFor book (h.contacts ++ (dst, Prepared now shape (length_of shape body)) ∷ []) → book.margin ≡ v.sender.margin → book.retry ≡ v.sender.retry
-    → Keeps (booked ((v.offered + 1) % 2 ^ 48) book v) (with_prepared now dst shape body h)
-keeps-prepared v book h now dst shape body k more margin retry = record {
+    → sender.StandsFor book (h.contacts ++ (dst, Prepared now shape (length_of v.plan.version shape body)) ∷ []) → book.margin ≡ v.sender.margin → book.retry ≡ v.sender.retry → book.version ≡ v.sender.version
+    → Keeps (booked ((v.offered + 1) % 2 ^ 48) book v) (with_prepared v.plan.version now dst shape body h)
+keeps-prepared v book h now dst shape body k more margin retry version = record {
   next = k.next;
   offered = ap (λ n. (n + 1) % 2 ^ 48) k.offered ∙ next-nonce v.plan.nonce h.prepared;
   margin = margin ∙ k.margin;
   retry = retry ∙ k.retry;
+  version = version ∙ k.version;
   policy = k.policy;
   sender = more;
 }
 
 pub has-prepared : (v : HostData) (book : sender.Book) (now : ℕ) (dst : Address) (shape : Shape) (body : ℕ) → (has : HasHistory v)
-    → sender.StandsFor book (has.history.contacts ++ (dst, Prepared now shape (length_of shape body)) ∷ []) → IsShowableContact (Prepared now shape (length_of shape body))
-    → book.margin ≡ v.sender.margin → book.retry ≡ v.sender.retry → book.last ≤ v.last
+    → sender.StandsFor book (has.history.contacts ++ (dst, Prepared now shape (length_of v.plan.version shape body)) ∷ []) → IsShowableContact v.plan.version (Prepared now shape (length_of v.plan.version shape body))
+    → book.margin ≡ v.sender.margin → book.retry ≡ v.sender.retry → book.version ≡ v.sender.version → book.last ≤ v.last
     → HasHistory (booked ((v.offered + 1) % 2 ^ 48) book v)
-has-prepared v book now dst shape body has more fits margin retry past = record {
-  history = with_prepared now dst shape body has.history;
+has-prepared v book now dst shape body has more fits margin retry version past = record {
+  history = with_prepared v.plan.version now dst shape body has.history;
   valid = has.valid;
-  keeps = keeps-prepared v book has.history now dst shape body has.keeps more margin retry;
-  showable = showable-push has.history.contacts dst (Prepared now shape (length_of shape body)) has.showable fits;
+  keeps = keeps-prepared v book has.history now dst shape body has.keeps more margin retry version;
+  showable = showable-push v.plan.version has.history.contacts dst (Prepared now shape (length_of v.plan.version shape body)) has.showable fits;
   past = past;
 }
 
-pub showable-granted : (h : List (Address × Contact)) (src : Address) (rights : Rights) (caps : List ℕ) (is_taken : Bool) → AreShowable h → AreRights rights → AreShowable (h ++ cond is_taken ((src, Taken rights caps) ∷ []) [])
-showable-granted h src rights caps true k fits = showable-push h src (Taken rights caps) k fits
-showable-granted h src rights caps false k fits = subst (λ (cs : List (Address × Contact)). AreShowable cs) (sym (append-nil h)) k
+-- a grant that came with a shim is taken where a shim of the sender's version can carry it
+pub showable-granted : (version : ℕ) → IsVersion version → (h contacts : List (Address × Contact)) (src : Address) (rights : Rights) (caps : List ℕ) (is_taken : Bool)
+    → is_taken ≡ takes version (of_peer src contacts) rights → AreShowable version h → AreSomeRights rights → AreShowable version (h ++ cond is_taken ((src, Taken rights caps) ∷ []) [])
+showable-granted version is h contacts src rights caps true taken k some = showable-push version h src (Taken rights caps) k (taken_fits version is (of_peer src contacts) rights some (sym taken))
+showable-granted version is h contacts src rights caps false taken k some = subst (λ (cs : List (Address × Contact)). AreShowable version cs) (sym (append-nil h)) k
 
 pub has-book : (v : HostData) (book : sender.Book) (more : List (Address × Contact)) → (has : HasHistory v)
-    → sender.StandsFor book (has.history.contacts ++ more) → AreShowable (has.history.contacts ++ more) → book.margin ≡ v.sender.margin → book.retry ≡ v.sender.retry
+    → sender.StandsFor book (has.history.contacts ++ more) → AreShowable v.plan.version (has.history.contacts ++ more) → book.margin ≡ v.sender.margin → book.retry ≡ v.sender.retry → book.version ≡ v.sender.version
     → book.last ≡ v.sender.last → HasHistory (booked v.offered book v)
-has-book v book more has stands showable margin retry last = record {
+has-book v book more has stands showable margin retry version last = record {
   history = record has.history { contacts = has.history.contacts ++ more };
   valid = has.valid;
-  keeps = keeps-book v book has.history (has.history.contacts ++ more) has.keeps stands margin retry;
+  keeps = keeps-book v book has.history (has.history.contacts ++ more) has.keeps stands margin retry version;
   showable = showable;
   past = omega (arith, has.past, last);
 }

@@ -27,10 +27,11 @@ with_deed deed h = record h { deeds = h.deeds ++ deed ∷ [] }
 abbrev pub with_packet : History → History
 with_packet h = record h { made = h.made + 1 }
 
--- after a packet with a body of so many bytes was prepared for a peer in that shape
-abbrev pub with_prepared : ℕ → Address → Shape → ℕ → History → History
-with_prepared now dst shape body h = record h {
-  contacts = h.contacts ++ (dst, Prepared now shape (length_of shape body)) ∷ [];
+-- after a packet with a body of so many bytes was prepared for a peer in that shape, by the version of the
+-- host's shims
+abbrev pub with_prepared : ℕ → ℕ → Address → Shape → ℕ → History → History
+with_prepared version now dst shape body h = record h {
+  contacts = h.contacts ++ (dst, Prepared now shape (length_of version shape body)) ∷ [];
   prepared = h.prepared + 1;
 }
 

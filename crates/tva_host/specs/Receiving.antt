@@ -20,7 +20,7 @@ use Rattle.tva_shim.specs.Layout.{return_size}
 use Rattle.tva_shim.specs.Packets.{PacketData}
 use Rattle.tva_caps.specs.Formula.{capability_of}
 use Rattle.tva_policy.specs.Grants.{Deed, Decided, decision}
-use Rattle.tva_sender.specs.Contacts.{Contact, Taken, Notice, awaits}
+use Rattle.tva_sender.specs.Contacts.{Contact, Taken, Notice, takes}
 use Rattle.tva_sender.specs.Book.{of_peer}
 use Rattle.tva_host.specs.declared.made.Made.{Made}
 use Rattle.tva_host.specs.declared.made.Receipt.{Receipt}
@@ -31,21 +31,22 @@ abbrev pub taken_or_ignored : Bool → BackKind
 taken_or_ignored is_taken = if is_taken then became.Grant else became.Ignored
 
 -- first, what becomes of the return info: a grant is taken where the source's last ask isn't
--- answered
-abbrev pub became_of : List (Address × Contact) → Address → ReturnInfo → BackKind
-became_of contacts src backs.Nothing = became.Nothing
-became_of contacts src backs.Notice = became.Notice
-became_of contacts src (backs.Grant rights caps) = taken_or_ignored (awaits (of_peer src contacts))
+-- answered and the rights are within the version of the host's shims
+abbrev pub became_of : ℕ → List (Address × Contact) → Address → ReturnInfo → BackKind
+became_of version contacts src backs.Nothing = became.Nothing
+became_of version contacts src backs.Notice = became.Notice
+became_of version contacts src (backs.Grant rights caps) =
+    taken_or_ignored (takes version (of_peer src contacts) rights)
 
 -- and what the host's sender met by it
-abbrev pub met_by : List (Address × Contact) → Address → ReturnInfo → List (Address × Contact)
-met_by contacts src backs.Nothing = []
-met_by contacts src backs.Notice = (src, Notice) ∷ []
-met_by contacts src (backs.Grant rights caps) =
-    if awaits (of_peer src contacts) then (src, Taken rights caps) ∷ [] else []
+abbrev pub met_by : ℕ → List (Address × Contact) → Address → ReturnInfo → List (Address × Contact)
+met_by version contacts src backs.Nothing = []
+met_by version contacts src backs.Notice = (src, Notice) ∷ []
+met_by version contacts src (backs.Grant rights caps) =
+    if takes version (of_peer src contacts) rights then (src, Taken rights caps) ∷ [] else []
 
-abbrev pub after_back : Address → ReturnInfo → History → History
-after_back src back h = record h { contacts = h.contacts ++ met_by h.contacts src back }
+abbrev pub after_back : ℕ → Address → ReturnInfo → History → History
+after_back version src back h = record h { contacts = h.contacts ++ met_by version h.contacts src back }
 
 -- second, what the packet is, by its mark and then by its kind
 abbrev pub what_kind : Kind → WhatKind
@@ -120,12 +121,13 @@ after_answer plan src carries h = record h { deeds = h.deeds ++ decided_on plan 
 abbrev pub reply_of : ℕ → HostPlan → History → ℕ → Address → Option ReturnInfo → Option Made
 reply_of node plan h now src None = None
 reply_of node plan h now src (Some back) =
-    Some (next_made node plan h src 0 (carried.Shim (shim_of (next_shape plan h now src (return_size back)) back))
-    (next_shape plan h now src (return_size back)))
+    Some (next_made node plan h src 0
+    (carried.Shim (shim_of plan.version (next_shape plan h now src (return_size plan.version back)) back))
+    (next_shape plan h now src (return_size plan.version back)))
 
 abbrev pub after_reply : HostPlan → ℕ → Address → Option ReturnInfo → History → History
 after_reply plan now src None h = h
-after_reply plan now src (Some back) h = with_made plan now src (return_size back) h
+after_reply plan now src (Some back) h = with_made plan now src (return_size plan.version back) h
 
 -- what is told of a packet for another host, of which nothing comes
 abbrev pub stray : Receipt
@@ -133,13 +135,13 @@ stray = record { what = what.Stray; back = became.Nothing; reply = None }
 
 -- the history when the reply is made
 abbrev pub before_reply : HostPlan → Address → Carried → History → History
-before_reply plan src carries h = after_answer plan src carries (after_back src (back_in carries) h)
+before_reply plan src carries h = after_answer plan src carries (after_back plan.version src (back_in carries) h)
 
 -- what a host tells of a packet for it
 abbrev pub received : ℕ → HostPlan → History → ℕ → Address → Carried → Receipt
 received node plan h now src carries = record {
   what = what_of carries;
-  back = became_of h.contacts src (back_in carries);
+  back = became_of plan.version h.contacts src (back_in carries);
   reply = reply_of node plan (before_reply plan src carries h) now src
       (answer_to plan h.deeds src carries (claim_in carries));
 }

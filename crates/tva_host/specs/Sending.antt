@@ -51,13 +51,20 @@ kind_of (shapes.NonceOnly nonce) = kinds.Nonce nonce
 kind_of (shapes.Renewal held) = kinds.Renewal (shown_of held)
 kind_of shapes.Legacy = kinds.Request []
 
--- the shim of a packet in that shape with return info, marked where the shape shows nothing
-abbrev pub shim_of : Shape → ReturnInfo → ShimData
-shim_of shape back = record { demoted = is_legacy shape; protocol = 6; kind = kind_of shape; back = back }
+-- the shim of that version of a packet in that shape with return info, marked where the shape shows nothing
+abbrev pub shim_of : ℕ → Shape → ReturnInfo → ShimData
+shim_of version shape back = record {
+  version = version;
+  demoted = is_legacy shape;
+  protocol = 6;
+  kind = kind_of shape;
+  back = back;
+}
 
 -- what a packet in that shape carries that is no reply
-abbrev pub carried_by : Shape → Carried
-carried_by shape = if is_legacy shape then carried.Nothing else carried.Shim (shim_of shape backs.Nothing)
+abbrev pub carried_by : ℕ → Shape → Carried
+carried_by version shape =
+    if is_legacy shape then carried.Nothing else carried.Shim (shim_of version shape backs.Nothing)
 
 -- the next packet of the node: it passed no router
 abbrev pub next_packet : ℕ → History → Flow → ℕ → Carried → PacketData
@@ -72,7 +79,7 @@ next_packet node h flow payload carries = record {
 -- the shape of the next packet for a peer, with a body of so many bytes
 abbrev pub next_shape : HostPlan → History → ℕ → Address → ℕ → Shape
 next_shape plan h now dst body =
-    shape_of plan.margin plan.retry (of_peer dst h.contacts) now body (offered plan h)
+    shape_of plan.margin plan.retry plan.version (of_peer dst h.contacts) now body (offered plan h)
 
 -- the next packet of the host for a peer, in that shape
 abbrev pub next_made : ℕ → HostPlan → History → Address → ℕ → Carried → Shape → Made
@@ -83,12 +90,12 @@ next_made node plan h dst payload carries shape = record {
 
 -- the history after a packet for a peer was prepared and made
 abbrev pub with_made : HostPlan → ℕ → Address → ℕ → History → History
-with_made plan now dst body h = with_packet (with_prepared now dst (next_shape plan h now dst body) body h)
+with_made plan now dst body h = with_packet (with_prepared plan.version now dst (next_shape plan h now dst body) body h)
 
 -- the packet that a send row gives, over what the host did and met
 unfoldable pub intended : ℕ → HostPlan → History → ℕ → Address → ℕ → Made
 intended node plan h now dst payload =
-    next_made node plan h dst payload (carried_by (next_shape plan h now dst payload))
+    next_made node plan h dst payload (carried_by plan.version (next_shape plan h now dst payload))
     (next_shape plan h now dst payload)
 
 -- a send row is noted for the policy, and its packet is prepared and made

@@ -10,5 +10,5 @@ pub record HasHistory (v : HostData) : Type 0 where
   pub history : History
   pub valid : IsHostPlan v.plan
   pub keeps : Keeps v history
-  pub showable : AreShowable history.contacts
+  pub showable : AreShowable v.plan.version history.contacts
   pub past : v.sender.last ≤ v.last

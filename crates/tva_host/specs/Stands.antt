@@ -29,6 +29,7 @@ pub record Keeps (v : HostData) (h : History) : Type 0 where
   pub offered : v.offered ≡ offered v.plan h
   pub margin : v.sender.margin ≡ v.plan.margin
   pub retry : v.sender.retry ≡ v.plan.retry
+  pub version : v.sender.version ≡ v.plan.version
   pub policy : policy.StandsFor v.plan.policy v.policy h.deeds
   pub sender : sender.StandsFor v.sender h.contacts
 

@@ -1,12 +1,13 @@
 // Calls on one host, from replays that were worked out apart from this code, by two programs over the
-// definitions; the bytes of shims by another SHA-256. Two calls stand in no replay, and their answers are
-// those of the rules: a renewal below its end, and a marked request. `host` begins a host: its node, its address, the
-// first nonce that it offers, the kind of its policy, its rights, the grants to one source, and an
-// address and a tag that it denies; it stays 1,000,000 ns clear of the end of a grant and asks again
-// after 2,000,000,000 ns. Then come its calls, each with its answer. `send TIME DESTINATION PAYLOAD`
-// gives the ordinal, length, shape and shim of the packet, `inject SOURCE DESTINATION PAYLOAD SHIM` the
-// ordinal, length and shim, and `recv TIME SOURCE DESTINATION PAYLOAD SHIM` what the packet is, what
-// became of its return info, and the reply as for `send`.
+// definitions; the bytes of shims by another SHA-256. Some calls stand in no replay, and their answers are
+// those of the rules: a renewal below its end, a marked request, and those of version 2. `host` begins a
+// host: its node, its address, the first nonce that it offers, the kind of its policy, its rights, the
+// grants to one source, and an address and a tag that it denies; it stays 1,000,000 ns clear of the end of
+// a grant and asks again after 2,000,000,000 ns. `host2` begins one whose shims have version 2. Then come
+// its calls, each with its answer. `send TIME DESTINATION PAYLOAD` gives the ordinal, length, shape and
+// shim of the packet, `inject SOURCE DESTINATION PAYLOAD SHIM` the ordinal, length and shim, and `recv TIME
+// SOURCE DESTINATION PAYLOAD SHIM` what the packet is, what became of its return info, and the reply as for
+// `send`.
 pub const CASES: &str = "\
 case a request, a grant, a list, a nonce and a renewal, at the asking host
 host 1 10.0.0.1 1 client 32/10 1000 - -
@@ -148,4 +149,21 @@ case denies all
 host 2 10.0.1.1 1 deny 32/10 1000 - -
 recv 2002100 10.0.0.1 10.0.1.1 77 100601000100d1a87cf486b23f -> request - -
 recv 12020400 10.0.0.1 10.0.1.1 1000 - -> legacy - -
+case version 2 at the granting host
+host2 2 10.0.1.1 1 server 32/10 1000 - -
+recv 2002100 10.0.0.1 10.0.1.1 77 200601000100d1a87cf486b23f -> request - #1 37 request 24060002010000100a0037c8bc805abd1b
+case version 1 answers version 2 in its own
+host 2 10.0.1.1 1 server 32/10 1000 - -
+recv 2002100 10.0.0.1 10.0.1.1 77 200601000100d1a87cf486b23f -> request - #1 35 request 1406000201080a0037c8bc805abd1b
+case version 1 takes no greater rights, and others from a shim of version 2
+host 1 10.0.0.1 1 client 32/10 1000 - -
+send 0 10.0.1.1 77 -> #1 100 request 100600
+recv 4002900 10.0.1.1 10.0.0.1 0 240601000200263cb02c88654d02010002004000b9ab06d46a5d2a -> request ignored #2 35 legacy 1c06000201080a00c86041492f6960
+recv 4002901 10.0.1.1 10.0.0.1 0 240601000200263cb02c88654d02010000100a0037c8bc805abd1b -> request grant #3 52 list 15060000000000030100080a0037c8bc805abd1b0201080a00c86041492f6960
+case version 2 at the asking host, with greater rights
+host2 1 10.0.0.1 1 client 1024/64 1000 - -
+send 0 10.0.1.1 77 -> #1 100 request 200600
+recv 4002900 10.0.1.1 10.0.0.1 0 240601000200263cb02c88654d02010002004000b9ab06d46a5d2a -> request grant #2 56 list 250600000000000201000002004000b9ab06d46a5d2a02010002004000d99aa2bd20bed5
+send 10000000 10.0.1.1 1000 -> #3 1042 list 210600000000000201000002004000b9ab06d46a5d2a
+send 20000000 10.0.1.1 10 -> #4 38 nonce 2206000000000002
 ";

@@ -1,6 +1,7 @@
 // A host.
 ghost use Rattle.std.specs.Prelude.{◌≡◌, ◌≤◌, ◌+◌, min, ◌==◌, ℕ, List, [], ◌∷◌, ◌++◌, IfOk, IfSome, OnErr};
 ghost use Rattle.tva_base.specs.Plan.{IsHostPlan};
+ghost use Rattle.tva_base.specs.Versions.{IsVersion};
 ghost use Rattle.tva_shim.specs.Shims.{IsReturn};
 ghost use Rattle.tva_shim.specs.Packets.{IsCarried};
 ghost use Rattle.tva_shim.specs.Shows.{back_in};
@@ -69,7 +70,7 @@ impl Host {
             offered: plan.nonce,
             last: Time(0),
             policy: Policy::build(alloc, &plan.policy)?,
-            sender: Sender::build(alloc, plan.margin, plan.retry),
+            sender: Sender::build(alloc, plan.margin, plan.retry, plan.version),
         })
     }
 
@@ -108,12 +109,13 @@ impl Host {
         ensures refused { OnErr result ((calls : List Call) → StandsFor self.old calls → StandsFor self.new calls) }
         ensures err { OnErr result (self.new ≡ with_room self.new.sender (at_time now.0 self.old)) }
     {
+        let version = self.version();
         self.last = now;
         self.note(alloc, dst)?;
         let shape = self.prepare(now, dst, u32::from(payload));
         let kind = kind_shown_of(&shape);
         let flow = self.flow_to(dst);
-        let packet = self.number(flow, payload, carried_by(shape));
+        let packet = self.number(flow, payload, carried_by(version, shape));
         Ok(Made {
             packet,
             shape: kind,
@@ -196,6 +198,14 @@ impl Host {
         self.sender.reserve(1)
     }
 
+    // The version of its shims.
+    fn version(&self) -> u8
+        ensures version { result ≡ self.now.plan.version }
+        ensures known { IsVersion result }
+    {
+        self.plan.version
+    }
+
     fn is_for(&self, dst: Address) -> bool
         ensures { result ≡ (dst.0 == self.now.plan.address.0) }
     {
@@ -217,8 +227,8 @@ impl Host {
         requires room { 1 ≤ self.old.sender.spare }
         requires body { body ≤ 1800 }
         ensures shape { (h : History) → Keeps self.old h → result ≡ next_shape self.old.plan h now.0 dst body }
-        ensures keeps { (h : History) → Keeps self.old h → Keeps self.new (with_prepared now.0 dst result body h) }
-        ensures showable { IsShowable result }
+        ensures keeps { (h : History) → Keeps self.old h → Keeps self.new (with_prepared self.old.plan.version now.0 dst result body h) }
+        ensures showable { IsShowable self.old.plan.version result }
         ensures rest { self.new ≡ record self.old { offered = self.new.offered; sender = self.new.sender } }
     {
         let offered = self.offered;
@@ -237,7 +247,7 @@ impl Host {
             → IfOk result (λ answer. answer ≡ answer_to self.old.plan h.deeds src carried.now (claim_in carried.now)) }
         ensures keeps { (h : History) → Keeps self.old h
             → IfOk result (λ answer. Keeps self.new (after_answer self.old.plan src carried.now h)) }
-        ensures fits { IfOk result (λ answer. IfSome answer IsReturn) }
+        ensures fits { IfOk result (λ answer. IfSome answer (IsReturn self.old.plan.version)) }
         ensures rest { self.new ≡ record self.old { policy = self.new.policy } }
         ensures err { OnErr result (self.new ≡ self.old) }
     {
@@ -251,8 +261,8 @@ impl Host {
     // Takes the return info of what a packet carries.
     fn take_back(&mut self, src: Address, carried: &Carried) -> BackKind
         ensures became { (h : History) → Keeps self.old h
-            → result ≡ became_of h.contacts src (back_in carried.now) }
-        ensures keeps { (h : History) → Keeps self.old h → Keeps self.new (after_back src (back_in carried.now) h) }
+            → result ≡ became_of self.old.plan.version h.contacts src (back_in carried.now) }
+        ensures keeps { (h : History) → Keeps self.old h → Keeps self.new (after_back self.old.plan.version src (back_in carried.now) h) }
         ensures rest { self.new ≡ record self.old { sender = self.new.sender } }
         ensures room { self.new.sender.spare ≡ self.old.sender.spare }
     {
@@ -264,9 +274,11 @@ impl Host {
 
     // Hands return info of a source to the sender.
     fn hear(&mut self, src: Address, back: &ReturnInfo) -> BackKind
-        requires { IsReturn back.now }
-        ensures became { (h : History) → Keeps self.old h → result ≡ became_of h.contacts src back.now }
-        ensures keeps { (h : History) → Keeps self.old h → Keeps self.new (after_back src back.now h) }
+        requires { IsReturn 2 back.now }
+        ensures became { (h : History) → Keeps self.old h
+            → result ≡ became_of self.old.plan.version h.contacts src back.now }
+        ensures keeps { (h : History) → Keeps self.old h
+            → Keeps self.new (after_back self.old.plan.version src back.now h) }
         ensures rest { self.new ≡ record self.old { sender = self.new.sender } }
         ensures room { self.new.sender.spare ≡ self.old.sender.spare }
     {
@@ -287,7 +299,7 @@ impl Host {
     fn reply(&mut self, now: Time, src: Address, answer: Option<ReturnInfo>) -> Option<Made>
         requires time { self.old.last ≡ now.0 }
         requires room { 1 ≤ self.old.sender.spare }
-        requires fits { IfSome answer IsReturn }
+        requires fits { IfSome answer (IsReturn self.old.plan.version) }
         ensures reply { (h : History) → Keeps self.old h
             → result ≡ reply_of self.old.node self.old.plan h now.0 src answer }
         ensures keeps { (h : History) → Keeps self.old h
@@ -295,10 +307,11 @@ impl Host {
         ensures rest { (self.new.node ≡ self.old.node) × (self.new.plan ≡ self.old.plan) × (self.new.last ≡ self.old.last) }
     {
         let back = answer?;
-        let shape = self.prepare(now, src, return_size(&back));
+        let version = self.version();
+        let shape = self.prepare(now, src, return_size(version, &back));
         let kind = kind_shown_of(&shape);
         let flow = self.flow_to(src);
-        let packet = self.number(flow, 0, Carried::Shim(shim_of(shape, back)));
+        let packet = self.number(flow, 0, Carried::Shim(shim_of(version, shape, back)));
         Some(Made {
             packet,
             shape: kind,
@@ -316,6 +329,7 @@ fn copied(alloc: Global, plan: &HostPlan) -> Result<HostPlan, AllocError>
         nonce: plan.nonce,
         margin: plan.margin,
         retry: plan.retry,
+        version: plan.version,
         policy: PolicyPlan {
             kind: plan.policy.kind,
             rights: plan.policy.rights,

@@ -19,7 +19,7 @@ ghost use Rattle.tva_host.specs.Calls.{Call, history_of, last_time, NeverFall};
 /// prepared later than the last call, whatever is called at times that never fall.
 pub fn peers_are_played()
     ensures played { (plan : HostPlan) (calls : List Call) (a : Address) → NeverFall 0 calls
-        → IsPlayed plan.margin plan.retry (of_peer a (history_of plan calls).contacts) }
+        → IsPlayed plan.margin plan.retry plan.version (of_peer a (history_of plan calls).contacts) }
     ensures times { (plan : HostPlan) (calls : List Call) (a : Address) → NeverFall 0 calls
         → NoneLater (last_time 0 calls) (of_peer a (history_of plan calls).contacts) }
 {}
@@ -27,13 +27,14 @@ pub fn peers_are_played()
 /// A packet in a shape has the length that a sender counts for it, with its payload and its return info
 /// as the body, in bytes. A sender counts no legacy packet.
 pub fn lengths_are_counted()
-    ensures shape { (shape : Shape) (back : ReturnInfo) (p : PacketData) → is_legacy shape ≡ false
-        → p.carried ≡ carried.Shim (shim_of shape back) → packet_length p ≡ length_of shape (p.payload + return_size back) }
+    ensures shape { (version : ℕ) (shape : Shape) (back : ReturnInfo) (p : PacketData) → is_legacy shape ≡ false
+        → p.carried ≡ carried.Shim (shim_of version shape back)
+        → packet_length p ≡ length_of version shape (p.payload + return_size version back) }
     ensures intended { (node : ℕ) (plan : HostPlan) (h : History) (now : ℕ) (dst : Address) (payload : ℕ)
         → is_legacy (next_shape plan h now dst payload) ≡ false
-        → packet_length (intended node plan h now dst payload).packet ≡ length_of (next_shape plan h now dst payload) payload }
+        → packet_length (intended node plan h now dst payload).packet ≡ length_of plan.version (next_shape plan h now dst payload) payload }
     ensures reply { (node : ℕ) (plan : HostPlan) (h : History) (now : ℕ) (src : Address) (back : ReturnInfo)
-        → is_legacy (next_shape plan h now src (return_size back)) ≡ false
-        → IfSome (reply_of node plan h now src (Some back))
-        (λ made. packet_length made.packet ≡ length_of (next_shape plan h now src (return_size back)) (return_size back)) }
+        → is_legacy (next_shape plan h now src (return_size plan.version back)) ≡ false
+        → IfSome (reply_of node plan h now src (Some back)) (λ made. packet_length made.packet
+        ≡ length_of plan.version (next_shape plan h now src (return_size plan.version back)) (return_size plan.version back)) }
 {}

@@ -1,5 +1,6 @@
 // What a packet carries by its shape.
-ghost use Rattle.std.specs.Prelude.{◌≡◌};
+ghost use Rattle.std.specs.Prelude.{◌≡◌, ℕ};
+ghost use Rattle.tva_base.specs.Versions.{IsVersion};
 ghost use Rattle.tva_shim.specs.Shims.{IsKind, IsShown, IsReturn};
 ghost use Rattle.tva_shim.specs.Packets.{IsCarried};
 ghost use Rattle.tva_sender.specs.Showable.{IsShowable, IsShowableHeld};
@@ -35,9 +36,8 @@ fn is_legacy(shape: &Shape) -> bool
 }
 
 fn shown_of(held: Held) -> Shown
-    requires { IsShowableHeld held }
     ensures shown { result ≡ shown_of held }
-    ensures fits { IsShown result }
+    ensures fits { (version : ℕ) → IsShowableHeld version held → IsShown version result }
 {
     let Held {
         nonce,
@@ -54,9 +54,8 @@ fn shown_of(held: Held) -> Shown
 
 // The kind of a packet in that shape. A request has no entries yet.
 fn kind_of(shape: Shape) -> Kind
-    requires { IsShowable shape }
     ensures kind { result ≡ kind_of shape }
-    ensures fits { IsKind result }
+    ensures fits { (version : ℕ) → IsShowable version shape → IsKind version result }
 {
     match shape {
         Shape::Request | Shape::Legacy => Kind::Request(Entries::new()),
@@ -66,24 +65,27 @@ fn kind_of(shape: Shape) -> Kind
     }
 }
 
-/// The shim of a packet in that shape with return info. It is marked where the shape shows nothing.
-pub fn shim_of(shape: Shape, back: ReturnInfo) -> Shim
-    requires shape { IsShowable shape }
-    requires back { IsReturn back }
-    ensures { result ≡ shim_of shape back }
+/// The shim of that version of a packet in that shape with return info. It is marked where the shape
+/// shows nothing.
+pub fn shim_of(version: u8, shape: Shape, back: ReturnInfo) -> Shim
+    requires version { IsVersion version }
+    requires shape { IsShowable version shape }
+    requires back { IsReturn version back }
+    ensures { result ≡ shim_of version shape back }
 {
     let demoted = is_legacy(&shape);
-    Shim::new(demoted, PROTOCOL, kind_of(shape), back)
+    Shim::new(version, demoted, PROTOCOL, kind_of(shape), back)
 }
 
 /// What a packet in that shape carries that is no reply.
-pub fn carried_by(shape: Shape) -> Carried
-    requires { IsShowable shape }
-    ensures carried { result ≡ carried_by shape }
+pub fn carried_by(version: u8, shape: Shape) -> Carried
+    requires version { IsVersion version }
+    requires shape { IsShowable version shape }
+    ensures carried { result ≡ carried_by version shape }
     ensures fits { IsCarried result }
 {
     if is_legacy(&shape) {
         return Carried::Nothing;
     }
-    Carried::Shim(shim_of(shape, ReturnInfo::Nothing))
+    Carried::Shim(shim_of(version, shape, ReturnInfo::Nothing))
 }

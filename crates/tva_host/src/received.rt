@@ -1,7 +1,7 @@
 // What a received packet is, what it claims, and what is answered.
-ghost use Rattle.std.specs.Prelude.{◌≡◌, ◌<◌, ◌≤◌, ◌+◌, ◌∷◌, [], ◌++◌, ◌==◌, length, map, filter, nat_lt, if◌then◌else◌, IfSome};
+ghost use Rattle.std.specs.Prelude.{◌≡◌, ℕ, ◌<◌, ◌≤◌, ◌+◌, ◌∷◌, [], ◌++◌, ◌==◌, length, map, filter, nat_lt, if◌then◌else◌, IfSome};
 ghost use Rattle.arrayvec.specs.ArrayVec.{array_vec_len};
-ghost use Rattle.tva_base.specs.Plan.{AreRights};
+ghost use Rattle.tva_base.specs.Versions.{AreRights, AreSomeRights};
 ghost use Rattle.tva_shim.specs.Shims.{IsReturn};
 ghost use Rattle.tva_shim.specs.Changes.{nonzero_tags};
 ghost use Rattle.tva_shim.specs.Layout.{return_size};
@@ -11,7 +11,7 @@ ghost use Rattle.tva_host.specs.Claims.{claim_view};
 
 use crate::made::Receipt;
 use arrayvec::ArrayVec;
-use tva_base::{BackKind, Caps, Rights, WhatKind};
+use tva_base::{BackKind, Caps, Rights, WhatKind, rights_size};
 use tva_caps::capability;
 use tva_shim::{Carried, Entries, Kind, ReturnInfo, Shown};
 
@@ -134,7 +134,7 @@ fn precaps_of(entries: &Entries) -> Caps
 /// return info.
 pub fn notice_for(carried: &Carried) -> Option<ReturnInfo>
     ensures answer { result ≡ notice_for carried.now }
-    ensures fits { IfSome result IsReturn }
+    ensures fits { (version : ℕ) → IfSome result (IsReturn version) }
 {
     match carried {
         Carried::Nothing | Carried::Malformed(_) => None,
@@ -169,9 +169,9 @@ fn is_nothing(back: &ReturnInfo) -> bool
 
 /// The grant of the rights, with the capability of each pre-capability.
 pub fn granted(rights: Option<Rights>, precaps: &Caps) -> Option<ReturnInfo>
-    requires { IfSome rights AreRights }
+    requires { IfSome rights AreSomeRights }
     ensures answer { result ≡ granted rights precaps.now }
-    ensures fits { IfSome result IsReturn }
+    ensures fits { (version : ℕ) → IfSome rights (AreRights version) → IfSome result (IsReturn version) }
 {
     match rights {
         None => None,
@@ -183,7 +183,7 @@ pub fn granted(rights: Option<Rights>, precaps: &Caps) -> Option<ReturnInfo>
 }
 
 fn capabilities(rights: Rights, precaps: &Caps) -> Caps
-    requires { AreRights rights }
+    requires { AreSomeRights rights }
     ensures { result ≡ map (λ p. capability_of p rights) precaps.now }
 {
     let mut caps = Caps::new();
@@ -193,14 +193,16 @@ fn capabilities(rights: Rights, precaps: &Caps) -> Caps
     caps
 }
 
-/// The bytes of return info in a packet.
-pub fn return_size(back: &ReturnInfo) -> u32
-    ensures bytes { result ≡ return_size back.now }
-    ensures few { result ≤ 132 }
+/// The bytes of return info in a shim of that version.
+pub fn return_size(version: u8, back: &ReturnInfo) -> u32
+    ensures bytes { result ≡ return_size version back.now }
+    ensures few { result ≤ 134 }
 {
     match back {
         ReturnInfo::Nothing => 0,
         ReturnInfo::Notice => 1,
-        ReturnInfo::Grant { caps, .. } => 4 + 8 * caps.as_slice().len() as u32,
+        ReturnInfo::Grant { caps, .. } => {
+            2 + rights_size(version) + 8 * caps.as_slice().len() as u32
+        }
     }
 }

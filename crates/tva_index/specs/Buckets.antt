@@ -16,4 +16,5 @@ home homes place = slice_index_or homes place None
 -- the last place in the bucket among those below a bound, where there is one
 abbrev pub IsLastBelow : List (Option ℕ) → ℕ → ℕ → Option ℕ → Type 0
 IsLastBelow homes bound b None = (q : ℕ) → q < bound → home homes q ≡ Some b → ⊥
-IsLastBelow homes bound b (Some p) = (p < bound) × (home homes p ≡ Some b) × ((q : ℕ) → q < bound → home homes q ≡ Some b → q ≤ p)
+IsLastBelow homes bound b (Some p) = (p < bound) × (home homes p ≡ Some b)
+    × ((q : ℕ) → q < bound → home homes q ≡ Some b → q ≤ p)

@@ -12,7 +12,8 @@ pub record AreLinked (last before homes : List (Option ℕ)) : Type 0 where
 -- the first place in the bucket above that one, where there is one
 abbrev pub IsFirstAbove : List (Option ℕ) → ℕ → ℕ → Option ℕ → Type 0
 IsFirstAbove homes place b None = (q : ℕ) → place < q → home homes q ≡ Some b → ⊥
-IsFirstAbove homes place b (Some a) = (place < a) × (home homes a ≡ Some b) × ((q : ℕ) → place < q → home homes q ≡ Some b → a ≤ q)
+IsFirstAbove homes place b (Some a) = (place < a) × (home homes a ≡ Some b)
+    × ((q : ℕ) → place < q → home homes q ≡ Some b → a ≤ q)
 
 -- what a chain goes on to below a place, or starts with
 abbrev pub link_of : List (Option ℕ) → List (Option ℕ) → ℕ → Option ℕ → Option ℕ

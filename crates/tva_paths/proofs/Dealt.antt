@@ -15,7 +15,7 @@ use Rattle.tva_shim.specs.Shows.{back_in}
 use Rattle.tva_sender.specs.declared.shape.Shape.{Shape}
 use Rattle.tva_sender.specs.declared.shape.Shape.TheVariants as shapes
 use Rattle.tva_sender.specs.Contacts as contact
-use Rattle.tva_sender.specs.Contacts.{Contact, awaits}
+use Rattle.tva_sender.specs.Contacts.{Contact, takes}
 use Rattle.tva_sender.specs.Shapes.{length_of}
 use Rattle.tva_sender.specs.Book.{of_peer}
 use Rattle.tva_sender.proofs.Standing.{of_peer-push}
@@ -56,51 +56,56 @@ contact_of Noticed = contact.Notice
 
 -- ## what a host makes in a shape
 
-shape_of_shim : (s : Shape) (back : ReturnInfo) → shape_in (carried.Shim (shim_of s back)) ≡ s
-shape_of_shim shapes.Request back = refl
-shape_of_shim (shapes.List held) back = refl
-shape_of_shim (shapes.NonceOnly nonce) back = refl
-shape_of_shim (shapes.Renewal held) back = refl
-shape_of_shim shapes.Legacy back = refl
+shape_of_shim : (version : ℕ) (s : Shape) (back : ReturnInfo) → shape_in (carried.Shim (shim_of version s back)) ≡ s
+shape_of_shim version shapes.Request back = refl
+shape_of_shim version (shapes.List held) back = refl
+shape_of_shim version (shapes.NonceOnly nonce) back = refl
+shape_of_shim version (shapes.Renewal held) back = refl
+shape_of_shim version shapes.Legacy back = refl
 
-shape_of_sent : (s : Shape) → shape_in (carried_by s) ≡ s
-shape_of_sent shapes.Request = refl
-shape_of_sent (shapes.List held) = refl
-shape_of_sent (shapes.NonceOnly nonce) = refl
-shape_of_sent (shapes.Renewal held) = refl
-shape_of_sent shapes.Legacy = refl
+shape_of_sent : (version : ℕ) (s : Shape) → shape_in (carried_by version s) ≡ s
+shape_of_sent version shapes.Request = refl
+shape_of_sent version (shapes.List held) = refl
+shape_of_sent version (shapes.NonceOnly nonce) = refl
+shape_of_sent version (shapes.Renewal held) = refl
+shape_of_sent version shapes.Legacy = refl
 
 -- with a body of its payload and its return info
-length_with : (s : Shape) (back : ReturnInfo) (p : PacketData) → is_legacy s ≡ false → p.carried ≡ carried.Shim (shim_of s back)
-    → counted p ≡ length_of s (p.payload + return_size back)
-length_with s back p counts e =
+length_with : (version : ℕ) (s : Shape) (back : ReturnInfo) (p : PacketData) → is_legacy s ≡ false
+    → p.carried ≡ carried.Shim (shim_of version s back) → counted p ≡ length_of version s (p.payload + return_size version back)
+length_with version s back p counts e =
     ap (λ (c : Carried). cond (is_legacy (shape_in c)) 0 (packet_length p)) e
-    ∙ (ap (λ (t : Shape). cond (is_legacy t) 0 (packet_length p)) (shape_of_shim s back)
-    ∙ (ap (λ (b : Bool). cond b 0 (packet_length p)) counts ∙ made-length s back p counts e))
+    ∙ (ap (λ (t : Shape). cond (is_legacy t) 0 (packet_length p)) (shape_of_shim version s back)
+    ∙ (ap (λ (b : Bool). cond b 0 (packet_length p)) counts ∙ made-length version s back p counts e))
 
-legacy_with : (back : ReturnInfo) (p : PacketData) → p.carried ≡ carried.Shim (shim_of shapes.Legacy back) → counted p ≡ 0
-legacy_with back p e = ap (λ (c : Carried). cond (is_legacy (shape_in c)) 0 (packet_length p)) e
+legacy_with : (version : ℕ) (back : ReturnInfo) (p : PacketData) → p.carried ≡ carried.Shim (shim_of version shapes.Legacy back)
+    → counted p ≡ 0
+legacy_with version back p e = ap (λ (c : Carried). cond (is_legacy (shape_in c)) 0 (packet_length p)) e
 
-length_of_shim : (s : Shape) (back : ReturnInfo) (p : PacketData) → p.carried ≡ carried.Shim (shim_of s back)
-    → counted p ≡ length_of s (p.payload + return_size back)
-length_of_shim shapes.Request back p e = length_with shapes.Request back p refl e
-length_of_shim (shapes.List held) back p e = length_with (shapes.List held) back p refl e
-length_of_shim (shapes.NonceOnly nonce) back p e = length_with (shapes.NonceOnly nonce) back p refl e
-length_of_shim (shapes.Renewal held) back p e = length_with (shapes.Renewal held) back p refl e
-length_of_shim shapes.Legacy back p e = legacy_with back p e
+length_of_shim : (version : ℕ) (s : Shape) (back : ReturnInfo) (p : PacketData) → p.carried ≡ carried.Shim (shim_of version s back)
+    → counted p ≡ length_of version s (p.payload + return_size version back)
+length_of_shim version shapes.Request back p e = length_with version shapes.Request back p refl e
+length_of_shim version (shapes.List held) back p e = length_with version (shapes.List held) back p refl e
+length_of_shim version (shapes.NonceOnly nonce) back p e = length_with version (shapes.NonceOnly nonce) back p refl e
+length_of_shim version (shapes.Renewal held) back p e = length_with version (shapes.Renewal held) back p refl e
+length_of_shim version shapes.Legacy back p e = legacy_with version back p e
 
-bare : (payload : ℕ) → payload + return_size backs.Nothing ≡ payload
-bare payload = omega arith
+bare : (version payload : ℕ) → payload + return_size version backs.Nothing ≡ payload
+bare version payload = omega arith
 
-length_of_sent : (s : Shape) (p : PacketData) → p.carried ≡ carried_by s → counted p ≡ length_of s p.payload
-length_of_sent shapes.Request p e = length_with shapes.Request backs.Nothing p refl e ∙ ap (length_of shapes.Request) (bare p.payload)
-length_of_sent (shapes.List held) p e =
-    length_with (shapes.List held) backs.Nothing p refl e ∙ ap (length_of (shapes.List held)) (bare p.payload)
-length_of_sent (shapes.NonceOnly nonce) p e =
-    length_with (shapes.NonceOnly nonce) backs.Nothing p refl e ∙ ap (length_of (shapes.NonceOnly nonce)) (bare p.payload)
-length_of_sent (shapes.Renewal held) p e =
-    length_with (shapes.Renewal held) backs.Nothing p refl e ∙ ap (length_of (shapes.Renewal held)) (bare p.payload)
-length_of_sent shapes.Legacy p e = ap (λ (c : Carried). cond (is_legacy (shape_in c)) 0 (packet_length p)) e
+length_of_sent : (version : ℕ) (s : Shape) (p : PacketData) → p.carried ≡ carried_by version s
+    → counted p ≡ length_of version s p.payload
+length_of_sent version shapes.Request p e =
+    length_with version shapes.Request backs.Nothing p refl e ∙ ap (length_of version shapes.Request) (bare version p.payload)
+length_of_sent version (shapes.List held) p e =
+    length_with version (shapes.List held) backs.Nothing p refl e ∙ ap (length_of version (shapes.List held)) (bare version p.payload)
+length_of_sent version (shapes.NonceOnly nonce) p e =
+    length_with version (shapes.NonceOnly nonce) backs.Nothing p refl e
+    ∙ ap (length_of version (shapes.NonceOnly nonce)) (bare version p.payload)
+length_of_sent version (shapes.Renewal held) p e =
+    length_with version (shapes.Renewal held) backs.Nothing p refl e
+    ∙ ap (length_of version (shapes.Renewal held)) (bare version p.payload)
+length_of_sent version shapes.Legacy p e = ap (λ (c : Carried). cond (is_legacy (shape_in c)) 0 (packet_length p)) e
 
 -- ## one more contact
 
@@ -132,45 +137,50 @@ pub row_deal : (number : ℕ) (plan : HostPlan) (h : History) (peer : Address) (
 unfolding intended after_intending
 row_deal number plan h peer now (Send dst payload) =
     let s : Shape = next_shape plan h now dst payload in
-    let p : PacketData = (next_made number plan h dst payload (carried_by s) s).packet in
-    let x : Contact = contact.Prepared now s (length_of s payload) in
-    let is : contact_of (Prepared now p) ≡ x = prepared_is now p s (length_of s payload) (shape_of_sent s) (length_of_sent s p refl) in
+    let p : PacketData = (next_made number plan h dst payload (carried_by plan.version s) s).packet in
+    let bytes : ℕ = length_of plan.version s payload in
+    let x : Contact = contact.Prepared now s bytes in
+    let is : contact_of (Prepared now p) ≡ x =
+    prepared_is now p s bytes (shape_of_sent plan.version s) (length_of_sent plan.version s p refl) in
     peer_more peer h.contacts dst x ∙ ap (λ (cs : List Contact). of_peer peer h.contacts ++ cs)
     (one_deal (eqb peer.0 dst.0) (Prepared now p) x is)
 row_deal number plan h peer now (Inject flow payload carries) = sym (append-nil (of_peer peer h.contacts))
 
 -- ## receipts
 
-met_by_awaits : (plan : HostPlan) (h : List (Address × Contact)) (peer src : Address) (rights : Rights) (caps : List ℕ) (opens : Bool)
+met_by_taken : (plan : HostPlan) (h : List (Address × Contact)) (peer src : Address) (rights : Rights) (caps : List ℕ) (opens : Bool)
     → of_peer peer (h ++ cond opens ((src, contact.Taken rights caps) ∷ []) []) ≡ of_peer peer h ++ map contact_of
     (cond (eqb peer.0 src.0) (brought (taken_or_ignored opens) (backs.Grant rights caps)) [])
-met_by_awaits plan h peer src rights caps true =
+met_by_taken plan h peer src rights caps true =
     peer_more peer h src (contact.Taken rights caps) ∙ ap (λ (cs : List Contact). of_peer peer h ++ cs)
     (one_deal (eqb peer.0 src.0) (Granted rights caps) (contact.Taken rights caps) refl)
-met_by_awaits plan h peer src rights caps false =
+met_by_taken plan h peer src rights caps false =
     ap (of_peer peer) (append-nil h) ∙ nothing_more (of_peer peer h) (eqb peer.0 src.0) [] refl
 
 met_deal : (plan : HostPlan) (h : List (Address × Contact)) (peer src : Address) (back : ReturnInfo)
-    → of_peer peer (h ++ met_by h src back) ≡ of_peer peer h ++ map contact_of (cond (eqb peer.0 src.0)
-    (brought (became_of h src back) back) [])
+    → of_peer peer (h ++ met_by plan.version h src back) ≡ of_peer peer h ++ map contact_of (cond (eqb peer.0 src.0)
+    (brought (became_of plan.version h src back) back) [])
 met_deal plan h peer src backs.Nothing = ap (of_peer peer) (append-nil h) ∙ nothing_more (of_peer peer h) (eqb peer.0 src.0) [] refl
 met_deal plan h peer src backs.Notice =
     peer_more peer h src contact.Notice ∙ ap (λ (cs : List Contact). of_peer peer h ++ cs)
     (one_deal (eqb peer.0 src.0) Noticed contact.Notice refl)
-met_deal plan h peer src (backs.Grant rights caps) = met_by_awaits plan h peer src rights caps (awaits (of_peer src h))
+met_deal plan h peer src (backs.Grant rights caps) =
+    met_by_taken plan h peer src rights caps (takes plan.version (of_peer src h) rights)
 
 reply_deal : (number : ℕ) (plan : HostPlan) (h : History) (peer : Address) (now : ℕ) (src : Address) (answer : Option ReturnInfo)
     → of_peer peer (after_reply plan now src answer h).contacts ≡ of_peer peer h.contacts ++ map contact_of (cond (eqb peer.0 src.0)
     (replied now (reply_of number plan h now src answer)) [])
 reply_deal number plan h peer now src None = nothing_more (of_peer peer h.contacts) (eqb peer.0 src.0) [] refl
 reply_deal number plan h peer now src (Some back) =
-    let s : Shape = next_shape plan h now src (return_size back) in
-    let p : PacketData = (next_made number plan h src 0 (carried.Shim (shim_of s back)) s).packet in
-    let x : Contact = contact.Prepared now s (length_of s (return_size back)) in
-    let body : 0 + return_size back ≡ return_size back = omega arith in
+    let size : ℕ = return_size plan.version back in
+    let s : Shape = next_shape plan h now src size in
+    let p : PacketData = (next_made number plan h src 0 (carried.Shim (shim_of plan.version s back)) s).packet in
+    let bytes : ℕ = length_of plan.version s size in
+    let x : Contact = contact.Prepared now s bytes in
+    let body : 0 + size ≡ size = omega arith in
     let is : contact_of (Prepared now p) ≡ x =
-    prepared_is now p s (length_of s (return_size back)) (shape_of_shim s back)
-    (length_of_shim s back p refl ∙ ap (length_of s) body) in
+    prepared_is now p s bytes (shape_of_shim plan.version s back)
+    (length_of_shim plan.version s back p refl ∙ ap (length_of plan.version s) body) in
     peer_more peer h.contacts src x ∙ ap (λ (cs : List Contact). of_peer peer h.contacts ++ cs)
     (one_deal (eqb peer.0 src.0) (Prepared now p) x is)
 
@@ -203,7 +213,7 @@ receipt_deal number plan h peer now p =
           (λ (cs : List Contact). cs ++ map contact_of (cond (eqb peer.0 src.0)
           (replied now (reply_of number plan met now src answer)) [])) (met_deal plan h.contacts peer src (back_in p.carried))
           ∙ both_deals (eqb peer.0 src.0) (of_peer peer h.contacts)
-          (brought (became_of h.contacts src (back_in p.carried)) (back_in p.carried))
+          (brought (became_of plan.version h.contacts src (back_in p.carried)) (back_in p.carried))
           (replied now (reply_of number plan met now src answer)))
       | false ↦ nothing_more (of_peer peer h.contacts) (eqb peer.0 src.0) [] refl
     ]

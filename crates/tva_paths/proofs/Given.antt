@@ -2,6 +2,9 @@
 use Rattle.std.proofs.Common.{◌≡◌, ◌≤◌, ℕ, Bool, List, [], ◌∷◌, length, All, Some}
 use Rattle.std.specs.List.{AllByRecursion}
 use Rattle.std.proofs.lemmas.List.Elements.{All-head, All-tail}
+use Rattle.tva_base.proofs.Widths.{some_rights}
+use Rattle.tva_shim.specs.declared.kinds.ReturnInfo.{ReturnInfo}
+use Rattle.tva_shim.specs.declared.kinds.ReturnInfo.TheVariants as backs
 use Rattle.tva_shim.specs.declared.packets.Carried.{Carried}
 use Rattle.tva_shim.specs.declared.packets.Carried.TheVariants as carried
 use Rattle.tva_shim.specs.Shims.{IsReturn}
@@ -19,10 +22,16 @@ use Rattle.tva_run.specs.Run.{IsRunTo}
 use Rattle.tva_promises.specs.Promises.{KeepsPromises}
 use Rattle.tva_promises.proofs.Runs.{run_keeps}
 
--- a shim can carry the return info of what a row injects
+-- return info that a shim of its version can carry, one of version 2 can
+pub back_some : (version : ℕ) (back : ReturnInfo) → IsReturn version back → IsReturn 2 back
+back_some version backs.Nothing fits = tt
+back_some version backs.Notice fits = tt
+back_some version (backs.Grant rights caps) fits = some_rights version rights fits
+
+-- a shim of some version can carry the return info of what a row injects
 abbrev pub RowReturns : RowWhat → Type 0
 RowReturns (Send dst payload) = Unit {0}
-RowReturns (Inject flow payload carries) = IsReturn (back_in carries)
+RowReturns (Inject flow payload carries) = IsReturn 2 (back_in carries)
 
 -- there are few rows, whose return info a shim can carry, and each node keeps its promises
 pub record AreGiven (config : Config) (rows : List Row) (until : ℕ) (logs : Logs) : Type 0 where
@@ -30,9 +39,9 @@ pub record AreGiven (config : Config) (rows : List Row) (until : ℕ) (logs : Lo
   pub back : AllByRecursion (λ (row : Row). RowReturns row.what) rows
   pub keeps : (node : ℕ) (site : Site) → site_at config node ≡ Some site → KeepsPromises site until (log_at logs node)
 
-carried_returns : (c : Carried) → IsWithinWidths c → IsReturn (back_in c)
+carried_returns : (c : Carried) → IsWithinWidths c → IsReturn 2 (back_in c)
 carried_returns carried.Nothing w = tt
-carried_returns (carried.Shim shim) w = w.back
+carried_returns (carried.Shim shim) w = back_some shim.version shim.back w.back
 carried_returns (carried.Malformed size) w = tt
 
 what_returns : (at_host : Bool) (what : RowWhat) → IsRowWhat at_host what → RowReturns what

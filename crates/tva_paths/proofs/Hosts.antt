@@ -11,7 +11,7 @@ use Rattle.tva_base.specs.declared.event.BackKind.TheVariants as became
 use Rattle.tva_base.specs.declared.packet.Outcome.{Outcome}
 use Rattle.tva_base.specs.declared.plan.HostPlan.{HostPlan}
 use Rattle.tva_base.specs.Ordinals.{ordinal_behind}
-use Rattle.tva_base.specs.Plan.{AreRights}
+use Rattle.tva_base.specs.Versions.{AreSomeRights}
 use Rattle.tva_shim.specs.declared.kinds.ReturnInfo.{ReturnInfo}
 use Rattle.tva_shim.specs.declared.kinds.ReturnInfo.TheVariants as backs
 use Rattle.tva_shim.specs.Shims.{IsReturn}
@@ -137,7 +137,7 @@ pub record IsMadeIn (log : List Entry) (p : PacketData) : Type 0 where
 
 abbrev pub IsTrue : List Entry → Deal → Type 0
 IsTrue log (Prepared time p) = IsMadeIn log p
-IsTrue log (Granted rights caps) = AreRights rights
+IsTrue log (Granted rights caps) = AreSomeRights rights
 IsTrue log Noticed = Unit {0}
 
 -- what one input adds to the deals
@@ -158,12 +158,12 @@ sent_adds : (log : List Entry) (peer : Address) (time : ℕ) (what : RowWhat) (p
 sent_adds log peer time (Send dst payload) p k = adds_one log (eqb peer.0 dst.0) time p k
 sent_adds log peer time (Inject flow payload carries) p k = adds_none log (Some p)
 
-granted_true : (log : List Entry) (back : ReturnInfo) → IsReturn back → AllByRecursion (IsTrue log) (granted_in back)
+granted_true : (log : List Entry) (back : ReturnInfo) → IsReturn 2 back → AllByRecursion (IsTrue log) (granted_in back)
 granted_true log backs.Nothing k = tt
 granted_true log backs.Notice k = tt
 granted_true log (backs.Grant rights caps) k = (k, tt)
 
-brought_true : (log : List Entry) (was : BackKind) (back : ReturnInfo) → IsReturn back → AllByRecursion (IsTrue log) (brought was back)
+brought_true : (log : List Entry) (was : BackKind) (back : ReturnInfo) → IsReturn 2 back → AllByRecursion (IsTrue log) (brought was back)
 brought_true log became.Nothing back k = tt
 brought_true log became.Notice back k = (tt, tt)
 brought_true log became.Grant back k = granted_true log back k
@@ -190,7 +190,7 @@ replied_true : (log : List Entry) (time : ℕ) (reply : Option Made) → ((p : P
 replied_true log time None k = tt
 replied_true log time (Some made) k = (k made.packet refl, tt)
 
-received_adds : (log : List Entry) (b : Bool) (was : BackKind) (back : ReturnInfo) (time : ℕ) (reply : Option Made) → IsReturn back
+received_adds : (log : List Entry) (b : Bool) (was : BackKind) (back : ReturnInfo) (time : ℕ) (reply : Option Made) → IsReturn 2 back
     → ((p : PacketData) → packet_in reply ≡ Some p → IsMadeIn log p)
     → Adds log (cond b (brought was back ++ replied time reply) []) (packet_in reply)
 received_adds log true was back time reply r k = record {
@@ -232,7 +232,7 @@ numbered_below number m (Some p) false ns l k b = same_below m (m + 1) ns (omega
 module _ (site : Site) (plan : HostPlan) (is : site.plan ≡ plans.Host plan) (peer : Address) (log : List Entry)
     (few : takes log < 18446744073709551615)
     (returns : (before : List Entry) (input : Input) (from : ℕ) (p : PacketData) (receipt : Receipt) (went : Option Outcome)
-    (rest : List Entry) → log ≡ before ++ Took input (Received from p receipt went) ∷ rest → IsReturn (back_in p.carried)) where
+    (rest : List Entry) → log ≡ before ++ Took input (Received from p receipt went) ∷ rest → IsReturn 2 (back_in p.carried)) where
   abbrev hist : List Entry → History
   hist before = history_of plan (calls before)
 

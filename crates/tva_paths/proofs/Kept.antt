@@ -1,10 +1,11 @@
 -- A packet that shows a grant, as it comes unmarked to a router, shows what it was prepared with.
-use Rattle.std.proofs.Common.{◌≡◌, ℕ, ◌+◌, ◌*◌, Bool, true, false, cond, List, length, slice_get, Option, Some, None, refl, ap, sym, subst, ◌∙◌, arith}
+use Rattle.std.proofs.Common.{◌≡◌, ℕ, ◌+◌, ◌*◌, Bool, true, false, cond, List, length, slice_get, Option, Some, None, refl, ap, ap₂, sym, subst, ◌∙◌, arith}
 use Rattle.std.specs.Option.{option_map, IfSome}
 use Rattle.tva_base.specs.declared.packet.Grant.{Grant}
 use Rattle.tva_base.specs.declared.packet.Rights.{Rights}
 use Rattle.tva_base.specs.declared.plan.RouterPlan.{RouterPlan}
 use Rattle.tva_base.specs.Clock.{router_second}
+use Rattle.tva_base.specs.Versions.{rights_size}
 use Rattle.tva_shim.specs.declared.kinds.Shown.{Shown}
 use Rattle.tva_shim.specs.declared.kinds.Kind.{Kind}
 use Rattle.tva_shim.specs.declared.kinds.Kind.TheVariants as kinds
@@ -77,22 +78,26 @@ counts_kind (kinds.List shown) = refl
 counts_kind (kinds.Nonce nonce) = refl
 counts_kind (kinds.Renewal shown) = refl
 
-same_size : (a b : Kind) → KeepsKind a b → shows_grant b ≡ true → kind_size b ≡ kind_size a
-same_size (kinds.Request x) (kinds.Request y) k s = absurd (cc)
-same_size (kinds.Request x) _ k s = absurd k
-same_size (kinds.List x) (kinds.List y) k s = ap (λ n. 12 + 8 * n) k.count
-same_size (kinds.List x) _ k s = absurd k
-same_size (kinds.Nonce x) (kinds.Nonce y) k s = refl
-same_size (kinds.Nonce x) _ k s = absurd k
-same_size (kinds.Renewal x) (kinds.Renewal y) k s = ap (λ n. 12 + 8 * n) k.count
-same_size (kinds.Renewal x) _ k s = absurd k
+same_size : (version : ℕ) (a b : Kind) → KeepsKind a b → shows_grant b ≡ true → kind_size version b ≡ kind_size version a
+same_size version (kinds.Request x) (kinds.Request y) k s = absurd (cc)
+same_size version (kinds.Request x) _ k s = absurd k
+same_size version (kinds.List x) (kinds.List y) k s = ap (λ n. 10 + rights_size version + 8 * n) k.count
+same_size version (kinds.List x) _ k s = absurd k
+same_size version (kinds.Nonce x) (kinds.Nonce y) k s = refl
+same_size version (kinds.Nonce x) _ k s = absurd k
+same_size version (kinds.Renewal x) (kinds.Renewal y) k s = ap (λ n. 10 + rights_size version + 8 * n) k.count
+same_size version (kinds.Renewal x) _ k s = absurd k
 
 same_bytes : (a b : Carried) (v : AreShims a b) → carried_bytes b ≡ carried_bytes a
 same_bytes a b v =
     let made : carried_bytes a ≡ length (layout v.made) = ap carried_bytes v.made_is in
     let came : carried_bytes b ≡ length (layout v.came) = ap carried_bytes v.came_is in
-    let back : return_size v.came.back ≡ return_size v.made.back = ap return_size v.keeps.back in
-    omega (arith, made, came, back, length-layout v.made, length-layout v.came, same_size v.made.kind v.came.kind v.keeps.kind v.shown)
+    let back : return_size v.came.version v.came.back ≡ return_size v.made.version v.made.back =
+    ap₂ return_size v.keeps.version v.keeps.back in
+    let kind : kind_size v.came.version v.came.kind ≡ kind_size v.made.version v.made.kind =
+    ap (λ (n : ℕ). kind_size n v.came.kind) v.keeps.version
+    ∙ same_size v.made.version v.made.kind v.came.kind v.keeps.kind v.shown in
+    omega (arith, made, came, back, kind, length-layout v.made, length-layout v.came)
 
 pub same_length : (p q : PacketData) → Keeps p q → (v : AreShims p.carried q.carried) → packet_length q ≡ counted p
 same_length p q k v =

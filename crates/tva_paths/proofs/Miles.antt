@@ -6,7 +6,7 @@ use Rattle.std.proofs.lemmas.List.Elements.{filter_map-append}
 use Rattle.tva_base.specs.declared.packet.PacketId.{PacketId}
 use Rattle.tva_base.specs.declared.packet.Rights.{Rights}
 use Rattle.tva_base.specs.declared.packet.Time.{Time}
-use Rattle.tva_base.specs.Plan.{AreRights}
+use Rattle.tva_base.specs.Versions.{AreSomeRights}
 use Rattle.tva_shim.specs.declared.kinds.Kind.{Kind}
 use Rattle.tva_shim.specs.declared.kinds.Kind.TheVariants as kinds
 use Rattle.tva_shim.specs.declared.packets.Carried.{Carried}
@@ -191,7 +191,7 @@ module _ (w : Way) (seen : List Coming) (log : List Entry) (own earlier : List D
 
   -- a grant
   granted : (before : List Deal) (front : List Coming) (rights : Rights) (caps : List ℕ) (rest : List Deal) (o : Option ℕ)
-      → Run before front → earlier ≡ before ++ rest → ask_came seen before ≡ o → is_some o ≡ true → AreRights rights
+      → Run before front → earlier ≡ before ++ rest → ask_came seen before ≡ o → is_some o ≡ true → AreSomeRights rights
       → Run (before ++ Granted rights caps ∷ []) front
   granted before front rights caps rest None r here e s fine = absurd (cc)
   granted before front rights caps rest (Some came) r here e s fine =

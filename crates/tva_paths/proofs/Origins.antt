@@ -81,10 +81,11 @@ kind_on (kinds.Renewal x) (kinds.Renewal y) _ k l = absurd l
 kind_on (kinds.Renewal x) _ c k l = absurd k
 
 shim_same : (a : ShimData) → KeepsShim a a
-shim_same a = record { mark = λ e. e; protocol = refl; kind = kind_same a.kind; back = refl }
+shim_same a = record { version = refl; mark = λ e. e; protocol = refl; kind = kind_same a.kind; back = refl }
 
 shim_on : (a b c : ShimData) → KeepsShim a b → KeepsShim b c → KeepsShim a c
 shim_on a b c k l = record {
+  version = l.version ∙ k.version;
   mark = λ e. l.mark (k.mark e);
   protocol = l.protocol ∙ k.protocol;
   kind = kind_on a.kind b.kind c.kind k.kind l.kind;
@@ -110,7 +111,7 @@ carried_on (carried.Malformed x) _ c k l = absurd k
 -- ## what a router changes
 
 mark_keeps : (s : ShimData) → KeepsShim s (with_mark s)
-mark_keeps s = record { mark = λ e. refl; protocol = refl; kind = kind_same s.kind; back = refl }
+mark_keeps s = record { version = refl; mark = λ e. refl; protocol = refl; kind = kind_same s.kind; back = refl }
 
 on_shown_keeps : (change : Shown → Shown) → ((x : Shown) → KeepsShown x (change x)) → (kind : Kind) → KeepsKind kind (on_shown change kind)
 on_shown_keeps change same (kinds.Request entries) = tt
@@ -120,6 +121,7 @@ on_shown_keeps change same (kinds.Renewal shown) = same shown
 
 next_keeps : (s : ShimData) → KeepsShim s (with_next_pointer s)
 next_keeps s = record {
+  version = refl;
   mark = λ e. e;
   protocol = refl;
   kind = on_shown_keeps (λ (x : Shown). record x { pointer = x.pointer + 1 })
@@ -129,6 +131,7 @@ next_keeps s = record {
 
 fresh_keeps : (precap : ℕ) (s : ShimData) → KeepsShim s (with_fresh precap s)
 fresh_keeps precap s = record {
+  version = refl;
   mark = λ e. e;
   protocol = refl;
   kind = on_shown_keeps (λ (x : Shown). record x { caps = slice_set x.caps x.pointer precap })
@@ -139,6 +142,7 @@ fresh_keeps precap s = record {
 entry_keeps : (entry : entries.Entry) (es : List entries.Entry) (s : ShimData) → s.kind ≡ kinds.Request es
     → KeepsShim s (with_entry entry s)
 entry_keeps entry es s e = record {
+  version = refl;
   mark = λ d. d;
   protocol = refl;
   kind = subst (λ (k : Kind). KeepsKind k (kinds.Request (entries_of s.kind ++ entry ∷ []))) (sym e) tt;

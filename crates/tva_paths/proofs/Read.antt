@@ -1,4 +1,4 @@
--- The rows that a text stands for are few, and a shim can carry their return info.
+-- The rows that a text stands for are few, and a shim of some version can carry their return info.
 use Rattle.std.proofs.Common.{◌≡◌, ℕ, ◌+◌, ◌≤◌, Bool, true, false, cond, List, [], ◌∷◌, length, Option, Some, None, Result, Ok, Err, refl, sym, ap, subst, arith}
 use Rattle.std.specs.Prelude.{nat_le, ◌==◌}
 use Rattle.std.specs.Option.{option_map}
@@ -6,6 +6,7 @@ use Rattle.std.specs.List.{AllByRecursion, AllZip}
 use Rattle.std.proofs.lemmas.Bool.{leb-true}
 use Rattle.tva_base.specs.Addresses.{address_of}
 use Rattle.tva_base.specs.Decimal.{decimal_of}
+use Rattle.tva_base.specs.Versions.{version_for}
 use Rattle.tva_base.specs.declared.packet.Flow.{Flow}
 use Rattle.tva_shim.specs.Shims.{IsReturn}
 use Rattle.tva_shim.specs.Shows.{back_in}
@@ -35,14 +36,14 @@ use Rattle.tva_run.specs.Run.{IsRunTo}
 use Rattle.tva_promises.proofs.ReadRows.{ok_one, ok_rows, when_held, demanded, held, headed_by}
 use Rattle.tva_promises.proofs.Runs.{read_run_keeps}
 use Rattle.tva_paths.proofs.Lists.{some_same}
-use Rattle.tva_paths.proofs.Given.{RowReturns, AreGiven}
+use Rattle.tva_paths.proofs.Given.{RowReturns, AreGiven, back_some}
 
 -- ## what is said
 
 -- raw bytes are judged later, and what is built has no return info
 abbrev SaysBack : SaidShim → Type 0
 SaysBack (Bytes bytes) = Unit {0}
-SaysBack (Built shim) = IsReturn shim.back
+SaysBack (Built shim) = IsReturn 2 shim.back
 
 abbrev SaysReturn : SaidWhat → Type 0
 SaysReturn (say.Send dst payload) = Unit {0}
@@ -58,10 +59,11 @@ unfolding shim_of
 shim_says plans kind.Send flow text s e = absurd (cc)
 shim_says plans kind.Raw flow text s e = mapped Bytes (raw_of text) s e (λ bytes. tt)
 shim_says plans kind.List flow text s e =
-    mapped (λ shown. Built (plain_shim (shims.List shown))) (shown_of plans flow text) s e (λ shown. tt)
+    mapped (λ shown. Built (plain_shim (version_for shown.rights) (shims.List shown))) (shown_of plans flow text) s e (λ shown. tt)
 shim_says plans kind.Renew flow text s e =
-    mapped (λ shown. Built (plain_shim (shims.Renewal shown))) (shown_of plans flow text) s e (λ shown. tt)
-shim_says plans kind.Nonce flow text s e = mapped (λ nonce. Built (plain_shim (shims.Nonce nonce))) (hex_number_of 6 text) s e (λ nonce. tt)
+    mapped (λ shown. Built (plain_shim (version_for shown.rights) (shims.Renewal shown))) (shown_of plans flow text) s e (λ shown. tt)
+shim_says plans kind.Nonce flow text s e =
+    mapped (λ nonce. Built (plain_shim 1 (shims.Nonce nonce))) (hex_number_of 6 text) s e (λ nonce. tt)
 
 sending_says : (fields : List (List ℕ)) (w : SaidWhat) → sending_of fields ≡ Ok w → SaysReturn w
 unfolding sending_of
@@ -158,11 +160,11 @@ under_say config (fields ∷ records) said gave =
 
 -- ## what is said is meant
 
-carried_meant : (shim : SaidShim) (c : Carried) → SaysBack shim → CarriedBy shim c → IsReturn (back_in c)
+carried_meant : (shim : SaidShim) (c : Carried) → SaysBack shim → CarriedBy shim c → IsReturn 2 (back_in c)
 carried_meant (Bytes bytes) carried.Nothing s m = tt
-carried_meant (Bytes bytes) (carried.Shim shim) s m = m.0.back
+carried_meant (Bytes bytes) (carried.Shim shim) s m = back_some shim.version shim.back m.0.back
 carried_meant (Bytes bytes) (carried.Malformed count) s m = tt
-carried_meant (Built shim) c s m = subst (λ (x : Carried). IsReturn (back_in x)) (sym m) s
+carried_meant (Built shim) c s m = subst (λ (x : Carried). IsReturn 2 (back_in x)) (sym m) s
 
 what_meant : (said : SaidWhat) (w : RowWhat) → SaysReturn said → MeansWhat said w → RowReturns w
 what_meant (say.Send dst payload) w s m = subst RowReturns (sym m) tt

@@ -1,4 +1,4 @@
--- What a packet brings as return info can be carried by a shim, in each run of a trace.
+-- What a packet brings as return info can be carried by a shim of some version, in each run of a trace.
 use Rattle.std.proofs.Common.{◌≡◌, ℕ, true, false, ◌&&◌, cond, eqb, List, ◌∷◌, ◌++◌, Option, Some, None, refl, sym, subst}
 use Rattle.std.specs.Option.{option_map, IfSome}
 use Rattle.std.specs.List.{AllByRecursion}
@@ -7,7 +7,8 @@ use Rattle.tva_base.specs.declared.packet.Outcome.{Outcome}
 use Rattle.tva_base.specs.declared.packet.Rights.{Rights}
 use Rattle.tva_base.specs.declared.plan.HostPlan.{HostPlan}
 use Rattle.tva_base.specs.declared.plan.RouterPlan.{RouterPlan}
-use Rattle.tva_base.specs.Plan.{AreRights}
+use Rattle.tva_base.specs.Versions.{AreSomeRights}
+use Rattle.tva_base.proofs.Widths.{some_rights}
 use Rattle.tva_shim.specs.declared.kinds.ReturnInfo.{ReturnInfo}
 use Rattle.tva_shim.specs.declared.kinds.ReturnInfo.TheVariants as backs
 use Rattle.tva_shim.specs.declared.packets.Carried.{Carried}
@@ -50,7 +51,7 @@ use Rattle.tva_paths.proofs.Walks.{IsInputGood, IsEntryGood, all_good, at_place}
 use Rattle.tva_paths.proofs.Origins.{onward_keeps}
 
 abbrev pub Returns : PacketData → Type 0
-Returns p = IsReturn (back_in p.carried)
+Returns p = IsReturn 2 (back_in p.carried)
 
 -- ## what is handed on
 
@@ -65,7 +66,7 @@ same_back (carried.Malformed a) _ k = absurd k
 hands_on : (plan : RouterPlan) (h : List Charge) (logs : handling.Logs) (now : ℕ) (from : Option ℕ) (p : PacketData) → Returns p
     → Returns (handle plan h logs now from p).onward
 hands_on plan h logs now from p k =
-    subst IsReturn (sym
+    subst (IsReturn 2) (sym
     (same_back p.carried (handle plan h logs now from p).onward.carried (onward_keeps plan h logs now from p).carried)) k
 
 -- ## what is made
@@ -91,46 +92,46 @@ routed_made number plan before (FromTrace row) c k e = row_made number plan befo
 routed_made number plan before (Arrival time link packet) c k e =
     subst Makes (some_same (arrived plan before time.0 (Some link) packet) c e) (came_made plan before time.0 link packet)
 
-sent_returns : (s : Shape) → IsReturn (back_in (carried_by s))
-sent_returns s =
-    elim (is_legacy s) as (λ b. IsReturn
-    (back_in (cond b carried.Nothing (carried.Shim (shim_of s backs.Nothing))))) [ true ↦ tt | false ↦ tt ]
+sent_returns : (version : ℕ) (s : Shape) → IsReturn 2 (back_in (carried_by version s))
+sent_returns version s =
+    elim (is_legacy s) as (λ b. IsReturn 2
+    (back_in (cond b carried.Nothing (carried.Shim (shim_of version s backs.Nothing))))) [ true ↦ tt | false ↦ tt ]
 
 made_returns : (number : ℕ) (plan : HostPlan) (h : History) (now : ℕ) (w : RowWhat) → RowReturns w
     → Returns (made_for number plan h now w).packet
 unfolding intended
-made_returns number plan h now (Send dst payload) k = sent_returns (next_shape plan h now dst payload)
+made_returns number plan h now (Send dst payload) k = sent_returns plan.version (next_shape plan h now dst payload)
 made_returns number plan h now (Inject flow payload carries) k = k
 
-granted_returns : (rights : Option Rights) (precaps : List ℕ) → IfSome rights AreRights → IfSome (granted rights precaps) IsReturn
+granted_returns : (rights : Option Rights) (precaps : List ℕ) → IfSome rights AreSomeRights → IfSome (granted rights precaps) (IsReturn 2)
 granted_returns None precaps k = tt
 granted_returns (Some rights) precaps k = k
 
-notice_returns : (c : Carried) → IfSome (notice_for c) IsReturn
+notice_returns : (c : Carried) → IfSome (notice_for c) (IsReturn 2)
 notice_returns carried.Nothing = tt
 notice_returns (carried.Shim shim) =
     elim (shim.demoted && shows_grant shim.kind && is_nothing shim.back) as
-    (λ b. IfSome (cond b (Some backs.Notice) None) IsReturn) [ true ↦ tt | false ↦ tt ]
+    (λ b. IfSome (cond b (Some backs.Notice) None) (IsReturn 2)) [ true ↦ tt | false ↦ tt ]
 notice_returns (carried.Malformed size) = tt
 
-decided_rights : (plan : HostPlan) (deeds : List Deed) (src : Address) (tags : List ℕ) → AreRights plan.policy.rights
-    → IfSome (decision plan.policy deeds src tags) AreRights
+decided_rights : (plan : HostPlan) (deeds : List Deed) (src : Address) (tags : List ℕ) → AreSomeRights plan.policy.rights
+    → IfSome (decision plan.policy deeds src tags) AreSomeRights
 decided_rights plan deeds src tags k =
     elim (is_granted plan.policy deeds src tags) as (λ b. IfSome
-    (cond b (Some plan.policy.rights) None) AreRights) [ true ↦ k | false ↦ tt ]
+    (cond b (Some plan.policy.rights) None) AreSomeRights) [ true ↦ k | false ↦ tt ]
 
 answer_returns : (plan : HostPlan) (deeds : List Deed) (src : Address) (c : Carried) (claim : Option ClaimData)
-    → AreRights plan.policy.rights → IfSome (answer_to plan deeds src c claim) IsReturn
+    → AreSomeRights plan.policy.rights → IfSome (answer_to plan deeds src c claim) (IsReturn 2)
 answer_returns plan deeds src c None k = notice_returns c
 answer_returns plan deeds src c (Some claim) k =
     granted_returns (decision plan.policy deeds src claim.tags) claim.precaps (decided_rights plan deeds src claim.tags k)
 
 reply_returns : (number : ℕ) (plan : HostPlan) (h : History) (now : ℕ) (src : Address) (answer : Option ReturnInfo)
-    → IfSome answer IsReturn → IfSome (reply_of number plan h now src answer) (λ (made : Made). Returns made.packet)
+    → IfSome answer (IsReturn 2) → IfSome (reply_of number plan h now src answer) (λ (made : Made). Returns made.packet)
 reply_returns number plan h now src None k = tt
 reply_returns number plan h now src (Some back) k = k
 
-receipt_returns : (number : ℕ) (plan : HostPlan) (h : History) (now : ℕ) (p : PacketData) → AreRights plan.policy.rights
+receipt_returns : (number : ℕ) (plan : HostPlan) (h : History) (now : ℕ) (p : PacketData) → AreSomeRights plan.policy.rights
     → IfSome (receipt_of number plan h now p).reply (λ (made : Made). Returns made.packet)
 unfolding receipt_of
 receipt_returns number plan h now p k =
@@ -147,7 +148,7 @@ reply_made : (reply : Option Made) → IfSome reply (λ (made : Made). Returns m
 reply_made None k p e = absurd (cc)
 reply_made (Some made) k p e = subst Returns (some_same made.packet p e) k
 
-hosted_made : (site : Site) (plan : HostPlan) (before : List Entry) (i : Input) → AreRights plan.policy.rights
+hosted_made : (site : Site) (plan : HostPlan) (before : List Entry) (i : Input) → AreSomeRights plan.policy.rights
     → IsInputGood Returns RowReturns i → Makes (hosted site plan before i)
 hosted_made site plan before (FromTrace row) rights k p e =
     let h : History = history_of plan (calls before) in
@@ -161,7 +162,8 @@ made_by : (site : Site) (plan : NodePlan) (before : List Entry) (i : Input) (c :
     → IsInputGood Returns RowReturns i → content_by site plan before i ≡ Some c → Makes c
 made_by site (plans.Router plan) before i c planned k e = routed_made site.number plan before i c k e
 made_by site (plans.Host plan) before i c planned k e =
-    subst Makes (some_same (hosted site plan before i) c e) (hosted_made site plan before i planned.0.rights k)
+    subst Makes (some_same (hosted site plan before i) c e)
+    (hosted_made site plan before i (some_rights plan.version plan.policy.rights planned.0.rights) k)
 
 -- ## in a run
 
@@ -179,7 +181,7 @@ module _ (config : Config) (rows : List Row) (until : ℕ) (logs : Logs) (valid 
 
   pub received_returns : (node : ℕ) (site : Site) → site_at config node ≡ Some site → (before : List Entry) (input : Input) (from : ℕ)
       (p : PacketData) (receipt : Receipt) (went : Option Outcome) (rest : List Entry)
-      → log_at logs node ≡ before ++ Took input (Received from p receipt went) ∷ rest → IsReturn (back_in p.carried)
+      → log_at logs node ≡ before ++ Took input (Received from p receipt went) ∷ rest → IsReturn 2 (back_in p.carried)
   received_returns node site is before input from p receipt went rest here =
       (at_place (IsEntryGood Returns RowReturns) (log_at logs node) before (Took input (Received from p receipt went)) rest here
       (all_return node site is)).1.0

@@ -90,10 +90,10 @@ from_zero (e ∷ es) = (omega arith, from_zero es)
 
 -- ## what is played begins with what is played
 
-played_front : (margin retry : ℕ) (before cs : List Contact) (c : Contact) (ds : List Contact)
-    → AreNext margin retry before (cs ++ c ∷ ds) → AreNext margin retry before (cs ++ c ∷ [])
-played_front margin retry before [] c ds k = (k.0, tt)
-played_front margin retry before (x ∷ cs) c ds k = (k.0, played_front margin retry (before ++ x ∷ []) cs c ds k.1)
+played_front : (margin retry version : ℕ) (before cs : List Contact) (c : Contact) (ds : List Contact)
+    → AreNext margin retry version before (cs ++ c ∷ ds) → AreNext margin retry version before (cs ++ c ∷ [])
+played_front margin retry version before [] c ds k = (k.0, tt)
+played_front margin retry version before (x ∷ cs) c ds k = (k.0, played_front margin retry version (before ++ x ∷ []) cs c ds k.1)
 
 map_place : (before : List Deal) (d : Deal) (after : List Deal)
     → map contact_of (before ++ d ∷ after) ≡ map contact_of before ++ contact_of d ∷ map contact_of after
@@ -219,6 +219,7 @@ module _ (config : Config) (rows : List Row) (until : ℕ) (logs : Logs) (valid 
   way = record {
     margin = host.margin;
     retry = host.retry;
+    version = host.version;
     delay = delay;
     flow = packet.flow;
     master = router.master;
@@ -238,7 +239,7 @@ module _ (config : Config) (rows : List Row) (until : ℕ) (logs : Logs) (valid 
   few = few_inputs config rows until logs valid given run sender from is_from number
 
   returns : (before : List Entry) (i : Input) (link : ℕ) (p : PacketData) (receipt : Receipt) (went : Option Outcome)
-      (after : List Entry) → log_at logs sender ≡ before ++ Took i (Received link p receipt went) ∷ after → IsReturn (back_in p.carried)
+      (after : List Entry) → log_at logs sender ≡ before ++ Took i (Received link p receipt went) ∷ after → IsReturn 2 (back_in p.carried)
   returns before i link p receipt went after e =
       received_returns config rows until logs valid given run sender from is_from before i link p receipt went after e
 
@@ -255,11 +256,12 @@ module _ (config : Config) (rows : List Row) (until : ℕ) (logs : Logs) (valid 
       (let k : IsPlanned (plans.Host host) from.links = subst (λ (p : NodePlan). IsPlanned p from.links) from_plan
       (site_is config sender from valid is_from).1.planned in k.0)
 
-  is_played : IsPlayed host.margin host.retry (map contact_of own)
+  is_played : IsPlayed host.margin host.retry host.version (map contact_of own)
   is_played =
       let log : List Entry = log_at logs sender in
       let falls : NeverFall 0 (calls log) = never_fall 0 log (from_zero log) (run.each sender from is_from).is_log.in_order in
-      subst (IsPlayed host.margin host.retry) told_all.contacts ((players.played host (calls log) falls).played packet.flow.dst)
+      subst (IsPlayed host.margin host.retry host.version) told_all.contacts
+      ((players.played host (calls log) falls).played packet.flow.dst)
 
   -- ## the router
 
@@ -445,7 +447,7 @@ module _ (config : Config) (rows : List Row) (until : ℕ) (logs : Logs) (valid 
     shims : AreShims steady.last.packet.carried packet.carried
     shims = are_shims steady.last.packet.carried packet.carried kept.carried unmarked shown
 
-    played_here : IsPlayed host.margin host.retry (contacts miles.miles ++ contact.Prepared steady.last.sent
+    played_here : IsPlayed host.margin host.retry host.version (contacts miles.miles ++ contact.Prepared steady.last.sent
         (shape_in steady.last.packet.carried) (packet_length packet) ∷ [])
     played_here =
         let q : PacketData = steady.last.packet in
@@ -453,10 +455,10 @@ module _ (config : Config) (rows : List Row) (until : ℕ) (logs : Logs) (valid 
         (Prepared steady.last.sent q) ∷ map contact_of steady.last.after = ap (map contact_of) steady.last.place ∙ map_place earlier
         (Prepared steady.last.sent q) steady.last.after in
         let front =
-        played_front host.margin host.retry [] (map contact_of earlier) (contact_of (Prepared steady.last.sent q))
-        (map contact_of steady.last.after) (subst (IsPlayed host.margin host.retry) split is_played) in
+        played_front host.margin host.retry host.version [] (map contact_of earlier) (contact_of (Prepared steady.last.sent q))
+        (map contact_of steady.last.after) (subst (IsPlayed host.margin host.retry host.version) split is_played) in
         let size : counted q ≡ packet_length packet = sym (same_length q packet kept shims) in
-        subst (IsPlayed host.margin host.retry)
+        subst (IsPlayed host.margin host.retry host.version)
         (ap₂ (λ (cs : List Contact) (n : ℕ). cs ++ contact.Prepared steady.last.sent (shape_in q.carried) n ∷ [])
         (sym miles.contacts_are) size)
         front

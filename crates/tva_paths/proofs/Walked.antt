@@ -97,6 +97,7 @@ module _ (host : HostPlan) (router : RouterPlan) (margin : host.margin ≡ 10000
   bytes : packet_length (walk_list (walk_cap router) given) ≡ 52
   bytes =
       let shim : ShimData = record {
+        version = 1;
         demoted = false;
         protocol = 6;
         kind = kinds.List (record { nonce = 2; pointer = 0; rights = walk_rights; caps = walk_cap router ∷ [] });

@@ -28,8 +28,9 @@ KeepsKind (kinds.Nonce a) (kinds.Nonce b) = b ≡ a
 KeepsKind (kinds.Renewal a) (kinds.Renewal b) = KeepsShown a b
 KeepsKind _ _ = ⊥
 
--- the return info; and a mark is never taken off
+-- the version, the protocol and the return info; and a mark is never taken off
 pub record KeepsShim (a b : ShimData) : Type 0 where
+  pub version : b.version ≡ a.version
   pub mark : a.demoted ≡ true → b.demoted ≡ true
   pub protocol : b.protocol ≡ a.protocol
   pub kind : KeepsKind a.kind b.kind

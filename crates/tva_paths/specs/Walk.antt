@@ -34,7 +34,7 @@ walk_packet ordinal hops payload kind back = record {
   flow = walk_flow;
   hops = hops;
   payload = payload;
-  carried = Shim (record { demoted = false; protocol = 6; kind = kind; back = back });
+  carried = Shim (record { version = 1; demoted = false; protocol = 6; kind = kind; back = back });
 }
 
 -- its first three packets
@@ -61,7 +61,13 @@ walk_reply cap es = record {
   flow = record { src = walk_flow.dst; dst = walk_flow.src };
   hops = 0;
   payload = 0;
-  carried = Shim (record { demoted = false; protocol = 6; kind = kinds.Request es; back = backs.Grant walk_rights (cap ∷ []) });
+  carried = Shim (record {
+    version = 1;
+    demoted = false;
+    protocol = 6;
+    kind = kinds.Request es;
+    back = backs.Grant walk_rights (cap ∷ []);
+  });
 }
 
 abbrev pub walk_row : ℕ → ℕ → Input

@@ -21,8 +21,9 @@ ghost use Rattle.tva_paths.specs.Paths.{AreHonestRegular, IsSteadyPath};
 ghost use Rattle.tva_paths.specs.Walk.{walk_cap, walk_charged, walk_host_log, walk_input, walk_nonce, walk_router_log};
 
 /// In every run up to a time, in nanoseconds, each packet that comes to a node was made at the node that
-/// its identity names, for a row or as a reply. It still has its flow, its payload, its kind, the nonce, the
-/// rights and the number of capabilities that it shows, its return info, and its mark where it had one.
+/// its identity names, for a row or as a reply. It still has its flow, its payload, its shim's version and
+/// kind, the nonce, the rights and the number of capabilities that it shows, its return info, and its mark
+/// where it had one.
 pub fn packets_have_origins()
     ensures { (config : Config) (rows : List Row) (until : ℕ) (logs : Logs) → IsConfig config
         → IsRunTo config rows until logs

@@ -45,7 +45,8 @@ has_tag tags tag = list_any (λ d. tag == d) tags
 -- a policy with this plan grants to the source of a packet with these tags
 unfoldable pub is_granted : PolicyPlan → List Deed → Address → List ℕ → Bool
 is_granted plan h src tags =
-    lets_in plan.kind (was_sent_to h src) && not (has_address plan.deny src) && not (list_any (has_tag plan.deny_tags) tags) && nat_lt (grants_before h src) plan.grants
+    lets_in plan.kind (was_sent_to h src) && not (has_address plan.deny src)
+    && not (list_any (has_tag plan.deny_tags) tags) && nat_lt (grants_before h src) plan.grants
 
 -- the decision: the plan's rights, or none
 abbrev pub decision : PolicyPlan → List Deed → Address → List ℕ → Option Rights

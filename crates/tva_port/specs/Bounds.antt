@@ -36,7 +36,8 @@ start_of l class key (suc n) before (e ∷ es) =
     start_of l class key (if starts_first l class key before e then n else suc n) (before ++ e ∷ []) es
 
 -- the packet that these entries queued last under the key starts among the later ones by that time
-pub record StartsBy (l : LinkLimits) (class : Class) (key : ℕ) (packet : PacketData) (before later : List Entry) (time : ℕ) : Type 0 where
+pub record StartsBy (l : LinkLimits) (class : Class) (key : ℕ) (packet : PacketData)
+    (before later : List Entry) (time : ℕ) : Type 0 where
   pub start : ℕ
   pub found : start_of l class key (length (waiting_under l class key before) - 1) before later ≡ Some (Started start class packet)
   pub soon : start ≤ time

@@ -23,7 +23,7 @@ use Rattle.tva_policy.specs.Grants.{Deed, Sent, decision}
 use Rattle.tva_sender.specs.declared.shape.Shape.{Shape}
 use Rattle.tva_sender.specs.declared.shape.Shape.TheVariants as shape
 use Rattle.tva_sender.specs.declared.grant.Grant.{Grant}
-use Rattle.tva_sender.specs.Contacts.{Contact, Prepared, Taken, Notice, Taking, taking_in, last_taking, notices, unless_given_up, grant_of, grant_held, asked_at, awaits}
+use Rattle.tva_sender.specs.Contacts.{Contact, Prepared, Taken, Notice, Taking, taking_in, last_taking, notices, unless_given_up, grant_of, grant_held, asked_at, takes}
 use Rattle.tva_sender.specs.Shapes.{nonce_of, list_length, nonce_length, renews, takes_nonce, fits, held, without_grant, under_grant, by_grant, may_ask, length_of}
 use Rattle.tva_sender.specs.Book.{of_peer}
 use Rattle.tva_host.specs.declared.made.Made.{Made}
@@ -92,26 +92,26 @@ choice : (b : Bool) (x y : Shape) → IsFewShape x → IsFewShape y → IsFewSha
 choice true x y k l = k
 choice false x y k l = l
 
-few_under : (margin : ℕ) (may_ask : Bool) (g : Grant) (now body offered : ℕ) → IsFewGrant g → IsFewShape (under_grant margin may_ask g now body offered)
+few_under : (margin version : ℕ) (may_ask : Bool) (g : Grant) (now body offered : ℕ) → IsFewGrant g → IsFewShape (under_grant margin version may_ask g now body offered)
 unfolding under_grant
-few_under margin may_ask g now body offered k =
+few_under margin version may_ask g now body offered k =
     let bare : Shape = without_grant may_ask in
-    let by_list : Bool = fits margin now g (list_length g.caps body) in
+    let by_list : Bool = fits margin now g (list_length version g.caps body) in
     let by_nonce : Bool = takes_nonce margin now g (nonce_length body) in
-    let by_renewal : Bool = may_ask && renews margin now g (list_length g.caps body) in
+    let by_renewal : Bool = may_ask && renews margin now g (list_length version g.caps body) in
     let listed : Shape = cond by_list (shape.List (held g offered)) bare in
     let short : Shape = cond by_nonce (shape.NonceOnly (nonce_of g offered)) listed in
     choice by_renewal (shape.Renewal (held g offered)) short k
     (choice by_nonce (shape.NonceOnly (nonce_of g offered)) listed tt
     (choice by_list (shape.List (held g offered)) bare k (choice may_ask shape.Request shape.Legacy tt tt)))
 
-few_by : (margin : ℕ) (may_ask : Bool) (o : Option Grant) (now body offered : ℕ) → IfSome o IsFewGrant → IsFewShape (by_grant margin may_ask o now body offered)
-few_by margin may_ask None now body offered k = choice may_ask shape.Request shape.Legacy tt tt
-few_by margin may_ask (Some g) now body offered k = few_under margin may_ask g now body offered k
+few_by : (margin version : ℕ) (may_ask : Bool) (o : Option Grant) (now body offered : ℕ) → IfSome o IsFewGrant → IsFewShape (by_grant margin version may_ask o now body offered)
+few_by margin version may_ask None now body offered k = choice may_ask shape.Request shape.Legacy tt tt
+few_by margin version may_ask (Some g) now body offered k = few_under margin version may_ask g now body offered k
 
 few_shape : (plan : HostPlan) (h : History) (now : ℕ) (dst : Address) (body : ℕ) → AreFew h.contacts → IsFewShape (next_shape plan h now dst body)
 few_shape plan h now dst body k =
-    few_by plan.margin (may_ask plan.retry (asked_at (of_peer dst h.contacts)) now) (grant_held (of_peer dst h.contacts)) now body (offered plan h)
+    few_by plan.margin plan.version (may_ask plan.retry (asked_at (of_peer dst h.contacts)) now) (grant_held (of_peer dst h.contacts)) now body (offered plan h)
     (grant_few (of_peer dst h.contacts) (few_peer dst h.contacts k))
 
 -- ## packets
@@ -119,15 +119,15 @@ few_shape plan h now dst body k =
 abbrev IsFewBack : ReturnInfo → Type 0
 IsFewBack back = length (granted_caps back) ≤ 16
 
-shim_few : (s : Shape) (back : ReturnInfo) → IsFewShape s → IsFewBack back → HasFew (shim_of s back)
-shim_few shape.Request back k b = record { entries = omega arith; caps = omega arith; granted = b }
-shim_few (shape.List held) back k b = record { entries = omega arith; caps = k; granted = b }
-shim_few (shape.NonceOnly nonce) back k b = record { entries = omega arith; caps = omega arith; granted = b }
-shim_few (shape.Renewal held) back k b = record { entries = omega arith; caps = k; granted = b }
-shim_few shape.Legacy back k b = record { entries = omega arith; caps = omega arith; granted = b }
+shim_few : (version : ℕ) (s : Shape) (back : ReturnInfo) → IsFewShape s → IsFewBack back → HasFew (shim_of version s back)
+shim_few version shape.Request back k b = record { entries = omega arith; caps = omega arith; granted = b }
+shim_few version (shape.List held) back k b = record { entries = omega arith; caps = k; granted = b }
+shim_few version (shape.NonceOnly nonce) back k b = record { entries = omega arith; caps = omega arith; granted = b }
+shim_few version (shape.Renewal held) back k b = record { entries = omega arith; caps = k; granted = b }
+shim_few version shape.Legacy back k b = record { entries = omega arith; caps = omega arith; granted = b }
 
-carried_few : (s : Shape) → IsFewShape s → IsSized (carried_by s)
-carried_few s k = elim (is_legacy s) as (λ b. IsSized (cond b carried.Nothing (carried.Shim (shim_of s backs.Nothing)))) [ true ↦ (tt, tt) | false ↦ (tt, shim_few s backs.Nothing k (omega arith)) ]
+carried_few : (version : ℕ) (s : Shape) → IsFewShape s → IsSized (carried_by version s)
+carried_few version s k = elim (is_legacy s) as (λ b. IsSized (cond b carried.Nothing (carried.Shim (shim_of version s backs.Nothing)))) [ true ↦ (tt, tt) | false ↦ (tt, shim_few version s backs.Nothing k (omega arith)) ]
 
 next_sized : (node : ℕ) (h : History) (flow : Flow) (payload : ℕ) (c : Carried) → payload ≤ 1600 → IsSized c → IsSizedPacket (next_packet node h flow payload c)
 next_sized node h flow payload c l s = record { packet = record { hops = omega arith; payload = l; carried = s.0 }; few = s.1 }
@@ -136,7 +136,7 @@ intended_sized : (node : ℕ) (plan : HostPlan) (h : History) (now : ℕ) (dst :
 unfolding intended
 intended_sized node plan h now dst payload l k =
     let flow : Flow = record { src = plan.address; dst = dst } in
-    next_sized node h flow payload (carried_by (next_shape plan h now dst payload)) l (carried_few (next_shape plan h now dst payload) (few_shape plan h now dst payload k))
+    next_sized node h flow payload (carried_by plan.version (next_shape plan h now dst payload)) l (carried_few plan.version (next_shape plan h now dst payload) (few_shape plan h now dst payload k))
 
 -- what a host makes for a row
 pub made_sized : (node : ℕ) (plan : HostPlan) (h : History) (now : ℕ) (what : RowWhat) → IsSizedWhat what → AreFew h.contacts → IsSizedPacket (made_for node plan h now what).packet
@@ -179,26 +179,26 @@ IsSizedMade made = IsSizedPacket made.packet
 
 reply_sized : (node : ℕ) (plan : HostPlan) (h : History) (now : ℕ) (src : Address) (answer : Option ReturnInfo) → AreFew h.contacts → IfSome answer IsFewBack → IfSome (reply_of node plan h now src answer) IsSizedMade
 reply_sized node plan h now src None k b = tt
-reply_sized node plan h now src (Some back) k b = reply_made (next_shape plan h now src (return_size back)) (few_shape plan h now src (return_size back) k)
+reply_sized node plan h now src (Some back) k b = reply_made (next_shape plan h now src (return_size plan.version back)) (few_shape plan h now src (return_size plan.version back) k)
   where
-    reply_made : (s : Shape) → IsFewShape s → IsSizedPacket (next_packet node h (record { src = plan.address; dst = src }) 0 (carried.Shim (shim_of s back)))
-    reply_made s f = next_sized node h (record { src = plan.address; dst = src }) 0 (carried.Shim (shim_of s back)) (omega arith) (tt, shim_few s back f b)
+    reply_made : (s : Shape) → IsFewShape s → IsSizedPacket (next_packet node h (record { src = plan.address; dst = src }) 0 (carried.Shim (shim_of plan.version s back)))
+    reply_made s f = next_sized node h (record { src = plan.address; dst = src }) 0 (carried.Shim (shim_of plan.version s back)) (omega arith) (tt, shim_few plan.version s back f b)
 
 back_few : (c : Carried) → CarriesFew c → IsFewBack (back_in c)
 back_few carried.Nothing f = omega arith
 back_few (carried.Shim shim) f = f.granted
 back_few (carried.Malformed size) f = omega arith
 
-met_few : (contacts : List (Address × Contact)) (src : Address) (back : ReturnInfo) → IsFewBack back → AreFew (met_by contacts src back)
-met_few contacts src backs.Nothing b = tt
-met_few contacts src backs.Notice b = (tt, tt)
-met_few contacts src (backs.Grant rights caps) b = elim (awaits (of_peer src contacts)) as (λ t. AreFew (cond t ((src, Taken rights caps) ∷ []) [])) [ true ↦ (b, tt) | false ↦ tt ]
+met_few : (version : ℕ) (contacts : List (Address × Contact)) (src : Address) (back : ReturnInfo) → IsFewBack back → AreFew (met_by version contacts src back)
+met_few version contacts src backs.Nothing b = tt
+met_few version contacts src backs.Notice b = (tt, tt)
+met_few version contacts src (backs.Grant rights caps) b = elim (takes version (of_peer src contacts) rights) as (λ t. AreFew (cond t ((src, Taken rights caps) ∷ []) [])) [ true ↦ (b, tt) | false ↦ tt ]
 
 more_few : (h more : List (Address × Contact)) → AreFew h → AreFew more → AreFew (h ++ more)
 more_few h more a b = each-append (λ (c : Address × Contact). IsFewContact c.1) h more a b
 
 before_few : (plan : HostPlan) (h : History) (src : Address) (c : Carried) → AreFew h.contacts → CarriesFew c → AreFew (before_reply plan src c h).contacts
-before_few plan h src c k f = more_few h.contacts (met_by h.contacts src (back_in c)) k (met_few h.contacts src (back_in c) (back_few c f))
+before_few plan h src c k f = more_few h.contacts (met_by plan.version h.contacts src (back_in c)) k (met_few plan.version h.contacts src (back_in c) (back_few c f))
 
 -- what a host answers to a packet
 pub receipt_sized : (node : ℕ) (plan : HostPlan) (h : History) (now : ℕ) (p : PacketData) → AreFew h.contacts → IsSizedPacket p → IfSome (receipt_of node plan h now p).reply IsSizedMade
@@ -218,11 +218,11 @@ IsSizedCall (Injected flow payload c) = Unit {0}
 IsSizedCall (Received now p) = IsSizedPacket p
 
 made_few : (plan : HostPlan) (now : ℕ) (dst : Address) (body : ℕ) (h : History) → AreFew h.contacts → AreFew (with_made plan now dst body h).contacts
-made_few plan now dst body h k = more_few h.contacts ((dst, Prepared now (next_shape plan h now dst body) (length_of (next_shape plan h now dst body) body)) ∷ []) k (tt, tt)
+made_few plan now dst body h k = more_few h.contacts ((dst, Prepared now (next_shape plan h now dst body) (length_of plan.version (next_shape plan h now dst body) body)) ∷ []) k (tt, tt)
 
 replied_few : (plan : HostPlan) (now : ℕ) (src : Address) (answer : Option ReturnInfo) (h : History) → AreFew h.contacts → AreFew (after_reply plan now src answer h).contacts
 replied_few plan now src None h k = k
-replied_few plan now src (Some back) h k = made_few plan now src (return_size back) h k
+replied_few plan now src (Some back) h k = made_few plan now src (return_size plan.version back) h k
 
 intending_few : (plan : HostPlan) (h : History) (now : ℕ) (dst : Address) (payload : ℕ) → AreFew h.contacts → AreFew (after_intending plan h now dst payload).contacts
 unfolding after_intending

@@ -10,6 +10,7 @@ use Rattle.tva_base.specs.declared.packet.Rights.{Rights}
 use Rattle.tva_base.specs.Addresses.{parted}
 use Rattle.tva_base.specs.Decimal.{decimal_of, is_decimal, number_in}
 use Rattle.tva_base.specs.Options.{◌>>=◌}
+use Rattle.tva_base.specs.Versions.{version_for}
 use Rattle.tva_shim.specs.declared.kinds.Shown.{Shown}
 use Rattle.tva_shim.specs.declared.kinds.Kind.TheVariants as shims
 use Rattle.tva_shim.specs.Packets.{HasFew}
@@ -121,13 +122,13 @@ abbrev pub IsSizedShim : SaidShim → Type 0
 IsSizedShim (Bytes bytes) = length bytes ≤ 400
 IsSizedShim (Built shim) = HasFew shim
 
-list_few : (s : Shown) → length s.caps ≤ 16 → HasFew (plain_shim (shims.List s))
-list_few s short = record { entries = omega arith; caps = short; granted = omega arith }
+list_few : (version : ℕ) (s : Shown) → length s.caps ≤ 16 → HasFew (plain_shim version (shims.List s))
+list_few version s short = record { entries = omega arith; caps = short; granted = omega arith }
 
-renewal_few : (s : Shown) → length s.caps ≤ 16 → HasFew (plain_shim (shims.Renewal s))
-renewal_few s short = record { entries = omega arith; caps = short; granted = omega arith }
+renewal_few : (version : ℕ) (s : Shown) → length s.caps ≤ 16 → HasFew (plain_shim version (shims.Renewal s))
+renewal_few version s short = record { entries = omega arith; caps = short; granted = omega arith }
 
-nonce_few : (nonce : ℕ) → HasFew (plain_shim (shims.Nonce nonce))
+nonce_few : (nonce : ℕ) → HasFew (plain_shim 1 (shims.Nonce nonce))
 nonce_few nonce = record { entries = omega arith; caps = omega arith; granted = omega arith }
 
 pub shim_sized : (plans : List NodePlan) (k : kinds.RowKind) (flow : Flow) (text : List ℕ) (s : SaidShim)
@@ -136,8 +137,10 @@ unfolding shim_of
 shim_sized plans kind.Send flow text s gave = absurd (cc)
 shim_sized plans kind.Raw flow text s gave = when_mapped IsSizedShim Bytes (raw_of text) s gave (λ bytes k. raw_few text bytes k)
 shim_sized plans kind.List flow text s gave =
-    when_mapped IsSizedShim (λ shown. Built (plain_shim (shims.List shown))) (shown_of plans flow text) s gave (λ shown k. list_few shown (shown_few plans flow text shown k))
+    when_mapped IsSizedShim (λ shown. Built (plain_shim (version_for shown.rights) (shims.List shown))) (shown_of plans flow text) s gave
+    (λ shown k. list_few (version_for shown.rights) shown (shown_few plans flow text shown k))
 shim_sized plans kind.Renew flow text s gave =
-    when_mapped IsSizedShim (λ shown. Built (plain_shim (shims.Renewal shown))) (shown_of plans flow text) s gave (λ shown k. renewal_few shown (shown_few plans flow text shown k))
+    when_mapped IsSizedShim (λ shown. Built (plain_shim (version_for shown.rights) (shims.Renewal shown))) (shown_of plans flow text) s gave
+    (λ shown k. renewal_few (version_for shown.rights) shown (shown_few plans flow text shown k))
 shim_sized plans kind.Nonce flow text s gave =
-    when_mapped IsSizedShim (λ nonce. Built (plain_shim (shims.Nonce nonce))) (hex_number_of 6 text) s gave (λ nonce k. nonce_few nonce)
+    when_mapped IsSizedShim (λ nonce. Built (plain_shim 1 (shims.Nonce nonce))) (hex_number_of 6 text) s gave (λ nonce k. nonce_few nonce)

@@ -34,7 +34,8 @@ has_prefix bits address route = (route.prefix.bits == bits) && (route.prefix.add
 -- the link of the first of these routes with each prefix, and of no other
 abbrev pub AreLinksOf : List Route → PrefixLinks → Type 0
 AreLinksOf routes links =
-    (bits address : ℕ) → get same_prefix links (bits, address) ≡ option_map (λ route. route.link) (find (has_prefix bits address) routes)
+    (bits address : ℕ) → get same_prefix links (bits, address)
+    ≡ option_map (λ route. route.link) (find (has_prefix bits address) routes)
 
 -- the length of each route's prefix is marked
 abbrev pub AreMarked : List Route → List Bool → Type 0

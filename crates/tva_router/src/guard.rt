@@ -1,7 +1,8 @@
 // What a router makes of the packets that arrive.
 ghost use Rattle.std.specs.Prelude.{◌≡◌, ◌≤◌, ◌<◌, ◌==◌, List, [], length, slice_get, IfOk, IfSome, Some, None};
 ghost use Rattle.std.specs.List.{find};
-ghost use Rattle.tva_base.specs.Plan.{AreRights, IsRouterPlan};
+ghost use Rattle.tva_base.specs.Plan.{IsRouterPlan};
+ghost use Rattle.tva_base.specs.Versions.{AreSomeRights};
 ghost use Rattle.tva_shim.specs.Changes.{IsRequest, PointsAtOne, with_next_pointer, with_fresh};
 ghost use Rattle.tva_shim.specs.Packets.{IsCarried};
 ghost use Rattle.tva_caps.specs.Check.{IfValid, IsSecondOf};
@@ -61,7 +62,7 @@ impl Guard {
         }
     }
 
-    #[tactic(auto, unfolding(crate::specs::Judging::judged_shim))]
+    #[tactic(auto, using(tva_base::proofs::Widths::some_rights), unfolding(crate::specs::Judging::judged_shim))]
     fn judge_shim(&mut self, plan: &RouterPlan, arrival: &Arrival, shim: Shim) -> Judged
         requires { MayJudge plan.now self.old arrival.now }
         ensures guard { IsGuard plan.now arrival.now.time.0 self.new }
@@ -149,7 +150,7 @@ impl Guard {
         shown: &Shown,
     ) -> Result<Grant, Cause>
         requires may { MayJudge plan.now self.old arrival.now }
-        requires rights { AreRights shown.now.rights }
+        requires rights { AreSomeRights shown.now.rights }
         ensures guard { IsGuard plan.now arrival.now.time.0 self.new }
         ensures answer { (h : List Charge) → StandsFor self.old.cache h
             → result ≡ answer_to_shown plan.now h arrival.now shown.now }

@@ -373,7 +373,13 @@ fn request(hops: u8) -> Packet
         src: Address(0x0a00_0001),
         dst: Address(0x0a00_0101),
     };
-    let shim = Shim::new(false, 6, Kind::Request(Entries::new()), ReturnInfo::Nothing);
+    let shim = Shim::new(
+        1,
+        false,
+        6,
+        Kind::Request(Entries::new()),
+        ReturnInfo::Nothing,
+    );
     let id = PacketId {
         node: 3,
         ordinal: 1,

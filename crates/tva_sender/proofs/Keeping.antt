@@ -65,36 +65,36 @@ grant_kept t c other unused =
     (ap (life_of t.rights) since)
     (notices-push t.after c ∙ rw other (omega arith))
 
-grant_used : (t : Taking) (now body : ℕ) (s : Shape) → grant_of (taking_more (Prepared now s (length_of s body)) t) ≡ used_by (grant_of t) now s body
-grant_used t now body shape.Request = grant_kept t (Prepared now shape.Request (length_of shape.Request body)) refl refl
-grant_used t now body (shape.List held) = grant_charged t (Prepared now (shape.List held) (length_of (shape.List held) body)) (record { time = now; length = list_length held.caps body; nonce = held.nonce }) refl refl
-grant_used t now body (shape.NonceOnly nonce) = grant_charged t (Prepared now (shape.NonceOnly nonce) (nonce_length body)) (record { time = now; length = nonce_length body; nonce = nonce }) refl refl
-grant_used t now body (shape.Renewal held) = grant_charged t (Prepared now (shape.Renewal held) (length_of (shape.Renewal held) body)) (record { time = now; length = list_length held.caps body; nonce = held.nonce }) refl refl
-grant_used t now body shape.Legacy = grant_kept t (Prepared now shape.Legacy (length_of shape.Legacy body)) refl refl
+grant_used : (t : Taking) (version now body : ℕ) (s : Shape) → grant_of (taking_more (Prepared now s (length_of version s body)) t) ≡ used_by version (grant_of t) now s body
+grant_used t version now body shape.Request = grant_kept t (Prepared now shape.Request (length_of version shape.Request body)) refl refl
+grant_used t version now body (shape.List held) = grant_charged t (Prepared now (shape.List held) (length_of version (shape.List held) body)) (record { time = now; length = list_length version held.caps body; nonce = held.nonce }) refl refl
+grant_used t version now body (shape.NonceOnly nonce) = grant_charged t (Prepared now (shape.NonceOnly nonce) (nonce_length body)) (record { time = now; length = nonce_length body; nonce = nonce }) refl refl
+grant_used t version now body (shape.Renewal held) = grant_charged t (Prepared now (shape.Renewal held) (length_of version (shape.Renewal held) body)) (record { time = now; length = list_length version held.caps body; nonce = held.nonce }) refl refl
+grant_used t version now body shape.Legacy = grant_kept t (Prepared now shape.Legacy (length_of version shape.Legacy body)) refl refl
 
-held_used : (o : Option Taking) (now body : ℕ) (s : Shape) → option_map grant_of (option_and_then unless_given_up (option_map (taking_more (Prepared now s (length_of s body))) o)) ≡ grant_used_by (option_map grant_of (option_and_then unless_given_up o)) now s body
-held_used None now body s = refl
-held_used (Some t) now body s =
-    rw (notices-push t.after (Prepared now s (length_of s body)), add-zero (notices t.after))
-    (elim (ltb (notices t.after) 2) as (λ b. option_map grant_of (cond b (Some (taking_more (Prepared now s (length_of s body)) t)) None) ≡ grant_used_by (option_map grant_of (cond b (Some t) None)) now s body) [ true ↦ ap Some (grant_used t now body s) | false ↦ refl ])
+held_used : (o : Option Taking) (version now body : ℕ) (s : Shape) → option_map grant_of (option_and_then unless_given_up (option_map (taking_more (Prepared now s (length_of version s body))) o)) ≡ grant_used_by version (option_map grant_of (option_and_then unless_given_up o)) now s body
+held_used None version now body s = refl
+held_used (Some t) version now body s =
+    rw (notices-push t.after (Prepared now s (length_of version s body)), add-zero (notices t.after))
+    (elim (ltb (notices t.after) 2) as (λ b. option_map grant_of (cond b (Some (taking_more (Prepared now s (length_of version s body)) t)) None) ≡ grant_used_by version (option_map grant_of (cond b (Some t) None)) now s body) [ true ↦ ap Some (grant_used t version now body s) | false ↦ refl ])
 
-pub keeps_prepared : (p : Peer) (h : List Contact) (now body : ℕ) (s : Shape) → Keeps p h → Keeps (prepared p now s body) (h ++ Prepared now s (length_of s body) ∷ [])
-keeps_prepared p h now body s k =
-    let c : Contact = Prepared now s (length_of s body) in
+pub keeps_prepared : (version : ℕ) (p : Peer) (h : List Contact) (now body : ℕ) (s : Shape) → Keeps p h → Keeps (prepared version p now s body) (h ++ Prepared now s (length_of version s body) ∷ [])
+keeps_prepared version p h now body s k =
+    let c : Contact = Prepared now s (length_of version s body) in
     record {
       asked = rw (last_ask-push h c) (elim (asks s) as (λ b. option_map (λ (ask : Ask). time ask.time) (option_or (cond b (Some (record { time = now; after = [] })) None) (option_map (ask_more c) (last_ask h))) ≡ Some (cond b (time now) p.asked)) [ true ↦ refl | false ↦ asked_more c (last_ask h) ∙ k.asked ]);
       awaits = rw (last_ask-push h c) (elim (asks s) as (λ b. is_open (option_or (cond b (Some (record { time = now; after = [] })) None) (option_map (ask_more c) (last_ask h))) ≡ not (not b && p.is_answered)) [ true ↦ refl | false ↦ open_more c (last_ask h) refl ∙ k.awaits ]);
-      grant = rw (last_taking-push [] h c) (held_used (last_taking [] h) now body s ∙ ap (λ g. grant_used_by g now s body) k.grant);
+      grant = rw (last_taking-push [] h c) (held_used (last_taking [] h) version now body s ∙ ap (λ g. grant_used_by version g now s body) k.grant);
     }
 
 -- the first request
-pub keeps_first : (h : List Contact) (now : Time) (body : ℕ) → IsStrange h → Keeps (first_asked now) (h ++ Prepared now.0 shape.Request (length_of shape.Request body) ∷ [])
-keeps_first h now body strange =
-    let c : Contact = Prepared now.0 shape.Request (length_of shape.Request body) in
+pub keeps_first : (version : ℕ) (h : List Contact) (now : Time) (body : ℕ) → IsStrange h → Keeps (first_asked now) (h ++ Prepared now.0 shape.Request (length_of version shape.Request body) ∷ [])
+keeps_first version h now body strange =
+    let c : Contact = Prepared now.0 shape.Request (length_of version shape.Request body) in
     record {
       asked = rw (last_ask-push h c) refl;
       awaits = rw (last_ask-push h c) refl;
-      grant = rw (last_taking-push [] h c) (held_used (last_taking [] h) now.0 body shape.Request ∙ ap (λ o. grant_used_by (option_map grant_of o) now.0 shape.Request body) strange.grant);
+      grant = rw (last_taking-push [] h c) (held_used (last_taking [] h) version now.0 body shape.Request ∙ ap (λ o. grant_used_by version (option_map grant_of o) now.0 shape.Request body) strange.grant);
     }
 
 asked_time : (o : Option Ask) (asked : Time) → option_map (λ (ask : Ask). time ask.time) o ≡ Some asked → time (time_of o) ≡ asked

@@ -4,3 +4,4 @@ pub mod Keeping
 pub mod Playing
 pub mod Standing
 pub mod Showing
+pub mod Taking

@@ -20,16 +20,16 @@ none-later last now cs l p = All-weaker (IsUpTo last) (IsUpTo now) (up_to-later 
 pub none-push : (last : ℕ) (cs : List Contact) (c : Contact) → NoneLater last cs → IsUpTo last c → NoneLater last (cs ++ c ∷ [])
 none-push last cs c p q = All-push (IsUpTo last) cs c p q
 
-pub next-push : (margin retry : ℕ) (before cs : List Contact) (c : Contact) → AreNext margin retry before cs → IsNext margin retry (before ++ cs) c
-    → AreNext margin retry before (cs ++ c ∷ [])
-next-push margin retry before [] c a n = (subst (λ z. IsNext margin retry z c) (append-nil before) n, tt)
-next-push margin retry before (d ∷ ds) c a n =
-    (a.0, next-push margin retry (before ++ d ∷ []) ds c a.1 (subst (λ z. IsNext margin retry z c) (sym (append_assoc before (d ∷ []) ds)) n))
+pub next-push : (margin retry version : ℕ) (before cs : List Contact) (c : Contact) → AreNext margin retry version before cs → IsNext margin retry version (before ++ cs) c
+    → AreNext margin retry version before (cs ++ c ∷ [])
+next-push margin retry version before [] c a n = (subst (λ z. IsNext margin retry version z c) (append-nil before) n, tt)
+next-push margin retry version before (d ∷ ds) c a n =
+    (a.0, next-push margin retry version (before ++ d ∷ []) ds c a.1 (subst (λ z. IsNext margin retry version z c) (sym (append_assoc before (d ∷ []) ds)) n))
 
 -- a packet in the shape that the contacts before it give
-pub next-prepared : (margin retry last : ℕ) (h : List Contact) (now body offered : ℕ) (s : Shape) → last ≤ now → NoneLater last h
-    → s ≡ shape_of margin retry h now body offered → IsNext margin retry h (Prepared now s (length_of s body))
-next-prepared margin retry last h now body offered s l p is = record {
+pub next-prepared : (margin retry version last : ℕ) (h : List Contact) (now body offered : ℕ) (s : Shape) → last ≤ now → NoneLater last h
+    → s ≡ shape_of margin retry version h now body offered → IsNext margin retry version h (Prepared now s (length_of version s body))
+next-prepared margin retry version last h now body offered s l p is = record {
   body = body;
   offered = offered;
   order = none-later last now h l p;
@@ -38,10 +38,10 @@ next-prepared margin retry last h now body offered s l p is = record {
 }
 
 -- the shape by what is kept of a peer is that by what happened with it
-pub shape-kept : (margin retry : ℕ) (p : Peer) (h : List Contact) (now body offered : ℕ) → Keeps p h
-    → by_grant margin (may_ask retry (Some p.asked) now) p.grant now body offered ≡ shape_of margin retry h now body offered
-shape-kept margin retry p h now body offered k = rw (k.asked, k.grant) refl
+pub shape-kept : (margin retry version : ℕ) (p : Peer) (h : List Contact) (now body offered : ℕ) → Keeps p h
+    → by_grant margin version (may_ask retry (Some p.asked) now) p.grant now body offered ≡ shape_of margin retry version h now body offered
+shape-kept margin retry version p h now body offered k = rw (k.asked, k.grant) refl
 
 -- for a peer that isn't known it is a request
-pub shape-strange : (margin retry : ℕ) (h : List Contact) (now body offered : ℕ) → IsStrange h → shape.Request ≡ shape_of margin retry h now body offered
-shape-strange margin retry h now body offered strange = rw (strange.asked, strange.grant) refl
+pub shape-strange : (margin retry version : ℕ) (h : List Contact) (now body offered : ℕ) → IsStrange h → shape.Request ≡ shape_of margin retry version h now body offered
+shape-strange margin retry version h now body offered strange = rw (strange.asked, strange.grant) refl

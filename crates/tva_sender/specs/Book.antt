@@ -11,13 +11,15 @@ use Rattle.tva_sender.specs.Played.{IsPlayed, NoneLater}
 pub record Book : Type 0 where
   pub margin : ℕ
   pub retry : ℕ
+  pub version : ℕ
   pub spare : ℕ
   pub last : ℕ
   pub peers : List (ℕ × Peer)
 
 -- at the beginning, without peers and without room
-abbrev pub empty_book : ℕ → ℕ → Book
-empty_book margin retry = record { margin = margin; retry = retry; spare = 0; last = 0; peers = [] }
+abbrev pub empty_book : ℕ → ℕ → ℕ → Book
+empty_book margin retry version =
+    record { margin = margin; retry = retry; version = version; spare = 0; last = 0; peers = [] }
 
 abbrev pub peer_at : Address → List (ℕ × Peer) → Option Peer
 peer_at a peers = lookup (nat_eq a.0) peers
@@ -51,5 +53,5 @@ IsKept (Some p) h = Keeps p h
 -- was prepared later than the last time
 pub record StandsFor (v : Book) (h : List (Address × Contact)) : Type 0 where
   pub kept : (a : Address) → IsKept (peer_at a v.peers) (of_peer a h)
-  pub played : (a : Address) → IsPlayed v.margin v.retry (of_peer a h)
+  pub played : (a : Address) → IsPlayed v.margin v.retry v.version (of_peer a h)
   pub times : (a : Address) → NoneLater v.last (of_peer a h)

@@ -1,5 +1,5 @@
 -- What happened with one peer: the asks, and the grants that were taken.
-use Rattle.std.specs.Prelude.{ℕ, Bool, true, false, not, nat_lt, if◌then◌else◌, List, [], ◌∷◌, ◌++◌, sum_by, count_by}
+use Rattle.std.specs.Prelude.{ℕ, Bool, true, false, not, nat_lt, ◌==◌, ◌&&◌, ◌||◌, if◌then◌else◌, List, [], ◌∷◌, ◌++◌, sum_by, count_by}
 use Rattle.std.specs.Prelude.{Option, Some, None, unwrap_or}
 use Rattle.std.specs.List.{list_any}
 use Rattle.std.specs.Option.{option_or, option_map, option_and_then}
@@ -7,6 +7,7 @@ use Rattle.tva_base.specs.declared.packet.Rights.{Rights}
 use Rattle.tva_base.specs.declared.packet.Time.{Time}
 use Rattle.tva_base.specs.Credit.{credit_of}
 use Rattle.tva_base.specs.Lives.{latest_end}
+use Rattle.tva_base.specs.Versions.{carries}
 use Rattle.tva_sender.specs.declared.shape.Shape.{Shape}
 use Rattle.tva_sender.specs.declared.shape.Shape.TheVariants as shape
 use Rattle.tva_sender.specs.declared.grant.Grant.{Grant}
@@ -151,6 +152,14 @@ is_open (Some ask) = not (is_answered ask)
 -- there was an ask, and the last one isn't answered
 abbrev pub awaits : List Contact → Bool
 awaits h = is_open (last_ask h)
+
+-- a sender of version 2 takes all rights, and one of version 1 those that its shims can carry
+abbrev pub is_within : ℕ → Rights → Bool
+is_within version rights = (version == 2) || carries 1 rights
+
+-- a grant of these rights is taken by a sender of that version
+abbrev pub takes : ℕ → List Contact → Rights → Bool
+takes version h rights = awaits h && is_within version rights
 
 -- the grant that is held, by what happened
 abbrev pub grant_held : List Contact → Option Grant

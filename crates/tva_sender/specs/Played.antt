@@ -1,7 +1,7 @@
 -- Which contacts a sender can have with one peer.
 use Rattle.std.specs.Prelude.{◌≡◌, ℕ, ◌≤◌, true, List, [], ◌∷◌, ◌++◌, All}
 use Rattle.tva_sender.specs.declared.shape.Shape.{Shape}
-use Rattle.tva_sender.specs.Contacts.{Contact, Prepared, Taken, Notice, awaits}
+use Rattle.tva_sender.specs.Contacts.{Contact, Prepared, Taken, Notice, awaits, is_within}
 use Rattle.tva_sender.specs.Shapes.{shape_of, length_of}
 
 -- no packet was prepared later than that
@@ -15,25 +15,28 @@ NoneLater time cs = All (IsUpTo time) cs
 
 -- a packet with a body of so many bytes and an offered nonce was prepared no earlier than those
 -- before it, in the shape that the contacts before it give, and its length is that of the shape
-pub record IsPrepared (margin retry : ℕ) (before : List Contact) (time : ℕ) (s : Shape) (bytes : ℕ) : Type 0 where
+pub record IsPrepared (margin retry version : ℕ) (before : List Contact) (time : ℕ) (s : Shape)
+    (bytes : ℕ) : Type 0 where
   pub body : ℕ
   pub offered : ℕ
   pub order : NoneLater time before
-  pub shape : s ≡ shape_of margin retry before time body offered
-  pub length : bytes ≡ length_of s body
+  pub shape : s ≡ shape_of margin retry version before time body offered
+  pub length : bytes ≡ length_of version s body
 
--- a contact may come after those before it: a grant is taken where the last ask isn't answered
-abbrev pub IsNext : ℕ → ℕ → List Contact → Contact → Type 0
-IsNext margin retry before (Prepared time s length) = IsPrepared margin retry before time s length
-IsNext margin retry before (Taken rights caps) = awaits before ≡ true
-IsNext margin retry before Notice = Unit {0}
+-- a contact may come after those before it: a grant is taken where the last ask isn't answered, and where
+-- its rights are within the version
+abbrev pub IsNext : ℕ → ℕ → ℕ → List Contact → Contact → Type 0
+IsNext margin retry version before (Prepared time s length) = IsPrepared margin retry version before time s length
+IsNext margin retry version before (Taken rights caps) = (awaits before ≡ true) × (is_within version rights ≡ true)
+IsNext margin retry version before Notice = Unit {0}
 
 -- after the contacts before, each contact is the next one
-abbrev pub AreNext : ℕ → ℕ → List Contact → List Contact → Type 0
-AreNext margin retry before [] = Unit {0}
-AreNext margin retry before (c ∷ cs) = IsNext margin retry before c × AreNext margin retry (before ++ c ∷ []) cs
+abbrev pub AreNext : ℕ → ℕ → ℕ → List Contact → List Contact → Type 0
+AreNext margin retry version before [] = Unit {0}
+AreNext margin retry version before (c ∷ cs) =
+    IsNext margin retry version before c × AreNext margin retry version (before ++ c ∷ []) cs
 
 -- a list of contacts with one peer that a sender can have that stays `margin` nanoseconds clear of
--- a grant's end and asks again after `retry` nanoseconds
-abbrev pub IsPlayed : ℕ → ℕ → List Contact → Type 0
-IsPlayed margin retry h = AreNext margin retry [] h
+-- a grant's end, asks again after `retry` nanoseconds and makes shims of that version
+abbrev pub IsPlayed : ℕ → ℕ → ℕ → List Contact → Type 0
+IsPlayed margin retry version h = AreNext margin retry version [] h

@@ -6,25 +6,26 @@ use Rattle.tva_sender.specs.declared.shape.Shape.{Shape}
 use Rattle.tva_sender.specs.declared.shape.Shape.TheVariants as shape
 use Rattle.tva_sender.specs.declared.grant.Grant.{Grant}
 use Rattle.tva_base.specs.declared.packet.Time.{Time}
+use Rattle.tva_base.specs.Versions.{rights_size}
 use Rattle.tva_sender.specs.Contacts.{Contact, asked_at, grant_held}
 
--- the lengths of packets with a body of so many bytes
+-- the lengths of packets with a body of so many bytes; that of a list is by the version of its shim
 abbrev pub request_length : ℕ → ℕ
 request_length body = 23 + body
 
 abbrev pub nonce_length : ℕ → ℕ
 nonce_length body = 28 + body
 
-abbrev pub list_length : List ℕ → ℕ → ℕ
-list_length caps body = 32 + 8 * length caps + body
+abbrev pub list_length : ℕ → List ℕ → ℕ → ℕ
+list_length version caps body = 30 + rights_size version + 8 * length caps + body
 
 -- the length of a packet in that shape; a sender counts no legacy packet
-abbrev pub length_of : Shape → ℕ → ℕ
-length_of shape.Request body = request_length body
-length_of (shape.List held) body = list_length held.caps body
-length_of (shape.NonceOnly nonce) body = nonce_length body
-length_of (shape.Renewal held) body = list_length held.caps body
-length_of shape.Legacy body = 0
+abbrev pub length_of : ℕ → Shape → ℕ → ℕ
+length_of version shape.Request body = request_length body
+length_of version (shape.List held) body = list_length version held.caps body
+length_of version (shape.NonceOnly nonce) body = nonce_length body
+length_of version (shape.Renewal held) body = list_length version held.caps body
+length_of version shape.Legacy body = 0
 
 -- a packet of that length may use the grant: a second and the margin before its time is over,
 -- and within its bytes
@@ -61,23 +62,24 @@ abbrev pub without_grant : Bool → Shape
 without_grant may_ask = if may_ask then shape.Request else shape.Legacy
 
 -- the first row that holds, under a grant
-unfoldable pub under_grant : ℕ → Bool → Grant → ℕ → ℕ → ℕ → Shape
-under_grant margin may_ask g now body offered =
-    if may_ask && renews margin now g (list_length g.caps body) then shape.Renewal (held g offered)
+unfoldable pub under_grant : ℕ → ℕ → Bool → Grant → ℕ → ℕ → ℕ → Shape
+under_grant margin version may_ask g now body offered =
+    if may_ask && renews margin now g (list_length version g.caps body) then shape.Renewal (held g offered)
     else (if takes_nonce margin now g (nonce_length body) then shape.NonceOnly (nonce_of g offered)
-    else (if fits margin now g (list_length g.caps body) then shape.List (held g offered)
+    else (if fits margin now g (list_length version g.caps body) then shape.List (held g offered)
     else without_grant may_ask))
 
-abbrev pub by_grant : ℕ → Bool → Option Grant → ℕ → ℕ → ℕ → Shape
-by_grant margin may_ask None now body offered = without_grant may_ask
-by_grant margin may_ask (Some g) now body offered = under_grant margin may_ask g now body offered
+abbrev pub by_grant : ℕ → ℕ → Bool → Option Grant → ℕ → ℕ → ℕ → Shape
+by_grant margin version may_ask None now body offered = without_grant may_ask
+by_grant margin version may_ask (Some g) now body offered = under_grant margin version may_ask g now body offered
 
 -- there was no ask, or the last one is so long ago
 abbrev pub may_ask : ℕ → Option Time → ℕ → Bool
 may_ask retry None now = true
 may_ask retry (Some asked) now = nat_le (asked.0 + retry) now
 
--- the shape of a packet for a peer with which so much happened
-abbrev pub shape_of : ℕ → ℕ → List Contact → ℕ → ℕ → ℕ → Shape
-shape_of margin retry h now body offered =
-    by_grant margin (may_ask retry (asked_at h) now) (grant_held h) now body offered
+-- the shape of a packet for a peer with which so much happened, by a sender's margin and retry and the
+-- version of its shims
+abbrev pub shape_of : ℕ → ℕ → ℕ → List Contact → ℕ → ℕ → ℕ → Shape
+shape_of margin retry version h now body offered =
+    by_grant margin version (may_ask retry (asked_at h) now) (grant_held h) now body offered

@@ -26,23 +26,23 @@ charged g now bytes nonce = record g {
 }
 
 -- a grant after a packet in that shape
-abbrev pub used_by : Grant → ℕ → Shape → ℕ → Grant
-used_by g now shape.Request body = g
-used_by g now (shape.List held) body = charged g now (list_length held.caps body) held.nonce
-used_by g now (shape.NonceOnly nonce) body = charged g now (nonce_length body) nonce
-used_by g now (shape.Renewal held) body = charged g now (list_length held.caps body) held.nonce
-used_by g now shape.Legacy body = g
+abbrev pub used_by : ℕ → Grant → ℕ → Shape → ℕ → Grant
+used_by version g now shape.Request body = g
+used_by version g now (shape.List held) body = charged g now (list_length version held.caps body) held.nonce
+used_by version g now (shape.NonceOnly nonce) body = charged g now (nonce_length body) nonce
+used_by version g now (shape.Renewal held) body = charged g now (list_length version held.caps body) held.nonce
+used_by version g now shape.Legacy body = g
 
-abbrev pub grant_used_by : Option Grant → ℕ → Shape → ℕ → Option Grant
-grant_used_by None now s body = None
-grant_used_by (Some g) now s body = Some (used_by g now s body)
+abbrev pub grant_used_by : ℕ → Option Grant → ℕ → Shape → ℕ → Option Grant
+grant_used_by version None now s body = None
+grant_used_by version (Some g) now s body = Some (used_by version g now s body)
 
 -- a peer after a packet in that shape
-abbrev pub prepared : Peer → ℕ → Shape → ℕ → Peer
-prepared p now s body = record {
+abbrev pub prepared : ℕ → Peer → ℕ → Shape → ℕ → Peer
+prepared version p now s body = record {
   asked = if asks s then time now else p.asked;
   is_answered = not (asks s) && p.is_answered;
-  grant = grant_used_by p.grant now s body;
+  grant = grant_used_by version p.grant now s body;
 }
 
 -- a peer after its grant was taken

@@ -4,7 +4,7 @@ ghost use Rattle.tva_sender.specs.Shapes.{fits, is_half_used, is_alive, renews, 
 ghost use Rattle.tva_sender.specs.Steps.{taken_grant, charged, IsNear};
 
 use crate::shape::Held;
-use tva_base::{Caps, Rights, SECOND, Time, UNIT, credit};
+use tva_base::{Caps, Rights, SECOND, Time, UNIT, credit, rights_size};
 
 /// A grant: its rights and capabilities, its nonce once a packet used it, the time of its ask, the
 /// bytes used, the end of its life, and the notices on it. Times are in nanoseconds. A life is
@@ -85,13 +85,13 @@ impl Grant {
         self.nonce.unwrap_or(offered)
     }
 
-    /// The length of a packet with its list and a body, in bytes.
-    pub fn list_length(&self, body: u32) -> u32
+    /// The length of a packet with its list in a shim of that version and a body, in bytes.
+    pub fn list_length(&self, version: u8, body: u32) -> u32
         requires { body ≤ 1800 }
-        ensures length { result ≡ list_length self.now.caps body }
+        ensures length { result ≡ list_length version self.now.caps body }
         ensures short { result ≤ 2048 }
     {
-        32 + 8 * self.caps.as_slice().len() as u32 + body
+        30 + rights_size(version) + 8 * self.caps.as_slice().len() as u32 + body
     }
 
     /// What a packet shows of it.

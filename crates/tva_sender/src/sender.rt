@@ -1,12 +1,13 @@
 // A sender: what it keeps of its peers.
 ghost use Rattle.std.specs.Prelude.{◌≡◌, ◌⊎◌, ℕ, ◌+◌, ◌-◌, ◌*◌, ◌^◌, ◌≤◌, ◌<◌, ◌==◌, ◌||◌, max, false, List, [], ◌∷◌, ◌++◌, if◌then◌else◌, OnOk, OnErr};
 ghost use Rattle.tva_base.specs.declared.addresses.Address.{Address};
-ghost use Rattle.tva_sender.specs.Contacts.{Contact, Prepared, Taken, Notice, awaits};
+ghost use Rattle.tva_base.specs.Versions.{IsVersion};
+ghost use Rattle.tva_sender.specs.Contacts.{Contact, Prepared, Taken, Notice, takes};
 ghost use Rattle.tva_sender.specs.Shapes.{shape_of, length_of};
 ghost use Rattle.tva_sender.specs.Showable.{AreShowable, IsShowable};
 ghost use Rattle.tva_sender.specs.Book.{Book, empty_book, StandsFor, of_peer, knows};
 
-use crate::peer::Peer;
+use crate::peer::{Peer, Rules};
 use crate::shape::Shape;
 use std::alloc::{AllocError, Global};
 use std::collections::HashMap;
@@ -19,6 +20,7 @@ use tva_base::{Address, Caps, Rights, Time};
 pub struct Sender {
     margin: u64,
     retry: u64,
+    version: u8,
     room: u32,
     last: Time,
     peers: HashMap<u32, Peer>,
@@ -32,23 +34,25 @@ impl Model for Sender {
 
     ghost Value = { Book };
 
-    ghost view = { λ s. record { margin = s.margin; retry = s.retry; spare = s.room; last = s.last.0; peers = s.peers.entries } };
+    ghost view = { λ s. record { margin = s.margin; retry = s.retry; version = s.version; spare = s.room; last = s.last.0; peers = s.peers.entries } };
 
     ghost invariant = { λ s. (s.room ≤ spare s.peers) × AreNear s.last.0 s.peers.entries };
 }
 
 impl Sender {
-    /// A sender without peers that stays `margin` nanoseconds clear of the end of a grant, and
-    /// asks again after `retry` nanoseconds.
-    pub fn build(alloc: Global, margin: u64, retry: u64) -> Sender
+    /// A sender without peers that stays `margin` nanoseconds clear of the end of a grant, asks again
+    /// after `retry` nanoseconds, and makes shims of that version, 1 or 2.
+    pub fn build(alloc: Global, margin: u64, retry: u64, version: u8) -> Sender
         requires margin { margin ≤ 10 ^ 12 }
         requires retry { (10 ^ 9 + margin ≤ retry) × (retry ≤ 10 ^ 13) }
-        ensures book { result ≡ empty_book margin retry }
+        requires version { IsVersion version }
+        ensures book { result ≡ empty_book margin retry version }
         ensures stands { StandsFor result [] }
     {
         Sender {
             margin,
             retry,
+            version,
             room: 0,
             last: Time(0),
             peers: HashMap::new(alloc),
@@ -78,17 +82,22 @@ impl Sender {
         requires room { knows self.old dst ≡ false → 1 ≤ self.old.spare }
         requires body { body ≤ 1800 }
         requires nonce { nonce < 2 ^ 48 }
-        ensures shape { (h : List (Address × Contact)) → StandsFor self.old h → result ≡ shape_of self.old.margin self.old.retry (of_peer dst h) now.0 body nonce }
-        ensures stands { (h : List (Address × Contact)) → StandsFor self.old h → StandsFor self.new (h ++ (dst, Prepared now.0 result (length_of result body)) ∷ []) }
-        ensures showable { (h : List (Address × Contact)) → StandsFor self.old h → AreShowable h → IsShowable result }
+        ensures shape { (h : List (Address × Contact)) → StandsFor self.old h → result ≡ shape_of self.old.margin self.old.retry self.old.version (of_peer dst h) now.0 body nonce }
+        ensures stands { (h : List (Address × Contact)) → StandsFor self.old h → StandsFor self.new (h ++ (dst, Prepared now.0 result (length_of self.old.version result body)) ∷ []) }
+        ensures showable { (h : List (Address × Contact)) → StandsFor self.old h → AreShowable self.old.version h → IsShowable self.old.version result }
         ensures spare { self.new.spare ≡ (if knows self.old dst then self.old.spare else self.old.spare - 1) }
         ensures last { self.new.last ≡ now.0 }
         ensures rest { self.new ≡ record self.old { spare = self.new.spare; last = self.new.last; peers = self.new.peers } }
         ensures known { (a : Address) → knows self.new a ≡ (knows self.old a || (a.0 == dst.0)) }
     {
         self.last = now;
+        let rules = Rules {
+            margin: self.margin,
+            retry: self.retry,
+            version: self.version,
+        };
         match self.peers.get_mut(&dst.0) {
-            Some(peer) => peer.prepare(self.margin, self.retry, now, body, nonce),
+            Some(peer) => peer.prepare(rules, now, body, nonce),
             None => {
                 self.room -= 1;
                 let _ = self.peers.insert(dst.0, Peer::new(now));
@@ -97,9 +106,10 @@ impl Sender {
         }
     }
 
-    /// Takes a grant of a peer whose last ask isn't answered, and ignores it otherwise.
+    /// Takes a grant of a peer whose last ask isn't answered where its rights are within the version, and
+    /// ignores it otherwise.
     pub fn granted(&mut self, src: Address, rights: Rights, caps: &Caps) -> bool
-        ensures taken { (h : List (Address × Contact)) → StandsFor self.old h → result ≡ awaits (of_peer src h) }
+        ensures taken { (h : List (Address × Contact)) → StandsFor self.old h → result ≡ takes self.old.version (of_peer src h) rights }
         ensures stands { (h : List (Address × Contact)) → StandsFor self.old h → StandsFor self.new (h ++ (if result then (src, Taken rights caps.now) ∷ [] else [])) }
         ensures ignored { result ≡ false → self.new ≡ self.old }
         ensures rest { self.new ≡ record self.old { peers = self.new.peers } }
@@ -108,7 +118,7 @@ impl Sender {
         let Some(peer) = self.peers.get_mut(&src.0) else {
             return false;
         };
-        peer.take(rights, caps)
+        peer.take(self.version, rights, caps)
     }
 
     /// Counts a notice of a peer. The first one on a grant ends its life, so that the list is shown

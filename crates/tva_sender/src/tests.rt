@@ -1,11 +1,13 @@
 // Sequences of calls on one sender, with answers from outside and of a plain program.
 mod budgets;
+mod greater;
 mod plain;
 mod random;
 mod times;
 
 use crate::{Held, Sender, Shape};
 use budgets::BUDGETS;
+use greater::GREATER;
 use random::{RUNS, compare};
 use std::alloc::{AllocError, Global};
 use std::process::Abort;
@@ -34,7 +36,7 @@ enum Call {
     Demoted(u32),
 }
 
-/// The rules of a sender, and calls on it.
+/// The rules of a sender without its version, and calls on it.
 struct Case {
     name: &'static str,
     margin: u64,
@@ -67,12 +69,13 @@ fn caps_of<R: Abort>(rt: &R, list: &[u64]) -> Caps {
     caps
 }
 
-fn play<R: Abort>(rt: &R, alloc: Global, case: &Case) -> Result<(), AllocError> {
+fn play<R: Abort>(rt: &R, alloc: Global, version: u8, case: &Case) -> Result<(), AllocError> {
     let name = case.name;
     assert!(rt; case.margin <= 1_000_000_000_000);
     assert!(rt; case.retry >= 1_000_000_000 + case.margin);
     assert!(rt; case.retry <= 10_000_000_000_000);
-    let mut sender = Sender::build(alloc, case.margin, case.retry);
+    assert!(rt; version >= 1 && version <= 2);
+    let mut sender = Sender::build(alloc, case.margin, case.retry, version);
     let mut last = 0;
     for call in case.calls {
         match call {
@@ -103,10 +106,13 @@ fn prepares_as_told(rt: HostRuntime) -> Result<(), Fail> {
     crosses::<Sender>();
     crosses::<Shape>();
     for case in &TIMES {
-        play(&rt, rt.alloc(), case)?;
+        play(&rt, rt.alloc(), 1, case)?;
     }
     for case in &BUDGETS {
-        play(&rt, rt.alloc(), case)?;
+        play(&rt, rt.alloc(), 1, case)?;
+    }
+    for case in &GREATER {
+        play(&rt, rt.alloc(), 2, case)?;
     }
     Ok(())
 }

@@ -1,5 +1,5 @@
 -- How long a packet is at most.
-use Rattle.std.proofs.Common.{◌≤◌, length, arith}
+use Rattle.std.proofs.Common.{◌≤◌, ℕ, length, arith}
 use Rattle.tva_shim.specs.declared.kinds.Kind.{Kind}
 use Rattle.tva_shim.specs.declared.kinds.Kind.TheVariants as kinds
 use Rattle.tva_shim.specs.declared.kinds.ReturnInfo.{ReturnInfo}
@@ -9,26 +9,28 @@ use Rattle.tva_shim.specs.declared.packets.Carried.TheVariants as carried
 use Rattle.tva_shim.specs.Shims.{ShimData, IsShim, entries_of, caps_of, granted_caps}
 use Rattle.tva_shim.specs.Layout.{layout, kind_size, return_size}
 use Rattle.tva_shim.specs.Packets.{PacketData, IsCarried, HasFew, CarriesFew, IsSizedPacket, carried_bytes, packet_length}
+use Rattle.tva_base.specs.Versions.{rights_size}
+use Rattle.tva_base.proofs.Widths.{size_few}
 use Rattle.tva_shim.proofs.Sizes.{length-layout}
 
-kind_within : (kind : Kind) → length (entries_of kind) ≤ 16 → length (caps_of kind) ≤ 16 → kind_size kind ≤ 163
-kind_within (kinds.Request entries) few caps = omega arith
-kind_within (kinds.List shown) few caps = omega arith
-kind_within (kinds.Nonce nonce) few caps = omega arith
-kind_within (kinds.Renewal shown) few caps = omega arith
+kind_within : (version : ℕ) (kind : Kind) → length (entries_of kind) ≤ 16 → length (caps_of kind) ≤ 16 → kind_size version kind ≤ 163
+kind_within version (kinds.Request entries) few caps = omega arith
+kind_within version (kinds.List shown) few caps = omega (arith, size_few version)
+kind_within version (kinds.Nonce nonce) few caps = omega arith
+kind_within version (kinds.Renewal shown) few caps = omega (arith, size_few version)
 
-return_within : (back : ReturnInfo) → length (granted_caps back) ≤ 16 → return_size back ≤ 132
-return_within backs.Nothing few = omega arith
-return_within backs.Notice few = omega arith
-return_within (backs.Grant rights caps) few = omega arith
+return_within : (version : ℕ) (back : ReturnInfo) → length (granted_caps back) ≤ 16 → return_size version back ≤ 134
+return_within version backs.Nothing few = omega arith
+return_within version backs.Notice few = omega arith
+return_within version (backs.Grant rights caps) few = omega (arith, size_few version)
 
 -- a shim within its widths has few of each
 pub has_few : (s : ShimData) → IsShim s → HasFew s
 has_few s is = record { entries = is.entries.few; caps = is.caps.few; granted = is.granted.few }
 
--- the longest shim is a request with 16 entries and a grant of 16 capabilities
-pub shim_within : (s : ShimData) → HasFew s → length (layout s) ≤ 295
-shim_within s has = omega (arith, length-layout s, kind_within s.kind has.entries has.caps, return_within s.back has.granted)
+-- the longest shim is a request of version 2 with 16 entries and a grant of 16 capabilities
+pub shim_within : (s : ShimData) → HasFew s → length (layout s) ≤ 297
+shim_within s has = omega (arith, length-layout s, kind_within s.version s.kind has.entries has.caps, return_within s.version s.back has.granted)
 
 carried_within : (c : Carried) → IsCarried c → CarriesFew c → carried_bytes c ≤ 400
 carried_within carried.Nothing is few = omega arith

@@ -3,4 +3,5 @@ pub mod Lengths
 pub mod Tags
 pub mod NumberBytes
 pub mod Reading
+pub mod RightsRead
 pub mod Wholes

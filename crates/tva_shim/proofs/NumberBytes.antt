@@ -3,10 +3,11 @@ use Rattle.std.proofs.Common.{◌≡◌, ℕ, zero, suc, ◌+◌, ◌-◌, ◌*�
 use Rattle.std.proofs.Math.Nat.{div-one, mod-eq_of_lt, mul-add-div_right, mul-add-mod_self_right, mul_assoc, one-le-pow, pow-succ'}
 use Rattle.std.proofs.lemmas.Nat.{div-mul-add, pow-add}
 use Rattle.std.specs.Int.{byte_at, bytes_high_first}
-use Rattle.std.proofs.lemmas.List.{take-append-drop, drop_at, length-append}
+use Rattle.std.proofs.lemmas.List.{take-append-drop, take-append-le, take_all, drop_at, length-append}
 use Rattle.byteorder.specs.Endian.{big_from, big_bytes, big_number}
 use Rattle.byteorder.specs.Numbers.{big_from-cons, big_from-lt, big_from-take, big_number-reads_back, length-bytes_high_first}
-use Rattle.tva_shim.specs.Layout.{two_bytes, six_bytes, eight_bytes}
+use Rattle.tva_base.specs.Versions.{rights_size}
+use Rattle.tva_shim.specs.Layout.{two_bytes, six_bytes, eight_bytes, number_bytes}
 use Rattle.tva_shim.specs.Parts.{Reads, IsBelow}
 
 abbrev pub AreBytes : List ℕ → Type 0
@@ -100,3 +101,14 @@ six_bytes-is n = refl
 pub eight_bytes-is : (n : ℕ) → eight_bytes n ≡ big_bytes 8 n
 unfolding eight_bytes
 eight_bytes-is n = refl
+
+pub number_bytes-is : (version n : ℕ) → number_bytes version n ≡ big_bytes (rights_size version) n
+unfolding number_bytes
+number_bytes-is version n = refl
+
+-- a number that was written to the front of some bytes stands there
+pub front_written : (version n size : ℕ) (rest written : List ℕ) → size ≡ rights_size version → written ≡ big_bytes size n ++ rest → take size written ≡ number_bytes version n
+front_written version n size rest written is all =
+    let long : length (big_bytes size n) ≡ size = length-bytes_high_first size n in
+    ap (take size) all ∙ take-append-le size (big_bytes size n) rest (omega arith) ∙ take_all size (big_bytes size n) (omega arith)
+    ∙ ap (λ k. big_bytes k n) is ∙ sym (number_bytes-is version n)

@@ -13,7 +13,10 @@ some x = Some x
 abbrev none_of : (A : Type 0) → Option A
 none_of A = None
 
-none_some : {A : Type 0} {x : A} → none_of A ≡ some x → ⊥
+pub one_some : {A : Type 0} {x y : A} → some x ≡ some y → x ≡ y
+one_some e = cc
+
+pub none_some : {A : Type 0} {x : A} → none_of A ≡ some x → ⊥
 none_some e = cc
 
 pub some_pair : {A B : Type 0} (a c : A) (b d : B) → some {A = A × B} (a, b) ≡ some (c, d) → (a ≡ c) × (b ≡ d)
@@ -27,46 +30,51 @@ pub record IsBoth {A B : Type 0} (IsA : A → Type 0) (IsB : A → B → Type 0)
   pub first : IsA p.0
   pub second : IsB p.0 p.1
 
-unfoldable pub both : {A B : Type 0} → (A → List ℕ) → (B → List ℕ) → A × B → List ℕ
-both a_bytes b_bytes p = a_bytes p.0 ++ b_bytes p.1
+-- the bytes of the second part may depend on the first
+unfoldable pub both : {A B : Type 0} → (A → List ℕ) → (A → B → List ℕ) → A × B → List ℕ
+both a_bytes b_bytes p = a_bytes p.0 ++ b_bytes p.0 p.1
 
-both-append : {A B : Type 0} (a_bytes : A → List ℕ) (b_bytes : B → List ℕ) (p : A × B) (rest : List ℕ) → both a_bytes b_bytes p ++ rest ≡ a_bytes p.0 ++ (b_bytes p.1 ++ rest)
+both-append : {A B : Type 0} (a_bytes : A → List ℕ) (b_bytes : A → B → List ℕ) (p : A × B) (rest : List ℕ) → both a_bytes b_bytes p ++ rest ≡ a_bytes p.0 ++ (b_bytes p.0 p.1 ++ rest)
 unfolding both
-both-append a_bytes b_bytes p rest = append_assoc (a_bytes p.0) (b_bytes p.1) rest
+both-append a_bytes b_bytes p rest = append_assoc (a_bytes p.0) (b_bytes p.0 p.1) rest
 
-module _ {A B : Type 0} {IsA : A → Type 0} {IsB : A → B → Type 0} {a_bytes : A → List ℕ} (b_bytes : B → List ℕ) where
+-- where the first part is known, the second is the one that it lets stand there
+second : {A B : Type 0} (b_bytes : A → B → List ℕ) (a c : A) (b : B) (mid rest : List ℕ) → a ≡ c → mid ≡ b_bytes c b ++ rest → mid ≡ b_bytes a b ++ rest
+second b_bytes a c b mid rest same begins = begins ∙ ap (λ x. b_bytes x b ++ rest) (sym same)
+
+module _ {A B : Type 0} {IsA : A → Type 0} {IsB : A → B → Type 0} {a_bytes : A → List ℕ} (b_bytes : A → B → List ℕ) where
   pub front_missing : {bytes : List ℕ} → Reads IsA a_bytes bytes None → Reads (IsBoth IsA IsB) (both a_bytes b_bytes) bytes None
   front_missing r = record {
     found = tt;
     only = λ p rest are is.
-        let e = r.only p.0 (b_bytes p.1 ++ rest) are.first (is ∙ both-append a_bytes b_bytes p rest) in
+        let e = r.only p.0 (b_bytes p.0 p.1 ++ rest) are.first (is ∙ both-append a_bytes b_bytes p rest) in
         absurd cc;
   }
 
   -- the first part is the one that was read, and the second begins what is left
   middle : {bytes mid : List ℕ} {a : A} → Reads IsA a_bytes bytes (Some (a, mid)) → (p : A × B) (rest : List ℕ) → IsBoth IsA IsB p → bytes ≡ both a_bytes b_bytes p ++ rest
-      → (a ≡ p.0) × (mid ≡ b_bytes p.1 ++ rest)
-  middle r p rest are is = some_pair _ _ _ _ (r.only p.0 (b_bytes p.1 ++ rest) are.first (is ∙ both-append a_bytes b_bytes p rest))
+      → (a ≡ p.0) × (mid ≡ b_bytes p.0 p.1 ++ rest)
+  middle r p rest are is = some_pair _ _ _ _ (r.only p.0 (b_bytes p.0 p.1 ++ rest) are.first (is ∙ both-append a_bytes b_bytes p rest))
 
-  pub back_missing : {bytes mid : List ℕ} {a : A} → Reads IsA a_bytes bytes (Some (a, mid)) → Reads (IsB a) b_bytes mid None → Reads (IsBoth IsA IsB) (both a_bytes b_bytes) bytes None
-  back_missing r s = record {
+  pub back_missing : {bytes mid : List ℕ} {a : A} → Reads IsA a_bytes bytes (Some (a, mid)) → Reads (IsB a) (b_bytes a) mid None → Reads (IsBoth IsA IsB) (both a_bytes b_bytes) bytes None
+  back_missing {mid = mid} {a = a} r s = record {
     found = tt;
     only = λ p rest are is.
         let m = middle r p rest are is in
-        let e = s.only p.1 rest (subst (λ x. IsB x p.1) (sym m.0) are.second) m.1 in
+        let e = s.only p.1 rest (subst (λ x. IsB x p.1) (sym m.0) are.second) (second b_bytes a p.0 p.1 mid rest m.0 m.1) in
         absurd cc;
   }
 
-  pub both_read : {bytes mid rest : List ℕ} {a : A} {b : B} → Reads IsA a_bytes bytes (Some (a, mid)) → Reads (IsB a) b_bytes mid (Some (b, rest))
+  pub both_read : {bytes mid rest : List ℕ} {a : A} {b : B} → Reads IsA a_bytes bytes (Some (a, mid)) → Reads (IsB a) (b_bytes a) mid (Some (b, rest))
       → Reads (IsBoth IsA IsB) (both a_bytes b_bytes) bytes (Some ((a, b), rest))
-  both_read {rest = rest} {a = a} {b = b} r s = record {
+  both_read {mid = mid} {rest = rest} {a = a} {b = b} r s = record {
     found = (
       record { first = r.found.0; second = s.found.0 },
       r.found.1 ∙ ap (λ xs. a_bytes a ++ xs) s.found.1 ∙ sym (both-append a_bytes b_bytes (a, b) rest),
     );
     only = λ p tail are is.
         let m = middle r p tail are is in
-        let e = some_pair _ _ _ _ (s.only p.1 tail (subst (λ x. IsB x p.1) (sym m.0) are.second) m.1) in
+        let e = some_pair _ _ _ _ (s.only p.1 tail (subst (λ x. IsB x p.1) (sym m.0) are.second) (second b_bytes a p.0 p.1 mid tail m.0 m.1)) in
         both_same a p.0 m.0 b p.1 e.0 rest tail e.1;
   }
     where

@@ -1,6 +1,6 @@
 -- What a shim is, and which shims there are.
 use Rattle.std.specs.Prelude.{ℕ, ◌^◌, ◌<◌, ◌≤◌, Bool, List, [], length}
-use Rattle.tva_base.specs.Plan.{AreRights}
+use Rattle.tva_base.specs.Versions.{AreRights, IsVersion}
 use Rattle.tva_shim.specs.declared.entries.Entry.{Entry}
 use Rattle.tva_shim.specs.declared.kinds.Shown.{Shown}
 use Rattle.tva_shim.specs.declared.kinds.Kind.{Kind}
@@ -11,6 +11,7 @@ use Rattle.tva_shim.specs.Widths.{AreEntries, AreCaps}
 
 -- a shim as contracts see it
 pub record ShimData : Type 0 where
+  pub version : ℕ
   pub demoted : Bool
   pub protocol : ℕ
   pub kind : Kind
@@ -36,28 +37,30 @@ granted_caps backs.Nothing = []
 granted_caps backs.Notice = []
 granted_caps (backs.Grant rights caps) = caps
 
--- a nonce of 48 bits, rights of 10 and 6 bits, and a pointer to a capability or to their end
-pub record IsShown (s : Shown) : Type 0 where
+-- in a shim of that version: a nonce of 48 bits, rights within the version's widths, and a pointer to a
+-- capability or to their end
+pub record IsShown (version : ℕ) (s : Shown) : Type 0 where
   pub nonce : s.nonce < 2 ^ 48
   pub pointer : s.pointer ≤ length s.caps
-  pub rights : AreRights s.rights
+  pub rights : AreRights version s.rights
 
-abbrev pub IsKind : Kind → Type 0
-IsKind (kinds.Request entries) = Unit {0}
-IsKind (kinds.List shown) = IsShown shown
-IsKind (kinds.Nonce nonce) = nonce < 2 ^ 48
-IsKind (kinds.Renewal shown) = IsShown shown
+abbrev pub IsKind : ℕ → Kind → Type 0
+IsKind version (kinds.Request entries) = Unit {0}
+IsKind version (kinds.List shown) = IsShown version shown
+IsKind version (kinds.Nonce nonce) = nonce < 2 ^ 48
+IsKind version (kinds.Renewal shown) = IsShown version shown
 
-abbrev pub IsReturn : ReturnInfo → Type 0
-IsReturn backs.Nothing = Unit {0}
-IsReturn backs.Notice = Unit {0}
-IsReturn (backs.Grant rights caps) = AreRights rights
+abbrev pub IsReturn : ℕ → ReturnInfo → Type 0
+IsReturn version backs.Nothing = Unit {0}
+IsReturn version backs.Notice = Unit {0}
+IsReturn version (backs.Grant rights caps) = AreRights version rights
 
--- A shim whose numbers are within the widths of the layout. Each value of the program is one.
+-- A shim whose numbers are within the widths of its version. Each value of the program is one.
 pub record IsShim (s : ShimData) : Type 0 where
+  pub version : IsVersion s.version
   pub protocol : s.protocol < 256
-  pub kind : IsKind s.kind
+  pub kind : IsKind s.version s.kind
   pub entries : AreEntries (entries_of s.kind)
   pub caps : AreCaps (caps_of s.kind)
-  pub back : IsReturn s.back
+  pub back : IsReturn s.version s.back
   pub granted : AreCaps (granted_caps s.back)

@@ -37,6 +37,12 @@ nonce_in carried.Nothing = 0
 nonce_in (carried.Shim shim) = kind_nonce shim.kind
 nonce_in (carried.Malformed bytes) = 0
 
+-- the version of the shim that a packet carries, if any
+abbrev pub version_in : Carried → ℕ
+version_in carried.Nothing = 0
+version_in (carried.Shim shim) = shim.version
+version_in (carried.Malformed bytes) = 0
+
 -- the return info that a packet shows
 abbrev pub back_in : Carried → ReturnInfo
 back_in carried.Nothing = backs.Nothing

@@ -1,6 +1,6 @@
 // Shims that are read from bytes, part by part.
 ghost use Rattle.std.specs.Prelude.{◌≡◌, ◌≢◌, ◌≤◌, ◌<◌, ◌^◌, Some, IfSome, IfNone, flat_map};
-ghost use Rattle.tva_base.specs.Plan.{AreRights};
+ghost use Rattle.tva_base.specs.Versions.{AreRights};
 ghost use Rattle.tva_shim.specs.Widths.{IsEntry, IsCap};
 ghost use Rattle.tva_shim.specs.Shims.{ShimData, IsShim};
 ghost use Rattle.tva_shim.specs.Layout.{eight_bytes, rights_bytes, entry_bytes, shown_bytes, kind_bytes, return_bytes, layout};
@@ -8,13 +8,15 @@ ghost use Rattle.tva_shim.specs.Parts.{Reads, seen, AreSoMany, IsType, type_byte
 
 use crate::entries::{Entries, Entry};
 use crate::kinds::{Kind, ReturnInfo, Shown};
-use crate::numbers::{read_byte, read_eight, read_six, read_two};
+use crate::numbers::{read_byte, read_eight, read_number, read_six, read_two};
 use crate::shims::Shim;
-use tva_base::{Caps, Rights};
+use tva_base::{Caps, Rights, rights_in};
 
-// What the first byte says: the mark, whether there is return info, and the number of the kind.
+// What the first byte says: the version, the mark, whether there is return info, and the number of the
+// kind.
 #[derive(Clone, Copy)]
 struct ShimType {
+    version: u8,
     demoted: bool,
     returns: bool,
     kind: u8,
@@ -36,9 +38,10 @@ fn read_shim(bytes: &[u8]) -> Option<(Shim, &[u8])>
 {
     let (first, rest) = read_type(bytes)?;
     let (protocol, rest) = read_byte(255, rest)?;
-    let (kind, rest) = read_kind(first.kind, rest)?;
-    let (back, rest) = read_return(first.returns, rest)?;
+    let (kind, rest) = read_kind(first.version, first.kind, rest)?;
+    let (back, rest) = read_return(first.version, first.returns, rest)?;
     let shim = Shim {
+        version: first.version,
         demoted: first.demoted,
         protocol,
         kind,
@@ -51,10 +54,12 @@ fn read_type(bytes: &[u8]) -> Option<(ShimType, &[u8])>
     ensures { Reads IsType type_bytes bytes.now (seen result) }
 {
     let (first, rest) = read_byte(255, bytes)?;
-    if first / 16 != 1 {
+    let version = first / 16;
+    if version == 0 || version > 2 {
         return None;
     }
     let shim_type = ShimType {
+        version,
         demoted: first / 8 % 2 == 1,
         returns: first / 4 % 2 == 1,
         kind: first % 4,
@@ -62,9 +67,9 @@ fn read_type(bytes: &[u8]) -> Option<(ShimType, &[u8])>
     Some((shim_type, rest))
 }
 
-fn read_kind(code: u8, bytes: &[u8]) -> Option<(Kind, &[u8])>
+fn read_kind(version: u8, code: u8, bytes: &[u8]) -> Option<(Kind, &[u8])>
     requires { code ≤ 3 }
-    ensures { Reads (IsKindPart code) kind_bytes bytes.now (seen result) }
+    ensures { Reads (IsKindPart version code) (kind_bytes version) bytes.now (seen result) }
 {
     match code {
         0 => {
@@ -73,7 +78,7 @@ fn read_kind(code: u8, bytes: &[u8]) -> Option<(Kind, &[u8])>
             Some((Kind::Request(entries), rest))
         }
         1 => {
-            let (shown, rest) = read_shown(bytes)?;
+            let (shown, rest) = read_shown(version, bytes)?;
             Some((Kind::List(shown), rest))
         }
         2 => {
@@ -81,14 +86,14 @@ fn read_kind(code: u8, bytes: &[u8]) -> Option<(Kind, &[u8])>
             Some((Kind::Nonce(nonce), rest))
         }
         _ => {
-            let (shown, rest) = read_shown(bytes)?;
+            let (shown, rest) = read_shown(version, bytes)?;
             Some((Kind::Renewal(shown), rest))
         }
     }
 }
 
-fn read_return(returns: bool, bytes: &[u8]) -> Option<(ReturnInfo, &[u8])>
-    ensures { Reads (IsReturnPart (returns_bit returns)) return_bytes bytes.now (seen result) }
+fn read_return(version: u8, returns: bool, bytes: &[u8]) -> Option<(ReturnInfo, &[u8])>
+    ensures { Reads (IsReturnPart version (returns_bit returns)) (return_bytes version) bytes.now (seen result) }
 {
     if !returns {
         return Some((ReturnInfo::Nothing, bytes));
@@ -97,29 +102,29 @@ fn read_return(returns: bool, bytes: &[u8]) -> Option<(ReturnInfo, &[u8])>
     match form {
         1 => Some((ReturnInfo::Notice, rest)),
         2 => {
-            let ((rights, caps), rest) = read_grant(rest)?;
+            let ((rights, caps), rest) = read_grant(version, rest)?;
             Some((ReturnInfo::Grant { rights, caps }, rest))
         }
         _ => None,
     }
 }
 
-fn read_grant(bytes: &[u8]) -> Option<((Rights, Caps), &[u8])>
-    ensures { Reads IsGrant grant_bytes bytes.now (seen result) }
+fn read_grant(version: u8, bytes: &[u8]) -> Option<((Rights, Caps), &[u8])>
+    ensures { Reads (IsGrant version) (grant_bytes version) bytes.now (seen result) }
 {
     let (count, rest) = read_byte(16, bytes)?;
-    let (rights, rest) = read_rights(rest)?;
+    let (rights, rest) = read_rights(version, rest)?;
     let (caps, rest) = read_caps(count, rest)?;
     Some(((rights, caps), rest))
 }
 
-fn read_shown(bytes: &[u8]) -> Option<(Shown, &[u8])>
-    ensures { Reads IsWholeShown shown_bytes bytes.now (seen result) }
+fn read_shown(version: u8, bytes: &[u8]) -> Option<(Shown, &[u8])>
+    ensures { Reads (IsWholeShown version) (shown_bytes version) bytes.now (seen result) }
 {
     let (nonce, rest) = read_six(bytes)?;
     let (count, rest) = read_byte(16, rest)?;
     let (pointer, rest) = read_byte(count, rest)?;
-    let (rights, rest) = read_rights(rest)?;
+    let (rights, rest) = read_rights(version, rest)?;
     let (caps, rest) = read_caps(count, rest)?;
     let shown = Shown {
         nonce,
@@ -130,14 +135,11 @@ fn read_shown(bytes: &[u8]) -> Option<(Shown, &[u8])>
     Some((shown, rest))
 }
 
-fn read_rights(bytes: &[u8]) -> Option<(Rights, &[u8])>
-    ensures { Reads AreRights rights_bytes bytes.now (seen result) }
+fn read_rights(version: u8, bytes: &[u8]) -> Option<(Rights, &[u8])>
+    ensures { Reads (AreRights version) (rights_bytes version) bytes.now (seen result) }
 {
-    let (number, rest) = read_two(bytes)?;
-    let rights = Rights {
-        n: u32::from(number / 64),
-        t: (number % 64) as u8,
-    };
+    let (number, rest) = read_number(version, bytes)?;
+    let rights = rights_in(version, number)?;
     Some((rights, rest))
 }
 

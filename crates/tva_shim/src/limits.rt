@@ -21,10 +21,10 @@ pub fn limits_hold()
     ensures hops { HOPS_MAX ≡ 32 }
 {}
 
-/// No packet is longer than 2,020 bytes, and no shim than 295: a packet with a malformed shim of 400
-/// bytes, and a request with 16 entries and a grant of 16 capabilities, are the longest.
+/// No packet is longer than 2,020 bytes, and no shim than 297: a packet with a malformed shim of 400
+/// bytes, and a request of version 2 with 16 entries and a grant of 16 capabilities, are the longest.
 #[tactic(auto, using(crate::proofs::Lengths::shim_within, crate::proofs::Lengths::packet_within))]
 pub fn packets_are_short()
     ensures packet { (p : PacketData) → IsSizedPacket p → packet_length p ≤ 2020 }
-    ensures shim { (s : ShimData) → HasFew s → length (layout s) ≤ 295 }
+    ensures shim { (s : ShimData) → HasFew s → length (layout s) ≤ 297 }
 {}

@@ -1,11 +1,13 @@
 // Numbers at the front of bytes, and at their end.
 ghost use Rattle.std.specs.Prelude.{◌≡◌, ◌<◌, ◌≤◌, ◌+◌, ◌^◌, ◌++◌};
 ghost use Rattle.arrayvec.specs.ArrayVec.{array_vec_len};
-ghost use Rattle.tva_shim.specs.Layout.{two_bytes, six_bytes, eight_bytes};
+ghost use Rattle.tva_base.specs.Versions.{rights_size};
+ghost use Rattle.tva_shim.specs.Layout.{two_bytes, six_bytes, eight_bytes, number_bytes};
 ghost use Rattle.tva_shim.specs.Parts.{Reads, seen, IsBelow, IsAtMost, one_byte};
 
 use arrayvec::ArrayVec;
 use byteorder::{BigEndian, ByteOrder};
+use tva_base::rights_size;
 
 // a byte that is at most that
 pub(crate) fn read_byte(most: u8, bytes: &[u8]) -> Option<(u8, &[u8])>
@@ -47,6 +49,18 @@ pub(crate) fn read_eight(bytes: &[u8]) -> Option<(u64, &[u8])>
     Some((BigEndian::read_u64(front), rest))
 }
 
+// a number in as many bytes as rights have in the version
+pub(crate) fn read_number(version: u8, bytes: &[u8]) -> Option<(u32, &[u8])>
+    ensures { Reads (IsBelow (256 ^ rights_size version)) (number_bytes version) bytes.now (seen result) }
+{
+    let size = rights_size(version) as usize;
+    if bytes.len() < size {
+        return None;
+    }
+    let (front, rest) = bytes.split_at(size);
+    Some((BigEndian::read_uint(front, size) as u32, rest))
+}
+
 #[tactic(auto, unfolding(crate::specs::Layout::two_bytes))]
 pub(crate) fn write_two(bytes: &mut ArrayVec<u8, 330>, number: u16)
     requires { array_vec_len bytes.old + 2 ≤ 330 }
@@ -79,4 +93,17 @@ pub(crate) fn write_eight(bytes: &mut ArrayVec<u8, 330>, number: u64)
     let mut written = [0; 8];
     BigEndian::write_u64(&mut written, number);
     bytes.try_extend_from_slice(&written).unwrap();
+}
+
+// a number in as many bytes as rights have in the version
+pub(crate) fn write_number(version: u8, bytes: &mut ArrayVec<u8, 330>, number: u32)
+    requires room { array_vec_len bytes.old + rights_size version ≤ 330 }
+    requires fits { number < 256 ^ rights_size version }
+    ensures items { bytes.new.items ≡ bytes.old.items ++ number_bytes version number }
+    ensures len { array_vec_len bytes.new ≡ array_vec_len bytes.old + rights_size version }
+{
+    let size = rights_size(version) as usize;
+    let mut written = [0; 4];
+    BigEndian::write_uint(&mut written, u64::from(number), size);
+    bytes.try_extend_from_slice(&written[..size]).unwrap();
 }

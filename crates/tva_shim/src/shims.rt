@@ -1,5 +1,6 @@
 // Shims.
 ghost use Rattle.std.specs.Prelude.{◌≡◌, if◌then◌else◌, nat_lt, ◌≤◌, ◌↔◌, length, IsErr, OnOk, OnErr};
+ghost use Rattle.tva_base.specs.Versions.{IsVersion};
 ghost use Rattle.tva_shim.specs.Widths.{AreEntries, AreCaps};
 ghost use Rattle.tva_shim.specs.Packets.{HasFew};
 ghost use Rattle.tva_shim.specs.Shims.{IsShim, IsKind, IsReturn, entries_of, caps_of, granted_caps};
@@ -9,11 +10,13 @@ ghost use Rattle.tva_shim.specs.Changes.{IsRequest, PointsAtOne, last_tag, with_
 use crate::entries::{Entry, PathFull};
 use crate::kinds::{Kind, ReturnInfo};
 use std::marker::Model;
+use tva_base::rights_size;
 
-/// A shim: the demoted mark, the number of the protocol above it, its kind, and its return info.
-/// Its numbers are always within the widths of the layout.
+/// A shim: its version, 1 or 2, the demoted mark, the number of the protocol above it, its kind, and its
+/// return info. Its numbers are always within the widths of its version's layout.
 #[derive(Debug, Drop)]
 pub struct Shim {
+    pub version: u8,
     pub demoted: bool,
     pub protocol: u8,
     pub kind: Kind,
@@ -21,28 +24,31 @@ pub struct Shim {
 }
 
 impl Model for Shim {
+    ghost use Rattle.tva_base.specs.Versions.{IsVersion};
     ghost use Rattle.tva_shim.specs.Shims.{ShimData, IsKind, IsReturn};
 
     ghost Value = { ShimData };
 
-    ghost view = { λ s. record { demoted = s.demoted; protocol = s.protocol; kind = s.kind; back = s.back } };
+    ghost view = { λ s. record { version = s.version; demoted = s.demoted; protocol = s.protocol; kind = s.kind; back = s.back } };
 
-    ghost invariant = { λ s. IsKind s.kind × IsReturn s.back };
+    ghost invariant = { λ s. IsVersion s.version × IsKind s.version s.kind × IsReturn s.version s.back };
 }
 
 impl Shim {
-    /// A shim of these parts. A nonce has 48 bits, rights have at most 1,023 units and 63 seconds,
-    /// and a pointer is at most the number of capabilities.
-    pub fn new(demoted: bool, protocol: u8, kind: Kind, back: ReturnInfo) -> Shim
-        requires kind { IsKind kind }
-        requires back { IsReturn back }
-        ensures parts { result ≡ record { demoted = demoted; protocol = protocol; kind = kind; back = back } }
+    /// A shim of these parts. The version is 1 or 2, a nonce has 48 bits, rights are within the widths of
+    /// the version, and a pointer is at most the number of capabilities.
+    pub fn new(version: u8, demoted: bool, protocol: u8, kind: Kind, back: ReturnInfo) -> Shim
+        requires version { IsVersion version }
+        requires kind { IsKind version kind }
+        requires back { IsReturn version back }
+        ensures parts { result ≡ record { version = version; demoted = demoted; protocol = protocol; kind = kind; back = back } }
         ensures widths { IsShim result }
     {
         // what a kind and return info hold is within its widths, by their own types
-        prove!(kind_bytes_of(&kind) <= 163);
-        prove!(return_bytes_of(&back) <= 132);
+        prove!(kind_bytes_of(version, &kind) <= 163);
+        prove!(return_bytes_of(version, &back) <= 134);
         Shim {
+            version,
             demoted,
             protocol,
             kind,
@@ -55,6 +61,7 @@ impl Shim {
         ensures { result ≡ self.now }
     {
         Shim {
+            version: self.version,
             demoted: self.demoted,
             protocol: self.protocol,
             kind: self.kind.copied(),
@@ -142,33 +149,37 @@ fn nonzero_or(tag: u16, other: u16) -> u16
 pub(crate) fn shim_bytes_of(shim: &Shim) -> u32
     ensures layout { result ≡ length (layout shim.now) }
     ensures counted { result ≡ shim_size shim.now }
-    ensures short { result ≤ 295 }
+    ensures short { result ≤ 297 }
     ensures few { HasFew shim.now }
 {
-    kind_bytes_of(&shim.kind) + return_bytes_of(&shim.back)
+    kind_bytes_of(shim.version, &shim.kind) + return_bytes_of(shim.version, &shim.back)
 }
 
-fn kind_bytes_of(kind: &Kind) -> u32
-    ensures counted { result ≡ kind_size kind.now }
+fn kind_bytes_of(version: u8, kind: &Kind) -> u32
+    ensures counted { result ≡ kind_size version kind.now }
     ensures short { result ≤ 163 }
     ensures entries { AreEntries (entries_of kind.now) }
     ensures caps { AreCaps (caps_of kind.now) }
 {
     match kind {
         Kind::Request(entries) => 3 + 10 * entries.as_slice().len() as u32,
-        Kind::List(shown) | Kind::Renewal(shown) => 12 + 8 * shown.caps.as_slice().len() as u32,
+        Kind::List(shown) | Kind::Renewal(shown) => {
+            10 + rights_size(version) + 8 * shown.caps.as_slice().len() as u32
+        }
         Kind::Nonce(_) => 8,
     }
 }
 
-fn return_bytes_of(back: &ReturnInfo) -> u32
-    ensures counted { result ≡ return_size back.now }
-    ensures short { result ≤ 132 }
+fn return_bytes_of(version: u8, back: &ReturnInfo) -> u32
+    ensures counted { result ≡ return_size version back.now }
+    ensures short { result ≤ 134 }
     ensures caps { AreCaps (granted_caps back.now) }
 {
     match back {
         ReturnInfo::Nothing => 0,
         ReturnInfo::Notice => 1,
-        ReturnInfo::Grant { caps, .. } => 4 + 8 * caps.as_slice().len() as u32,
+        ReturnInfo::Grant { caps, .. } => {
+            2 + rights_size(version) + 8 * caps.as_slice().len() as u32
+        }
     }
 }

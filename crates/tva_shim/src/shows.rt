@@ -3,7 +3,7 @@ ghost use Rattle.std.specs.Prelude.{◌≡◌, IfSome, IfNone};
 ghost use Rattle.tva_shim.specs.declared.kinds.ReturnInfo.TheVariants as backs;
 ghost use Rattle.tva_shim.specs.Changes.{last_tag};
 ghost use Rattle.tva_shim.specs.Shims.{IsReturn};
-ghost use Rattle.tva_shim.specs.Shows.{entries_in, key_of, back_in};
+ghost use Rattle.tva_shim.specs.Shows.{entries_in, key_of, back_in, version_in};
 
 use crate::kinds::{Kind, ReturnInfo};
 use crate::packets::{Carried, Packet};
@@ -38,7 +38,7 @@ fn path_tag(carried: &Carried) -> u16
 /// The return info that a packet shows. Without a shim there is none, and nothing is shown.
 pub fn return_shown(carried: &Carried) -> Option<&ReturnInfo>
     ensures shown { IfSome result (λ back. back.now ≡ back_in carried.now) }
-    ensures fits { IfSome result (λ back. IsReturn back.now) }
+    ensures fits { IfSome result (λ back. IsReturn (version_in carried.now) back.now) }
     ensures none { IfNone result (back_in carried.now ≡ backs.Nothing) }
 {
     match carried {

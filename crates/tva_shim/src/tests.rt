@@ -18,8 +18,8 @@ const FLOW: Flow = Flow {
 };
 
 /// Layouts: requests, lists, nonce packets and renewals, with and without entries or capabilities,
-/// the mark, a notice and a grant.
-const LAYOUTS: [&str; 25] = [
+/// the mark, a notice and a grant, in both versions.
+const LAYOUTS: [&str; 34] = [
     "100600",
     "180600",
     "10ff00",
@@ -45,11 +45,20 @@ const LAYOUTS: [&str; 25] = [
     "170600000000000b0000080a01",
     "1F06ABCDEFABCDEF0000080A01",
     "1c0601000105aabbccddeeff000201080a0511223344556677",
+    "200600",
+    "280600",
+    "24060001",
+    "210600000000000a0100000200400500112233445566",
+    "210600000000000a000007ffffff",
+    "2206ffffffffffff",
+    "230600000000000b02010000100a05001122334455660600112233445566",
+    "24060002010000100a0511223344556677",
+    "250600000000000a01000000100a0500112233445566020007ffffff",
 ];
 
 /// Bytes that are no layout: another version, a reserved return byte, a pointer above its count,
-/// too few bytes and spare ones.
-const OTHERS: [&str; 29] = [
+/// too few bytes and spare ones, rights past their widths, and those of the other version.
+const OTHERS: [&str; 35] = [
     "",
     "10",
     "1006",
@@ -74,11 +83,17 @@ const OTHERS: [&str; 29] = [
     "16060000000000010102",
     "130600000000000b0203084005001122334455660500112233445566",
     "000600",
-    "200600",
     "f00600",
     "180601",
     "1506",
     "1f06abcdefabcdef0000080a0101",
+    "300600",
+    "210600000000000a0100080200400500112233445566",
+    "210600000000000a0100080a0500112233445566",
+    "210600000000000a0000080a",
+    "24060002000000100a00",
+    "240600020008000000",
+    "110600000000000a0100000200400500112233445566",
 ];
 
 #[test]
@@ -114,34 +129,46 @@ fn other_bytes_are_malformed(rt: HostRuntime) -> Result<(), Fail> {
     Ok(())
 }
 
-// a request with so many entries and a grant of so many capabilities
-fn request_with_grant(alloc: Global, entries: u8, caps: u8) -> Result<Vec<u8>, AllocError> {
+// a request with so many entries and a grant of so many capabilities, whose rights have these bytes
+fn request_with_grant(
+    alloc: Global,
+    first: u8,
+    rights: &[u8],
+    entries: u8,
+    caps: u8,
+) -> Result<Vec<u8>, AllocError> {
     let mut bytes = Vec::new(alloc);
-    bytes.extend_from_slice(&[0x14, 6, entries])?;
+    bytes.extend_from_slice(&[first, 6, entries])?;
     for _ in 0..entries {
         bytes.extend_from_slice(&[0, 1, 5, 0, 0x11, 0x22, 0x33, 0x44, 0x55, 0x66])?;
     }
-    bytes.extend_from_slice(&[2, caps, 8, 10])?;
+    bytes.extend_from_slice(&[2, caps])?;
+    bytes.extend_from_slice(rights)?;
     for _ in 0..caps {
         bytes.extend_from_slice(&[5, 0, 0x11, 0x22, 0x33, 0x44, 0x55, 0x66])?;
     }
     Ok(bytes)
 }
 
+/// Of a version, the first byte of such a request, the bytes of rights and the most bytes.
+const LONGEST: [(u8, &[u8], usize); 2] = [(0x14, &[8, 10], 295), (0x24, &[0, 0, 16, 10], 297)];
+
 #[test]
 fn sixteen_is_the_most(rt: HostRuntime) -> Result<(), Fail> {
-    let longest = request_with_grant(rt.alloc(), 16, 16)?;
-    assert_eq!(rt; longest.len(), 295);
-    let shim = decode(&longest).ok_or("16 entries and 16 capabilities")?;
-    let mut written = ArrayVec::new();
-    encode(&shim, &mut written);
-    assert_eq!(rt; written.as_slice(), longest.as_slice());
-    for (entries, caps) in [(17, 0), (0, 17)] {
-        let bytes = request_with_grant(rt.alloc(), entries, caps)?;
-        assert!(rt;
-            decode(&bytes).is_none(),
-            "{entries} entries, {caps} capabilities"
-        );
+    for (first, rights, most) in LONGEST {
+        let longest = request_with_grant(rt.alloc(), first, rights, 16, 16)?;
+        assert_eq!(rt; longest.len(), most);
+        let shim = decode(&longest).ok_or("16 entries and 16 capabilities")?;
+        let mut written = ArrayVec::new();
+        encode(&shim, &mut written);
+        assert_eq!(rt; written.as_slice(), longest.as_slice());
+        for (entries, caps) in [(17, 0), (0, 17)] {
+            let bytes = request_with_grant(rt.alloc(), first, rights, entries, caps)?;
+            assert!(rt;
+                decode(&bytes).is_none(),
+                "{entries} entries, {caps} capabilities"
+            );
+        }
     }
     Ok(())
 }
@@ -169,8 +196,28 @@ fn a_list_says_what_it_shows(rt: HostRuntime) -> Result<(), Fail> {
 }
 
 #[test]
+fn a_list_of_version_2_says_more(rt: HostRuntime) -> Result<(), Fail> {
+    let text = "210600000000000a0100000200400500112233445566";
+    let bytes = hex::decode(rt.alloc(), text).ok().ok_or("hexadecimal")?;
+    let shim = decode(&bytes).ok_or("a list of version 2")?;
+    assert_eq!(rt; shim.version, 2);
+    let Kind::List(shown) = &shim.kind else {
+        return Err(Fail::from("not a list"));
+    };
+    assert_eq!(rt; shown.rights, Rights { n: 1_024, t: 64 });
+    assert_eq!(rt; shown.caps.as_slice(), [0x0500_1122_3344_5566].as_slice());
+    Ok(())
+}
+
+#[test]
 fn requests_take_sixteen_entries(rt: HostRuntime) {
-    let mut shim = Shim::new(false, 6, Kind::Request(Entries::new()), ReturnInfo::Notice);
+    let mut shim = Shim::new(
+        1,
+        false,
+        6,
+        Kind::Request(Entries::new()),
+        ReturnInfo::Notice,
+    );
     assert_eq!(rt; shim.tag_key(), 0);
     for (tag, key) in [(0, 0), (5, 5), (7, 7), (0, 7), (0, 7), (3, 3)] {
         assert_eq!(rt; shim.push_entry(Entry { tag, precap: 1 }), Ok(()));
@@ -194,7 +241,7 @@ fn routers_change_a_renewal(rt: HostRuntime) {
         rights: Rights { n: 32, t: 10 },
         caps,
     };
-    let mut shim = Shim::new(false, 6, Kind::Renewal(shown), ReturnInfo::Nothing);
+    let mut shim = Shim::new(1, false, 6, Kind::Renewal(shown), ReturnInfo::Nothing);
     shim.set_fresh(9);
     shim.advance_pointer();
     let mut written = ArrayVec::new();

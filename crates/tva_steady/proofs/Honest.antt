@@ -149,24 +149,24 @@ taken-nonce w h ms k sent s bytes at nonce st by =
     }
 
 -- a list of contacts, but for the last
-record Front (margin retry : ℕ) (before cs : List Contact) (c : Contact) : Type 0 where
-  front : AreNext margin retry before cs
-  last : IsNext margin retry (before ++ cs) c
+record Front (margin retry version : ℕ) (before cs : List Contact) (c : Contact) : Type 0 where
+  front : AreNext margin retry version before cs
+  last : IsNext margin retry version (before ++ cs) c
 
-front : (margin retry : ℕ) (before cs : List Contact) (c : Contact) → AreNext margin retry before (cs ++ c ∷ []) → Front margin retry before cs c
-front margin retry before [] c k = record { front = tt; last = subst (λ z. IsNext margin retry z c) (sym (append-nil before)) k.0 }
-front margin retry before (d ∷ ds) c k =
-    let f = front margin retry (before ++ d ∷ []) ds c k.1 in
-    record { front = (k.0, f.front); last = subst (λ z. IsNext margin retry z c) (append_assoc before (d ∷ []) ds) f.last }
+front : (margin retry version : ℕ) (before cs : List Contact) (c : Contact) → AreNext margin retry version before (cs ++ c ∷ []) → Front margin retry version before cs c
+front margin retry version before [] c k = record { front = tt; last = subst (λ z. IsNext margin retry version z c) (sym (append-nil before)) k.0 }
+front margin retry version before (d ∷ ds) c k =
+    let f = front margin retry version (before ++ d ∷ []) ds c k.1 in
+    record { front = (k.0, f.front); last = subst (λ z. IsNext margin retry version z c) (append_assoc before (d ∷ []) ds) f.last }
 
 none : (w : Way) → Stage w []
 none w = inl (record { taking = refl; charges = refl })
 
-taken-by : (w : Way) (h : List Charge) (ms : List Mile) (sent body offered : ℕ) (s : Shape) (bytes at : ℕ) → IsSteady w h ms sent s bytes at → Stage w ms → bytes ≡ length_of s body
-    → Allows w.margin (may_ask w.retry (asked_at (contacts ms)) sent) (grant_held (contacts ms)) sent body offered s → IsTaken w h ms s bytes at
+taken-by : (w : Way) (h : List Charge) (ms : List Mile) (sent body offered : ℕ) (s : Shape) (bytes at : ℕ) → IsSteady w h ms sent s bytes at → Stage w ms → bytes ≡ length_of w.version s body
+    → Allows w.margin w.version (may_ask w.retry (asked_at (contacts ms)) sent) (grant_held (contacts ms)) sent body offered s → IsTaken w h ms s bytes at
 taken-by w h ms sent body offered shape.Request bytes at st stage sized a = tt
 taken-by w h ms sent body offered (shape.List hd) bytes at st (inl f) sized a =
-    absurd (no-taking (λ g. (hd ≡ held g offered) × (fits w.margin sent g (list_length hd.caps body) ≡ true)) (contacts ms) f.taking a)
+    absurd (no-taking (λ g. (hd ≡ held g offered) × (fits w.margin sent g (list_length w.version hd.caps body) ≡ true)) (contacts ms) f.taking a)
 taken-by w h ms sent body offered (shape.List hd) bytes at st (inr k) sized a =
     let list = by-list w ms k sent body offered bytes hd sized a in
     subst (λ (o : Option ℕ). IsSomeAnd o (λ came. IsListTaken w h hd.rights came bytes at)) (sym k.came_is)
@@ -177,7 +177,7 @@ taken-by w h ms sent body offered (shape.NonceOnly n) bytes at st (inr k) sized 
     let by = by-nonce w ms k sent body offered bytes n sized a in
     subst (λ (o : Option ℕ). IsSomeAnd o (λ came. IsNonceTaken w h n came bytes at)) (sym k.came_is) (taken-nonce w h ms k sent (shape.NonceOnly n) bytes at n st by)
 taken-by w h ms sent body offered (shape.Renewal hd) bytes at st (inl f) sized a =
-    absurd (no-taking (λ g. (hd ≡ held g offered) × (fits w.margin sent g (list_length hd.caps body) ≡ true)) (contacts ms) f.taking a.1)
+    absurd (no-taking (λ g. (hd ≡ held g offered) × (fits w.margin sent g (list_length w.version hd.caps body) ≡ true)) (contacts ms) f.taking a.1)
 taken-by w h ms sent body offered (shape.Renewal hd) bytes at st (inr k) sized a =
     let list = by-list w ms k sent body offered bytes hd sized a.1 in
     subst (λ (o : Option ℕ). IsSomeAnd o (λ came. IsListTaken w h hd.rights came bytes at)) (sym k.came_is)
@@ -186,7 +186,7 @@ taken-by w h ms sent body offered shape.Legacy bytes at st stage sized a = tt
 
 pub honest : (w : Way) (h : List Charge) (ms : List Mile) (sent : ℕ) (s : Shape) (bytes at : ℕ) → IsSteady w h ms sent s bytes at → IsTaken w h ms s bytes at
 honest w h ms sent s bytes at st =
-    let f = front w.margin w.retry [] (contacts ms) (Prepared sent s bytes) st.played in
-    let p : IsPrepared w.margin w.retry (contacts ms) sent s bytes = f.last in
+    let f = front w.margin w.retry w.version [] (contacts ms) (Prepared sent s bytes) st.played in
+    let p : IsPrepared w.margin w.retry w.version (contacts ms) sent s bytes = f.last in
     let stage = walk w st.rules [] ms (none w) st.miles f.front in
-    taken-by w h ms sent p.body p.offered s bytes at st stage p.length (allows w.margin w.retry (contacts ms) sent p.body p.offered s p.shape)
+    taken-by w h ms sent p.body p.offered s bytes at st stage p.length (allows w.margin w.retry w.version (contacts ms) sent p.body p.offered s p.shape)

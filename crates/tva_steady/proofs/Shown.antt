@@ -9,12 +9,12 @@ use Rattle.tva_sender.specs.Contacts.{Contact, Taking, last_taking, notices, unl
 use Rattle.tva_sender.specs.Shapes.{list_length, nonce_length, fits, is_half_used, is_alive, renews, takes_nonce, nonce_of, held, without_grant, under_grant, by_grant, may_ask, shape_of}
 
 -- a shape that is allowed: an ask where one may be made, a list or a nonce of the held grant where it fits
-abbrev pub Allows : ℕ → Bool → Option Grant → ℕ → ℕ → ℕ → Shape → Type 0
-Allows margin may o now body offered shape.Request = may ≡ true
-Allows margin may o now body offered (shape.List hd) = IsSomeAnd o (λ g. (hd ≡ held g offered) × (fits margin now g (list_length hd.caps body) ≡ true))
-Allows margin may o now body offered (shape.NonceOnly n) = IsSomeAnd o (λ g. (n ≡ nonce_of g offered) × (is_alive margin now g ≡ true) × (fits margin now g (nonce_length body) ≡ true))
-Allows margin may o now body offered (shape.Renewal hd) = (may ≡ true) × IsSomeAnd o (λ g. (hd ≡ held g offered) × (fits margin now g (list_length hd.caps body) ≡ true))
-Allows margin may o now body offered shape.Legacy = Unit {0}
+abbrev pub Allows : ℕ → ℕ → Bool → Option Grant → ℕ → ℕ → ℕ → Shape → Type 0
+Allows margin version may o now body offered shape.Request = may ≡ true
+Allows margin version may o now body offered (shape.List hd) = IsSomeAnd o (λ g. (hd ≡ held g offered) × (fits margin now g (list_length version hd.caps body) ≡ true))
+Allows margin version may o now body offered (shape.NonceOnly n) = IsSomeAnd o (λ g. (n ≡ nonce_of g offered) × (is_alive margin now g ≡ true) × (fits margin now g (nonce_length body) ≡ true))
+Allows margin version may o now body offered (shape.Renewal hd) = (may ≡ true) × IsSomeAnd o (λ g. (hd ≡ held g offered) × (fits margin now g (list_length version hd.caps body) ≡ true))
+Allows margin version may o now body offered shape.Legacy = Unit {0}
 
 choice : (P : Shape → Type 0) (b : Bool) (x y : Shape) → (b ≡ true → P x) → P y → P (cond b x y)
 choice P true x y f k = f refl
@@ -28,12 +28,12 @@ right : (a b : Bool) → (a && b) ≡ true → b ≡ true
 right true b e = e
 right false b e = absurd (cc)
 
-under : (margin : ℕ) (may : Bool) (g : Grant) (now body offered : ℕ) → Allows margin may (Some g) now body offered (under_grant margin may g now body offered)
+under : (margin version : ℕ) (may : Bool) (g : Grant) (now body offered : ℕ) → Allows margin version may (Some g) now body offered (under_grant margin version may g now body offered)
 unfolding under_grant
-under margin may g now body offered =
-    let P : Shape → Type 0 = Allows margin may (Some g) now body offered in
+under margin version may g now body offered =
+    let P : Shape → Type 0 = Allows margin version may (Some g) now body offered in
     let bare : Shape = without_grant may in
-    let whole : ℕ = list_length g.caps body in
+    let whole : ℕ = list_length version g.caps body in
     let by_list : Bool = fits margin now g whole in
     let by_nonce : Bool = takes_nonce margin now g (nonce_length body) in
     let by_renewal : Bool = may && renews margin now g whole in
@@ -45,14 +45,14 @@ under margin may g now body offered =
     (λ e. (refl, left (is_alive margin now g) (fits margin now g (nonce_length body)) e, right (is_alive margin now g) (fits margin now g (nonce_length body)) e))
     (choice P by_list (shape.List (held g offered)) bare (λ e. (refl, e)) (choice P may shape.Request shape.Legacy (λ e. e) tt)))
 
-pub allowed : (margin : ℕ) (may : Bool) (o : Option Grant) (now body offered : ℕ) → Allows margin may o now body offered (by_grant margin may o now body offered)
-allowed margin may None now body offered = choice (Allows margin may None now body offered) may shape.Request shape.Legacy (λ e. e) tt
-allowed margin may (Some g) now body offered = under margin may g now body offered
+pub allowed : (margin version : ℕ) (may : Bool) (o : Option Grant) (now body offered : ℕ) → Allows margin version may o now body offered (by_grant margin version may o now body offered)
+allowed margin version may None now body offered = choice (Allows margin version may None now body offered) may shape.Request shape.Legacy (λ e. e) tt
+allowed margin version may (Some g) now body offered = under margin version may g now body offered
 
 -- the shape of the next packet
-pub allows : (margin retry : ℕ) (h : List Contact) (now body offered : ℕ) (s : Shape) → s ≡ shape_of margin retry h now body offered
-    → Allows margin (may_ask retry (asked_at h) now) (grant_held h) now body offered s
-allows margin retry h now body offered s e = subst (Allows margin (may_ask retry (asked_at h) now) (grant_held h) now body offered) (sym e) (allowed margin (may_ask retry (asked_at h) now) (grant_held h) now body offered)
+pub allows : (margin retry version : ℕ) (h : List Contact) (now body offered : ℕ) (s : Shape) → s ≡ shape_of margin retry version h now body offered
+    → Allows margin version (may_ask retry (asked_at h) now) (grant_held h) now body offered s
+allows margin retry version h now body offered s e = subst (Allows margin version (may_ask retry (asked_at h) now) (grant_held h) now body offered) (sym e) (allowed margin version (may_ask retry (asked_at h) now) (grant_held h) now body offered)
 
 -- what holds of the held grant holds of the last taking
 kept : (P : Grant → Type 0) (o : Option Taking) (t : Taking) → o ≡ Some t → IsSomeAnd (option_map grant_of (option_and_then unless_given_up o)) P → P (grant_of t)

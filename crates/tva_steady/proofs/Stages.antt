@@ -4,7 +4,7 @@ use Rattle.std.specs.List.{AllByRecursion}
 use Rattle.std.specs.Option.{option_or, option_map, unwrap_or}
 use Rattle.tva_base.specs.declared.packet.Rights.{Rights}
 use Rattle.tva_base.specs.Clock.{router_second}
-use Rattle.tva_base.specs.Plan.{AreRights}
+use Rattle.tva_base.specs.Versions.{AreSomeRights}
 use Rattle.tva_flow.specs.Charges.{Charge}
 use Rattle.tva_sender.specs.declared.peer.Peer.{Peer}
 use Rattle.tva_sender.specs.Contacts.{Contact, Taking, taking_in, last_taking, last_ask, time_of, Use, uses_in, uses, first_nonce}
@@ -44,7 +44,7 @@ pub record Holds (w : Way) (ms : List Mile) : Type 0 where
   pub taking : last_taking [] (contacts ms) ≡ Some (record { before = contacts earlier; rights = rights; caps = caps; after = contacts own })
   pub asked_is : time_of (last_ask (contacts earlier)) ≡ asked
   pub comes : ComesIn w asked came
-  pub carried : AreRights rights
+  pub carried : AreSomeRights rights
   pub charges : charges_in ms ≡ charges_in earlier ++ charges_in own
   pub old : AllByRecursion (λ c. c.grant.second < router_second w.offset came) (charges_in earlier)
   pub some : AllByRecursion (NotAfter w came) (charges_in own)

@@ -8,7 +8,7 @@ use Rattle.tva_base.specs.declared.packet.Grant.{Grant}
 use Rattle.tva_base.specs.declared.packet.Rights.{Rights}
 use Rattle.tva_base.specs.declared.packet.Time.{Time}
 use Rattle.tva_base.specs.Clock.{router_second}
-use Rattle.tva_base.specs.Plan.{AreRights}
+use Rattle.tva_base.specs.Versions.{AreSomeRights}
 use Rattle.tva_caps.specs.declared.minters.Checked.TheVariants.{Valid}
 use Rattle.tva_caps.specs.Check.{check_of}
 use Rattle.tva_caps.specs.Formula.{precap_of, capability_of}
@@ -35,7 +35,7 @@ use Rattle.tva_steady.proofs.Pushes.{contacts-push, charges-push, came-got, sinc
 use Rattle.tva_steady.proofs.Stages.{IsFresh, AreOwn, NotAfter, Holds, Stage, none-after, stay, idle, used}
 
 -- a capability that was minted for an ask is valid while its time lasts
-pub valid : (w : Way) (rights : Rights) (came at : ℕ) → AreRights rights → came ≤ at → at + 1000000000 ≤ came + rights.t * 1000000000
+pub valid : (w : Way) (rights : Rights) (came at : ℕ) → AreSomeRights rights → came ≤ at → at + 1000000000 ≤ came + rights.t * 1000000000
     → checked w rights came at ≡ Valid (grant_at w rights came)
 valid w rights came at carried from until =
     let m = router_second w.offset came in
@@ -45,7 +45,8 @@ valid w rights came at carried from until =
     let k = s - m in
     let whole : m + k ≡ s = omega (arith, low) in
     let short : k < rights.t = omega (arith, low, high) in
-    let few : k < 256 = omega (arith, short, carried.seconds) in
+    let long : rights.t ≤ 127 = carried.seconds in
+    let few : k < 256 = omega (arith, short, long) in
     subst (λ n. check_of w.master n w.flow (capability_of (precap_of w.master w.flow m) rights) rights ≡ Valid (grant_at w rights came)) whole
     (lasts w.master m w.flow rights k short few)
 
@@ -95,11 +96,11 @@ pub record SpendsNonce (w : Way) (ms : List Mile) (k : Holds w ms) (sent bytes n
   pub spends : Spends w ms k sent bytes nonce
   pub alive : sent + w.margin < life_of k.rights (uses (contacts k.own))
 
-pub by-list : (w : Way) (ms : List Mile) (k : Holds w ms) (sent body offered bytes : ℕ) (hd : Held) → bytes ≡ list_length hd.caps body
-    → IsSomeAnd (grant_held (contacts ms)) (λ g. (hd ≡ held g offered) × (fits w.margin sent g (list_length hd.caps body) ≡ true)) → SpendsList w ms k sent bytes hd
+pub by-list : (w : Way) (ms : List Mile) (k : Holds w ms) (sent body offered bytes : ℕ) (hd : Held) → bytes ≡ list_length w.version hd.caps body
+    → IsSomeAnd (grant_held (contacts ms)) (λ g. (hd ≡ held g offered) × (fits w.margin sent g (list_length w.version hd.caps body) ≡ true)) → SpendsList w ms k sent bytes hd
 by-list w ms k sent body offered bytes hd sized shows =
     let g = grant_of (taking_of w ms k) in
-    let facts = by-taking (λ g. (hd ≡ held g offered) × (fits w.margin sent g (list_length hd.caps body) ≡ true)) (contacts ms) (taking_of w ms k) k.taking shows in
+    let facts = by-taking (λ g. (hd ≡ held g offered) × (fits w.margin sent g (list_length w.version hd.caps body) ≡ true)) (contacts ms) (taking_of w ms k) k.taking shows in
     let fit : fits w.margin sent g bytes ≡ true = subst (λ b. fits w.margin sent g b ≡ true) (sym sized) facts.1 in
     record {
       spends = spends w ms k sent bytes hd.nonce offered fit (ap (λ (x : Held). x.nonce) facts.0);
@@ -182,24 +183,24 @@ again-prepared : (b answers : Bool) (now retry asked : ℕ) (t : Time) → (b �
 again-prepared true answers now retry asked t may l again e = let m = may refl in omega (arith, m, l)
 again-prepared false answers now retry asked t may l again e = again e
 
-asks-may : (margin : ℕ) (may : Bool) (o : Option holding.Grant) (now body offered : ℕ) (s : Shape) → Allows margin may o now body offered s → asks s ≡ true → may ≡ true
-asks-may margin may o now body offered shape.Request k e = k
-asks-may margin may o now body offered (shape.List hd) k e = absurd (cc)
-asks-may margin may o now body offered (shape.NonceOnly n) k e = absurd (cc)
-asks-may margin may o now body offered (shape.Renewal hd) k e = k.0
-asks-may margin may o now body offered shape.Legacy k e = absurd (cc)
+asks-may : (margin version : ℕ) (may : Bool) (o : Option holding.Grant) (now body offered : ℕ) (s : Shape) → Allows margin version may o now body offered s → asks s ≡ true → may ≡ true
+asks-may margin version may o now body offered shape.Request k e = k
+asks-may margin version may o now body offered (shape.List hd) k e = absurd (cc)
+asks-may margin version may o now body offered (shape.NonceOnly n) k e = absurd (cc)
+asks-may margin version may o now body offered (shape.Renewal hd) k e = k.0
+asks-may margin version may o now body offered shape.Legacy k e = absurd (cc)
 
 -- a packet was prepared under the last grant, in a shape that is allowed
-went : (w : Way) (ms : List Mile) (k : Holds w ms) (sent body offered : ℕ) (s : Shape) (bytes : ℕ) (paid : Option Charge) → bytes ≡ length_of s body
-    → Allows w.margin (may_ask w.retry (asked_at (contacts ms)) sent) (grant_held (contacts ms)) sent body offered s
+went : (w : Way) (ms : List Mile) (k : Holds w ms) (sent body offered : ℕ) (s : Shape) (bytes : ℕ) (paid : Option Charge) → bytes ≡ length_of w.version s body
+    → Allows w.margin w.version (may_ask w.retry (asked_at (contacts ms)) sent) (grant_held (contacts ms)) sent body offered s
     → AllByRecursion (NotAfter w k.came) (paid_in (Went sent s bytes paid))
     → (IsAuthorisedMile (Went sent s bytes paid) → AreOwn w k.rights k.came k.own → AreOwn w k.rights k.came (k.own ++ Went sent s bytes paid ∷ []))
     → Holds w (ms ++ Went sent s bytes paid ∷ [])
 went w ms k sent body offered s bytes paid sized allowed some all =
-    let peer = prepared k.peer sent s body in
-    let keeps : Keeps peer (contacts ms ++ Prepared sent s bytes ∷ []) = subst (λ b. Keeps peer (contacts ms ++ Prepared sent s b ∷ [])) (sym sized) (keeps_prepared k.peer (contacts ms) sent body s k.keeps) in
+    let peer = prepared w.version k.peer sent s body in
+    let keeps : Keeps peer (contacts ms ++ Prepared sent s bytes ∷ []) = subst (λ b. Keeps peer (contacts ms ++ Prepared sent s b ∷ [])) (sym sized) (keeps_prepared w.version k.peer (contacts ms) sent body s k.keeps) in
     let may : asks s ≡ true → k.peer.asked.0 + w.retry ≤ sent = λ e.
-    up_to (k.peer.asked.0 + w.retry) sent (ap (λ (o : Option Time). may_ask w.retry o sent) (sym k.keeps.asked) ∙ asks-may w.margin (may_ask w.retry (asked_at (contacts ms)) sent) (grant_held (contacts ms)) sent body offered s allowed e) in
+    up_to (k.peer.asked.0 + w.retry) sent (ap (λ (o : Option Time). may_ask w.retry o sent) (sym k.keeps.asked) ∙ asks-may w.margin w.version (may_ask w.retry (asked_at (contacts ms)) sent) (grant_held (contacts ms)) sent body offered s allowed e) in
     stay w ms k (Went sent s bytes paid) peer refl (λ b a. refl) (since-went [] ms sent s bytes paid) keeps
     (since-prepared (asks s) sent w.retry k.asked k.peer.asked may k.since)
     (again-prepared (asks s) k.peer.is_answered sent w.retry k.asked k.peer.asked may k.since k.again)
@@ -209,8 +210,8 @@ not-after : (w : Way) (k_rights : Rights) (came : ℕ) (c : Charge) → c.grant 
 not-after w rights came c e = let same : c.grant.second ≡ router_second w.offset came = ap (λ (g : Grant). g.second) e in omega (arith, same)
 
 -- each shape, with its charge or without one
-by-shape : (w : Way) (ms : List Mile) (k : Holds w ms) (sent body offered : ℕ) (s : Shape) (bytes : ℕ) (paid : Option Charge) → IsMile w ms (Went sent s bytes paid) → bytes ≡ length_of s body
-    → Allows w.margin (may_ask w.retry (asked_at (contacts ms)) sent) (grant_held (contacts ms)) sent body offered s → Holds w (ms ++ Went sent s bytes paid ∷ [])
+by-shape : (w : Way) (ms : List Mile) (k : Holds w ms) (sent body offered : ℕ) (s : Shape) (bytes : ℕ) (paid : Option Charge) → IsMile w ms (Went sent s bytes paid) → bytes ≡ length_of w.version s body
+    → Allows w.margin w.version (may_ask w.retry (asked_at (contacts ms)) sent) (grant_held (contacts ms)) sent body offered s → Holds w (ms ++ Went sent s bytes paid ∷ [])
 by-shape w ms k sent body offered shape.Request bytes None mile sized a =
     went w ms k sent body offered shape.Request bytes None sized a tt (λ one own. idle w k.rights k.came k.own (Went sent shape.Request bytes None) refl refl own)
 by-shape w ms k sent body offered shape.Request bytes (Some c) mile sized a = absurd mile.shown
@@ -249,15 +250,15 @@ fresh ms f m no_taking none = record {
 }
 
 fresh-shape : (w : Way) (ms : List Mile) (f : IsFresh ms) (sent body offered : ℕ) (s : Shape) (bytes : ℕ) (paid : Option Charge) → IsMile w ms (Went sent s bytes paid)
-    → Allows w.margin (may_ask w.retry (asked_at (contacts ms)) sent) (grant_held (contacts ms)) sent body offered s → IsFresh (ms ++ Went sent s bytes paid ∷ [])
+    → Allows w.margin w.version (may_ask w.retry (asked_at (contacts ms)) sent) (grant_held (contacts ms)) sent body offered s → IsFresh (ms ++ Went sent s bytes paid ∷ [])
 fresh-shape w ms f sent body offered shape.Request bytes None mile a = fresh ms f (Went sent shape.Request bytes None) (λ b d. refl) refl
 fresh-shape w ms f sent body offered shape.Request bytes (Some c) mile a = absurd mile.shown
 fresh-shape w ms f sent body offered (shape.List hd) bytes paid mile a =
-    absurd (no-taking (λ g. (hd ≡ held g offered) × (fits w.margin sent g (list_length hd.caps body) ≡ true)) (contacts ms) f.taking a)
+    absurd (no-taking (λ g. (hd ≡ held g offered) × (fits w.margin sent g (list_length w.version hd.caps body) ≡ true)) (contacts ms) f.taking a)
 fresh-shape w ms f sent body offered (shape.NonceOnly n) bytes paid mile a =
     absurd (no-taking (λ g. (n ≡ nonce_of g offered) × (is_alive w.margin sent g ≡ true) × (fits w.margin sent g (nonce_length body) ≡ true)) (contacts ms) f.taking a)
 fresh-shape w ms f sent body offered (shape.Renewal hd) bytes paid mile a =
-    absurd (no-taking (λ g. (hd ≡ held g offered) × (fits w.margin sent g (list_length hd.caps body) ≡ true)) (contacts ms) f.taking a.1)
+    absurd (no-taking (λ g. (hd ≡ held g offered) × (fits w.margin sent g (list_length w.version hd.caps body) ≡ true)) (contacts ms) f.taking a.1)
 fresh-shape w ms f sent body offered shape.Legacy bytes None mile a = fresh ms f (Went sent shape.Legacy bytes None) (λ b d. refl) refl
 fresh-shape w ms f sent body offered shape.Legacy bytes (Some c) mile a = absurd mile.shown
 
@@ -324,17 +325,17 @@ got w ms rules stage rights caps came waits mile =
       all = λ every. record { grants = tt; pairs = tt; nonces = tt };
     }
 
-step : (w : Way) (ms : List Mile) → 1000000000 + w.margin ≤ w.retry → Stage w ms → (m : Mile) → IsMile w ms m → IsNext w.margin w.retry (contacts ms) (contact_of m) → Stage w (ms ++ m ∷ [])
-step w ms rules (inl f) (Went sent s bytes paid) mile p = inl (fresh-shape w ms f sent p.body p.offered s bytes paid mile (allows w.margin w.retry (contacts ms) sent p.body p.offered s p.shape))
-step w ms rules (inr k) (Went sent s bytes paid) mile p = inr (by-shape w ms k sent p.body p.offered s bytes paid mile p.length (allows w.margin w.retry (contacts ms) sent p.body p.offered s p.shape))
-step w ms rules stage (Got rights caps came) mile p = inr (got w ms rules stage rights caps came p mile)
+step : (w : Way) (ms : List Mile) → 1000000000 + w.margin ≤ w.retry → Stage w ms → (m : Mile) → IsMile w ms m → IsNext w.margin w.retry w.version (contacts ms) (contact_of m) → Stage w (ms ++ m ∷ [])
+step w ms rules (inl f) (Went sent s bytes paid) mile p = inl (fresh-shape w ms f sent p.body p.offered s bytes paid mile (allows w.margin w.retry w.version (contacts ms) sent p.body p.offered s p.shape))
+step w ms rules (inr k) (Went sent s bytes paid) mile p = inr (by-shape w ms k sent p.body p.offered s bytes paid mile p.length (allows w.margin w.retry w.version (contacts ms) sent p.body p.offered s p.shape))
+step w ms rules stage (Got rights caps came) mile p = inr (got w ms rules stage rights caps came p.0 mile)
 step w ms rules (inl f) Told mile p = inl (fresh ms f Told (λ b a. refl) refl)
 step w ms rules (inr k) Told mile p = inr (told w ms k)
 
 -- all the way
-pub walk : (w : Way) → 1000000000 + w.margin ≤ w.retry → (before ms : List Mile) → Stage w before → AreMiles w before ms → AreNext w.margin w.retry (contacts before) (contacts ms) → Stage w (before ++ ms)
+pub walk : (w : Way) → 1000000000 + w.margin ≤ w.retry → (before ms : List Mile) → Stage w before → AreMiles w before ms → AreNext w.margin w.retry w.version (contacts before) (contacts ms) → Stage w (before ++ ms)
 walk w rules before [] stage miles next = subst (Stage w) (sym (append-nil before)) stage
 walk w rules before (m ∷ ms) stage miles next =
     subst (Stage w) (append_assoc before (m ∷ []) ms)
     (walk w rules (before ++ m ∷ []) ms (step w before rules stage m miles.0 next.0) miles.1
-    (subst (λ (cs : List Contact). AreNext w.margin w.retry cs (contacts ms)) (sym (contacts-push before m)) next.1))
+    (subst (λ (cs : List Contact). AreNext w.margin w.retry w.version cs (contacts ms)) (sym (contacts-push before m)) next.1))

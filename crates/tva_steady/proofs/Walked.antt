@@ -11,7 +11,7 @@ use Rattle.tva_steady.specs.Steady.{IsSteady, AreMiles}
 use Rattle.tva_steady.specs.Walk.{walk_way, walk_rights, walk_charge, walk_miles}
 use Rattle.tva_steady.proofs.Walk.{valid}
 
-played : (shown : ℕ) → IsPlayed 1000000 2000000000 (contacts (walk_miles shown) ++ Prepared 10000000 (shape.NonceOnly 2) 1028 ∷ [])
+played : (shown : ℕ) → IsPlayed 1000000 2000000000 1 (contacts (walk_miles shown) ++ Prepared 10000000 (shape.NonceOnly 2) 1028 ∷ [])
 unfolding under_grant credit_of
 played shown =
     let first : Contact = Prepared 0 shape.Request 100 in
@@ -22,7 +22,7 @@ played shown =
     let late : 4002900 ≤ 10000000 = omega arith in (
       record { body = 77; offered = 1; order = All-nil (IsUpTo 0); shape = refl; length = refl },
       (
-        refl,
+        (refl, refl),
         (
           record { body = 12; offered = 2; order = All-from_recursion (IsUpTo 4002900) (first ∷ second ∷ []) (none, (tt, tt)); shape = refl; length = refl },
           (record { body = 1000; offered = 3; order = All-from_recursion (IsUpTo 10000000) (first ∷ second ∷ third ∷ []) (early, (tt, (late, tt))); shape = refl; length = refl }, tt),

@@ -5,7 +5,7 @@ use Rattle.tva_base.specs.declared.packet.Flow.{Flow}
 use Rattle.tva_base.specs.declared.packet.Grant.{Grant}
 use Rattle.tva_base.specs.declared.packet.Rights.{Rights}
 use Rattle.tva_base.specs.Clock.{router_second}
-use Rattle.tva_base.specs.Plan.{AreRights}
+use Rattle.tva_base.specs.Versions.{AreSomeRights}
 use Rattle.tva_caps.specs.declared.minters.Checked.{Checked}
 use Rattle.tva_caps.specs.declared.minters.Checked.TheVariants.{Valid}
 use Rattle.tva_caps.specs.Formula.{precap_of, capability_of}
@@ -19,11 +19,12 @@ use Rattle.tva_sender.specs.Contacts.{Prepared, asked_at, uses_in}
 use Rattle.tva_sender.specs.Played.{IsPlayed}
 use Rattle.tva_steady.specs.Miles.{Mile, Went, Got, Told, contacts, charges_in, last_came, since_got}
 
--- a sender's margin and retry, the least delay to the router, all in nanoseconds, the flow, and the
--- router's master, the nanoseconds that its clock is ahead and its slots
+-- a sender's margin and retry in nanoseconds and the version of its shims, the least delay to the router in
+-- nanoseconds, the flow, and the router's master, the nanoseconds that its clock is ahead and its slots
 pub record Way : Type 0 where
   pub margin : ℕ
   pub retry : ℕ
+  pub version : ℕ
   pub delay : ℕ
   pub flow : Flow
   pub master : List ℕ
@@ -70,7 +71,7 @@ abbrev pub IsMile : Way → List Mile → Mile → Type 0
 IsMile w before (Went sent s bytes None) = Unit {0}
 IsMile w before (Went sent s bytes (Some c)) = IsPaid w before sent s bytes c
 IsMile w before (Got rights caps came) =
-    AreRights rights × IfSome (asked_at (contacts before)) (λ asked. ComesIn w asked.0 came)
+    AreSomeRights rights × IfSome (asked_at (contacts before)) (λ asked. ComesIn w asked.0 came)
 IsMile w before Told = Unit {0}
 
 abbrev pub AreMiles : Way → List Mile → List Mile → Type 0
@@ -93,7 +94,7 @@ AreAuthorised (m ∷ ms) = IsAuthorisedMile m × AreAuthorised ms
 pub record IsSteady (w : Way) (h : List Charge) (ms : List Mile) (sent : ℕ) (s : Shape) (bytes at : ℕ) : Type 0 where
   -- the sender keeps to its rules with this peer, up to the packet
   pub rules : 1000000000 + w.margin ≤ w.retry
-  pub played : IsPlayed w.margin w.retry (contacts ms ++ Prepared sent s bytes ∷ [])
+  pub played : IsPlayed w.margin w.retry w.version (contacts ms ++ Prepared sent s bytes ∷ [])
   -- all charges of the flow are of its packets, in the order in which they were prepared
   pub miles : AreMiles w [] ms
   pub charges : of_flow w.flow h ≡ charges_in ms

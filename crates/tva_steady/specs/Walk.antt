@@ -20,6 +20,7 @@ abbrev pub walk_way : List ℕ → ℕ → Way
 walk_way master slots = record {
   margin = 1000000;
   retry = 2000000000;
+  version = 1;
   delay = 1000520;
   flow = walk_flow;
   master = master;

@@ -339,7 +339,7 @@ fn scene_of(rt: &impl Abort, alloc: Global, case: &Case) -> Result<Scene, AllocE
     assert!(rt; case.slots <= 1_000_000);
     Ok(Scene {
         host: Host {
-            sender: Sender::build(alloc, 1_000_000, 2_000_000_000),
+            sender: Sender::build(alloc, 1_000_000, 2_000_000_000, 1),
             packets: Vec::new(alloc),
             offered: 1,
             last: 0,

@@ -8,6 +8,7 @@ use Rattle.hex.specs.declared.error.FromHexError.{FromHexError}
 use Rattle.tva_base.specs.declared.packet.Flow.{Flow}
 use Rattle.tva_base.specs.declared.packet.Rights.{Rights}
 use Rattle.tva_base.specs.Decimal.{decimal_of}
+use Rattle.tva_base.specs.Versions.{seconds_max, units_max, version_for}
 use Rattle.tva_base.specs.Addresses.{parted}
 use Rattle.tva_base.specs.Options.{◌>>=◌}
 use Rattle.tva_shim.specs.declared.kinds.Shown.{Shown}
@@ -75,10 +76,11 @@ caps_of plans flow rights text = do
 abbrev pub rights_from : ℕ → ℕ → Rights
 rights_from n t = record { n = n; t = t }
 
+-- rights that a shim of version 2 can carry
 unfoldable pub rights_of : List ℕ → List ℕ → Option Rights
 rights_of units seconds = do
-  n ← decimal_of units 1023
-  t ← decimal_of seconds 63
+  n ← decimal_of units (units_max 2)
+  t ← decimal_of seconds (seconds_max 2)
   Some (rights_from n t)
 
 abbrev pub shown_from : ℕ → ℕ → Rights → List ℕ → Shown
@@ -101,17 +103,18 @@ shown_of plans flow text = do
 unfoldable pub raw_of : List ℕ → Option (List ℕ)
 raw_of text = if nat_le (length text) 800 then hex_bytes_of (length text / 2) text else None
 
--- a shim with protocol 6, no mark and no return info
-abbrev pub plain_shim : Kind → ShimData
-plain_shim k = record { demoted = false; protocol = 6; kind = k; back = backs.Nothing }
+-- a shim of a version with protocol 6, no mark and no return info
+abbrev pub plain_shim : ℕ → Kind → ShimData
+plain_shim version k = record { version = version; demoted = false; protocol = 6; kind = k; back = backs.Nothing }
 
--- what a row's shim is, by the row's kind; a row that sends has none
+-- what a row's shim is, by the row's kind; a row that sends has none. The version is 2 only where the
+-- rights ask for it
 unfoldable pub shim_of : List NodePlan → kinds.RowKind → Flow → List ℕ → Option said.SaidShim
 shim_of plans kind.Send flow text = None
 shim_of plans kind.Raw flow text = option_map Bytes (raw_of text)
 shim_of plans kind.List flow text =
-    option_map (λ shown. Built (plain_shim (shims.List shown))) (shown_of plans flow text)
+    option_map (λ shown. Built (plain_shim (version_for shown.rights) (shims.List shown))) (shown_of plans flow text)
 shim_of plans kind.Renew flow text =
-    option_map (λ shown. Built (plain_shim (shims.Renewal shown))) (shown_of plans flow text)
+    option_map (λ shown. Built (plain_shim (version_for shown.rights) (shims.Renewal shown))) (shown_of plans flow text)
 shim_of plans kind.Nonce flow text =
-    option_map (λ nonce. Built (plain_shim (shims.Nonce nonce))) (hex_number_of 6 text)
+    option_map (λ nonce. Built (plain_shim 1 (shims.Nonce nonce))) (hex_number_of 6 text)

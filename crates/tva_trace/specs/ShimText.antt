@@ -71,7 +71,7 @@ spaced words = flat_map (λ word. 32 ∷ word) words
 
 -- the text of a shim
 unfoldable pub shim_line : ShimData → List ℕ
-shim_line s = codes "v1" ++ spaced (head_words s ++ kind_words s.kind ++ return_words s.back)
+shim_line s = codes "v" ++ decimal s.version ++ spaced (head_words s ++ kind_words s.kind ++ return_words s.back)
 
 -- the text of bytes: that of the shim whose layout they are, or that there is none
 abbrev pub IsTextOf : List ℕ → List ℕ → Type 0

@@ -3,7 +3,8 @@ ghost use Rattle.std.specs.Prelude.{◌≡◌, ◌<◌, ◌≤◌, ◌^◌, ◌=
 ghost use Rattle.std.specs.Option.{option_map};
 ghost use Rattle.byteorder.specs.Endian.{big_number};
 ghost use Rattle.tva_base.specs.Addresses.{parted};
-ghost use Rattle.tva_base.specs.Plan.{AreRights};
+ghost use Rattle.tva_base.specs.Decimal.{decimal_of};
+ghost use Rattle.tva_base.specs.Versions.{AreSomeRights, IsVersion, seconds_max, units_max, version_for};
 ghost use Rattle.tva_shim.specs.Shims.{IsShown, IsKind};
 ghost use Rattle.tva_trace.specs.declared.said.SaidShim.TheVariants as says;
 ghost use Rattle.tva_trace.specs.Items.{caps_of, hex_number_of, item_of, minted_of, plain_shim, raw_of, rights_of, shim_of, shown_of};
@@ -15,7 +16,7 @@ use crate::rows::RowKind;
 use crate::said::{RawBytes, SaidShim};
 use byteorder::{BigEndian, ByteOrder};
 use std::collections::HashMap;
-use tva_base::{Caps, Flow, Rights, decimal};
+use tva_base::{Caps, Flow, Rights, decimal, seconds_max, units_max, version_for};
 use tva_caps::{capability, precap_at};
 use tva_config::NodePlan;
 use tva_shim::{Kind, ReturnInfo, Shim, Shown};
@@ -82,7 +83,7 @@ fn minted_of(
     second: &[u8],
 ) -> Option<u64>
     requires known { Numbers plans.now numbers.now }
-    requires rights { AreRights rights }
+    requires rights { AreSomeRights rights }
     ensures { result ≡ minted_of plans.now flow rights (name.now, second.now) }
 {
     let master = master_named(plans, numbers, name)?;
@@ -100,7 +101,7 @@ fn item_of(
     text: &[u8],
 ) -> Option<u64>
     requires known { Numbers plans.now numbers.now }
-    requires rights { AreRights rights }
+    requires rights { AreSomeRights rights }
     ensures { result ≡ item_of plans.now flow rights text.now }
 {
     match part(text, b'@') {
@@ -119,7 +120,7 @@ fn caps_of(
     text: &[u8],
 ) -> Option<Caps>
     requires known { Numbers plans.now numbers.now }
-    requires rights { AreRights rights }
+    requires rights { AreSomeRights rights }
     ensures { result ≡ caps_of plans.now flow rights text.now }
 {
     let mut caps = Caps::new();
@@ -135,14 +136,30 @@ fn caps_of(
     Some(caps)
 }
 
+/// Units that a shim of version 2 can carry.
+fn units_of(text: &[u8]) -> Option<u64>
+    ensures value { result ≡ decimal_of text.now (units_max 2) }
+    ensures within { IfSome result (λ n. n ≤ units_max 2) }
+{
+    decimal(text, u64::from(units_max(2)))
+}
+
+/// Seconds that a shim of version 2 can carry.
+fn seconds_of(text: &[u8]) -> Option<u64>
+    ensures value { result ≡ decimal_of text.now (seconds_max 2) }
+    ensures within { IfSome result (λ n. n ≤ seconds_max 2) }
+{
+    decimal(text, u64::from(seconds_max(2)))
+}
+
 /// The rights of units and seconds.
 #[tactic(auto, unfolding(crate::specs::Items::rights_of))]
 fn rights_of(units: &[u8], seconds: &[u8]) -> Option<Rights>
     ensures value { result ≡ rights_of units.now seconds.now }
-    ensures widths { IfSome result AreRights }
+    ensures widths { IfSome result AreSomeRights }
 {
-    let n = decimal(units, 1023)?;
-    let t = decimal(seconds, 63)?;
+    let n = units_of(units)?;
+    let t = seconds_of(seconds)?;
     Some(Rights {
         n: n as u32,
         t: t as u8,
@@ -150,7 +167,7 @@ fn rights_of(units: &[u8], seconds: &[u8]) -> Option<Rights>
 }
 
 /// What a list or a renewal shows.
-#[tactic(auto, unfolding(crate::specs::Items::shown_of))]
+#[tactic(auto, using(tva_base::proofs::Widths::least_rights), unfolding(crate::specs::Items::shown_of))]
 fn shown_of(
     plans: &[NodePlan],
     numbers: &HashMap<&[u8], u16>,
@@ -159,7 +176,8 @@ fn shown_of(
 ) -> Option<Shown>
     requires { Numbers plans.now numbers.now }
     ensures value { result ≡ shown_of plans.now flow text.now }
-    ensures widths { IfSome result IsShown }
+    ensures rights { IfSome result (λ shown. AreSomeRights shown.rights) }
+    ensures widths { IfSome result (λ shown. IsShown (version_for shown.rights) shown) }
 {
     let (nonce, rest) = part(text, b'/')?;
     let (units, rest) = part(rest, b'/')?;
@@ -210,17 +228,34 @@ pub fn shim_of(
     match kind {
         RowKind::Send => None,
         RowKind::Raw => Some(SaidShim::Bytes(raw_of(text)?)),
-        RowKind::List => Some(plain_shim(Kind::List(shown_of(plans, numbers, flow, text)?))),
-        RowKind::Renew => Some(plain_shim(Kind::Renewal(shown_of(plans, numbers, flow, text)?))),
-        RowKind::Nonce => Some(plain_shim(Kind::Nonce(nonce_of(text)?))),
+        RowKind::List => {
+            let shown = shown_of(plans, numbers, flow, text)?;
+            Some(plain_shim(version_of(&shown), Kind::List(shown)))
+        }
+        RowKind::Renew => {
+            let shown = shown_of(plans, numbers, flow, text)?;
+            Some(plain_shim(version_of(&shown), Kind::Renewal(shown)))
+        }
+        RowKind::Nonce => Some(plain_shim(1, Kind::Nonce(nonce_of(text)?))),
     }
 }
 
-/// A shim with protocol 6, no mark and no return info.
-fn plain_shim(kind: Kind) -> SaidShim
-    requires { IsKind kind }
-    ensures shim { result ≡ says.Built (plain_shim kind) }
+/// The version of the shim that shows this: 2 only where the rights ask for it.
+fn version_of(shown: &Shown) -> u8
+    requires { AreSomeRights shown.now.rights }
+    ensures version { result ≡ version_for shown.now.rights }
+    ensures known { IsVersion result }
+    ensures fits { IsShown (version_for shown.now.rights) shown.now → IsShown result shown.now }
+{
+    version_for(shown.rights)
+}
+
+/// A shim of a version with protocol 6, no mark and no return info.
+fn plain_shim(version: u8, kind: Kind) -> SaidShim
+    requires version { IsVersion version }
+    requires kind { IsKind version kind }
+    ensures shim { result ≡ says.Built (plain_shim version kind) }
     ensures valid { IsSaidShim result }
 {
-    SaidShim::Built(Shim::new(false, 6, kind, ReturnInfo::Nothing))
+    SaidShim::Built(Shim::new(version, false, 6, kind, ReturnInfo::Nothing))
 }

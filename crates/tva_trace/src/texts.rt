@@ -1,7 +1,6 @@
 // The text of a shim.
 ghost use Rattle.std.specs.Prelude.{◌≡◌, ◌<◌, ◌^◌, ◌∷◌, [], ◌++◌, IfOk, OnOk, codes, decimal, string_bytes};
 ghost use Rattle.hex.specs.Hex.{encode_lower};
-ghost use Rattle.tva_shim.specs.Shims.{IsKind, IsShown};
 ghost use Rattle.tva_trace.specs.ShimText.{IsTextOf, caps_word, demoted_word, digits_of, entries_word, entry_word, head_words, kind_name, kind_words, nonce_word, return_words, rights_words, shim_line, shown_words, spaced};
 
 use byteorder::{BigEndian, ByteOrder};
@@ -23,13 +22,12 @@ pub fn shim_text(alloc: Global, bytes: &[u8]) -> Result<String, AllocError>
 
 #[tactic(auto, unfolding(crate::specs::ShimText::shim_line))]
 fn line_of(alloc: Global, shim: &Shim) -> Result<String, AllocError>
-    requires { IsKind shim.now.kind }
     ensures { IfOk result (λ text. string_bytes text ≡ shim_line shim.now) }
 {
     let mut text = String::new(alloc);
-    text.push_str("v1")?;
+    put_number(&mut text, "v", u64::from(shim.version))?;
     put_head(&mut text, shim)?;
-    put_kind(alloc, &mut text, &shim.kind)?;
+    put_kind(alloc, &mut text, shim)?;
     put_return(alloc, &mut text, &shim.back)?;
     Ok(text)
 }
@@ -144,7 +142,7 @@ fn put_rights(text: &mut String, rights: Rights) -> Result<(), AllocError>
 }
 
 fn put_shown(alloc: Global, text: &mut String, shown: &Shown) -> Result<(), AllocError>
-    requires { IsShown shown.now }
+    requires { shown.now.nonce < 2 ^ 48 }
     ensures { OnOk result (string_bytes text.new ≡ string_bytes text.old ++ spaced (shown_words shown.now)) }
 {
     put_nonce(alloc, text, shown.nonce)?;
@@ -153,11 +151,10 @@ fn put_shown(alloc: Global, text: &mut String, shown: &Shown) -> Result<(), Allo
     put_caps(alloc, text, shown.caps.as_slice())
 }
 
-fn put_kind(alloc: Global, text: &mut String, kind: &Kind) -> Result<(), AllocError>
-    requires { IsKind kind.now }
-    ensures { OnOk result (string_bytes text.new ≡ string_bytes text.old ++ spaced (kind_words kind.now)) }
+fn put_kind(alloc: Global, text: &mut String, shim: &Shim) -> Result<(), AllocError>
+    ensures { OnOk result (string_bytes text.new ≡ string_bytes text.old ++ spaced (kind_words shim.now.kind)) }
 {
-    match kind {
+    match &shim.kind {
         Kind::Request(entries) => put_entries(alloc, text, entries.as_slice()),
         Kind::List(shown) => put_shown(alloc, text, shown),
         Kind::Nonce(nonce) => put_nonce(alloc, text, *nonce),

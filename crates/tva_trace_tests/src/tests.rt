@@ -42,6 +42,7 @@ fn host(alloc: Global, name: &str, address: u32, uplink: u16) -> NodePlan
         nonce: 1,
         margin: 1_000_000,
         retry: 2_000_000_000,
+        version: 1,
         policy: PolicyPlan {
             kind: PolicyKind::Server,
             rights: Rights { n: 32, t: 10 },

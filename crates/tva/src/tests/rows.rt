@@ -1,7 +1,7 @@
 // Worked replays, by what they show.
 
 // Configurations by their names.
-static CONFIGS: [(&str, &str); 7] = [
+static CONFIGS: [(&str, &str); 8] = [
     (
         "edge",
         "horizon_ns = 1000000000000\nmax_events = 1000\n[[router]]\nname = \"R1\"\nmaster = \"000102030405060708090a0b0c0d0e0f101112131415161718191a1b1c1d1e1f\"\nslots = 8\n",
@@ -13,6 +13,10 @@ static CONFIGS: [(&str, &str); 7] = [
     (
         "walk",
         "horizon_ns = 1000000000\nmax_events = 1000\n[[router]]\nname = \"R1\"\nmaster = \"000102030405060708090a0b0c0d0e0f101112131415161718191a1b1c1d1e1f\"\nslots = 8\n[[host]]\nname = \"A\"\naddress = \"10.0.0.1\"\npolicy = \"client\"\n[[host]]\nname = \"B\"\naddress = \"10.0.1.1\"\npolicy = \"server\"\n[[link]]\nfrom = \"A\"\nto = \"R1\"\nns_per_byte = 10\ndelay_ns = 1000000\ntag = 1\n[[link]]\nfrom = \"R1\"\nto = \"A\"\nns_per_byte = 10\ndelay_ns = 1000000\n[[link]]\nfrom = \"R1\"\nto = \"B\"\nns_per_byte = 10\ndelay_ns = 1000000\n[[link]]\nfrom = \"B\"\nto = \"R1\"\nns_per_byte = 10\ndelay_ns = 1000000\ntag = 2\n[[route]]\nrouter = \"R1\"\nprefix = \"10.0.0.0/24\"\nvia = \"A\"\n[[route]]\nrouter = \"R1\"\nprefix = \"10.0.1.0/24\"\nvia = \"B\"\n",
+    ),
+    (
+        "walk2",
+        "horizon_ns = 1000000000\nmax_events = 1000\nversion = 2\n[[router]]\nname = \"R1\"\nmaster = \"000102030405060708090a0b0c0d0e0f101112131415161718191a1b1c1d1e1f\"\nslots = 8\n[[host]]\nname = \"A\"\naddress = \"10.0.0.1\"\npolicy = \"client\"\n[[host]]\nname = \"B\"\naddress = \"10.0.1.1\"\npolicy = \"server\"\n[[link]]\nfrom = \"A\"\nto = \"R1\"\nns_per_byte = 10\ndelay_ns = 1000000\ntag = 1\n[[link]]\nfrom = \"R1\"\nto = \"A\"\nns_per_byte = 10\ndelay_ns = 1000000\n[[link]]\nfrom = \"R1\"\nto = \"B\"\nns_per_byte = 10\ndelay_ns = 1000000\n[[link]]\nfrom = \"B\"\nto = \"R1\"\nns_per_byte = 10\ndelay_ns = 1000000\ntag = 2\n[[route]]\nrouter = \"R1\"\nprefix = \"10.0.0.0/24\"\nvia = \"A\"\n[[route]]\nrouter = \"R1\"\nprefix = \"10.0.1.0/24\"\nvia = \"B\"\n",
     ),
     (
         "long",
@@ -34,13 +38,20 @@ static CONFIGS: [(&str, &str); 7] = [
 
 // What it shows, the name of the configuration, the trace, the status and what is written: a router
 // between two hosts.
-static WALKS: [(&str, &str, &str, u8, &str); 5] = [
+static WALKS: [(&str, &str, &str, u8, &str); 6] = [
     (
         "a walk from a request to nonce packets",
         "walk",
         "time,node,kind,src,dst,payload,shim\n0,A,send,,10.0.1.1,77,\n10000000,A,send,,10.0.1.1,1000,\n",
         0,
         "0 A send A#1 100 request queued:R1\n0 A start A#1 100 R1 request 1000\n1001000 R1 in A#1 100 A request - queued:B\n1001000 R1 start A#1 110 B request 1002100\n2002100 B recv A#1 110 R1 request - B#1/35/request/grant/queued:R1\n2002100 B start B#1 35 R1 request 2002450\n3002450 R1 in B#1 35 B request - queued:A\n3002450 R1 start B#1 45 A request 3002900\n4002900 A recv B#1 45 R1 request grant A#2/52/list/grant/queued:R1\n4002900 A start A#2 52 R1 regular 4003420\n5003420 R1 in A#2 52 A regular - queued:B\n5003420 R1 start A#2 52 B regular 5003940\n6003940 B recv A#2 52 R1 regular grant -\n10000000 A send A#3 1028 nonce queued:R1\n10000000 A start A#3 1028 R1 regular 10010280\n11010280 R1 in A#3 1028 A regular - queued:B\n11010280 R1 start A#3 1028 B regular 11020560\n12020560 B recv A#3 1028 R1 regular - -\ntotal events=18 routed=4 authorised=2 demoted=0 dropped=0 started=8 received=4 bytes=1077\n",
+    ),
+    (
+        "a walk in shims of version 2",
+        "walk2",
+        "time,node,kind,src,dst,payload,shim\n0,A,send,,10.0.1.1,77,\n10000000,A,send,,10.0.1.1,1000,\n",
+        0,
+        "0 A send A#1 100 request queued:R1\n0 A start A#1 100 R1 request 1000\n1001000 R1 in A#1 100 A request - queued:B\n1001000 R1 start A#1 110 B request 1002100\n2002100 B recv A#1 110 R1 request - B#1/37/request/grant/queued:R1\n2002100 B start B#1 37 R1 request 2002470\n3002470 R1 in B#1 37 B request - queued:A\n3002470 R1 start B#1 47 A request 3002940\n4002940 A recv B#1 47 R1 request grant A#2/56/list/grant/queued:R1\n4002940 A start A#2 56 R1 regular 4003500\n5003500 R1 in A#2 56 A regular - queued:B\n5003500 R1 start A#2 56 B regular 5004060\n6004060 B recv A#2 56 R1 regular grant -\n10000000 A send A#3 1028 nonce queued:R1\n10000000 A start A#3 1028 R1 regular 10010280\n11010280 R1 in A#3 1028 A regular - queued:B\n11010280 R1 start A#3 1028 B regular 11020560\n12020560 B recv A#3 1028 R1 regular - -\ntotal events=18 routed=4 authorised=2 demoted=0 dropped=0 started=8 received=4 bytes=1077\n",
     ),
     (
         "a renewal",
@@ -73,7 +84,7 @@ static WALKS: [(&str, &str, &str, u8, &str); 5] = [
 ];
 
 // The same at one router, and at a pair of them.
-static EDGES: [(&str, &str, &str, u8, &str); 16] = [
+static EDGES: [(&str, &str, &str, u8, &str); 17] = [
     (
         "no rows",
         "edge",
@@ -87,6 +98,13 @@ static EDGES: [(&str, &str, &str, u8, &str); 16] = [
         "time,node,kind,src,dst,payload,shim\n5000000000,R1,list,10.0.0.1,10.0.1.1,472,00000000000a/1/2/0/R1@5\n6000000000,R1,list,10.0.0.1,10.0.1.1,472,00000000000a/1/2/0/R1@5\n6100000000,R1,list,10.0.0.1,10.0.1.1,472,00000000000a/1/2/0/R1@5\n6200000000,R1,list,10.0.0.1,10.0.1.1,472,00000000000a/1/2/0/R1@5\n7000000000,R1,list,10.0.0.1,10.0.1.1,472,00000000000a/1/2/0/R1@5\n",
         0,
         "5000000000 R1 in R1#1 512 trace regular - dropped:no-route\n6000000000 R1 in R1#2 512 trace regular - dropped:no-route\n6100000000 R1 in R1#3 512 trace regular - dropped:no-route\n6200000000 R1 in R1#4 512 trace legacy over-n dropped:no-route\n7000000000 R1 in R1#5 512 trace legacy expired dropped:no-route\ntotal events=5 routed=5 authorised=3 demoted=2 dropped=5 started=0 received=0 bytes=0\n",
+    ),
+    (
+        "greater rights to the end of their seconds",
+        "edge",
+        "time,node,kind,src,dst,payload,shim\n5000000000,R1,list,10.0.0.1,10.0.1.1,472,00000000000a/1024/64/0/R1@5\n5031372070,R1,nonce,10.0.0.1,10.0.1.1,0,00000000000a\n5033081056,R1,nonce,10.0.0.1,10.0.1.1,0,00000000000a\n68999999999,R1,list,10.0.0.1,10.0.1.1,472,00000000000a/1024/64/0/R1@5\n69000000000,R1,list,10.0.0.1,10.0.1.1,472,00000000000a/1024/64/0/R1@5\n",
+        0,
+        "5000000000 R1 in R1#1 514 trace regular - dropped:no-route\n5031372070 R1 in R1#2 28 trace regular - dropped:no-route\n5033081056 R1 in R1#3 28 trace legacy unknown-nonce dropped:no-route\n68999999999 R1 in R1#4 514 trace regular - dropped:no-route\n69000000000 R1 in R1#5 514 trace legacy expired dropped:no-route\ntotal events=5 routed=5 authorised=3 demoted=2 dropped=5 started=0 received=0 bytes=0\n",
     ),
     (
         "a life that has not ended",

@@ -52,7 +52,7 @@ static FILES: [(&str, &str); 15] = [
 ];
 
 // Words, the number of the status, and what is written or, where nothing is, the status's text.
-static RUNS: [(&str, u8, &str); 51] = [
+static RUNS: [(&str, u8, &str); 55] = [
     (
         "replay edge trace",
         0,
@@ -123,6 +123,22 @@ static RUNS: [(&str, u8, &str); 51] = [
         0,
         "v1 request demoted=0 protocol=6 entries=- return=-\n",
     ),
+    (
+        "shim 210600000000000a0100000200400500112233445566",
+        0,
+        "v2 list demoted=0 protocol=6 nonce=00000000000a pointer=0 n=1024 t=64 caps=0500112233445566 return=-\n",
+    ),
+    (
+        "shim 210600000000000a0100080200400500112233445566",
+        0,
+        "malformed\n",
+    ),
+    (
+        "shim 200600",
+        0,
+        "v2 request demoted=0 protocol=6 entries=- return=-\n",
+    ),
+    ("shim 300600", 0, "malformed\n"),
     ("shim 10060000", 0, "malformed\n"),
     ("shim 14060003", 0, "malformed\n"),
     (

@@ -1,6 +1,7 @@
 // Whole plans, by the tables of keys and their defaults.
 use super::{EDGE, WALK};
 use std::alloc::{AllocError, Global};
+use std::fmt::Write;
 use tva_base::{DrrLimits, HostPlan, LinkLimits, LinkPlan, PolicyKind, RouterPlan};
 use tva_config::{Config, NodePlan, has_host_or_link, read_config};
 
@@ -24,9 +25,9 @@ router R1 000102030405060708090a0b0c0d0e0f101112131415161718191a1b1c1d1e1f offse
   legacy 256 262144
  route 167772160/24 by 1
  route 167772416/24 by 2
-host A 167772161 nonce 1 margin 1000000 retry 2000000000 uplink 0
+host A 167772161 nonce 1 margin 1000000 retry 2000000000 version 1 uplink 0
  client 32 10 grants 1000
-host B 167772417 nonce 1 margin 1000000 retry 2000000000 uplink 3
+host B 167772417 nonce 1 margin 1000000 retry 2000000000 version 1 uplink 3
  server 32 10 grants 1000
 link 1 to 0 delay 1000000 tag 1 rate 10 share 20 burst 8192
   request 64 32 65536 1048576 2048 2048
@@ -49,6 +50,7 @@ link 2 to 0 delay 1000000 tag 2 rate 10 share 20 burst 8192
 /// Each key has a value of its own. The links and the routes stand in another order than the nodes.
 const FULL: &str = r#"horizon_ns = 7
 max_events = 9
+version = 2
 [[host]]
 name = "h-1"
 address = "1.2.3.4"
@@ -56,8 +58,8 @@ nonce = "0A0b0c0d0e0f"
 margin_ns = 11
 retry_ns = 1000000012
 policy = "client"
-n = 13
-t = 14
+n = 1048575
+t = 127
 grants = 15
 deny = ["0.0.1.0", "0.0.0.255"]
 deny_tags = [65535, 1, 65535]
@@ -127,14 +129,14 @@ router second 0000000000000000000000000000000000000000000000000000000000000001 o
   legacy 31 3200
  route 4278190080/12 by 0
  route 0/0 by 0
-host h-1 16909060 nonce 11042563100175 margin 11 retry 1000000012 uplink 2
- client 13 14 grants 15
+host h-1 16909060 nonce 11042563100175 margin 11 retry 1000000012 version 2 uplink 2
+ client 1048575 127 grants 15
  deny 256
  deny 255
  deny tag 65535
  deny tag 1
  deny tag 65535
-host h_2 16909061 nonce 1 margin 1000000 retry 2000000000 uplink 1
+host h_2 16909061 nonce 1 margin 1000000 retry 2000000000 version 2 uplink 1
  deny 32 10 grants 1000
 link 1 to 0 delay 20 tag 21 rate 19 share 22 burst 5000
   request 23 25 2700 2900 3000 2048
@@ -174,14 +176,16 @@ link 1 to 0 delay 4 tag 0 rate 3 share 20 burst 8192
   legacy 256 262144
 ";
 
+const PLANS: [(&str, &str); 4] = [
+    (EDGE, EDGE_PLAN),
+    (WALK, WALK_PLAN),
+    (FULL, FULL_PLAN),
+    (PAIR, PAIR_PLAN),
+];
+
 #[test]
 fn plans_are_whole(rt: HostRuntime) {
-    for (text, want) in [
-        (EDGE, EDGE_PLAN),
-        (WALK, WALK_PLAN),
-        (FULL, FULL_PLAN),
-        (PAIR, PAIR_PLAN),
-    ] {
+    for (text, want) in PLANS {
         let told = told(rt.alloc(), text).expect(&rt, "memory");
         assert_eq!(rt; told.as_str(), want);
     }
@@ -206,65 +210,55 @@ fn plan(alloc: Global, config: &Config) -> Result<String, AllocError> {
     )?;
     for node in config.nodes.as_slice() {
         match node {
-            NodePlan::Router(plan) => add_router(alloc, &mut text, plan)?,
-            NodePlan::Host(plan) => add_host(alloc, &mut text, plan)?,
+            NodePlan::Router(plan) => add_router(&mut text, plan)?,
+            NodePlan::Host(plan) => add_host(&mut text, plan)?,
         }
     }
     for link in config.links.as_slice() {
-        add_link(alloc, &mut text, link)?;
+        add_link(&mut text, link)?;
     }
     Ok(text)
 }
 
-fn add(text: &mut String, line: String) -> Result<(), AllocError> {
-    text.push_str(line.as_str())
-}
-
-fn add_router(alloc: Global, text: &mut String, plan: &RouterPlan) -> Result<(), AllocError> {
-    let master = hex::encode(alloc, plan.master)?;
-    add(
+fn add_router(text: &mut String, plan: &RouterPlan) -> Result<(), AllocError> {
+    write!(text, "router {} ", plan.name.as_str())?;
+    for byte in plan.master.iter() {
+        write!(text, "{:02x}", *byte)?;
+    }
+    writeln!(
         text,
-        format!(in alloc;
-            "router {} {} offset {} slots {} edge {}\n",
-            plan.name.as_str(),
-            master.as_str(),
-            plan.clock_offset,
-            plan.slots,
-            plan.edge_tag
-        )?,
+        " offset {} slots {} edge {}",
+        plan.clock_offset, plan.slots, plan.edge_tag
     )?;
     for (link, tag) in plan.incoming.as_slice() {
-        add(text, format!(in alloc; " in {link} tag {tag}\n")?)?;
+        writeln!(text, " in {link} tag {tag}")?;
     }
     for (link, limits) in plan.outgoing.as_slice() {
-        add(text, format!(in alloc; " out {link}")?)?;
-        add_limits(alloc, text, limits)?;
+        write!(text, " out {link}")?;
+        add_limits(text, limits)?;
     }
     for route in plan.routes.as_slice() {
         let prefix = route.prefix;
-        add(
+        writeln!(
             text,
-            format!(in alloc;
-                " route {}/{} by {}\n",
-                prefix.address.0, prefix.bits, route.link
-            )?,
+            " route {}/{} by {}",
+            prefix.address.0, prefix.bits, route.link
         )?;
     }
     Ok(())
 }
 
-fn add_host(alloc: Global, text: &mut String, plan: &HostPlan) -> Result<(), AllocError> {
-    add(
+fn add_host(text: &mut String, plan: &HostPlan) -> Result<(), AllocError> {
+    writeln!(
         text,
-        format!(in alloc;
-            "host {} {} nonce {} margin {} retry {} uplink {}\n",
-            plan.name.as_str(),
-            plan.address.0,
-            plan.nonce,
-            plan.margin,
-            plan.retry,
-            plan.uplink
-        )?,
+        "host {} {} nonce {} margin {} retry {} version {} uplink {}",
+        plan.name.as_str(),
+        plan.address.0,
+        plan.nonce,
+        plan.margin,
+        plan.retry,
+        plan.version,
+        plan.uplink
     )?;
     let policy = &plan.policy;
     let kind = match policy.kind {
@@ -273,65 +267,53 @@ fn add_host(alloc: Global, text: &mut String, plan: &HostPlan) -> Result<(), All
         PolicyKind::Server => "server",
     };
     let rights = policy.rights;
-    add(
+    writeln!(
         text,
-        format!(in alloc;
-            " {kind} {} {} grants {}\n",
-            rights.n, rights.t, policy.grants
-        )?,
+        " {kind} {} {} grants {}",
+        rights.n, rights.t, policy.grants
     )?;
     for address in policy.deny.as_slice() {
-        add(text, format!(in alloc; " deny {}\n", address.0)?)?;
+        writeln!(text, " deny {}", address.0)?;
     }
     for tag in policy.deny_tags.as_slice() {
-        add(text, format!(in alloc; " deny tag {tag}\n")?)?;
+        writeln!(text, " deny tag {tag}")?;
     }
     Ok(())
 }
 
-fn add_link(alloc: Global, text: &mut String, plan: &LinkPlan) -> Result<(), AllocError> {
-    add(
+fn add_link(text: &mut String, plan: &LinkPlan) -> Result<(), AllocError> {
+    write!(
         text,
-        format!(in alloc;
-            "link {} to {} delay {} tag {}",
-            plan.from, plan.to, plan.delay, plan.tag
-        )?,
+        "link {} to {} delay {} tag {}",
+        plan.from, plan.to, plan.delay, plan.tag
     )?;
-    add_limits(alloc, text, &plan.limits)
+    add_limits(text, &plan.limits)
 }
 
-fn add_limits(alloc: Global, text: &mut String, limits: &LinkLimits) -> Result<(), AllocError> {
-    add(
+fn add_limits(text: &mut String, limits: &LinkLimits) -> Result<(), AllocError> {
+    writeln!(
         text,
-        format!(in alloc;
-            " rate {} share {} burst {}\n",
-            limits.ns_per_byte, limits.share, limits.burst
-        )?,
+        " rate {} share {} burst {}",
+        limits.ns_per_byte, limits.share, limits.burst
     )?;
-    add_class(alloc, text, "request", &limits.request)?;
-    add_class(alloc, text, "regular", &limits.regular)?;
-    add(
+    add_class(text, "request", &limits.request)?;
+    add_class(text, "regular", &limits.regular)?;
+    writeln!(
         text,
-        format!(in alloc; "  legacy {} {}\n", limits.legacy_ring, limits.legacy_bytes)?,
+        "  legacy {} {}",
+        limits.legacy_ring, limits.legacy_bytes
     )
 }
 
-fn add_class(
-    alloc: Global,
-    text: &mut String,
-    class: &str,
-    limits: &DrrLimits,
-) -> Result<(), AllocError> {
-    add(
+fn add_class(text: &mut String, class: &str, limits: &DrrLimits) -> Result<(), AllocError> {
+    writeln!(
         text,
-        format!(in alloc;
-            "  {class} {} {} {} {} {} {}\n",
-            limits.queues,
-            limits.ring,
-            limits.queue_bytes,
-            limits.class_bytes,
-            limits.quantum,
-            limits.max
-        )?,
+        "  {class} {} {} {} {} {} {}",
+        limits.queues,
+        limits.ring,
+        limits.queue_bytes,
+        limits.class_bytes,
+        limits.quantum,
+        limits.max
     )
 }

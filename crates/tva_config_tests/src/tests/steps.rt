@@ -1,7 +1,5 @@
 // The steps across tables, and two faults in one text.
-
-/// Names and addresses.
-pub const NAMES: &str = r#"two routers of one name
+pub const CASES: &str = r#"two routers of one name
 ^ edge
 ^ (end)
 ^ [[router]]|name = "R1"|master = "000102030405060708090a0b0c0d0e0f101112131415161718191a1b1c1d1e1f"|slots = 8|
@@ -37,10 +35,9 @@ two hosts of one address
 ^ walk
 ^ 10.0.1.1
 ^ 10.0.0.1
-^ bad config: addresses host 1 address"#;
+^ bad config: addresses host 1 address
 
-/// Retry against margin.
-pub const RETRIES: &str = r#"retry one below a second and the margin
+retry one below a second and the margin
 ^ walk
 ^ policy = "server"
 ^ policy = "server"|retry_ns = 1000999999
@@ -62,10 +59,9 @@ retry by default with just its margin
 ^ walk
 ^ policy = "server"
 ^ policy = "server"|margin_ns = 1000000000
-^ config nodes=3 links=4 routes=2 slots=8"#;
+^ config nodes=3 links=4 routes=2 slots=8
 
-/// Ends of links.
-pub const ENDS: &str = r#"from is no node
+from is no node
 ^ walk
 ^ from = "A"
 ^ from = "C"
@@ -131,10 +127,9 @@ a host with one link to another host
 ^ walk
 ^ (end)
 ^ [[host]]|name = "C"|address = "10.0.2.1"|[[link]]|from = "C"|to = "A"|ns_per_byte = 10|delay_ns = 1000000|
-^ config nodes=4 links=5 routes=2 slots=8"#;
+^ config nodes=4 links=5 routes=2 slots=8
 
-/// Owners, links and prefixes of routes.
-pub const OWNERS: &str = r#"the owner is no node
+the owner is no node
 ^ walk
 ^ (end)
 ^ [[route]]|router = "R9"|prefix = "10.0.2.0/24"|via = "A"|
@@ -204,10 +199,9 @@ a bad via before a prefix twice in one route
 ^ walk
 ^ (end)
 ^ [[route]]|router = "R1"|prefix = "10.0.1.0/24"|via = "C"|
-^ bad config: via route 2 via"#;
+^ bad config: via route 2 via
 
-/// Sums.
-pub const SUMS: &str = r#"slots of all routers a million
+slots of all routers a million
 ^ edge
 ^ (end)
 ^ [[router]]|name = "R2"|master = "000102030405060708090a0b0c0d0e0f101112131415161718191a1b1c1d1e1f"|slots = 999992|
@@ -235,10 +229,9 @@ request queues alone past a million
 ^ walk
 ^ tag = 2
 ^ tag = 2|request_queues = 65536|request_ring = 65536
-^ bad config: rings link 0 -"#;
+^ bad config: rings link 0 -
 
-/// Two faults of neighbouring steps: the earlier step is told.
-pub const ORDER: &str = r#"no TOML before an unknown key
+no TOML before an unknown key
 ^ edge
 ^ max_events = 1000
 ^ max_events = 1000|x =

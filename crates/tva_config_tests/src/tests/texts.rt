@@ -1,7 +1,5 @@
-// Texts, and the keys of the top level.
-
-/// Good ones, and where a text is no TOML.
-pub const TEXTS: &str = r#"edge as it is
+// Texts, good ones and such as are no TOML, and the keys of the top level.
+pub const CASES: &str = r#"edge as it is
 ^ edge
 ^ config nodes=1 links=0 routes=0 slots=8
 
@@ -95,14 +93,37 @@ keys in another order and quoted
 ^ (nothing)
 ^ name = "R1"
 ^ "slots" = 8|'name' = 'R1'
-^ config nodes=1 links=0 routes=0 slots=8"#;
+^ config nodes=1 links=0 routes=0 slots=8
 
-/// The top level.
-pub const TOP: &str = r#"an unknown key at the top
+an unknown key at the top
 ^ edge
 ^ max_events = 1000
 ^ max_events = 1000|routers = 1
 ^ bad config: unknown top 0 -
+
+version 0
+^ edge
+^ max_events = 1000
+^ max_events = 1000|version = 0
+^ bad config: value top 0 version
+
+version 3
+^ edge
+^ max_events = 1000
+^ max_events = 1000|version = 3
+^ bad config: value top 0 version
+
+a version in quotes
+^ edge
+^ max_events = 1000
+^ max_events = 1000|version = "2"
+^ bad config: value top 0 version
+
+a version behind the number of events
+^ edge
+^ max_events = 1000
+^ max_events = 0|version = 0
+^ bad config: value top 0 max_events
 
 an unknown table
 ^ edge

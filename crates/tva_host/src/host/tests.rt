@@ -9,6 +9,7 @@ use std::process::Abort;
 use std::test::Fail;
 use tva_base::{
     Listed, Name, PolicyKind, PolicyPlan, Rights, ShapeKind, WhatKind, address, decimal,
+    seconds_max, units_max,
 };
 use tva_shim::{decode, encode, length};
 
@@ -79,9 +80,10 @@ fn plan_of(rt: &impl Abort, alloc: Global, line: &str) -> Result<HostPlan, Alloc
         .unwrap_or("")
         .split_once("/")
         .unwrap_or(("", ""));
+    let version = if line.starts_with("host2") { 2 } else { 1 };
     let rights = Rights {
-        n: number(Some(n), 1023) as u32,
-        t: number(Some(t), 63) as u8,
+        n: number(Some(n), u64::from(units_max(version))) as u32,
+        t: number(Some(t), u64::from(seconds_max(version))) as u8,
     };
     let grants = number(words.next(), 1_000_000) as u32;
     let deny = Listed::new(denied_address(rt, alloc, words.next())?);
@@ -92,6 +94,7 @@ fn plan_of(rt: &impl Abort, alloc: Global, line: &str) -> Result<HostPlan, Alloc
         nonce,
         margin: 1_000_000,
         retry: 2_000_000_000,
+        version,
         policy: PolicyPlan {
             kind,
             rights,
@@ -314,6 +317,6 @@ fn replays_of_one_host(rt: HostRuntime) -> Result<(), Fail> {
     for case in CASES.split("case ") {
         calls = calls.wrapping_add(play(&rt, rt.alloc(), case)?);
     }
-    assert_eq!(rt; calls, 104);
+    assert_eq!(rt; calls, 113);
     Ok(())
 }

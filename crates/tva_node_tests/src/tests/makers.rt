@@ -86,6 +86,7 @@ pub fn host(
         nonce: 1,
         margin: 1_000_000,
         retry: 2_000_000_000,
+        version: 1,
         policy: PolicyPlan {
             kind,
             rights: Rights { n: 32, t: 10 },

@@ -1,7 +1,7 @@
 // Budgets, notices and capabilities, with answers from outside. Times are in nanoseconds.
 use super::{Call, Case, ONE, Want};
 
-pub static BUDGETS: [Case; 10] = [
+pub static BUDGETS: [Case; 11] = [
     Case {
         name: "T too short to be used at all",
         margin: 1_000_000,
@@ -53,6 +53,25 @@ pub static BUDGETS: [Case; 10] = [
             Call::Prepare(1, ONE, 7, 0xa, Want::Legacy),
             Call::Prepare(1, ONE, 6, 0xa, Want::NonceOnly(0xa)),
             Call::Prepare(1, ONE, 0, 0xa, Want::Legacy),
+        ],
+    },
+    Case {
+        name: "version 1 takes no greater rights",
+        margin: 1_000_000,
+        retry: 2_000_000_000,
+        calls: &[
+            Call::Prepare(0, ONE, 0, 0xa, Want::Request),
+            Call::Granted(ONE, 1_024, 63, &[0x500_1122_3344_5566], false),
+            Call::Granted(ONE, 1_023, 64, &[0x500_1122_3344_5566], false),
+            Call::Prepare(0, ONE, 0, 0xa, Want::Legacy),
+            Call::Granted(ONE, 1_023, 63, &[0x500_1122_3344_5566], true),
+            Call::Prepare(
+                0,
+                ONE,
+                0,
+                0xa,
+                Want::List(0xa, 1_023, 63, &[0x500_1122_3344_5566]),
+            ),
         ],
     },
     Case {

@@ -97,7 +97,7 @@ fn before(contacts: &[Contact], place: usize) -> &[Contact] {
 }
 
 /// Whether there was an ask, and no grant was taken after the last one.
-pub fn awaits(contacts: &[Contact]) -> bool {
+fn awaits(contacts: &[Contact]) -> bool {
     match contacts.iter().rposition(|contact| contact.asks()) {
         Some(place) => !after(contacts, place)
             .iter()
@@ -195,15 +195,22 @@ impl Taking<'_> {
     }
 }
 
-/// The rules of a sender, in nanoseconds.
+/// The rules of a sender, in nanoseconds, and the version of its shims.
 #[derive(Clone, Copy)]
 pub struct Rules {
     pub margin: u64,
     pub retry: u64,
+    pub version: u8,
 }
 
-fn list_length(caps: usize, body: u32) -> u128 {
-    32 + 8 * caps as u128 + u128::from(body)
+fn list_length(rules: Rules, caps: usize, body: u32) -> u128 {
+    let fixed: u128 = if rules.version == 1 { 32 } else { 34 };
+    fixed + 8 * caps as u128 + u128::from(body)
+}
+
+/// Whether a grant of the rights is taken.
+pub fn takes(rules: Rules, contacts: &[Contact], rights: Rights) -> bool {
+    awaits(contacts) && (rules.version == 2 || rights.n < 1024 && rights.t < 64)
 }
 
 /// The first row that holds.
@@ -221,7 +228,7 @@ pub fn shape_of(rules: Rules, contacts: &[Contact], now: u64, body: u32, offered
         return bare;
     };
     let nonce = grant.nonce(offered);
-    let whole = list_length(grant.caps, body);
+    let whole = list_length(rules, grant.caps, body);
     let fits = grant.fits(rules.margin, now, whole);
     let is_alive = u128::from(now) + u128::from(rules.margin) < grant.life();
     if may_ask && fits && grant.is_half_used(now, whole) {
@@ -236,10 +243,10 @@ pub fn shape_of(rules: Rules, contacts: &[Contact], now: u64, body: u32, offered
 }
 
 /// The length of a packet that shows so much, in bytes.
-pub fn length_of(shown: Shown, body: u32) -> u128 {
+pub fn length_of(rules: Rules, shown: Shown, body: u32) -> u128 {
     match shown {
         Shown::Request => 23 + u128::from(body),
-        Shown::List(_, _, caps) | Shown::Renewal(_, _, caps) => list_length(caps, body),
+        Shown::List(_, _, caps) | Shown::Renewal(_, _, caps) => list_length(rules, caps, body),
         Shown::NonceOnly(_) => 28 + u128::from(body),
         Shown::Legacy => 0,
     }

@@ -2,7 +2,7 @@
 ghost use Rattle.std.specs.Prelude.{◌≤◌, ◌<◌};
 
 use super::caps_of;
-use super::plain::{Contact, Rules, Shown, awaits, length_of, of_peer, shape_of};
+use super::plain::{Contact, Rules, Shown, length_of, of_peer, shape_of, takes};
 use crate::{Sender, Shape};
 use std::alloc::{AllocError, Global};
 use std::process::Abort;
@@ -14,12 +14,13 @@ pub struct Run {
     rules: Rules,
 }
 
-pub static RUNS: [Run; 4] = [
+pub static RUNS: [Run; 5] = [
     Run {
         seed: 1,
         rules: Rules {
             margin: 0,
             retry: 1_000_000_000,
+            version: 1,
         },
     },
     Run {
@@ -27,6 +28,7 @@ pub static RUNS: [Run; 4] = [
         rules: Rules {
             margin: 1_000_000,
             retry: 2_000_000_000,
+            version: 1,
         },
     },
     Run {
@@ -34,6 +36,7 @@ pub static RUNS: [Run; 4] = [
         rules: Rules {
             margin: 200_000_000,
             retry: 1_200_000_000,
+            version: 1,
         },
     },
     Run {
@@ -41,15 +44,24 @@ pub static RUNS: [Run; 4] = [
         rules: Rules {
             margin: 1_000_000,
             retry: 5_000_000_000,
+            version: 1,
+        },
+    },
+    Run {
+        seed: 5,
+        rules: Rules {
+            margin: 1_000_000,
+            retry: 2_000_000_000,
+            version: 2,
         },
     },
 ];
 
 const CALLS: u32 = 400;
 
-static UNITS: [u32; 6] = [1, 2, 4, 8, 32, 1023];
+static UNITS: [u32; 7] = [1, 2, 4, 8, 32, 1023, 1_048_575];
 
-static SECONDS: [u8; 4] = [3, 10, 30, 63];
+static SECONDS: [u8; 5] = [3, 10, 30, 63, 127];
 
 static STEPS: [u64; 5] = [0, 1, 1_000_000, 30_000_000, 600_000_000];
 
@@ -126,7 +138,8 @@ pub fn compare<R: Abort>(rt: &R, alloc: Global, run: &Run) -> Result<(), AllocEr
     assert!(rt; rules.margin <= 1_000_000_000_000);
     assert!(rt; rules.retry >= 1_000_000_000 + rules.margin);
     assert!(rt; rules.retry <= 10_000_000_000_000);
-    let mut sender = Sender::build(alloc, rules.margin, rules.retry);
+    assert!(rt; rules.version >= 1 && rules.version <= 2);
+    let mut sender = Sender::build(alloc, rules.margin, rules.retry, rules.version);
     let mut past: Vec<(u32, Contact)> = Vec::new(alloc);
     let mut state = seed;
     let mut last = 0u64;
@@ -143,7 +156,7 @@ pub fn compare<R: Abort>(rt: &R, alloc: Global, run: &Run) -> Result<(), AllocEr
                 let taken = sender.granted(Address(peer), rights, &caps);
                 assert_eq!(rt;
                     taken,
-                    awaits(contacts.as_slice()),
+                    takes(rules, contacts.as_slice(), rights),
                     "seed {seed}, call {call}"
                 );
                 if taken {
@@ -158,7 +171,10 @@ pub fn compare<R: Abort>(rt: &R, alloc: Global, run: &Run) -> Result<(), AllocEr
                 sender.reserve(1)?;
                 let shape = shown(&sender.prepare(Time(last), Address(peer), body, nonce));
                 assert_eq!(rt; shape, wanted, "seed {seed}, call {call}");
-                past.push((peer, Contact::Prepared(last, shape, length_of(shape, body))))?;
+                past.push((
+                    peer,
+                    Contact::Prepared(last, shape, length_of(rules, shape, body)),
+                ))?;
             }
         }
     }

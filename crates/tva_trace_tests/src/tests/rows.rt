@@ -11,7 +11,7 @@ use tva_shim::{Carried, Kind, ReturnInfo, Shim, Shown};
 use tva_trace::{Row, RowWhat, read_trace};
 
 // At a router: time, node, source and destination, payload, and what the packet carries.
-const AT_ROUTERS: [(&str, &str); 15] = [
+const AT_ROUTERS: [(&str, &str); 19] = [
     (
         "7,R1,list,10.0.0.1,10.0.1.1,472,00000000000a/1/2/1/R1@5;0123456789ABCDEF",
         "7 0 0a000001>0a000101 472 demoted=false protocol=6 list nonce=10 pointer=1 n=1 t=2 05e5a8e67c5a90d3 0123456789abcdef",
@@ -19,6 +19,22 @@ const AT_ROUTERS: [(&str, &str); 15] = [
     (
         "0,R1,list,10.0.0.1,10.0.1.1,0,ffffffffffff/1023/63/0/R1@5",
         "0 0 0a000001>0a000101 0 demoted=false protocol=6 list nonce=281474976710655 pointer=0 n=1023 t=63 0530dcc77f269ec5",
+    ),
+    (
+        "0,R1,list,10.0.0.1,10.0.1.1,0,00000000000a/1024/64/0/R1@5",
+        "0 0 0a000001>0a000101 0 demoted=false protocol=6 version=2 list nonce=10 pointer=0 n=1024 t=64 050348067d6057ff",
+    ),
+    (
+        "0,R1,renew,10.0.0.1,10.0.1.1,0,00000000000a/1023/64/0/R1@5",
+        "0 0 0a000001>0a000101 0 demoted=false protocol=6 version=2 renewal nonce=10 pointer=0 n=1023 t=64 05533ff4e740d03b",
+    ),
+    (
+        "0,R1,list,10.0.0.1,10.0.1.1,0,00000000000a/1024/63/0/R1@5",
+        "0 0 0a000001>0a000101 0 demoted=false protocol=6 version=2 list nonce=10 pointer=0 n=1024 t=63 05413cc75b908ce9",
+    ),
+    (
+        "0,R1,raw,10.0.0.1,10.0.1.1,0,200600",
+        "0 0 0a000001>0a000101 0 demoted=false protocol=6 version=2 request",
     ),
     (
         "0,R1,list,10.0.0.1,10.0.1.1,0,000000000000/0/0/0/",
@@ -120,6 +136,9 @@ fn put_carried(alloc: Global, text: &mut String, carried: &Carried) -> Result<()
 fn put_shim(alloc: Global, text: &mut String, shim: &Shim) -> Result<(), AllocError> {
     let (demoted, protocol) = (shim.demoted, shim.protocol);
     text.push_str(format!(in alloc; " demoted={demoted} protocol={protocol}")?.as_str())?;
+    if shim.version != 1 {
+        text.push_str(format!(in alloc; " version={}", shim.version)?.as_str())?;
+    }
     match &shim.kind {
         Kind::Request(entries) => {
             text.push_str(" request")?;

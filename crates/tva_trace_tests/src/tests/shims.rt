@@ -3,7 +3,7 @@ use std::test::Fail;
 use tva_trace::shim_text;
 
 // The bytes in hexadecimal digits, and the text.
-const SHIMS: [(&str, &str); 50] = [
+const SHIMS: [(&str, &str); 54] = [
     ("", "malformed"),
     ("10", "malformed"),
     ("1006", "malformed"),
@@ -126,7 +126,20 @@ const SHIMS: [(&str, &str); 50] = [
         "malformed",
     ),
     ("000600", "malformed"),
-    ("200600", "malformed"),
+    (
+        "200600",
+        "v2 request demoted=0 protocol=6 entries=- return=-",
+    ),
+    ("300600", "malformed"),
+    (
+        "210600000000000a0100000200400500112233445566",
+        "v2 list demoted=0 protocol=6 nonce=00000000000a pointer=0 n=1024 t=64 caps=0500112233445566 return=-",
+    ),
+    ("210600000000000a0100080200400500112233445566", "malformed"),
+    (
+        "240600020007ffffff",
+        "v2 request demoted=0 protocol=6 entries=- return=grant n=1048575 t=127 caps=-",
+    ),
     ("f00600", "malformed"),
     (
         "1F06ABCDEFABCDEF0000080A01",

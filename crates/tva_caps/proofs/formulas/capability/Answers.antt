@@ -6,5 +6,5 @@ use Rattle.tva_caps.proofs.formulas.capability.Goals as goal
 pub returns : goal.returns
 unfolding capability_of
 returns c =
-    let held = c.update-3.ensures _ (c.update-2.ensures _ (c.update.ensures _ c.new-hasher.ensures)) in
-    c.stamped_value.ensures _ held ∙ rw (c.write_u64.ensures, c.write_u16.ensures, c.stamp_shown.ensures) refl
+    let held = c.update-2.ensures _ (c.hash_units.ensures _ (c.update.ensures _ c.new-hasher.ensures)) in
+    c.stamped_value.ensures _ held ∙ rw (c.write_u64.ensures, c.stamp_shown.ensures) refl

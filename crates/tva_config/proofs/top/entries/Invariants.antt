@@ -6,6 +6,6 @@ use Rattle.tva_config.proofs.top.entries.Given as goal
 
 abbrev pub invariant-loop-i : goal.invariant-loop-i
 invariant-loop-i g l = record {
-  read : Continues (entry_step l.kind g.T.Entry.entry_of) l.read.items (map (λ t. table_view t.now) (drop l.i l.tables)) (map (λ t. table_view t.now) l.tables);
+  read : Continues (entry_step l.kind (g.T.Entry.entry_of l.version)) l.read.items (map (λ t. table_view t.now) (drop l.i l.tables)) (map (λ t. table_view t.now) l.tables);
   count : length l.read.items ≡ l.i;
 }

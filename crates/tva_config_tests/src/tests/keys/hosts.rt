@@ -145,6 +145,38 @@ host with t = 64
 ^ policy = "server"|t = 64
 ^ bad config: value host 1 t
 
+a host of version 2 with n = 1048575 and t = 127
+^ walk
+^ max_events = 1000
+^ max_events = 1000|version = 2
+^ policy = "server"
+^ policy = "server"|n = 1048575|t = 127
+^ config nodes=3 links=4 routes=2 slots=8
+
+a host of version 2 with n = 1048576
+^ walk
+^ max_events = 1000
+^ max_events = 1000|version = 2
+^ policy = "server"
+^ policy = "server"|n = 1048576
+^ bad config: value host 1 n
+
+a host of version 2 with t = 128
+^ walk
+^ max_events = 1000
+^ max_events = 1000|version = 2
+^ policy = "server"
+^ policy = "server"|t = 128
+^ bad config: value host 1 t
+
+a host of version 1 with n = 1024
+^ walk
+^ max_events = 1000
+^ max_events = 1000|version = 1
+^ policy = "server"
+^ policy = "server"|n = 1024
+^ bad config: value host 1 n
+
 host with grants = -1
 ^ walk
 ^ policy = "server"

@@ -7,13 +7,13 @@ use Rattle.tva_host.proofs.Lengths.{made-length, intended-length}
 use Rattle.tva_host.proofs.laws.lengths_are_counted.Goals as goal
 
 pub returns-clause-shape : goal.returns-clause-shape
-returns-clause-shape c shape back p counted carries = made-length shape back p counted carries
+returns-clause-shape c version shape back p counted carries = made-length version shape back p counted carries
 
 pub returns-clause-intended : goal.returns-clause-intended
 returns-clause-intended c node plan h now dst payload counted = intended-length node plan h now dst payload counted
 
 pub returns-clause-reply : goal.returns-clause-reply
 returns-clause-reply c node plan h now src back counted =
-    let shape = next_shape plan h now src (return_size back) in
-    let size : 0 + return_size back ≡ return_size back = omega arith in
-    made-length shape back (next_made node plan h src 0 (carried.Shim (shim_of shape back)) shape).packet counted refl ∙ ap (length_of shape) size
+    let shape = next_shape plan h now src (return_size plan.version back) in
+    let size : 0 + return_size plan.version back ≡ return_size plan.version back = omega arith in
+    made-length plan.version shape back (next_made node plan h src 0 (carried.Shim (shim_of plan.version shape back)) shape).packet counted refl ∙ ap (length_of plan.version shape) size

@@ -3,15 +3,23 @@ use Rattle.std.specs.Option.{is_some}
 use Rattle.tva_policy.specs.Grants.{Decided, decision}
 use Rattle.tva_host.specs.Receiving.{after_answer}
 use Rattle.tva_host.specs.Stands.{HostData, host_data, Keeps}
-use Rattle.tva_host.proofs.Standing.{noted, rights-fit, has-deed}
+use Rattle.tva_host.proofs.Standing.{noted, rights-fit, some-fit, has-deed}
 use Rattle.tva_host.proofs.Hearing.{keeps-answer}
 use Rattle.tva_host.proofs.host.Host.answer.Goals as goal
 
 pub granted-requires : goal.granted-requires
 granted-requires c =
     let has = c.self.invariant in
-    rights-fit c.self.inside.plan.policy has.history.deeds c.args.src c.as_slice.result.now c.in_ok-rights.rights has.valid.rights
-    (c.in_ok-rights.ensures.answer c.self.inside.plan.policy has.history.deeds has.keeps.policy)
+    some-fit c.self.inside.plan.version c.in_ok-rights.rights
+    (rights-fit c.self.inside.plan.version c.self.inside.plan.policy has.history.deeds c.args.src c.as_slice.result.now c.in_ok-rights.rights has.valid.rights
+    (c.in_ok-rights.ensures.answer c.self.inside.plan.policy has.history.deeds has.keeps.policy))
+
+pub returns-clause-fits : goal.returns-clause-fits
+returns-clause-fits c =
+    let has = c.self.invariant in
+    let fits = rights-fit c.self.inside.plan.version c.self.inside.plan.policy has.history.deeds c.args.src c.as_slice.result.now c.in_ok-rights.rights has.valid.rights
+    (c.in_ok-rights.ensures.answer c.self.inside.plan.policy has.history.deeds has.keeps.policy) in
+    rw (← c.self.view_is) (c.granted.ensures.fits c.self.inside.plan.version fits)
 
 pub invariant_of-self-2 : goal.invariant_of-self-2
 invariant_of-self-2 c = has-deed _ c.decide.new.self (Decided c.args.src (is_some c.in_ok-rights.rights)) c.self.invariant c.in_ok-rights.ensures.stands

@@ -16,6 +16,7 @@ invariant_of-result c =
       offered = first-nonce c.args.plan.now.nonce c.requires.nonce;
       margin = ap (λ (b : Book). b.margin) c.build-2.ensures.book;
       retry = ap (λ (b : Book). b.retry) c.build-2.ensures.book;
+      version = ap (λ (b : Book). b.version) c.build-2.ensures.book;
       policy = c.in_ok-build.ensures;
       sender = c.build-2.ensures.stands;
     })

@@ -1,8 +1,8 @@
-use Rattle.std.proofs.Common.{ap, subst, ◌∷◌, [], cond}
+use Rattle.std.proofs.Common.{ℕ, ap, subst, ◌∙◌, ◌∷◌, [], cond}
 use Rattle.tva_shim.specs.declared.kinds.ReturnInfo.{ReturnInfo}
 use Rattle.tva_shim.specs.Shims.{IsReturn}
-use Rattle.tva_sender.specs.Contacts.{Taken, Notice}
-use Rattle.tva_sender.specs.Book.{Book}
+use Rattle.tva_sender.specs.Contacts.{Taken, Notice, takes}
+use Rattle.tva_sender.specs.Book.{Book, of_peer}
 use Rattle.tva_host.proofs.Standing.{showable-push, showable-granted, has-book}
 use Rattle.tva_host.proofs.host.Host.hear.Goals as goal
 
@@ -10,13 +10,15 @@ pub invariant_of-self : goal.invariant_of-self
 invariant_of-self c =
     let has = c.self.invariant in
     has-book _ c.demoted.new.self ((c.args.src, Notice) ∷ []) has (c.demoted.ensures.stands has.history.contacts has.keeps.sender)
-    (showable-push has.history.contacts c.args.src Notice has.showable tt)
-    (ap (λ (b : Book). b.margin) c.demoted.ensures.rest) (ap (λ (b : Book). b.retry) c.demoted.ensures.rest) (ap (λ (b : Book). b.last) c.demoted.ensures.rest)
+    (showable-push c.self.inside.plan.version has.history.contacts c.args.src Notice has.showable tt)
+    (ap (λ (b : Book). b.margin) c.demoted.ensures.rest) (ap (λ (b : Book). b.retry) c.demoted.ensures.rest) (ap (λ (b : Book). b.version) c.demoted.ensures.rest) (ap (λ (b : Book). b.last) c.demoted.ensures.rest)
 
 pub invariant_of-self-in-Grant : goal.invariant_of-self-in-Grant
 invariant_of-self-in-Grant c =
     let has = c.self.invariant in
     has-book _ c.granted-is_taken.new.self (cond c.granted-is_taken.result ((c.args.src, Taken c.in-Grant.rights c.in-Grant.caps) ∷ []) []) has
     (c.granted-is_taken.ensures.stands has.history.contacts has.keeps.sender)
-    (showable-granted has.history.contacts c.args.src c.in-Grant.rights c.in-Grant.caps c.granted-is_taken.result has.showable (subst (λ (b : ReturnInfo). IsReturn b) c.in-Grant.is c.requires))
-    (ap (λ (b : Book). b.margin) c.granted-is_taken.ensures.rest) (ap (λ (b : Book). b.retry) c.granted-is_taken.ensures.rest) (ap (λ (b : Book). b.last) c.granted-is_taken.ensures.rest)
+    (showable-granted c.self.inside.plan.version has.valid.version has.history.contacts has.history.contacts c.args.src c.in-Grant.rights c.in-Grant.caps c.granted-is_taken.result
+    (c.granted-is_taken.ensures.taken has.history.contacts has.keeps.sender ∙ ap (λ (v : ℕ). takes v (of_peer c.args.src has.history.contacts) c.in-Grant.rights) has.keeps.version)
+    has.showable (subst (λ (b : ReturnInfo). IsReturn 2 b) c.in-Grant.is c.requires))
+    (ap (λ (b : Book). b.margin) c.granted-is_taken.ensures.rest) (ap (λ (b : Book). b.retry) c.granted-is_taken.ensures.rest) (ap (λ (b : Book). b.version) c.granted-is_taken.ensures.rest) (ap (λ (b : Book). b.last) c.granted-is_taken.ensures.rest)

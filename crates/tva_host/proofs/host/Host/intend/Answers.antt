@@ -1,6 +1,7 @@
-use Rattle.std.proofs.Common.{◌≡◌, ap, sym, subst, ◌∙◌, arith}
+use Rattle.std.proofs.Common.{◌≡◌, ℕ, ap, sym, subst, ◌∙◌, arith}
 use Rattle.tva_policy.specs.Grants.{Sent}
 use Rattle.tva_host.specs.History.{with_deed, with_prepared}
+use Rattle.tva_host.specs.Sending.{carried_by}
 use Rattle.tva_host.specs.Calls.{Intended, history_of}
 use Rattle.tva_host.specs.Stands.{HostData, host_data, Keeps}
 use Rattle.tva_host.proofs.Standing.{keeps-timed}
@@ -20,10 +21,10 @@ returns-clause-made c calls s =
     let plan : c.note.new.self.plan ≡ told.plan = ap (λ (w : HostData). w.plan) c.in_ok-note.ensures.rest ∙ ap (λ (w : HostData). w.plan) c.self.view_is in
     let node : c.note.new.self.node ≡ told.node = ap (λ (w : HostData). w.node) c.in_ok-note.ensures.rest ∙ ap (λ (w : HostData). w.node) c.self.view_is in
     made-intended told.node told.plan c.note.new.self.plan h c.args.now.0 c.args.dst c.args.payload c.from.result c.prepare-shape.result c.carried_by.result _
-    plan c.from.ensures (c.prepare-shape.ensures.shape (with_deed (Sent c.args.dst) h) noted) c.carried_by.ensures.carried
+    plan c.from.ensures (c.prepare-shape.ensures.shape (with_deed (Sent c.args.dst) h) noted) (c.carried_by.ensures.carried ∙ ap (λ (k : ℕ). carried_by k c.prepare-shape.result) c.version-version.ensures.version)
     (made-next told.node told.plan h c.args.dst c.args.payload c.prepare-shape.result c.prepare-shape.new.self.node c.prepare-shape.new.self.plan c.flow_to-flow.result c.carried_by.result c.number-packet.result c.kind_shown_of-kind.result
     (ap (λ (w : HostData). w.node) c.prepare-shape.ensures.rest ∙ node) (ap (λ (w : HostData). w.plan) c.prepare-shape.ensures.rest ∙ plan) c.flow_to-flow.ensures
-    (c.number-packet.ensures.packet (with_prepared c.args.now.0 c.args.dst c.prepare-shape.result c.from.result (with_deed (Sent c.args.dst) h)) prepared)
+    (c.number-packet.ensures.packet (with_prepared c.note.new.self.plan.version c.args.now.0 c.args.dst c.prepare-shape.result c.from.result (with_deed (Sent c.args.dst) h)) prepared)
     c.kind_shown_of-kind.ensures)
 
 pub returns-clause-stands : goal.returns-clause-stands
@@ -43,4 +44,4 @@ returns-clause-stands c calls s =
     (omega (arith, s.past, c.requires.time), tt) (omega (arith, last))
     (keeps-intended told.plan c.note.new.self.plan done h c.args.now.0 c.args.dst c.args.payload c.from.result c.prepare-shape.result plan c.from.ensures
     (c.prepare-shape.ensures.shape (with_deed (Sent c.args.dst) h) noted)
-    (c.number-packet.ensures.keeps (with_prepared c.args.now.0 c.args.dst c.prepare-shape.result c.from.result (with_deed (Sent c.args.dst) h)) prepared))
+    (c.number-packet.ensures.keeps (with_prepared c.note.new.self.plan.version c.args.now.0 c.args.dst c.prepare-shape.result c.from.result (with_deed (Sent c.args.dst) h)) prepared))

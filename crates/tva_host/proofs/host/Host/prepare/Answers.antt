@@ -1,13 +1,23 @@
-use Rattle.std.proofs.Common.{ap, arith}
-use Rattle.tva_sender.specs.Book.{Book}
+use Rattle.std.proofs.Common.{ℕ, ◌∷◌, [], ◌++◌, ap, sym, subst, arith}
+use Rattle.tva_sender.specs.Contacts.{Prepared}
+use Rattle.tva_sender.specs.Shapes.{length_of}
+use Rattle.tva_sender.specs.Showable.{IsShowable, AreShowable}
+use Rattle.tva_sender.specs.Book.{Book, StandsFor}
 use Rattle.tva_host.specs.Stands.{HostData}
 use Rattle.tva_host.proofs.Standing.{has-prepared}
 use Rattle.tva_host.proofs.host.Host.prepare.Goals as goal
 
 pub invariant_of-self : goal.invariant_of-self
 invariant_of-self c =
-    has-prepared _ c.prepare.new.self c.args.now.0 c.args.dst c.prepare.result c.args.body c.self.invariant
-    (c.prepare.ensures.stands c.self.invariant.history.contacts c.self.invariant.keeps.sender)
-    (c.prepare.ensures.showable c.self.invariant.history.contacts c.self.invariant.keeps.sender c.self.invariant.showable)
-    (ap (λ (b : Book). b.margin) c.prepare.ensures.rest) (ap (λ (b : Book). b.retry) c.prepare.ensures.rest)
+    let has = c.self.invariant in
+    let h = has.history.contacts in
+    let same = has.keeps.version in
+    let stands =
+    subst (λ (v : ℕ). StandsFor c.prepare.new.self (h ++ (c.args.dst, Prepared c.args.now.0 c.prepare.result (length_of v c.prepare.result c.args.body)) ∷ [])) same
+    (c.prepare.ensures.stands h has.keeps.sender) in
+    let showable =
+    subst (λ (v : ℕ). IsShowable v c.prepare.result) same
+    (c.prepare.ensures.showable h has.keeps.sender (subst (λ (v : ℕ). AreShowable v h) (sym same) has.showable)) in
+    has-prepared _ c.prepare.new.self c.args.now.0 c.args.dst c.prepare.result c.args.body has stands showable
+    (ap (λ (b : Book). b.margin) c.prepare.ensures.rest) (ap (λ (b : Book). b.retry) c.prepare.ensures.rest) (ap (λ (b : Book). b.version) c.prepare.ensures.rest)
     (omega (arith, c.prepare.ensures.last, c.requires.time, ap (λ (v : HostData). v.last) c.self.view_is))

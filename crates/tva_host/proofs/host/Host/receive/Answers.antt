@@ -4,7 +4,8 @@ use Rattle.tva_base.specs.declared.plan.HostPlan.{HostPlan}
 use Rattle.tva_shim.specs.declared.kinds.ReturnInfo.{ReturnInfo}
 use Rattle.tva_shim.specs.Packets.{PacketData}
 use Rattle.tva_host.specs.declared.made.Receipt.{Receipt}
-use Rattle.tva_host.specs.Receiving.{claim_in, answer_to, after_answer, reply_of, after_reply, before_reply, receipt_of, after_receipt}
+use Rattle.tva_shim.specs.Shows.{back_in}
+use Rattle.tva_host.specs.Receiving.{after_back, became_of, claim_in, answer_to, after_answer, reply_of, after_reply, before_reply, receipt_of, after_receipt}
 use Rattle.tva_host.specs.Calls.{Received, history_of}
 use Rattle.tva_host.specs.Stands.{HostData, host_data, Keeps}
 use Rattle.tva_host.proofs.Standing.{timed, keeps-timed}
@@ -52,13 +53,16 @@ returns-clause-receipt c calls s =
     let heard_plan : c.take_back-back.new.self.plan ≡ told.plan = ap (λ (w : HostData). w.plan) c.take_back-back.ensures.rest ∙ ap (λ (w : HostData). w.plan) c.in_ok-answer.ensures.rest ∙ plan in
     let heard_node : c.take_back-back.new.self.node ≡ told.node = ap (λ (w : HostData). w.node) c.take_back-back.ensures.rest ∙ ap (λ (w : HostData). w.node) c.in_ok-answer.ensures.rest ∙ node in
     let decided = subst (λ (q : HostPlan). Keeps c.answer.new.self (after_answer q src carries h)) plan (c.in_ok-answer.ensures.keeps h roomy) in
-    let heard = c.take_back-back.ensures.keeps (after_answer told.plan src carries h) decided in
+    let asked_plan : c.answer.new.self.plan ≡ told.plan = ap (λ (w : HostData). w.plan) c.in_ok-answer.ensures.rest ∙ plan in
+    let heard = subst (λ (q : HostPlan). Keeps c.take_back-back.new.self (after_back q.version src (back_in carries) (after_answer told.plan src carries h))) asked_plan
+    (c.take_back-back.ensures.keeps (after_answer told.plan src carries h) decided) in
     let replied = c.reply-reply.ensures.reply (before_reply told.plan src carries h) heard in
     let receipt : Receipt = record { what = c.what_of.result; back = c.take_back-back.result; reply = c.reply-reply.result } in
     subst (λ (z : PacketData). receipt ≡ receipt_of told.node told.plan h c.args.now.0 z) c.packet.view_is
     (receipt-received told.node told.plan h c.args.now.0 src carries c.what_of.result c.take_back-back.result c.in_ok-answer.answer c.reply-reply.result
     c.what_of.ensures
-    (c.take_back-back.ensures.became (after_answer told.plan src carries h) decided)
+    (c.take_back-back.ensures.became (after_answer told.plan src carries h) decided
+    ∙ ap (λ (q : HostPlan). became_of q.version h.contacts src (back_in carries)) asked_plan)
     (c.in_ok-answer.ensures.answer h roomy ∙ ap (λ (q : HostPlan). answer_to q h.deeds src carries (claim_in carries)) plan)
     (replied ∙ ap (λ n. reply_of n c.take_back-back.new.self.plan (before_reply told.plan src carries h) c.args.now.0 src c.in_ok-answer.answer) heard_node
     ∙ ap (λ (q : HostPlan). reply_of told.node q (before_reply told.plan src carries h) c.args.now.0 src c.in_ok-answer.answer) heard_plan)
@@ -80,7 +84,9 @@ returns-clause-stands c calls s =
     let plan : c.make_room.new.self.plan ≡ told.plan = ap (λ (w : HostData). w.plan) c.in_ok-make_room.ensures.rest ∙ ap (λ (w : HostData). w.plan) c.self.view_is in
     let heard_plan : c.take_back-back.new.self.plan ≡ told.plan = ap (λ (w : HostData). w.plan) c.take_back-back.ensures.rest ∙ ap (λ (w : HostData). w.plan) c.in_ok-answer.ensures.rest ∙ plan in
     let decided = subst (λ (q : HostPlan). Keeps c.answer.new.self (after_answer q src carries h)) plan (c.in_ok-answer.ensures.keeps h roomy) in
-    let heard = c.take_back-back.ensures.keeps (after_answer told.plan src carries h) decided in
+    let asked_plan : c.answer.new.self.plan ≡ told.plan = ap (λ (w : HostData). w.plan) c.in_ok-answer.ensures.rest ∙ plan in
+    let heard = subst (λ (q : HostPlan). Keeps c.take_back-back.new.self (after_back q.version src (back_in carries) (after_answer told.plan src carries h))) asked_plan
+    (c.take_back-back.ensures.keeps (after_answer told.plan src carries h) decided) in
     let answers = c.in_ok-answer.ensures.answer h roomy ∙ ap (λ (q : HostPlan). answer_to q h.deeds src carries (claim_in carries)) plan in
     let replied = subst (λ (q : HostPlan). Keeps done (after_reply q c.args.now.0 src c.in_ok-answer.answer (before_reply told.plan src carries h))) heard_plan
     (c.reply-reply.ensures.keeps (before_reply told.plan src carries h) heard) in

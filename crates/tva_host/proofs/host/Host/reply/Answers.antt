@@ -1,8 +1,9 @@
-use Rattle.std.proofs.Common.{◌∙◌, ap}
+use Rattle.std.proofs.Common.{ℕ, ◌∙◌, ap}
 use Rattle.tva_shim.specs.declared.packets.Carried.TheVariants as carried
 use Rattle.tva_shim.specs.Shims.{ShimData}
 use Rattle.tva_host.specs.History.{with_prepared}
-use Rattle.tva_host.specs.Sending.{next_made}
+use Rattle.tva_shim.specs.Layout.{return_size}
+use Rattle.tva_host.specs.Sending.{next_made, shim_of}
 use Rattle.tva_host.specs.Stands.{HostData}
 use Rattle.tva_host.proofs.Making.{made-next, reply-made, keeps-reply}
 use Rattle.tva_host.proofs.host.Host.reply.Goals as goal
@@ -12,16 +13,17 @@ returns-clause-reply c h k =
     let v = c.args.self.now in
     let shape = c.prepare-shape.ensures.shape h k in
     let same = c.prepare-shape.ensures.rest in
+    let known = c.version-version.ensures.version in
     reply-made v.node v.plan h c.args.now.0 c.args.src c.args.answer c.in_ok-back.back c.return_size.result c.prepare-shape.result _
-    c.in_ok-back.was c.return_size.ensures.bytes shape
+    c.in_ok-back.was (c.return_size.ensures.bytes ∙ ap (λ (k : ℕ). return_size k c.in_ok-back.back) known) shape
     (made-next v.node v.plan h c.args.src 0 c.prepare-shape.result c.prepare-shape.new.self.node c.prepare-shape.new.self.plan c.flow_to-flow.result (carried.Shim c.shim_of.result) c.number-packet.result c.kind_shown_of-kind.result
     (ap (λ (w : HostData). w.node) same) (ap (λ (w : HostData). w.plan) same) c.flow_to-flow.ensures
-    (c.number-packet.ensures.packet (with_prepared c.args.now.0 c.args.src c.prepare-shape.result c.return_size.result h) (c.prepare-shape.ensures.keeps h k))
+    (c.number-packet.ensures.packet (with_prepared c.args.self.now.plan.version c.args.now.0 c.args.src c.prepare-shape.result c.return_size.result h) (c.prepare-shape.ensures.keeps h k))
     c.kind_shown_of-kind.ensures
-    ∙ ap (λ (z : ShimData). next_made v.node v.plan h c.args.src 0 (carried.Shim z) c.prepare-shape.result) c.shim_of.ensures)
+    ∙ ap (λ (z : ShimData). next_made v.node v.plan h c.args.src 0 (carried.Shim z) c.prepare-shape.result) (c.shim_of.ensures ∙ ap (λ (k : ℕ). shim_of k c.prepare-shape.result c.in_ok-back.back) known))
 
 pub returns-clause-keeps : goal.returns-clause-keeps
 returns-clause-keeps c h k =
     keeps-reply c.args.self.now.plan c.number-packet.new.self h c.args.now.0 c.args.src c.args.answer c.in_ok-back.back c.return_size.result c.prepare-shape.result
-    c.in_ok-back.was c.return_size.ensures.bytes (c.prepare-shape.ensures.shape h k)
-    (c.number-packet.ensures.keeps (with_prepared c.args.now.0 c.args.src c.prepare-shape.result c.return_size.result h) (c.prepare-shape.ensures.keeps h k))
+    c.in_ok-back.was (c.return_size.ensures.bytes ∙ ap (λ (k : ℕ). return_size k c.in_ok-back.back) c.version-version.ensures.version) (c.prepare-shape.ensures.shape h k)
+    (c.number-packet.ensures.keeps (with_prepared c.args.self.now.plan.version c.args.now.0 c.args.src c.prepare-shape.result c.return_size.result h) (c.prepare-shape.ensures.keeps h k))

@@ -9,7 +9,13 @@ build-requires-clause-site c =
     record {
       number = omega (arith, c.ranges.number.fits);
       planned = (
-        record { nonce = omega arith; margin = omega arith; retry = (omega arith, omega arith); rights = record { units = omega arith; seconds = omega arith } },
+        record {
+          nonce = omega arith;
+          margin = omega arith;
+          retry = (omega arith, omega arith);
+          version = record { from = omega arith; to = omega arith };
+          rights = record { units = omega arith; seconds = omega arith };
+        },
         refl,
       );
       links = All-cons (IsLinkOut c.args.number) (c.args.uplink, c.link.result) []

@@ -14,7 +14,7 @@ returns-in_default-clause-stands c h s =
     let stood = subst (λ (v : Book). StandsFor v h) (sym c.self.view_is) s in
     let same = c.get_mut.follows.holds-at-none in
     let absent = ap (λ m. lookup (nat_eq c.args.src.0) m.entries) same ∙ sym c.in_default.ensures.value in
-    stands_more _ _ h c.args.src Notice stood (same_rules _ _ refl refl (le_refl _)) tt tt (λ q _. ap (λ m. lookup (nat_eq q) m.entries) same)
+    stands_more _ _ h c.args.src Notice stood (same_rules _ _ refl refl refl (le_refl _)) tt tt (λ q _. ap (λ m. lookup (nat_eq q) m.entries) same)
     (subst (λ (o : Option Peer). IsKept o (of_peer c.args.src h ++ Notice ∷ [])) (sym absent) (strange_noticed (of_peer c.args.src h) (strange_at _ h c.args.src stood c.in_default.ensures.value)))
 
 pub returns-clause-stands : goal.returns-clause-stands
@@ -23,5 +23,5 @@ returns-clause-stands c h s =
     let found = c.in-Some.ensures.value in
     let written = c.get_mut.follows.holds c.notice.new.self in
     let updated = written.3 (ap is_some (sym found)) in
-    stands_at _ _ h c.args.src Notice c.in-Some.peer.now c.notice.new.self stood (same_rules _ _ refl refl (le_refl _)) (λ k. tt) tt found updated.1 updated.2
+    stands_at _ _ h c.args.src Notice c.in-Some.peer.now c.notice.new.self stood (same_rules _ _ refl refl refl (le_refl _)) (λ k. tt) tt found updated.1 updated.2
     (λ k. rw c.notice.ensures.noticed (keeps_noticed c.in-Some.peer.now (of_peer c.args.src h) k))

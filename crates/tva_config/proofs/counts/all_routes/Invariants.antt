@@ -1,6 +1,0 @@
-use Rattle.std.proofs.Common.{◌≡◌, ◌≤◌, ◌*◌, ◌^◌, take, sum_by}
-use Rattle.tva_config.specs.Counts.{routes_in}
-use Rattle.tva_config.proofs.counts.all_routes.Given as goal
-
-abbrev pub invariant-loop-node : goal.invariant-loop-node
-invariant-loop-node l = record { total : l.total ≡ sum_by routes_in (take l.node-index l.nodes); room : l.total ≤ l.node-index * 2 ^ 64 }
