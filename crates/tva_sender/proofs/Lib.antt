@@ -5,3 +5,6 @@ pub mod Playing
 pub mod Standing
 pub mod Showing
 pub mod Taking
+pub mod Tree
+pub mod Growing
+pub mod Placed

@@ -5,3 +5,5 @@ pub mod Book
 pub mod Showable
 pub mod Steps
 pub mod Near
+pub mod Places
+pub mod Tree

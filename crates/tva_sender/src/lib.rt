@@ -8,6 +8,7 @@
 
 mod grant;
 mod peer;
+mod places;
 mod sender;
 mod shape;
 

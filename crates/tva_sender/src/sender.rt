@@ -8,14 +8,15 @@ ghost use Rattle.tva_sender.specs.Showable.{AreShowable, IsShowable};
 ghost use Rattle.tva_sender.specs.Book.{Book, empty_book, StandsFor, of_peer, knows};
 
 use crate::peer::{Peer, Rules};
+use crate::places::Places;
 use crate::shape::Shape;
 use std::alloc::{AllocError, Global};
-use std::collections::HashMap;
 use std::marker::Model;
 use tva_base::{Address, Caps, Rights, Time};
 
-/// What a host shows of the grants of its peers. Sums of times are made in 128 bits; the bytes
-/// that use a grant of N units are at most 1,024 N, below `2^42`.
+/// What a host shows of the grants of its peers, each of which stands at the place of its address.
+/// Sums of times are made in 128 bits; the bytes that use a grant of N units are at most 1,024 N,
+/// below `2^42`.
 #[derive(Drop)]
 pub struct Sender {
     margin: u64,
@@ -23,20 +24,22 @@ pub struct Sender {
     version: u8,
     room: u32,
     last: Time,
-    peers: HashMap<u32, Peer>,
+    places: Places,
+    peers: Vec<(u32, Peer)>,
 }
 
 impl Model for Sender {
-    ghost use Rattle.std.specs.Prelude.{◌≤◌};
-    ghost use Rattle.std.specs.HashMap.{spare};
+    ghost use Rattle.std.specs.Prelude.{◌-◌, length, vec_capacity};
     ghost use Rattle.tva_sender.specs.Book.{Book};
     ghost use Rattle.tva_sender.specs.Near.{AreNear};
+    ghost use Rattle.tva_sender.specs.Places.{ArePlaced};
 
     ghost Value = { Book };
 
-    ghost view = { λ s. record { margin = s.margin; retry = s.retry; version = s.version; spare = s.room; last = s.last.0; peers = s.peers.entries } };
+    ghost view = { λ s. record { margin = s.margin; retry = s.retry; version = s.version; spare = s.room; last = s.last.0; peers = s.peers.items } };
 
-    ghost invariant = { λ s. (s.room ≤ spare s.peers) × AreNear s.last.0 s.peers.entries };
+    ghost invariant = { λ s. ArePlaced s.room s.places (vec_capacity s.peers - length s.peers.items) s.peers.items
+        × AreNear s.last.0 s.peers.items };
 }
 
 impl Sender {
@@ -55,7 +58,8 @@ impl Sender {
             version,
             room: 0,
             last: Time(0),
-            peers: HashMap::new(alloc),
+            places: Places::new(alloc),
+            peers: Vec::new(alloc),
         }
     }
 
@@ -68,6 +72,7 @@ impl Sender {
         ensures err { OnErr result (self.new ≡ self.old) }
     {
         if self.room < peers {
+            self.places.reserve(peers as usize)?;
             self.peers.reserve(peers as usize)?;
             self.room = peers;
         }
@@ -96,11 +101,12 @@ impl Sender {
             retry: self.retry,
             version: self.version,
         };
-        match self.peers.get_mut(&dst.0) {
-            Some(peer) => peer.prepare(rules, now, body, nonce),
+        match self.places.find(dst.0) {
+            Some(at) => self.peers[at].1.prepare(rules, now, body, nonce),
             None => {
                 self.room -= 1;
-                let _ = self.peers.insert(dst.0, Peer::new(now));
+                self.places.push(dst.0);
+                self.peers.push_reserved((dst.0, Peer::new(now)));
                 Shape::Request
             }
         }
@@ -115,10 +121,10 @@ impl Sender {
         ensures rest { self.new ≡ record self.old { peers = self.new.peers } }
         ensures known { (a : Address) → knows self.new a ≡ knows self.old a }
     {
-        let Some(peer) = self.peers.get_mut(&src.0) else {
+        let Some(at) = self.places.find(src.0) else {
             return false;
         };
-        peer.take(self.version, rights, caps)
+        self.peers[at].1.take(self.version, rights, caps)
     }
 
     /// Counts a notice of a peer. The first one on a grant ends its life, so that the list is shown
@@ -128,9 +134,9 @@ impl Sender {
         ensures rest { self.new ≡ record self.old { peers = self.new.peers } }
         ensures known { (a : Address) → knows self.new a ≡ knows self.old a }
     {
-        let Some(peer) = self.peers.get_mut(&src.0) else {
+        let Some(at) = self.places.find(src.0) else {
             return;
         };
-        peer.notice();
+        self.peers[at].1.notice();
     }
 }

@@ -1,27 +1,52 @@
-use Rattle.std.proofs.Common.{refl, sym, subst, ap, ◌∙◌, ◌∷◌, [], ◌++◌, Option}
+use Rattle.std.proofs.Common.{◌≡◌, ℕ, refl, sym, subst, ap, ◌∙◌, ◌∷◌, [], ◌++◌, Option, None, arith}
 use Rattle.std.proofs.Math.Nat.{le_refl}
-use Rattle.std.specs.Map.{lookup}
 use Rattle.std.specs.Prelude.{nat_eq, is_some}
+use Rattle.std.specs.Map.{lookup}
 use Rattle.tva_sender.specs.declared.peer.Peer.{Peer}
 use Rattle.tva_sender.specs.Contacts.{Notice}
-use Rattle.tva_sender.specs.Book.{Book, StandsFor, of_peer, IsKept}
+use Rattle.tva_sender.specs.Book.{Book, StandsFor, of_peer, peer_at, IsKept, knows}
 use Rattle.tva_sender.proofs.Keeping.{keeps_noticed, strange_noticed}
-use Rattle.tva_sender.proofs.Standing.{same_rules, stands_more, stands_at, strange_at}
+use Rattle.tva_sender.proofs.Placed.{at_place, set_place, no_place, within_place, known-set, placed-set, near-found}
+use Rattle.tva_sender.proofs.Standing.{same_rules, stands_more, stands_at, strange_at, near_after}
 use Rattle.tva_sender.proofs.sender.Sender.demoted.Goals as goal
 
 pub returns-in_default-clause-stands : goal.returns-in_default-clause-stands
 returns-in_default-clause-stands c h s =
-    let stood = subst (λ (v : Book). StandsFor v h) (sym c.self.view_is) s in
-    let same = c.get_mut.follows.holds-at-none in
-    let absent = ap (λ m. lookup (nat_eq c.args.src.0) m.entries) same ∙ sym c.in_default.ensures.value in
-    stands_more _ _ h c.args.src Notice stood (same_rules _ _ refl refl refl (le_refl _)) tt tt (λ q _. ap (λ m. lookup (nat_eq q) m.entries) same)
-    (subst (λ (o : Option Peer). IsKept o (of_peer c.args.src h ++ Notice ∷ [])) (sym absent) (strange_noticed (of_peer c.args.src h) (strange_at _ h c.args.src stood c.in_default.ensures.value)))
+    let v = c.args.self.now in
+    let inside = c.self.inside in
+    let absent : None ≡ peer_at c.args.src v.peers = subst (λ (b : Book). None ≡ peer_at c.args.src b.peers) c.self.view_is (no_place inside.peers.items inside.places.addresses c.args.src.0 c.self.invariant.0.addresses c.in_default.ensures) in
+    stands_more v v h c.args.src Notice s (same_rules v v refl refl refl (le_refl _)) tt tt (λ q _. refl)
+    (subst (λ (o : Option Peer). IsKept o (of_peer c.args.src h ++ Notice ∷ [])) absent (strange_noticed (of_peer c.args.src h) (strange_at v h c.args.src s absent)))
+
+pub index_mut-requires : goal.index_mut-requires
+index_mut-requires c =
+    omega (arith, within_place c.self.inside.peers.items c.self.inside.places.addresses c.args.src.0 c.in-Some.at c.self.invariant.0.addresses c.in-Some.ensures)
+
+pub invariant_of-self : goal.invariant_of-self
+invariant_of-self c =
+    let inside = c.self.inside in
+    let x = c.index_mut.result.now in
+    let here = at_place inside.peers.items inside.places.addresses c.args.src.0 c.in-Some.at x c.self.invariant.0.addresses c.in-Some.ensures c.index_mut.ensures.value in
+    let new = set_place inside.peers.items inside.places.addresses c.args.src.0 c.in-Some.at (x.0, c.notice.new.self) c.self.invariant.0.addresses c.in-Some.ensures here.1 in (
+      placed-set inside.room inside.places inside.peers.cap inside.peers.items c.args.src.0 c.in-Some.at (x.0, c.notice.new.self) c.self.invariant.0 c.in-Some.ensures here.1,
+      near_after inside.last.0 inside.peers.items _ c.args.src.0 c.notice.new.self c.self.invariant.1
+          (c.notice.ensures.near inside.last.0 (near-found inside.last.0 inside.last.0 inside.peers.items c.args.src.0 x.1 (le_refl _) c.self.invariant.1 here.2)) new.0 new.1,
+    )
 
 pub returns-clause-stands : goal.returns-clause-stands
 returns-clause-stands c h s =
+    let inside = c.self.inside in
+    let x = c.index_mut.result.now in
     let stood = subst (λ (v : Book). StandsFor v h) (sym c.self.view_is) s in
-    let found = c.in-Some.ensures.value in
-    let written = c.get_mut.follows.holds c.notice.new.self in
-    let updated = written.3 (ap is_some (sym found)) in
-    stands_at _ _ h c.args.src Notice c.in-Some.peer.now c.notice.new.self stood (same_rules _ _ refl refl refl (le_refl _)) (λ k. tt) tt found updated.1 updated.2
-    (λ k. rw c.notice.ensures.noticed (keeps_noticed c.in-Some.peer.now (of_peer c.args.src h) k))
+    let here = at_place inside.peers.items inside.places.addresses c.args.src.0 c.in-Some.at x c.self.invariant.0.addresses c.in-Some.ensures c.index_mut.ensures.value in
+    let new = set_place inside.peers.items inside.places.addresses c.args.src.0 c.in-Some.at (x.0, c.notice.new.self) c.self.invariant.0.addresses c.in-Some.ensures here.1 in
+    stands_at _ _ h c.args.src Notice x.1 c.notice.new.self stood (same_rules _ _ refl refl refl (le_refl _)) (λ k. tt) tt here.2 new.0 new.1
+    (λ k. rw c.notice.ensures.noticed (keeps_noticed x.1 (of_peer c.args.src h) k))
+
+pub returns-clause-known : goal.returns-clause-known
+returns-clause-known c a =
+    let inside = c.self.inside in
+    let x = c.index_mut.result.now in
+    let here = at_place inside.peers.items inside.places.addresses c.args.src.0 c.in-Some.at x c.self.invariant.0.addresses c.in-Some.ensures c.index_mut.ensures.value in
+    known-set inside.peers.items inside.places.addresses c.args.src.0 c.in-Some.at (x.0, c.notice.new.self) c.self.invariant.0.addresses c.in-Some.ensures here.1 a.0
+    ∙ ap (λ (v : Book). knows v a) c.self.view_is

@@ -1,39 +1,61 @@
-use Rattle.std.proofs.Common.{ℕ, List, refl, sym, subst, ap, ◌∙◌, arith}
+use Rattle.std.proofs.Common.{◌≡◌, ℕ, Bool, ◌&&◌, refl, sym, subst, ap, ◌∙◌, None, Option, arith}
 use Rattle.std.proofs.Math.Nat.{le_refl}
-use Rattle.std.specs.Map.{set_value}
-use Rattle.std.specs.Prelude.{nat_eq, is_some}
-use Rattle.std.proofs.lemmas.Map.Steps.{set_value_same}
 use Rattle.tva_sender.specs.declared.peer.Peer.{Peer}
-use Rattle.tva_sender.specs.Book.{Book, StandsFor}
-use Rattle.tva_sender.proofs.Standing.{same_rules, stands_taken, near_after}
+use Rattle.tva_sender.specs.Contacts.{is_within, takes}
+use Rattle.tva_sender.specs.Book.{Book, StandsFor, Keeps, IsKept, of_peer, peer_at, knows}
+use Rattle.tva_sender.proofs.Placed.{at_place, set_place, no_place, within_place, known-set, placed-set, near-found}
+use Rattle.tva_sender.proofs.Standing.{same_rules, stands_taken, strange_at, near_after}
 use Rattle.tva_sender.proofs.sender.Sender.granted.Goals as goal
+
+pub returns-in_default-clause-taken : goal.returns-in_default-clause-taken
+returns-in_default-clause-taken c h s =
+    let v = c.args.self.now in
+    let inside = c.self.inside in
+    let absent : None ≡ peer_at c.args.src v.peers = subst (λ (b : Book). None ≡ peer_at c.args.src b.peers) c.self.view_is (no_place inside.peers.items inside.places.addresses c.args.src.0 c.self.invariant.0.addresses c.in_default.ensures) in
+    let strange = strange_at v h c.args.src s absent in
+    rw strange.asked refl
+
+pub index_mut-requires : goal.index_mut-requires
+index_mut-requires c =
+    omega (arith, within_place c.self.inside.peers.items c.self.inside.places.addresses c.args.src.0 c.in-Some.at c.self.invariant.0.addresses c.in-Some.ensures)
+
+-- the peer that was found is near, as it was
+pub invariant_of-self : goal.invariant_of-self
+invariant_of-self c =
+    let inside = c.self.inside in
+    let x = c.index_mut.result.now in
+    let here = at_place inside.peers.items inside.places.addresses c.args.src.0 c.in-Some.at x c.self.invariant.0.addresses c.in-Some.ensures c.index_mut.ensures.value in
+    let new = set_place inside.peers.items inside.places.addresses c.args.src.0 c.in-Some.at (x.0, c.take.new.self) c.self.invariant.0.addresses c.in-Some.ensures here.1 in (
+      placed-set inside.room inside.places inside.peers.cap inside.peers.items c.args.src.0 c.in-Some.at (x.0, c.take.new.self) c.self.invariant.0 c.in-Some.ensures here.1,
+      near_after inside.last.0 inside.peers.items _ c.args.src.0 c.take.new.self c.self.invariant.1
+          (c.take.ensures.near inside.last.0 (near-found inside.last.0 inside.last.0 inside.peers.items c.args.src.0 x.1 (le_refl _) c.self.invariant.1 here.2)) new.0 new.1,
+    )
+
+pub returns-clause-taken : goal.returns-clause-taken
+returns-clause-taken c h s =
+    let inside = c.self.inside in
+    let x = c.index_mut.result.now in
+    let stood = subst (λ (v : Book). StandsFor v h) (sym c.self.view_is) s in
+    let here = at_place inside.peers.items inside.places.addresses c.args.src.0 c.in-Some.at x c.self.invariant.0.addresses c.in-Some.ensures c.index_mut.ensures.value in
+    let kept : Keeps x.1 (of_peer c.args.src h) = subst (λ (o : Option Peer). IsKept o (of_peer c.args.src h)) (sym here.2) (stood.kept c.args.src) in
+    subst (λ (v : Book). c.take.result ≡ takes v.version (of_peer c.args.src h) c.args.rights) c.self.view_is
+    (c.take.ensures.taken ∙ ap (λ (b : Bool). b && is_within inside.version c.args.rights) (sym kept.awaits))
 
 pub returns-clause-stands : goal.returns-clause-stands
 returns-clause-stands c h s =
+    let inside = c.self.inside in
+    let x = c.index_mut.result.now in
     let stood = subst (λ (v : Book). StandsFor v h) (sym c.self.view_is) s in
-    let found = c.in-Some.ensures.value in
-    let written = c.get_mut.follows.holds c.take.new.self in
-    let updated = written.3 (ap is_some (sym found)) in
-    stands_taken _ _ h c.args.src c.args.rights c.args.caps.now c.in-Some.peer.now c.take.new.self c.take.result stood
-    (same_rules _ _ refl refl refl (le_refl _)) c.take.ensures.taken found updated.1 updated.2
+    let here = at_place inside.peers.items inside.places.addresses c.args.src.0 c.in-Some.at x c.self.invariant.0.addresses c.in-Some.ensures c.index_mut.ensures.value in
+    let new = set_place inside.peers.items inside.places.addresses c.args.src.0 c.in-Some.at (x.0, c.take.new.self) c.self.invariant.0.addresses c.in-Some.ensures here.1 in
+    stands_taken _ _ h c.args.src c.args.rights c.args.caps.now x.1 c.take.new.self c.take.result stood
+    (same_rules _ _ refl refl refl (le_refl _)) c.take.ensures.taken here.2 new.0 new.1
     c.take.ensures.answered c.take.ensures.ignored
 
--- the peer is written back as it was
-pub returns-clause-ignored : goal.returns-clause-ignored
-returns-clause-ignored c ignored =
-    let before = c.self.inside in
-    let written = c.get_mut.follows.holds c.take.new.self in
-    let entries = written.0 ∙ ap (λ p. set_value (nat_eq c.args.src.0) before.peers.entries p) (c.take.ensures.ignored ignored) ∙ set_value_same (nat_eq c.args.src.0) before.peers.entries c.in-Some.peer.now (sym c.in-Some.ensures.value) in
-    let book : List (ℕ × Peer) → Book = λ peers. record { margin = before.margin; retry = before.retry; version = before.version; spare = before.room; last = before.last.0; peers = peers } in
-    ap book entries ∙ c.self.view_is
-
--- the peer that was found is near, as it was
-pub invariant_of-self-2 : goal.invariant_of-self-2
-invariant_of-self-2 c =
-    let found = c.in-Some.ensures.value in
-    let written = c.get_mut.follows.holds c.take.new.self in
-    let updated = written.3 (ap is_some (sym found)) in
-    let before = c.self.invariant.1 c.args.src.0 c.in-Some.peer.now (sym found) in (
-      omega (arith, c.self.invariant.0, written.6),
-      near_after c.self.inside.last.0 c.self.inside.peers.entries _ c.args.src.0 c.take.new.self c.self.invariant.1 (c.take.ensures.near c.self.inside.last.0 before) updated.1 updated.2,
-    )
+pub returns-clause-known : goal.returns-clause-known
+returns-clause-known c a =
+    let inside = c.self.inside in
+    let x = c.index_mut.result.now in
+    let here = at_place inside.peers.items inside.places.addresses c.args.src.0 c.in-Some.at x c.self.invariant.0.addresses c.in-Some.ensures c.index_mut.ensures.value in
+    known-set inside.peers.items inside.places.addresses c.args.src.0 c.in-Some.at (x.0, c.take.new.self) c.self.invariant.0.addresses c.in-Some.ensures here.1 a.0
+    ∙ ap (λ (v : Book). knows v a) c.self.view_is

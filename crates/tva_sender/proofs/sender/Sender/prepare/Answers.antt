@@ -1,64 +1,176 @@
-use Rattle.std.proofs.Common.{◌≡◌, ◌≤◌, ◌<◌, refl, sym, subst, ap, ◌∙◌, ◌∷◌, [], ◌++◌, Option, false, arith}
+use Rattle.std.proofs.Common.{◌≡◌, ◌≤◌, ◌<◌, ◌-◌, ℕ, ◌||◌, cond, eqb, length, refl, sym, subst, ap, ◌∙◌, List, ◌∷◌, [], ◌++◌, Option, None, Some, false, arith}
 use Rattle.std.specs.Prelude.{is_some, nat_eq, IfSome}
 use Rattle.std.proofs.Math.Nat.{le_refl}
+use Rattle.std.proofs.lemmas.List.{length_push}
 use Rattle.std.specs.Map.{lookup}
-use Rattle.std.specs.HashMap.{spare}
 use Rattle.tva_sender.specs.declared.peer.Peer.{Peer}
 use Rattle.tva_sender.specs.declared.shape.Shape.TheVariants as shape
 use Rattle.tva_sender.specs.Contacts.{Prepared}
-use Rattle.tva_sender.specs.Shapes.{length_of, request_length}
+use Rattle.tva_sender.specs.Shapes.{shape_of, length_of, request_length}
 use Rattle.tva_sender.specs.Book.{Book, StandsFor, of_peer, Keeps, IsKept, knows}
+use Rattle.tva_sender.specs.Places.{Known}
 use Rattle.tva_sender.specs.Showable.{IsShowable, AreShowable}
+use Rattle.tva_sender.proofs.Placed.{addresses, at_place, set_place, no_place, new_place, within_place, known-set, known-found, known-push, placed-set, all-later, near-found}
 use Rattle.tva_sender.proofs.Showing.{IsShowableGrant, showable_peer, showable_grant, showable_shape}
 use Rattle.tva_sender.proofs.Keeping.{keeps_prepared, keeps_first}
 use Rattle.tva_sender.proofs.Playing.{next-prepared, shape-kept, shape-strange}
-use Rattle.tva_sender.proofs.Standing.{same_rules, stands_more, stands_at, strange_at, on_ok}
+use Rattle.tva_sender.proofs.Standing.{same_rules, stands_more, stands_at, strange_at, near_after}
 use Rattle.tva_sender.proofs.sender.Sender.prepare.Goals as goal
+
+pub index_mut-requires : goal.index_mut-requires
+index_mut-requires c =
+    omega (arith, within_place c.self.inside.peers.items c.self.inside.places.addresses c.args.dst.0 c.in-Some.at c.self.invariant.0.addresses c.in-Some.ensures)
+
+pub prepare-requires-clause-near : goal.prepare-requires-clause-near
+prepare-requires-clause-near c =
+    let inside = c.self.inside in
+    let last : inside.last.0 ≤ c.args.now.0 = subst (λ (b : Book). b.last ≤ c.args.now.0) (sym c.self.view_is) c.requires.time in
+    let here = at_place inside.peers.items inside.places.addresses c.args.dst.0 c.in-Some.at c.index_mut.result.now c.self.invariant.0.addresses c.in-Some.ensures c.index_mut.ensures.value in
+    near-found inside.last.0 c.args.now.0 inside.peers.items c.args.dst.0 c.index_mut.result.now.1 last c.self.invariant.1 here.2
+
+pub invariant_of-self : goal.invariant_of-self
+invariant_of-self c =
+    let inside = c.self.inside in
+    let x = c.index_mut.result.now in
+    let last : inside.last.0 ≤ c.args.now.0 = subst (λ (b : Book). b.last ≤ c.args.now.0) (sym c.self.view_is) c.requires.time in
+    let here = at_place inside.peers.items inside.places.addresses c.args.dst.0 c.in-Some.at x c.self.invariant.0.addresses c.in-Some.ensures c.index_mut.ensures.value in
+    let new = set_place inside.peers.items inside.places.addresses c.args.dst.0 c.in-Some.at (x.0, c.prepare.new.self) c.self.invariant.0.addresses c.in-Some.ensures here.1 in (
+      placed-set inside.room inside.places inside.peers.cap inside.peers.items c.args.dst.0 c.in-Some.at (x.0, c.prepare.new.self) c.self.invariant.0 c.in-Some.ensures here.1,
+      near_after c.args.now.0 inside.peers.items _ c.args.dst.0 c.prepare.new.self (all-later inside.last.0 c.args.now.0 inside.peers.items last c.self.invariant.1)
+          c.prepare.ensures.near new.0 new.1,
+    )
+
+pub overflow_sub-self : goal.overflow_sub-self
+overflow_sub-self c =
+    let inside = c.self.inside in
+    let absent = no_place inside.peers.items inside.places.addresses c.args.dst.0 c.self.invariant.0.addresses c.in-None.ensures in
+    let unknown : knows c.args.self.now c.args.dst ≡ false = subst (λ (v : Book). knows v c.args.dst ≡ false) c.self.view_is (ap is_some (sym absent)) in
+    subst (λ (v : Book). 1 ≤ v.spare) (sym c.self.view_is) (c.requires.room unknown)
+
+pub push-requires-clause-room : goal.push-requires-clause-room
+push-requires-clause-room c =
+    let inside = c.self.inside in
+    let absent = no_place inside.peers.items inside.places.addresses c.args.dst.0 c.self.invariant.0.addresses c.in-None.ensures in
+    let unknown : knows c.args.self.now c.args.dst ≡ false = subst (λ (v : Book). knows v c.args.dst ≡ false) c.self.view_is (ap is_some (sym absent)) in
+    let some : 1 ≤ inside.room = subst (λ (v : Book). 1 ≤ v.spare) (sym c.self.view_is) (c.requires.room unknown) in
+    omega (arith, some, c.self.invariant.0.places)
+
+pub push_reserved-requires : goal.push_reserved-requires
+push_reserved-requires c =
+    let inside = c.self.inside in
+    let absent = no_place inside.peers.items inside.places.addresses c.args.dst.0 c.self.invariant.0.addresses c.in-None.ensures in
+    let unknown : knows c.args.self.now c.args.dst ≡ false = subst (λ (v : Book). knows v c.args.dst ≡ false) c.self.view_is (ap is_some (sym absent)) in
+    let some : 1 ≤ inside.room = subst (λ (v : Book). 1 ≤ v.spare) (sym c.self.view_is) (c.requires.room unknown) in
+    omega (arith, some, c.self.invariant.0.peers)
+
+pub invariant_of-self-in-None : goal.invariant_of-self-in-None
+invariant_of-self-in-None c =
+    let inside = c.self.inside in
+    let a = c.args.dst.0 in
+    let p = c.new.result in
+    let last : inside.last.0 ≤ c.args.now.0 = subst (λ (b : Book). b.last ≤ c.args.now.0) (sym c.self.view_is) c.requires.time in
+    let new = new_place inside.peers.items inside.places.addresses a p c.self.invariant.0.addresses c.in-None.ensures in
+    let items = c.push_reserved.ensures.items in (
+      record {
+        addresses = ap addresses items ∙ new.2 ∙ sym (ap (λ (k : Known). k.addresses) c.push.ensures);
+        places = omega (arith, c.self.invariant.0.places, ap (λ (k : Known). k.spare) c.push.ensures);
+        peers = omega (arith, c.self.invariant.0.peers, c.push_reserved.ensures.capacity, ap (λ (z : List (ℕ × Peer)). length z) items, length_push inside.peers.items (a, p));
+      },
+      near_after c.args.now.0 inside.peers.items c.push_reserved.new.self.items a p (all-later inside.last.0 c.args.now.0 inside.peers.items last c.self.invariant.1) c.new.ensures.near
+          (ap (λ (z : List (ℕ × Peer)). lookup (nat_eq a) z) items ∙ new.0) (λ q apart. ap (λ (z : List (ℕ × Peer)). lookup (nat_eq q) z) items ∙ new.1 q apart),
+    )
+
+pub returns-in-Some-clause-shape : goal.returns-in-Some-clause-shape
+returns-in-Some-clause-shape c h s =
+    let inside = c.self.inside in
+    let x = c.index_mut.result.now in
+    let stood = subst (λ (v : Book). StandsFor v h) (sym c.self.view_is) s in
+    let here = at_place inside.peers.items inside.places.addresses c.args.dst.0 c.in-Some.at x c.self.invariant.0.addresses c.in-Some.ensures c.index_mut.ensures.value in
+    let kept : Keeps x.1 (of_peer c.args.dst h) = subst (λ (o : Option Peer). IsKept o (of_peer c.args.dst h)) (sym here.2) (stood.kept c.args.dst) in
+    subst (λ (v : Book). c.prepare.result ≡ shape_of v.margin v.retry v.version (of_peer c.args.dst h) c.args.now.0 c.args.body c.args.nonce) c.self.view_is
+    (c.prepare.ensures.shape ∙ shape-kept inside.margin inside.retry inside.version x.1 (of_peer c.args.dst h) c.args.now.0 c.args.body c.args.nonce kept)
 
 pub returns-in-Some-clause-stands : goal.returns-in-Some-clause-stands
 returns-in-Some-clause-stands c h s =
     let inside = c.self.inside in
-    let v : Book = record { margin = inside.margin; retry = inside.retry; version = inside.version; spare = inside.room; last = inside.last.0; peers = inside.peers.entries } in
+    let x = c.index_mut.result.now in
+    let v : Book = record { margin = inside.margin; retry = inside.retry; version = inside.version; spare = inside.room; last = inside.last.0; peers = inside.peers.items } in
     let stood = subst (λ (v : Book). StandsFor v h) (sym c.self.view_is) s in
-    let found = c.in-Some.ensures.value in
-    let written = c.get_mut.follows.holds c.prepare.new.self in
-    let updated = written.3 (ap is_some (sym found)) in
+    let here = at_place inside.peers.items inside.places.addresses c.args.dst.0 c.in-Some.at x c.self.invariant.0.addresses c.in-Some.ensures c.index_mut.ensures.value in
+    let new = set_place inside.peers.items inside.places.addresses c.args.dst.0 c.in-Some.at (x.0, c.prepare.new.self) c.self.invariant.0.addresses c.in-Some.ensures here.1 in
     let last : v.last ≤ c.args.now.0 = subst (λ (b : Book). b.last ≤ c.args.now.0) (sym c.self.view_is) c.requires.time in
     rw (← c.self.view_is)
-    (stands_at v _ h c.args.dst (Prepared c.args.now.0 c.prepare.result (length_of v.version c.prepare.result c.args.body)) c.in-Some.peer.now c.prepare.new.self stood
+    (stands_at v _ h c.args.dst (Prepared c.args.now.0 c.prepare.result (length_of v.version c.prepare.result c.args.body)) x.1 c.prepare.new.self stood
     (same_rules v _ refl refl refl last)
     (λ k. next-prepared v.margin v.retry v.version v.last (of_peer c.args.dst h) c.args.now.0 c.args.body c.args.nonce c.prepare.result last (stood.times c.args.dst)
-    (c.prepare.ensures.shape ∙ shape-kept v.margin v.retry v.version c.in-Some.peer.now (of_peer c.args.dst h) c.args.now.0 c.args.body c.args.nonce k))
-    (le_refl c.args.now.0) found updated.1 updated.2
-    (λ k. rw c.prepare.ensures.prepared (keeps_prepared v.version c.in-Some.peer.now (of_peer c.args.dst h) c.args.now.0 c.args.body c.prepare.result k)))
+    (c.prepare.ensures.shape ∙ shape-kept v.margin v.retry v.version x.1 (of_peer c.args.dst h) c.args.now.0 c.args.body c.args.nonce k))
+    (le_refl c.args.now.0) here.2 new.0 new.1
+    (λ k. rw c.prepare.ensures.prepared (keeps_prepared v.version x.1 (of_peer c.args.dst h) c.args.now.0 c.args.body c.prepare.result k)))
+
+pub returns-in-Some-clause-showable : goal.returns-in-Some-clause-showable
+returns-in-Some-clause-showable c h s showable =
+    let inside = c.self.inside in
+    let x = c.index_mut.result.now in
+    let version = inside.version in
+    let stood = subst (λ (v : Book). StandsFor v h) (sym c.self.view_is) s in
+    let fits = subst (λ (v : Book). AreShowable v.version h) (sym c.self.view_is) showable in
+    let here = at_place inside.peers.items inside.places.addresses c.args.dst.0 c.in-Some.at x c.self.invariant.0.addresses c.in-Some.ensures c.index_mut.ensures.value in
+    let kept : Keeps x.1 (of_peer c.args.dst h) = subst (λ (o : Option Peer). IsKept o (of_peer c.args.dst h)) (sym here.2) (stood.kept c.args.dst) in
+    let grant = subst (λ o. IfSome o (IsShowableGrant version)) kept.grant (showable_grant version (of_peer c.args.dst h) (showable_peer version c.args.dst h fits)) in
+    subst (λ (v : Book). IsShowable v.version c.prepare.result) c.self.view_is
+    (subst (IsShowable version) (sym c.prepare.ensures.shape) (showable_shape _ version _ x.1.grant _ _ _ grant c.requires.nonce))
+
+pub returns-in-Some-clause-spare : goal.returns-in-Some-clause-spare
+returns-in-Some-clause-spare c =
+    let inside = c.self.inside in
+    let x = c.index_mut.result.now in
+    let here = at_place inside.peers.items inside.places.addresses c.args.dst.0 c.in-Some.at x c.self.invariant.0.addresses c.in-Some.ensures c.index_mut.ensures.value in
+    let found : lookup (nat_eq c.args.dst.0) inside.peers.items ≡ Some x.1 = sym here.2 in
+    subst (λ (v : Book). inside.room ≡ cond (knows v c.args.dst) v.spare (v.spare - 1)) c.self.view_is (rw found refl)
+
+pub returns-in-Some-clause-known : goal.returns-in-Some-clause-known
+returns-in-Some-clause-known c a =
+    let inside = c.self.inside in
+    let x = c.index_mut.result.now in
+    let here = at_place inside.peers.items inside.places.addresses c.args.dst.0 c.in-Some.at x c.self.invariant.0.addresses c.in-Some.ensures c.index_mut.ensures.value in
+    known-set inside.peers.items inside.places.addresses c.args.dst.0 c.in-Some.at (x.0, c.prepare.new.self) c.self.invariant.0.addresses c.in-Some.ensures here.1 a.0
+    ∙ (known-found inside.peers.items c.args.dst.0 x.1 here.2 a.0 ∙ ap (λ (v : Book). knows v a || eqb a.0 c.args.dst.0) c.self.view_is)
+
+pub returns-in-None-clause-shape : goal.returns-in-None-clause-shape
+returns-in-None-clause-shape c h s =
+    let inside = c.self.inside in
+    let v = c.args.self.now in
+    let absent = subst (λ (b : Book). None ≡ lookup (nat_eq c.args.dst.0) b.peers) c.self.view_is (no_place inside.peers.items inside.places.addresses c.args.dst.0 c.self.invariant.0.addresses c.in-None.ensures) in
+    shape-strange v.margin v.retry v.version (of_peer c.args.dst h) c.args.now.0 c.args.body c.args.nonce (strange_at v h c.args.dst s absent)
 
 pub returns-in-None-clause-stands : goal.returns-in-None-clause-stands
 returns-in-None-clause-stands c h s =
     let inside = c.self.inside in
-    let v : Book = record { margin = inside.margin; retry = inside.retry; version = inside.version; spare = inside.room; last = inside.last.0; peers = inside.peers.entries } in
+    let a = c.args.dst.0 in
+    let v : Book = record { margin = inside.margin; retry = inside.retry; version = inside.version; spare = inside.room; last = inside.last.0; peers = inside.peers.items } in
     let stood = subst (λ (v : Book). StandsFor v h) (sym c.self.view_is) s in
-    let absent = c.in-None.ensures.value in
-    let known : knows c.args.self.now c.args.dst ≡ false = rw (← c.self.view_is) (ap is_some (sym absent)) in
-    let some : 1 ≤ c.args.self.now.spare = c.requires.room known in
-    let room = ap (λ (v : Book). v.spare) c.self.view_is in
-    let same = c.get_mut.follows.holds-at-none in
-    let fits : 0 < spare c.get_mut.follows.lender-at-none = rw same (omega (arith, c.self.invariant.0, room, some)) in
-    let updated = on_ok _ c.insert.result c.insert.ensures.updates (c.insert.ensures.succeeds fits) in
+    let absent = no_place inside.peers.items inside.places.addresses a c.self.invariant.0.addresses c.in-None.ensures in
+    let new = new_place inside.peers.items inside.places.addresses a c.new.result c.self.invariant.0.addresses c.in-None.ensures in
+    let items = c.push_reserved.ensures.items in
     let last : v.last ≤ c.args.now.0 = subst (λ (b : Book). b.last ≤ c.args.now.0) (sym c.self.view_is) c.requires.time in
     stands_more v _ h c.args.dst (Prepared c.args.now.0 shape.Request (request_length c.args.body)) stood
     (same_rules v _ refl refl refl last)
     (next-prepared v.margin v.retry v.version v.last (of_peer c.args.dst h) c.args.now.0 c.args.body c.args.nonce shape.Request last (stood.times c.args.dst)
     (shape-strange v.margin v.retry v.version (of_peer c.args.dst h) c.args.now.0 c.args.body c.args.nonce (strange_at v h c.args.dst stood absent)))
-    (le_refl c.args.now.0) (λ q other. updated.2 q other ∙ ap (λ m. lookup (nat_eq q) m.entries) same)
-    (subst (λ (o : Option Peer). IsKept o (of_peer c.args.dst h ++ Prepared c.args.now.0 shape.Request (request_length c.args.body) ∷ [])) (sym updated.1)
-    (rw c.new.ensures.peer (keeps_first v.version (of_peer c.args.dst h) c.args.now c.args.body (strange_at _ h c.args.dst stood absent))))
+    (le_refl c.args.now.0) (λ q apart. ap (λ (z : List (ℕ × Peer)). lookup (nat_eq q) z) items ∙ new.1 q apart)
+    (subst (λ (o : Option Peer). IsKept o (of_peer c.args.dst h ++ Prepared c.args.now.0 shape.Request (request_length c.args.body) ∷ [])) (sym (ap (λ (z : List (ℕ × Peer)). lookup (nat_eq a) z) items ∙ new.0))
+    (rw c.new.ensures.peer (keeps_first v.version (of_peer c.args.dst h) c.args.now c.args.body (strange_at v h c.args.dst stood absent))))
 
-pub returns-in-Some-clause-showable : goal.returns-in-Some-clause-showable
-returns-in-Some-clause-showable c h s showable =
-    let version = c.self.inside.version in
-    let stood = subst (λ (v : Book). StandsFor v h) (sym c.self.view_is) s in
-    let fits = subst (λ (v : Book). AreShowable v.version h) (sym c.self.view_is) showable in
-    let kept : Keeps c.in-Some.peer.now (of_peer c.args.dst h) = subst (λ (o : Option Peer). IsKept o (of_peer c.args.dst h)) (sym c.in-Some.ensures.value) (stood.kept c.args.dst) in
-    let grant = subst (λ o. IfSome o (IsShowableGrant version)) kept.grant (showable_grant version (of_peer c.args.dst h) (showable_peer version c.args.dst h fits)) in
-    subst (λ (v : Book). IsShowable v.version c.prepare.result) c.self.view_is
-    (subst (IsShowable version) (sym c.prepare.ensures.shape) (showable_shape _ version _ c.in-Some.peer.now.grant _ _ _ grant c.requires.nonce))
+pub returns-in-None-clause-spare : goal.returns-in-None-clause-spare
+returns-in-None-clause-spare c =
+    let inside = c.self.inside in
+    let absent = no_place inside.peers.items inside.places.addresses c.args.dst.0 c.self.invariant.0.addresses c.in-None.ensures in
+    let none : lookup (nat_eq c.args.dst.0) inside.peers.items ≡ None = sym absent in
+    subst (λ (v : Book). inside.room - 1 ≡ cond (knows v c.args.dst) v.spare (v.spare - 1)) c.self.view_is (rw none refl)
+
+pub returns-in-None-clause-known : goal.returns-in-None-clause-known
+returns-in-None-clause-known c a =
+    let inside = c.self.inside in
+    let items = c.push_reserved.ensures.items in
+    ap (λ (z : List (ℕ × Peer)). is_some (lookup (nat_eq a.0) z)) items
+    ∙ (known-push inside.peers.items c.args.dst.0 c.new.result a.0 ∙ ap (λ (v : Book). knows v a || eqb a.0 c.args.dst.0) c.self.view_is)

@@ -1,0 +1,160 @@
+-- The tree with one address more.
+use Rattle.std.proofs.Common.{◌≡◌, ℕ, zero, suc, ◌+◌, ◌<◌, ◌≤◌, Bool, true, false, cond, eqb, List, [], ◌∷◌, ◌++◌, length, map, get_or, set, Option, Some, None, refl, sym, ap, ◌∙◌, subst, inl, inr, ◌⊎◌, arith}
+use Rattle.std.specs.Option.{option_and_then}
+use Rattle.std.proofs.lemmas.Bool.{cases_lt, cases_eq, ne_eqb}
+use Rattle.std.proofs.lemmas.List.{get_or-set_same, get_or-set_other, get_or_append_left, get_or_push, get_or-map, length-set, length_push, map-append, map-set, set-get_or}
+use Rattle.tva_sender.specs.declared.places.Node.{Node}
+use Rattle.tva_sender.specs.Tree.{addresses_of, leaf, node, branch, with_branch, is_high, step, spot, IsTree, IsMissing}
+use Rattle.tva_sender.proofs.Tree.{next, within}
+
+-- a branch that leads somewhere else
+same_address : (n : Node) (high : Bool) (to : ℕ) → (with_branch n high to).address ≡ n.address
+same_address n true to = refl
+same_address n false to = refl
+
+leads : (n : Node) (high : Bool) (to : ℕ) → branch high (with_branch n high to) ≡ Some to
+leads n true to = refl
+leads n false to = refl
+
+still_leads : (n : Node) (high other : Bool) (to j : ℕ) → branch other n ≡ Some j → branch high n ≡ None → branch other (with_branch n high to) ≡ Some j
+still_leads n true true to j e none = absurd (cc)
+still_leads n true false to j e none = e
+still_leads n false true to j e none = e
+still_leads n false false to j e none = absurd (cc)
+
+led_before : (n : Node) (high other : Bool) (to j : ℕ) → branch other (with_branch n high to) ≡ Some j → (branch other n ≡ Some j) ⊎ (j ≡ to)
+led_before n true true to j e = let is : to ≡ j = cc in inr (sym is)
+led_before n true false to j e = inl e
+led_before n false true to j e = inl e
+led_before n false false to j e = let is : to ≡ j = cc in inr (sym is)
+
+no_leaf : (a : ℕ) (high : Bool) (j : ℕ) → branch high (leaf a) ≡ Some j → ⊥
+no_leaf a true j e = absurd (cc)
+no_leaf a false j e = absurd (cc)
+
+choice-still : (b : Bool) (n : Node) (high other : Bool) (to at j : ℕ) → cond b (Some at) (branch other n) ≡ Some j → branch high n ≡ None → cond b (Some at) (branch other (with_branch n high to)) ≡ Some j
+choice-still true n high other to at j e none = e
+choice-still false n high other to at j e none = still_leads n high other to j e none
+
+step-still : (n : Node) (high : Bool) (to a depth at j : ℕ) → step n a depth at ≡ Some j → branch high n ≡ None → step (with_branch n high to) a depth at ≡ Some j
+step-still n high to a depth at j e none =
+    subst (λ (z : ℕ). cond (eqb z a) (Some at) (branch (is_high a depth) (with_branch n high to)) ≡ Some j) (sym (same_address n high to))
+    (choice-still (eqb n.address a) n high (is_high a depth) to at j e none)
+
+abbrev pub grown : List Node → ℕ → ℕ → Bool → List Node
+grown ns a at high = set ns at (with_branch (node ns at) high (length ns)) ++ leaf a ∷ []
+
+module _ (ns : List Node) (t : IsTree ns) (a at : ℕ) (high : Bool) (m : IsMissing ns a at high) where
+  size : length (grown ns a at high) ≡ length ns + 1
+  size = length_push (set ns at (with_branch (node ns at) high (length ns))) (leaf a) ∙ ap (λ (n : ℕ). n + 1) (length-set ns at (with_branch (node ns at) high (length ns)))
+
+  node-at : node (grown ns a at high) at ≡ with_branch (node ns at) high (length ns)
+  node-at =
+      let n = with_branch (node ns at) high (length ns) in
+      get_or_append_left (set ns at n) (leaf a ∷ []) (leaf 0) at (omega (arith, m.within, length-set ns at n))
+      ∙ get_or-set_same ns at n (leaf 0) m.within
+
+  node-other : (i : ℕ) → i < length ns → (i ≡ at → ⊥) → node (grown ns a at high) i ≡ node ns i
+  node-other i l other =
+      let n = with_branch (node ns at) high (length ns) in
+      get_or_append_left (set ns at n) (leaf a ∷ []) (leaf 0) i (omega (arith, l, length-set ns at n))
+      ∙ get_or-set_other ns at i n (leaf 0) other
+
+  node-new : node (grown ns a at high) (length ns) ≡ leaf a
+  node-new =
+      let n = with_branch (node ns at) high (length ns) in get_or_push (set ns at n) (leaf a) (leaf 0) (length ns) (length-set ns at n)
+
+  -- steps lead where they led
+  step-grown : (p depth i j : ℕ) → i < length ns → step (node ns i) p depth i ≡ Some j → step (node (grown ns a at high) i) p depth i ≡ Some j
+  step-grown p depth i j l e = elim (cases_eq i at) [
+    | inl is ↦ subst (λ (n : Node). step n p depth i ≡ Some j) (sym (subst (λ (z : ℕ). node (grown ns a at high) z ≡ with_branch (node ns z) high (length ns)) (sym is) node-at))
+        (step-still (node ns i) high (length ns) p depth i j e (subst (λ (z : ℕ). branch high (node ns z) ≡ None) (sym is) m.nowhere))
+    | inr other ↦ subst (λ (n : Node). step n p depth i ≡ Some j) (sym (node-other i l other)) e
+  ]
+
+  spot-next : (p depth j : ℕ) (o u : Option ℕ) → ((i : ℕ) → o ≡ Some i → (u ≡ Some i) × (i < length ns))
+      → option_and_then (λ (i : ℕ). step (node ns i) p depth i) o ≡ Some j → option_and_then (λ (i : ℕ). step (node (grown ns a at high) i) p depth i) u ≡ Some j
+  spot-next p depth j None u h e = absurd (cc)
+  spot-next p depth j (Some i) u h e =
+      let k = h i refl in
+      ap (option_and_then (λ (i : ℕ). step (node (grown ns a at high) i) p depth i)) k.0 ∙ step-grown p depth i j k.1 e
+
+  spot-grown : (p depth i : ℕ) → spot ns p depth ≡ Some i → spot (grown ns a at high) p depth ≡ Some i
+  spot-grown p zero i e = e
+  spot-grown p (suc depth) i e =
+      spot-next p depth i (spot ns p depth) (spot (grown ns a at high) p depth)
+      (λ j h. (spot-grown p depth j h, within ns t (omega (arith, m.within)) p depth j h)) e
+
+  address-grown : (i : ℕ) → i < length ns → (node (grown ns a at high) i).address ≡ (node ns i).address
+  address-grown i l = elim (cases_eq i at) [
+    | inl is ↦ subst (λ (z : ℕ). (node (grown ns a at high) z).address ≡ (node ns z).address) (sym is) (ap (λ (n : Node). n.address) node-at ∙ same_address (node ns at) high (length ns))
+    | inr other ↦ ap (λ (n : Node). n.address) (node-other i l other)
+  ]
+
+  -- and one more leads to the new place
+  spot-new : spot (grown ns a at high) a (suc m.depth) ≡ Some (length ns)
+  spot-new =
+      let n = with_branch (node ns at) high (length ns) in
+      let other : eqb n.address a ≡ false = ne_eqb n.address a (λ e. m.other (sym (same_address (node ns at) high (length ns)) ∙ e)) in
+      let there : step n a m.depth at ≡ Some (length ns) = rw other (subst (λ (b : Bool). branch b n ≡ Some (length ns)) m.turn (leads (node ns at) high (length ns))) in
+      next (grown ns a at high) a m.depth at (spot-grown a m.depth at m.here) ∙ subst (λ (z : Node). step z a m.depth at ≡ Some (length ns)) (sym node-at) there
+
+  later-old : (i j : ℕ) (b : Bool) → i < length ns → branch b (node ns i) ≡ Some j → (i < j) × (j < length (grown ns a at high))
+  later-old i j b l e = let k = t.later i j b l e in (k.0, omega (arith, k.1, size))
+
+  later-grown : (i j : ℕ) (b : Bool) → i < length ns → branch b (node (grown ns a at high) i) ≡ Some j → (i < j) × (j < length (grown ns a at high))
+  later-grown i j b l e = elim (cases_eq i at) [
+    | inl is ↦ (
+        let here : branch b (with_branch (node ns i) high (length ns)) ≡ Some j = subst (λ (n : Node). branch b n ≡ Some j) (subst (λ (z : ℕ). node (grown ns a at high) z ≡ with_branch (node ns z) high (length ns)) (sym is) node-at) e in
+        elim (led_before (node ns i) high b (length ns) j here) [
+          | inl k ↦ later-old i j b l k
+          | inr k ↦ (omega (arith, l, k), omega (arith, k, size))
+        ])
+    | inr other ↦ later-old i j b l (subst (λ (n : Node). branch b n ≡ Some j) (node-other i l other) e)
+  ]
+
+  pub tree-grown : IsTree (grown ns a at high)
+  tree-grown = record {
+    later = λ i j b l e. elim (cases_lt i (length ns)) [
+      | inl k ↦ later-grown i j b k e
+      | inr k ↦ (
+          let last : i ≡ length ns = omega (arith, l, k, size) in
+          let none : branch b (leaf a) ≡ Some j = subst (λ (n : Node). branch b n ≡ Some j) (subst (λ (z : ℕ). node (grown ns a at high) z ≡ leaf a) (sym last) node-new) e in
+          absurd (no_leaf a b j none))
+    ];
+    reached = λ i l. elim (cases_lt i (length ns)) [
+      | inl k ↦ (
+          let r = t.reached i k in
+          (r.0, subst (λ (z : ℕ). spot (grown ns a at high) z r.0 ≡ Some i) (sym (address-grown i k)) (spot-grown (node ns i).address r.0 i r.1)))
+      | inr k ↦ (
+          let last : i ≡ length ns = omega (arith, l, k, size) in (
+            suc m.depth,
+            subst (λ (z : ℕ). spot (grown ns a at high) (node (grown ns a at high) z).address (suc m.depth) ≡ Some z) (sym last)
+                (subst (λ (z : ℕ). spot (grown ns a at high) z (suc m.depth) ≡ Some (length ns)) (sym (ap (λ (n : Node). n.address) node-new)) spot-new),
+          ))
+    ];
+  }
+
+  pub addresses-grown : addresses_of (grown ns a at high) ≡ addresses_of ns ++ a ∷ []
+  addresses-grown =
+      let n = with_branch (node ns at) high (length ns) in
+      let kept : set (addresses_of ns) at n.address ≡ addresses_of ns =
+      subst (λ (z : ℕ). set (addresses_of ns) at z ≡ addresses_of ns)
+      (get_or-map (λ (x : Node). x.address) ns at (leaf 0) 0 m.within ∙ sym (same_address (node ns at) high (length ns)))
+      (set-get_or (addresses_of ns) at 0) in
+      map-append (λ (x : Node). x.address) (set ns at n) (leaf a ∷ [])
+      ∙ ap (λ (z : List ℕ). z ++ a ∷ []) (map-set (λ (x : Node). x.address) ns at n ∙ kept)
+
+-- the tree of no address, and of one
+pub tree-none : IsTree []
+tree-none = record { later = λ i j b l e. absurd (omega (arith, l)); reached = λ i l. absurd (omega (arith, l)) }
+
+pub tree-one : (a : ℕ) → IsTree (leaf a ∷ [])
+tree-one a = record {
+  later = λ i j b l e.
+      let first : i ≡ 0 = omega (arith, l) in
+      absurd (no_leaf a b j (subst (λ (z : ℕ). branch b (node (leaf a ∷ []) z) ≡ Some j) first e));
+  reached = λ i l.
+      let first : i ≡ 0 = omega (arith, l) in
+      (0, subst (λ (z : ℕ). spot (leaf a ∷ []) (node (leaf a ∷ []) z).address 0 ≡ Some z) (sym first) refl);
+}
