@@ -45,10 +45,9 @@ ends_at last [] = last
 ends_at last (row ∷ rows) = ends_at row.time.0 rows
 
 -- a text was read as far as a reader stands: its rows are those that were pushed and those that are left
-pub record IsReadTo (config : Config) (text : List ℕ) (reader : Reader (Bor (List ℕ))) (turns number last : ℕ) (rows : List Row) : Type 0 where
+pub record IsReadTo (config : Config) (text : List ℕ) (reader : Reader (Bor (List ℕ))) (number last : ℕ) (rows : List Row) : Type 0 where
   pub untrimmed : reader.trim ≡ trim.None
   pub is_ready : Ready reader
-  pub goes_on : 0 < turns
   pub by_default : reader.config ≡ default_config
   pub unread : List ℕ
   pub source : source_of (λ s. Some s.now) reader ≡ Some unread
@@ -129,15 +128,14 @@ behind-none (Err fault) = refl
 abbrev Source : Type 0
 Source = Reader (Bor (List ℕ))
 
-abbrev told : Bor (List ℕ) → Option (List ℕ)
+abbrev pub told : Bor (List ℕ) → Option (List ℕ)
 told s = Some s.now
 
 -- nothing was read
-pub read-start : (config : Config) (text : List ℕ) (reader : Source) (turns : ℕ) → reader.trim ≡ trim.None → Ready reader → 0 < turns → reader.config ≡ default_config → source_of told reader ≡ Some (strip_bom text) → reader.state ≡ st.StartRecord → reader.flexible ≡ true → IsReadTo config text reader turns 1 0 []
-read-start config text reader turns t r l c s st flexible = record {
+pub read-start : (config : Config) (text : List ℕ) (reader : Source) → reader.trim ≡ trim.None → Ready reader → reader.config ≡ default_config → source_of told reader ≡ Some (strip_bom text) → reader.state ≡ st.StartRecord → reader.flexible ≡ true → IsReadTo config text reader 1 0 []
+read-start config text reader t r c s st flexible = record {
   untrimmed = t;
   is_ready = r;
-  goes_on = l;
   by_default = c;
   unread = strip_bom text;
   source = s;
@@ -154,27 +152,26 @@ read-start config text reader turns t r l c s st flexible = record {
 }
 
 -- the record that is read is the first that was left
-rest-read : (config : Config) (text : List ℕ) (a b : Source) (turns number last : ℕ) (rows : List Row) (fields : List (List ℕ)) (d : IsReadTo config text a turns number last rows) → ReadRecord told a b true fields
+rest-read : (config : Config) (text : List ℕ) (a b : Source) (number last : ℕ) (rows : List Row) (fields : List (List ℕ)) (d : IsReadTo config text a number last rows) → ReadRecord told a b true fields
     → (z : List ℕ) × (source_of told b ≡ Some z) × (rows_of config text ≡ behind d.said (rows_left (number == 1) config number last (fields ∷ left_of default_config b.state z)))
-rest-read config text a b turns number last rows fields d r =
+rest-read config text a b number last rows fields d r =
     let m = left-read told a b fields default_config d.unread d.by_default d.source r in
     (m.0, m.1, d.rest ∙ ap (λ l. behind d.said (rows_left (number == 1) config number last l)) m.2)
 
 -- a record that breaks a rule
-pub read-fault : (config : Config) (text : List ℕ) (a b : Source) (turns number last : ℕ) (rows : List Row) (fields : List (List ℕ)) (broken : TraceRule) → IsReadTo config text a turns number last rows → ReadRecord told a b true fields → said_by (number == 1) config number last fields ≡ Err broken → rows_of config text ≡ Err (fault_at number broken)
-read-fault config text a b turns number last rows fields broken d r e =
-    let m = rest-read config text a b turns number last rows fields d r in
+pub read-fault : (config : Config) (text : List ℕ) (a b : Source) (number last : ℕ) (rows : List Row) (fields : List (List ℕ)) (broken : TraceRule) → IsReadTo config text a number last rows → ReadRecord told a b true fields → said_by (number == 1) config number last fields ≡ Err broken → rows_of config text ≡ Err (fault_at number broken)
+read-fault config text a b number last rows fields broken d r e =
+    let m = rest-read config text a b number last rows fields d r in
     m.2 ∙ ap (behind d.said) (fault_by (number == 1) config number last fields (left_of default_config b.state m.0) broken (eqb-true number 1) e)
 
 -- the header
-pub read-header : (config : Config) (text : List ℕ) (a b : Source) (turns next number last : ℕ) (rows : List Row) (fields : List (List ℕ)) → IsReadTo config text a turns number last rows → ReadRecord told a b true fields → Ready b → 0 < next → number ≤ 1000001 → said_by (number == 1) config number last fields ≡ Ok None → b.flexible ≡ a.flexible → IsReadTo config text b next (number + 1) last rows
-read-header config text a b turns next number last rows fields d r ready goes few e same =
-    let m = rest-read config text a b turns number last rows fields d r in
+pub read-header : (config : Config) (text : List ℕ) (a b : Source) (number last : ℕ) (rows : List Row) (fields : List (List ℕ)) → IsReadTo config text a number last rows → ReadRecord told a b true fields → Ready b → number ≤ 1000001 → said_by (number == 1) config number last fields ≡ Ok None → b.flexible ≡ a.flexible → IsReadTo config text b (number + 1) last rows
+read-header config text a b number last rows fields d r ready few e same =
+    let m = rest-read config text a b number last rows fields d r in
     let records = left_of default_config b.state m.0 in
     record {
       untrimmed = r.3 ∙ d.untrimmed;
       is_ready = ready;
-      goes_on = goes;
       by_default = r.2 ∙ d.by_default;
       unread = m.0;
       source = m.1;
@@ -229,15 +226,14 @@ behind_header config number last fields said some e =
     elim (eqb_tells number 1) [ inl t ↦ absurd (cc (t.0, other)) | inr f ↦ omega (arith, f.1) ]
 
 -- a row
-pub read-row : (config : Config) (text : List ℕ) (a b : Source) (turns next number last : ℕ) (rows : List Row) (fields : List (List ℕ)) (said : SaidRow) (row : Row) → IsReadTo config text a turns number last rows → ReadRecord told a b true fields → Ready b → 0 < next → number ≤ 1000001 → said_by (number == 1) config number last fields ≡ Ok (Some said) → IsSaid config last said → Means said row → b.flexible ≡ a.flexible → IsReadTo config text b next (number + 1) said.time.0 (rows ++ row ∷ [])
-read-row config text a b turns next number last rows fields said row d r ready goes few e valid means same =
+pub read-row : (config : Config) (text : List ℕ) (a b : Source) (number last : ℕ) (rows : List Row) (fields : List (List ℕ)) (said : SaidRow) (row : Row) → IsReadTo config text a number last rows → ReadRecord told a b true fields → Ready b → number ≤ 1000001 → said_by (number == 1) config number last fields ≡ Ok (Some said) → IsSaid config last said → Means said row → b.flexible ≡ a.flexible → IsReadTo config text b (number + 1) said.time.0 (rows ++ row ∷ [])
+read-row config text a b number last rows fields said row d r ready few e valid means same =
     let later : 2 ≤ number = behind_header config number last fields said d.counted.0 e in
-    let m = rest-read config text a b turns number last rows fields d r in
+    let m = rest-read config text a b number last rows fields d r in
     let records = left_of default_config b.state m.0 in
     record {
       untrimmed = r.3 ∙ d.untrimmed;
       is_ready = ready;
-      goes_on = goes;
       by_default = r.2 ∙ d.by_default;
       unread = m.0;
       source = m.1;
@@ -256,18 +252,18 @@ read-row config text a b turns next number last rows fields said row d r ready g
     }
 
 -- no record is left
-rest-none : (config : Config) (text : List ℕ) (a b : Source) (turns number last : ℕ) (rows : List Row) (d : IsReadTo config text a turns number last rows) → ReadRecord told a b false [] → rows_of config text ≡ behind d.said (rows_left (number == 1) config number last [])
-rest-none config text a b turns number last rows d r =
-    d.rest ∙ ap (λ l. behind d.said (rows_left (number == 1) config number last l)) (left-none default_config a.state d.unread (rows-end told a b [] default_config d.unread d.by_default d.source r))
+rest-none : (config : Config) (text : List ℕ) (a b : Source) (number last : ℕ) (rows : List Row) (fields : List (List ℕ)) (d : IsReadTo config text a number last rows) → ReadRecord told a b false fields → rows_of config text ≡ behind d.said (rows_left (number == 1) config number last [])
+rest-none config text a b number last rows fields d r =
+    d.rest ∙ ap (λ l. behind d.said (rows_left (number == 1) config number last l)) (left-none default_config a.state d.unread (rows-end told a b fields default_config d.unread d.by_default d.source r))
 
 no_header : (first : Bool) (config : Config) (number last : ℕ) (said : List SaidRow) → first ≡ true → behind said (rows_left first config number last []) ≡ Err (fault_at 1 rule.Header)
 unfolding rows_under
 no_header true config number last said e = refl
 no_header false config number last said e = cc
 
-pub read-nothing : (config : Config) (text : List ℕ) (a b : Source) (turns number last : ℕ) (rows : List Row) → IsReadTo config text a turns number last rows → ReadRecord told a b false [] → number ≡ 1 → rows_of config text ≡ Err (fault_at 1 rule.Header)
-read-nothing config text a b turns number last rows d r one =
-    rest-none config text a b turns number last rows d r ∙ no_header (number == 1) config number last d.said (eq-eqb number 1 one)
+pub read-nothing : (config : Config) (text : List ℕ) (a b : Source) (number last : ℕ) (rows : List Row) (fields : List (List ℕ)) → IsReadTo config text a number last rows → ReadRecord told a b false fields → number ≡ 1 → rows_of config text ≡ Err (fault_at 1 rule.Header)
+read-nothing config text a b number last rows fields d r one =
+    rest-none config text a b number last rows fields d r ∙ no_header (number == 1) config number last d.said (eq-eqb number 1 one)
 
 all_rows : (first : Bool) (config : Config) (number last : ℕ) (said : List SaidRow) → first ≡ false → behind said (rows_left first config number last []) ≡ Ok said
 unfolding rows_from
@@ -277,26 +273,26 @@ all_rows false config number last said e = ap Ok (append-nil said)
 not_one : (n : ℕ) → (n ≡ 1 → ⊥) → (n == 1) ≡ false
 not_one n h = elim (eqb_tells n 1) [ inl t ↦ absurd (h t.1) | inr f ↦ f.0 ]
 
-pub read-whole : (config : Config) (text : List ℕ) (a b : Source) (turns number last : ℕ) (rows : List Row) → IsReadTo config text a turns number last rows → ReadRecord told a b false [] → (number ≡ 1 → ⊥) → AreRows config text rows
-read-whole config text a b turns number last rows d r more =
-    (d.said, rest-none config text a b turns number last rows d r ∙ all_rows (number == 1) config number last d.said (not_one number more), d.means)
+pub read-whole : (config : Config) (text : List ℕ) (a b : Source) (number last : ℕ) (rows : List Row) (fields : List (List ℕ)) → IsReadTo config text a number last rows → ReadRecord told a b false fields → (number ≡ 1 → ⊥) → AreRows config text rows
+read-whole config text a b number last rows fields d r more =
+    (d.said, rest-none config text a b number last rows fields d r ∙ all_rows (number == 1) config number last d.said (not_one number more), d.means)
 
 -- what a record says is put behind the rows
-pub read-on : (said : Option SaidRow) (config : Config) (text : List ℕ) (a b : Source) (turns next number last time : ℕ) (rows new : List Row) (fields : List (List ℕ)) → IsReadTo config text a turns number last rows → ReadRecord told a b true fields → Ready b → 0 < next → number ≤ 1000001 → said_by (number == 1) config number last fields ≡ Ok said → IfSome said (IsSaid config last) → IsPut rows new last time said → b.flexible ≡ a.flexible → IsReadTo config text b next (number + 1) time new
-read-on None config text a b turns next number last time rows new fields d r ready goes few e valid put same =
-    rw (put.0, put.1) (read-header config text a b turns next number last rows fields d r ready goes few e same)
-read-on (Some said) config text a b turns next number last time rows new fields d r ready goes few e valid put same =
-    rw (put.2, put.3) (read-row config text a b turns next number last rows fields said put.0 d r ready goes few e valid put.1 same)
+pub read-on : (said : Option SaidRow) (config : Config) (text : List ℕ) (a b : Source) (number last time : ℕ) (rows new : List Row) (fields : List (List ℕ)) → IsReadTo config text a number last rows → ReadRecord told a b true fields → Ready b → number ≤ 1000001 → said_by (number == 1) config number last fields ≡ Ok said → IfSome said (IsSaid config last) → IsPut rows new last time said → b.flexible ≡ a.flexible → IsReadTo config text b (number + 1) time new
+read-on None config text a b number last time rows new fields d r ready few e valid put same =
+    rw (put.0, put.1) (read-header config text a b number last rows fields d r ready few e same)
+read-on (Some said) config text a b number last time rows new fields d r ready few e valid put same =
+    rw (put.2, put.3) (read-row config text a b number last rows fields said put.0 d r ready few e valid put.1 same)
 
 -- the rows that were read are within the limits
-pub read-valid : (config : Config) (text : List ℕ) (a : Source) (turns number last : ℕ) (rows : List Row) → IsReadTo config text a turns number last rows → AreTraceRows config rows
-read-valid config text a turns number last rows d = record { few = omega (arith, d.few, d.counted.1); each = d.each; order = d.order }
+pub read-valid : (config : Config) (text : List ℕ) (a : Source) (number last : ℕ) (rows : List Row) → IsReadTo config text a number last rows → AreTraceRows config rows
+read-valid config text a number last rows d = record { few = omega (arith, d.few, d.counted.1); each = d.each; order = d.order }
 
 -- an error of a reader that takes any number of fields is want of memory, or of the bytes below it
-pub read-short : (config : Config) (text : List ℕ) (a b : Source) (turns number last : ℕ) (rows : List Row) (why : ErrorKind) → IsReadTo config text a turns number last rows → ExplainsRead told a b false why → IsShortage why
-read-short config text a b turns number last rows (why.Io e) d x = tt
-read-short config text a b turns number last rows why.OutOfMemory d x = tt
-read-short config text a b turns number last rows (why.UnequalLengths pos expected len) d x = let flexible = d.flexible in let not = x.0 in absurd (cc)
-read-short config text a b turns number last rows (why.Utf8 pos err) d x = let of_text = x.0 in absurd (cc)
-read-short config text a b turns number last rows (why.Serialize what) d x = absurd x
-read-short config text a b turns number last rows (why.Deserialize pos err) d x = absurd x
+pub read-short : (config : Config) (text : List ℕ) (a b : Source) (number last : ℕ) (rows : List Row) (why : ErrorKind) → IsReadTo config text a number last rows → ExplainsRead told a b false why → IsShortage why
+read-short config text a b number last rows (why.Io e) d x = tt
+read-short config text a b number last rows why.OutOfMemory d x = tt
+read-short config text a b number last rows (why.UnequalLengths pos expected len) d x = let flexible = d.flexible in let not = x.0 in absurd (cc)
+read-short config text a b number last rows (why.Utf8 pos err) d x = let of_text = x.0 in absurd (cc)
+read-short config text a b number last rows (why.Serialize what) d x = absurd x
+read-short config text a b number last rows (why.Deserialize pos err) d x = absurd x

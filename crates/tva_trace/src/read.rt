@@ -1,5 +1,5 @@
 // Reads a trace.
-ghost use Rattle.std.specs.Prelude.{◌≡◌, ◌≤◌, ◌==◌, List, IfOk, IfSome, OnOk, length};
+ghost use Rattle.std.specs.Prelude.{◌≡◌, ◌≤◌, ◌==◌, List, [], IfOk, IfErr, IfSome, OnOk, length};
 ghost use Rattle.csv.specs.Records.{fields_of};
 ghost use Rattle.tva_trace.specs.declared.rows.Row.{Row};
 ghost use Rattle.tva_trace.specs.declared.rows.TraceError.TheVariants as error;
@@ -46,18 +46,28 @@ fn read_rows(
     ensures answer { Answers config.now text.now result }
     ensures valid { IfOk result (λ rows. AreTraceRows config.now rows.items) }
 {
-    let mut rows = Vec::new(alloc);
+    let mut rows = room_for_rows(alloc, text)?;
     let mut number = 1u64;
     let mut last = 0u64;
-    let reader = ReaderBuilder::new()
+    let mut reader = ReaderBuilder::new()
         .has_headers(false)
         .flexible(true)
         .from_reader(alloc, text);
-    for record in reader.into_byte_records() {
-        let record = match record {
-            Ok(record) => record,
+    let mut record = ByteRecord::new(alloc);
+    'records: loop {
+        let found = match reader.read_byte_record(&mut record) {
+            Ok(found) => found,
             Err(error) => return Err(shortage(error.kind())),
         };
+        if !found {
+            if number == 1 {
+                return Err(TraceError::Fault(TraceFault {
+                    row: 1,
+                    rule: TraceRule::Header,
+                }));
+            }
+            return Ok(rows);
+        }
         let said = match said_by(config, numbers, number, last, &record) {
             Ok(said) => said,
             Err(rule) => return Err(TraceError::Fault(TraceFault { row: number, rule })),
@@ -68,13 +78,18 @@ fn read_rows(
         last = time;
         number += 1;
     }
-    if number == 1 {
-        return Err(TraceError::Fault(TraceFault {
-            row: 1,
-            rule: TraceRule::Header,
-        }));
+}
+
+/// No rows, with room for one for each line, and for no more than a trace may have.
+fn room_for_rows(alloc: Global, text: &[u8]) -> Result<Vec<Row>, TraceError>
+    ensures none { IfOk result (λ rows. rows.items ≡ []) }
+    ensures err { IfErr result (λ e. e ≡ error.OutOfMemory) }
+{
+    let lines = text.iter().filter(|byte| **byte == b'\n').count();
+    match Vec::with_capacity(alloc, lines.min(1_000_000)) {
+        Ok(rows) => Ok(rows),
+        Err(_) => Err(TraceError::OutOfMemory),
     }
-    Ok(rows)
 }
 
 /// A reader of bytes in memory that takes any number of fields lacks nothing but memory.

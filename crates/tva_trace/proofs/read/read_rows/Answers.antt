@@ -1,50 +1,58 @@
-use Rattle.std.proofs.Common.{◌∙◌, sym, ap, refl, inl, inr, true}
-use Rattle.csv.specs.Reading.{with_flexible}
+use Rattle.std.proofs.Common.{◌≡◌, ◌∙◌, sym, ap, subst, refl, inl, inr, Bool, true, false, Some, arith}
+use Rattle.csv.specs.Reading.{ReadRecord, error_kind, with_flexible}
 use Rattle.csv.specs.Records.{fields_of}
-use Rattle.tva_trace.proofs.Reading.{read-start, read-fault, read-on, read-nothing, read-valid, read-whole}
+use Rattle.tva_trace.proofs.Reading.{told, read-start, read-fault, read-on, read-nothing, read-short, read-valid, read-whole}
 use Rattle.tva_trace.proofs.read.read_rows.Goals as goal
 
-pub loop-record-init : goal.loop-record-init
-loop-record-init c =
+pub records-init : goal.records-init
+records-init c =
     let fr = c.from_reader-reader.ensures in
     let e = c.flexible.ensures ∙ ap (λ b. with_flexible b true) c.has_headers.ensures in
-    let start = c.into_iter-record-iterator.ensures.into_iter_gives ∙ refl in
-    let rdr = c.into_byte_records-record-items.ensures.rdr in
-    let left = c.into_byte_records-record-items.ensures.left in
-    rw (start, rdr, c.new-rows.ensures.items) (read-start c.args.config.now c.args.text.now _ _
+    rw c.in_ok-rows.ensures.none (read-start c.args.config.now c.args.text.now _
     (rw (e) at fr.trim ∙ c.new.ensures.trim)
     (inr (inr (rw e at fr.has_headers, fr.headers)))
-    left
     (rw e at fr.config ∙ c.new.ensures.config)
     fr.source
     fr.state
     (rw e at fr.flexible))
 
+pub shortage-requires : goal.shortage-requires
+shortage-requires c =
+    let inv = c.records.invariant in
+    rw c.kind.ensures (read-short c.args.config.now c.args.text.now c.records.reader c.read_byte_record.new.self c.records.number c.records.last c.records.rows.items (error_kind c.in-Err.error) inv (c.in-Err.ensures.why inv.is_ready))
+
 pub returns-in-Err-said_by-clause-answer : goal.returns-in-Err-said_by-clause-answer
 returns-in-Err-said_by-clause-answer c =
-    let inv = c.loop-record.invariant in
-    let s = rw (c.in-Some.is, c.in-Ok.is) at ((c.next.ensures.steps inv.goes_on inv.untrimmed).0 inv.is_ready) in
-    read-fault c.args.config.now c.args.text.now c.loop-record.record-iterator.rdr c.next.new.self.rdr c.loop-record.record-iterator.left c.loop-record.number c.loop-record.last c.loop-record.rows.items (fields_of c.in-Ok.record) c.in-Err-said_by.rule inv s.0 (sym c.in-Err-said_by.ensures.said)
+    let inv = c.records.invariant in
+    let fields = fields_of c.read_byte_record.new.row in
+    let read = subst (λ (b : Bool). ReadRecord told c.records.reader c.read_byte_record.new.self b fields) c.if-not-found.false (c.in-Ok.ensures.reads inv.untrimmed inv.is_ready) in
+    read-fault c.args.config.now c.args.text.now c.records.reader c.read_byte_record.new.self c.records.number c.records.last c.records.rows.items fields c.in-Err-said_by.rule inv read (sym c.in-Err-said_by.ensures.said)
 
-pub loop-record-preserved : goal.loop-record-preserved
-loop-record-preserved c =
-    let inv = c.loop-record.invariant in
-    let steps = c.next.ensures.steps inv.goes_on inv.untrimmed in
-    let s = rw (c.in-Some.is, c.in-Ok.is) at (steps.0 inv.is_ready) in
-    let same = rw (c.in-Some.is, c.in-Ok.is) at (steps.3) in
-    read-on c.in-Ok-said_by.said c.args.config.now c.args.text.now c.loop-record.record-iterator.rdr c.next.new.self.rdr c.loop-record.record-iterator.left c.next.new.self.left c.loop-record.number c.loop-record.last c.in-Ok-put_row.time c.loop-record.rows.items c.put_row.new.rows.items (fields_of c.in-Ok.record) inv s.0 (inl s.1) s.2 c.in-Ok-said_by.ensures.few (sym c.in-Ok-said_by.ensures.said) c.in-Ok-said_by.ensures.valid c.in-Ok-put_row.ensures same
+pub records-preserved : goal.records-preserved
+records-preserved c =
+    let inv = c.records.invariant in
+    let fields = fields_of c.read_byte_record.new.row in
+    let read = subst (λ (b : Bool). ReadRecord told c.records.reader c.read_byte_record.new.self b fields) c.if-not-found.false (c.in-Ok.ensures.reads inv.untrimmed inv.is_ready) in
+    read-on c.in-Ok-said_by.said c.args.config.now c.args.text.now c.records.reader c.read_byte_record.new.self c.records.number c.records.last c.in-Ok-put_row.time c.records.rows.items c.put_row.new.rows.items fields inv read
+    (inl (c.in-Ok.ensures.ready inv.untrimmed)) c.in-Ok-said_by.ensures.few (sym c.in-Ok-said_by.ensures.said) c.in-Ok-said_by.ensures.valid c.in-Ok-put_row.ensures c.in-Ok.ensures.flexible
+
+pub records-smaller : goal.records-smaller
+records-smaller c = omega (arith, c.in-Ok-said_by.ensures.few)
 
 pub returns-then-number-eq1-clause-answer : goal.returns-then-number-eq1-clause-answer
 returns-then-number-eq1-clause-answer c =
-    let inv = c.loop-record.invariant in
-    let s = rw c.in-None.is at ((c.next.ensures.steps inv.goes_on inv.untrimmed).0 inv.is_ready) in
-    read-nothing c.args.config.now c.args.text.now c.loop-record.record-iterator.rdr c.next.new.self.rdr c.loop-record.record-iterator.left c.loop-record.number c.loop-record.last c.loop-record.rows.items inv s c.if-number-eq1.true
+    let inv = c.records.invariant in
+    let fields = fields_of c.read_byte_record.new.row in
+    let read = subst (λ (b : Bool). ReadRecord told c.records.reader c.read_byte_record.new.self b fields) c.if-not-found.true (c.in-Ok.ensures.reads inv.untrimmed inv.is_ready) in
+    read-nothing c.args.config.now c.args.text.now c.records.reader c.read_byte_record.new.self c.records.number c.records.last c.records.rows.items fields inv read c.if-number-eq1.true
 
-pub returns-clause-answer : goal.returns-clause-answer
-returns-clause-answer c =
-    let inv = c.loop-record.invariant in
-    let s = rw c.in-None.is at ((c.next.ensures.steps inv.goes_on inv.untrimmed).0 inv.is_ready) in
-    read-whole c.args.config.now c.args.text.now c.loop-record.record-iterator.rdr c.next.new.self.rdr c.loop-record.record-iterator.left c.loop-record.number c.loop-record.last c.loop-record.rows.items inv s c.if-number-eq1.false
+pub returns-then-not-found-clause-answer : goal.returns-then-not-found-clause-answer
+returns-then-not-found-clause-answer c =
+    let inv = c.records.invariant in
+    let fields = fields_of c.read_byte_record.new.row in
+    let read = subst (λ (b : Bool). ReadRecord told c.records.reader c.read_byte_record.new.self b fields) c.if-not-found.true (c.in-Ok.ensures.reads inv.untrimmed inv.is_ready) in
+    read-whole c.args.config.now c.args.text.now c.records.reader c.read_byte_record.new.self c.records.number c.records.last c.records.rows.items fields inv read c.if-number-eq1.false
 
-pub returns-clause-valid : goal.returns-clause-valid
-returns-clause-valid c = read-valid c.args.config.now c.args.text.now c.loop-record.record-iterator.rdr c.loop-record.record-iterator.left c.loop-record.number c.loop-record.last c.loop-record.rows.items c.loop-record.invariant
+pub returns-then-not-found-clause-valid : goal.returns-then-not-found-clause-valid
+returns-then-not-found-clause-valid c =
+    read-valid c.args.config.now c.args.text.now c.records.reader c.records.number c.records.last c.records.rows.items c.records.invariant

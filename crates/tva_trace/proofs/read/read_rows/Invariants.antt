@@ -1,5 +1,10 @@
+use Rattle.std.proofs.Common.{◌-◌}
 use Rattle.tva_trace.proofs.Reading.{IsReadTo}
 use Rattle.tva_trace.proofs.read.read_rows.Given as goal
 
-abbrev pub invariant-loop-record : goal.invariant-loop-record
-invariant-loop-record l = IsReadTo l.config l.text l.record-iterator.rdr l.record-iterator.left l.number l.last l.rows.items
+abbrev pub invariant-records : goal.invariant-records
+invariant-records l = IsReadTo l.config l.text l.reader l.number l.last l.rows.items
+
+-- a record past the last that may be breaks a rule
+abbrev pub decreases-records : goal.decreases-records
+decreases-records l = 1000002 - l.number
