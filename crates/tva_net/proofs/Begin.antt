@@ -112,8 +112,9 @@ module _ (config : Config) (rows : List Row) (nodes : List NodeState) (valid : I
       record {
         site = f.site;
         horizon = f.horizon;
-        worked_to = f.nothing.2;
+        worked_to = let from = f.nothing.2 in omega (arith, from);
         stands = subst (StandsFor v) (none ∙ sym (no_log nodes n)) s;
+        rests = λ t k w. absurd (omega (arith, k));
         mail = λ source. ap (from_source input_source source) f.inbox ∙ reached n source;
       }
 

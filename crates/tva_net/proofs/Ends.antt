@@ -1,21 +1,22 @@
 -- What the steps of a window ask and leave.
 use Rattle.std.proofs.Common.{◌≡◌, ℕ, ◌+◌, ◌<◌, ◌≤◌, min, List, [], ◌∷◌, ◌++◌, length, get_or, Some, None, All, refl, sym, subst, ◌∙◌, ap, arith}
 use Rattle.std.specs.List.{AllByRecursion, AllZip}
-use Rattle.std.proofs.lemmas.List.{append-nil, append_assoc}
+use Rattle.std.proofs.lemmas.List.{append-nil, append_assoc, get_or-map}
 use Rattle.std.proofs.lemmas.List.Elements.{recursion_from_All}
 use Rattle.tva_base.specs.declared.event.Event.{Event}
 use Rattle.tva_base.specs.declared.packet.Time.{Time}
 use Rattle.tva_config.specs.declared.config.Config.{Config}
 use Rattle.tva_trace.specs.declared.rows.Row.{Row}
-use Rattle.tva_node.specs.States.{BeginsWith, IsAdvanced, Keeps, NodeState, Stands}
+use Rattle.tva_node.specs.States.{BeginsWith, Keeps, NodeState, Stands}
 use Rattle.tva_run.specs.Reaching.{log_at}
 use Rattle.tva_run.specs.Windows.{Window, given}
 use Rattle.tva_net.specs.Mail.{IsPostable, KeepsWork}
 use Rattle.tva_net.specs.News.{IsFirstTime, since}
 use Rattle.tva_net.specs.Nets.{IsWholeRun, WorkState, WorksFor, told_by}
-use Rattle.tva_net.specs.Work.{AddsNothing, AddsWindow, AddsWindows, AreWorked, CanWork, EndsWindow, OfEachRun, WorksOn, WorksUpTo, if_some}
-use Rattle.tva_net.proofs.Lists.{zip_both, zip_map, zip_same}
-use Rattle.tva_net.proofs.Standing.{start_few, start_later, whole_run}
+use Rattle.tva_net.specs.Places.{AreKnownElsewhere, IsElsewhere}
+use Rattle.tva_net.specs.Work.{AddsNothing, AddsWindow, AddsWindows, AreWorked, CanGoTo, CanWork, EndsWindow, IsThrough, OfEachRun, WorksOn, WorksUpTo, if_some}
+use Rattle.tva_net.proofs.Lists.{zip_both, zip_length, zip_map, zip_same}
+use Rattle.tva_net.proofs.Standing.{start_few, start_later, start_within, whole_run}
 use Rattle.tva_net.proofs.Windows as spans
 
 -- ## what is kept
@@ -44,21 +45,53 @@ module _ (w : WorkState) (until : ℕ) (e : EndsWindow w until) where
   pub all_stand : AllByRecursion Stands w.nodes
   all_stand = recursion_from_All Stands w.nodes (λ n d l. (log_at e.works.logs n, (e.works.nodes n d l).stands))
 
-  module _ (mids : List NodeState) (advanced : AllZip (IsAdvanced until) w.nodes mids) (kept : AllZip Keeps w.nodes mids) where
+  pub few : length w.nodes ≤ 1024
+  few = let few = e.works.valid.few_nodes in let count = e.works.count in omega (arith, few, count)
+
+  pub reach : All (CanGoTo until) w.nodes
+  reach n d l =
+      let a = e.works.nodes n d l in
+      let from = a.worked_to in
+      let same = a.horizon in
+      let horizon = e.works.horizon in
+      let ends = e.ends in
+      let later = start_later e.config e.rows e.windows e.told w e.works e.start e.first in
+      let within = start_within e.config e.rows e.windows e.told w e.works e.start e.first in
+      (omega (arith, from, later, within, ends, horizon), omega (arith, ends, horizon, same))
+
+  module _ (mids : List NodeState) (through : AllByRecursion (IsThrough until) mids) (kept : AllZip Keeps w.nodes mids) where
     pub shown_known : AllZip (λ (v : NodeState) (n : ℕ). n ≤ length v.events) mids w.shown
-    shown_known = spans.shown_known e.config e.rows e.windows e.told w e.works e.start e.first until e.ends mids advanced kept
+    shown_known = spans.shown_known e.config e.rows e.windows e.told w e.works e.start e.first until e.ends mids through kept
 
     pub mids_stand : All Stands mids
-    mids_stand = spans.mids_stand e.config e.rows e.windows e.told w e.works e.start e.first until e.ends mids advanced kept
+    mids_stand = spans.mids_stand e.config e.rows e.windows e.told w e.works e.start e.first until e.ends mids through kept
 
     pub mids_numbered : (n : ℕ) (d : NodeState) → n < length mids → (get_or mids n d).site.number ≡ n
-    mids_numbered = spans.mids_numbered e.config e.rows e.windows e.told w e.works e.start e.first until e.ends mids advanced kept
+    mids_numbered = spans.mids_numbered e.config e.rows e.windows e.told w e.works e.start e.first until e.ends mids through kept
 
     pub posted_known : AllZip (λ (v : NodeState) (n : ℕ). n ≤ length v.sendings) mids w.posted
-    posted_known = spans.posted_known e.config e.rows e.windows e.told w e.works e.start e.first until e.ends mids advanced kept
+    posted_known = spans.posted_known e.config e.rows e.windows e.told w e.works e.start e.first until e.ends mids through kept
 
     pub postable : All (IsPostable w.horizon w.links mids) (since (λ v. v.sendings) mids w.posted)
-    postable = spans.postable e.config e.rows e.windows e.told w e.works e.start e.first until e.ends mids advanced kept
+    postable = spans.postable e.config e.rows e.windows e.told w e.works e.start e.first until e.ends mids through kept
+
+    pub mids_few : length mids ≤ 1024
+    mids_few = omega (arith, few, zip_length Keeps w.nodes mids kept)
+
+    -- of nodes elsewhere all is known
+    module _ (places : List ℕ) (others : (place : ℕ) (d : NodeState) → place < length mids → IsElsewhere places place → get_or mids place d ≡ get_or w.nodes place d) where
+      old_within : (n : ℕ) → n < length mids → n < length w.nodes
+      old_within n l = omega (arith, l, zip_length Keeps w.nodes mids kept)
+
+      pub shown_elsewhere : AreKnownElsewhere (λ v. v.events) mids w.shown places
+      shown_elsewhere n d l k =
+          ap (λ (ns : List ℕ). get_or ns n 0) e.works.shown
+          ∙ (get_or-map (λ (v : NodeState). length v.events) w.nodes n d 0 (old_within n l) ∙ ap (λ (v : NodeState). length v.events) (sym (others n d l k)))
+
+      pub posted_elsewhere : AreKnownElsewhere (λ v. v.sendings) mids w.posted places
+      posted_elsewhere n d l k =
+          ap (λ (ns : List ℕ). get_or ns n 0) e.works.posted
+          ∙ (get_or-map (λ (v : NodeState). length v.sendings) w.nodes n d 0 (old_within n l) ∙ ap (λ (v : NodeState). length v.sendings) (sym (others n d l k)))
 
 -- ## the next window
 
@@ -70,14 +103,14 @@ pub window_works : (w : WorkState) (start : Time) (until : ℕ) (list : List Eve
     → WorksOn w (Some list) (record { horizon = w.horizon; links = w.links; span = w.span; nodes = news; posted = posts; shown = shows; worked_to = until })
 window_works w start until list posts shows news (config, rows, before, told, h) first ends worked =
     let later = start_later config rows before told w h start first in
-    let some = spans.some config rows before told w h start first until ends worked.mids worked.advanced worked.kept in (
+    let some = spans.some config rows before told w h start first until ends worked.mids worked.through worked.kept in (
       omega (arith, later, some),
       omega (arith, ends),
       refl,
       λ config rows before told h. record {
         window = (start.0, until);
-        works = spans.works_on config rows before told w h start first until ends worked.mids worked.advanced worked.kept news worked.mail list posts shows worked.told worked.posting worked.showing;
-        given = spans.given_on config rows before told w h start first until ends worked.mids worked.advanced worked.kept list worked.told;
+        works = spans.works_on config rows before told w h start first until ends worked.mids worked.through worked.kept news worked.mail list posts shows worked.told worked.posting worked.showing;
+        given = spans.given_on config rows before told w h start first until ends worked.mids worked.through worked.kept list worked.told;
       },
     )
 
@@ -96,6 +129,9 @@ ends_window w start until (config, rows, before, told, h) first ends = record { 
 
 pub room_in_time : (w : WorkState) (start : Time) → CanWork w → IsFirstTime w.nodes (Some start) → start.0 + w.span ≤ 3000000000000000
 room_in_time w start (config, rows, before, told, h) first = start_few config rows before told w h start first
+
+pub can_stand : (w : WorkState) → CanWork w → AllByRecursion Stands w.nodes
+can_stand w (config, rows, before, told, h) = recursion_from_All Stands w.nodes (λ n d l. (log_at h.logs n, (h.nodes n d l).stands))
 
 -- ## several windows
 

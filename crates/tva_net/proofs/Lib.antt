@@ -1,6 +1,7 @@
 pub mod Lists
 pub mod Rises
 pub mod Nodes
+pub mod Resting
 pub mod Senders
 pub mod Given
 pub mod Standing
@@ -11,7 +12,10 @@ pub mod Answering
 pub mod Mails
 pub mod Orders
 pub mod News
-pub mod Times
+pub mod Places
+pub mod Noted
+pub mod Delays
+pub mod Worked
 pub mod Firsts
 pub mod Adding
 pub mod Sorting

@@ -14,8 +14,10 @@ use Rattle.tva_log.specs.Entries.{input_time}
 use Rattle.tva_log.specs.Sites.{Site}
 use Rattle.tva_node.specs.States.{NodeState, Fits}
 use Rattle.tva_run.specs.Reaching.{arrival}
-use Rattle.tva_net.specs.Mail.{CanDeliver, GotMail, GotMails, IsPostable, KeepsWork, goes_to, mail_at, mail_to}
-use Rattle.tva_net.specs.News.{sent_by, since}
+use Rattle.tva_net.specs.Mail.{CanDeliver, GotMail, GotMails, IsPostable, IsSameBut, KeepsWork, goes_to, mail_at, mail_to}
+use Rattle.tva_net.specs.News.{sent_by}
+use Rattle.tva_net.specs.Places.{picked}
+use Rattle.tva_net.proofs.Places.{news_at, picked_last, picked_more}
 
 -- ## what is kept
 
@@ -51,6 +53,10 @@ pub zip_set : {X : Type 0} (R : X → X → Type 0) → ((x : X) → R x x) → 
 zip_set R same [] i w r = tt
 zip_set R same (x ∷ xs) zero w r = (r, zip_same R same xs)
 zip_set R same (x ∷ xs) (suc i) w r = (same x, zip_set R same xs i w r)
+
+-- and nothing happens to the others
+pub same_but : (place : ℕ) (nodes : List NodeState) (v : NodeState) → IsSameBut place nodes (set nodes place v)
+same_but place nodes v = (length-set nodes place v, λ other d e. get_or-set_other nodes place other v d e)
 
 pub all_keep : (xs ys zs : List NodeState) → AllZip KeepsWork xs ys → AllZip KeepsWork ys zs → AllZip KeepsWork xs zs
 all_keep xs ys zs a b = zip_more KeepsWork keeps_more xs ys zs a b
@@ -216,28 +222,16 @@ left_none horizon links sent place n l = ap (λ (ss : List Sending). mail_to hor
 abbrev pub has_by : {X : Type 0} → (NodeState → List X) → List NodeState → ℕ → List X
 has_by has nodes k = option_map_or has (slice_get nodes k) []
 
--- one node more is gone through
-pub since_more : {X : Type 0} (has : NodeState → List X) (nodes : List NodeState) (known : List ℕ) (k e : ℕ) → k < length nodes → k < length known
-    → since has (drop k nodes) (drop k known) ≡ drop (get_or known k e) (has_by has nodes k) ++ since has (drop (k + 1) nodes) (drop (k + 1) known)
-since_more has [] known k e l m = absurd (omega arith)
-since_more {X} has (v ∷ vs) known k e l m =
-    ap₂ (λ (us : List NodeState) (ns : List ℕ). since has us ns) (drop_more (v ∷ vs) k v l) (drop_more known k e m)
-    ∙ ap (λ (o : Option NodeState). drop (get_or known k e) (option_map_or has o []) ++ since has (drop (k + 1) (v ∷ vs)) (drop (k + 1) known)) (sym (slice_get-get_or (v ∷ vs) k v l))
-
-pub since_last : {X : Type 0} (has : NodeState → List X) (nodes : List NodeState) (known : List ℕ) (k : ℕ) → length nodes ≤ k → since has (drop k nodes) (drop k known) ≡ []
-since_last has nodes known k l = ap (λ (vs : List NodeState). since has vs (drop k known)) (drop_all k nodes l)
-
 all_left : {X : Type 0} (P : X → Type 0) (xs ys : List X) → All P (xs ++ ys) → All P xs
 all_left P xs ys h = λ k d l. subst P (get_or_append_left xs ys d k l) (h k d (simp length-append (omega arith)))
 
 all_right : {X : Type 0} (P : X → Type 0) (xs ys : List X) → All P (xs ++ ys) → All P ys
 all_right P xs ys h = λ k d l. subst P (get_or-append-add xs ys k d) (h (length xs + k) d (simp length-append (omega arith)))
 
-pub since_all : {X : Type 0} (P : X → Type 0) (has : NodeState → List X) (nodes : List NodeState) (known : List ℕ) (k e : ℕ) → k < length nodes → k < length known → All P (since has nodes known) → All P (drop (get_or known k e) (has_by has nodes k))
-since_all P has [] known k e l m h = absurd (omega arith)
-since_all P has (v ∷ vs) [] k e l m h = absurd (omega arith)
-since_all P has (v ∷ vs) (n ∷ ns) zero e l m h = all_left P (drop n (has v)) (since has vs ns) h
-since_all P has (v ∷ vs) (n ∷ ns) (suc k) e l m h = since_all P has vs ns k e (omega arith) (omega arith) (all_right P (drop n (has v)) (since has vs ns) h)
+pub picked_all : {X : Type 0} (P : X → Type 0) (has : NodeState → List X) (nodes : List NodeState) (known places : List ℕ) (i e : ℕ) → i < length places → All P (picked has nodes known places) → All P (news_at has nodes known (get_or places i e))
+picked_all P has nodes known [] i e l h = absurd (omega arith)
+picked_all P has nodes known (p ∷ ps) zero e l h = all_left P (news_at has nodes known p) (picked has nodes known ps) h
+picked_all P has nodes known (p ∷ ps) (suc i) e l h = picked_all P has nodes known ps i e (omega arith) (all_right P (news_at has nodes known p) (picked has nodes known ps) h)
 
 -- no more is known than a node has
 pub known_at : {X : Type 0} (has : NodeState → List X) (nodes : List NodeState) (known : List ℕ) (k e : ℕ) → AllZip (λ v n. n ≤ length (has v)) nodes known → k < length nodes → get_or known k e ≤ length (has_by has nodes k)
@@ -273,25 +267,33 @@ going_one horizon links sent posted place s nodes now more l is h g =
     going_more (mail_to horizon links (drop posted sent)) (mail_to horizon links (drop place sent)) (mail_to horizon links (s ∷ [])) (mail_to horizon links (drop (place + 1) sent)) nodes now more h g
     (λ n. left_one horizon links sent place s n l ∙ ap (λ (x : Sending). mail_to horizon links (x ∷ []) n ++ mail_to horizon links (drop (place + 1) sent) n) (sym is))
 
-pub going_node : (horizon : ℕ) (links : List LinkPlan) (known : List ℕ) (from : ℕ) (nodes now more : List NodeState) → from < length nodes → from < length known
-    → IsGoing (mail_to horizon links (since (λ v. v.sendings) nodes known)) (mail_to horizon links (since (λ v. v.sendings) (drop from nodes) (drop from known))) nodes now
+pub going_node : (horizon : ℕ) (links : List LinkPlan) (known places : List ℕ) (i from : ℕ) (nodes now more : List NodeState) → i < length places → from ≡ get_or places i from → from < length nodes
+    → IsGoing (mail_to horizon links (picked (λ v. v.sendings) nodes known places)) (mail_to horizon links (picked (λ v. v.sendings) nodes known (drop i places))) nodes now
     → GotMails (mail_to horizon links (drop (get_or known from 0) (sent_by now from))) now more
-    → IsGoing (mail_to horizon links (since (λ v. v.sendings) nodes known)) (mail_to horizon links (since (λ v. v.sendings) (drop (from + 1) nodes) (drop (from + 1) known))) nodes more
-going_node horizon links known from nodes now more l m h g =
-    let same = sent_by_still h.done nodes now from h.got l in
-    going_more (mail_to horizon links (since (λ v. v.sendings) nodes known)) (mail_to horizon links (since (λ v. v.sendings) (drop from nodes) (drop from known)))
-    (mail_to horizon links (drop (get_or known from 0) (sent_by nodes from))) (mail_to horizon links (since (λ v. v.sendings) (drop (from + 1) nodes) (drop (from + 1) known))) nodes now more h
+    → IsGoing (mail_to horizon links (picked (λ v. v.sendings) nodes known places)) (mail_to horizon links (picked (λ v. v.sendings) nodes known (drop (i + 1) places))) nodes more
+going_node horizon links known places i from nodes now more l is m h g =
+    let rest : List Sending = picked (λ v. v.sendings) nodes known (drop (i + 1) places) in
+    let same = sent_by_still h.done nodes now from h.got m in
+    let next : picked (λ v. v.sendings) nodes known (drop i places) ≡ drop (get_or known from 0) (sent_by nodes from) ++ rest =
+    picked_more (λ v. v.sendings) nodes known places i from l ∙ ap (λ (k : ℕ). news_at (λ v. v.sendings) nodes known k ++ rest) (sym is) in
+    going_more (mail_to horizon links (picked (λ v. v.sendings) nodes known places)) (mail_to horizon links (picked (λ v. v.sendings) nodes known (drop i places)))
+    (mail_to horizon links (drop (get_or known from 0) (sent_by nodes from))) (mail_to horizon links rest) nodes now more h
     (subst (λ (ss : List Sending). GotMails (mail_to horizon links (drop (get_or known from 0) ss)) now more) same g)
-    (λ n. ap (λ (ss : List Sending). mail_to horizon links ss n) (since_more (λ v. v.sendings) nodes known from 0 l m)
-    ∙ mail-append horizon links (drop (get_or known from 0) (sent_by nodes from)) (since (λ v. v.sendings) (drop (from + 1) nodes) (drop (from + 1) known)) n)
+    (λ n. ap (λ (ss : List Sending). mail_to horizon links ss n) next
+    ∙ mail-append horizon links (drop (get_or known from 0) (sent_by nodes from)) rest n)
 
-pub postable_from : (horizon : ℕ) (links : List LinkPlan) (known : List ℕ) (from : ℕ) (nodes now : List NodeState) (mail : ℕ → List Input) → GotMails mail nodes now → from < length nodes → from < length known → All (IsPostable horizon links nodes) (since (λ v. v.sendings) nodes known)
+pub picked_none : (horizon : ℕ) (links : List LinkPlan) (known places : List ℕ) (i n : ℕ) (nodes : List NodeState) → length places ≤ i → mail_to horizon links (picked (λ v. v.sendings) nodes known (drop i places)) n ≡ []
+picked_none horizon links known places i n nodes l = ap (λ (ss : List Sending). mail_to horizon links ss n) (picked_last (λ v. v.sendings) nodes known places i l)
+
+pub postable_from : (horizon : ℕ) (links : List LinkPlan) (known places : List ℕ) (i from : ℕ) (nodes now : List NodeState) (mail : ℕ → List Input) → GotMails mail nodes now → i < length places → from ≡ get_or places i from → from < length nodes
+    → All (IsPostable horizon links nodes) (picked (λ v. v.sendings) nodes known places)
     → All (IsPostable horizon links now) (drop (get_or known from 0) (sent_by now from))
-postable_from horizon links known from nodes now mail g l m h =
-    let same = sent_by_still mail nodes now from g l in
+postable_from horizon links known places i from nodes now mail g l is m h =
+    let same = sent_by_still mail nodes now from g m in
+    let here : All (IsPostable horizon links nodes) (drop (get_or known from 0) (sent_by nodes from)) =
+    subst (λ (k : ℕ). All (IsPostable horizon links nodes) (news_at (λ v. v.sendings) nodes known k)) (sym is) (picked_all (IsPostable horizon links nodes) (λ v. v.sendings) nodes known places i from l h) in
     subst (λ (ss : List Sending). All (IsPostable horizon links now) (drop (get_or known from 0) ss)) (sym same)
-    (All-weaker (IsPostable horizon links nodes) (IsPostable horizon links now) (λ s k. still_postable mail horizon links nodes now s g k) (drop (get_or known from 0) (sent_by nodes from))
-    (since_all (IsPostable horizon links nodes) (λ v. v.sendings) nodes known from 0 l m h))
+    (All-weaker (IsPostable horizon links nodes) (IsPostable horizon links now) (λ s k. still_postable mail horizon links nodes now s g k) (drop (get_or known from 0) (sent_by nodes from)) here)
 
 pub sent_counts : (xs ys : List NodeState) → AllZip KeepsWork xs ys → map (λ v. length v.sendings) ys ≡ map (λ v. length v.sendings) xs
 sent_counts [] [] h = refl

@@ -14,10 +14,9 @@ use Rattle.tva_config.proofs.Wired.{all_here}
 use Rattle.tva_trace.specs.declared.rows.Row.{Row}
 use Rattle.tva_log.specs.Sites.{Site, site_of}
 use Rattle.tva_log.specs.NodeLog.{in_turn}
-use Rattle.tva_log.specs.Next.{AreLegal, IsWorkAt}
+use Rattle.tva_log.specs.Next.{IsWorkAt}
 use Rattle.tva_log.specs.Told.{events}
 use Rattle.tva_node.specs.States.{NodeState}
-use Rattle.tva_node.proofs.Works.{legal}
 use Rattle.tva_run.specs.Reaching.{Logs, log_at, links_out, site_at}
 use Rattle.tva_run.specs.Report.{events_at}
 use Rattle.tva_run.specs.Run.{IsRunTo}
@@ -29,6 +28,7 @@ use Rattle.tva_net.specs.News.{HasNone, IsFirstTime}
 use Rattle.tva_net.specs.Nets.{AreFirstWindows, IsNodeAt, IsRunSoFar, IsWholeRun, TellOf, WorkState, WorksFor}
 use Rattle.tva_net.proofs.Lists.{some_same}
 use Rattle.tva_net.proofs.Nodes.{rests, has_work}
+use Rattle.tva_net.proofs.Resting.{legal_then, work_back, work_then}
 use Rattle.tva_net.proofs.Rises.{reaches_rise}
 
 -- ## windows
@@ -115,10 +115,11 @@ module _ (config : Config) (rows : List Row) (windows : List Window) (told : Lis
       let v = get_or w.nodes n d in
       let a = h.nodes n d k in
       let log = log_at h.logs n in
+      let bound : w.worked_to ≤ v.horizon + 1 = let e = a.horizon in omega (arith, e, run_within) in
       subst (λ (s : Site). IsAtRest config rows h.logs w.worked_to until s log) same
       (rests config rows h.logs n v a.site a.mail (reaches_rise config rows w.worked_to h.logs h.valid h.trace.order h.run n) log w.worked_to until
-      (subst (λ (t : ℕ). AreLegal v.site t log) a.worked_to (legal v log a.stands)) l
-      (λ t m x. none n d k t m (subst (λ (f : ℕ). IsWorkAt v.site (in_turn v.inbox) log f t) (sym a.worked_to) x)))
+      (legal_then v log a.stands w.worked_to bound a.worked_to a.rests) l
+      (λ t m x. none n d k t m (work_back v log a.stands w.worked_to bound a.worked_to a.rests t x)))
 
   -- ## where no node has anything left to do
 
@@ -157,8 +158,8 @@ module _ (config : Config) (rows : List Row) (windows : List Window) (told : Lis
     begins : IsWorkAt first.0.node.site (in_turn first.0.node.inbox) (log_at h.logs first.0.place) w.worked_to start.0
     begins =
         let s = first.0 in
-        subst (λ (f : ℕ). IsWorkAt s.node.site (in_turn s.node.inbox) (log_at h.logs s.place) f start.0) worker.worked_to
-        (s.work (log_at h.logs s.place) worker.stands).1
+        let bound : w.worked_to ≤ s.node.horizon + 1 = let e = worker.horizon in omega (arith, e, run_within) in
+        work_then s.node (log_at h.logs s.place) worker.stands w.worked_to bound worker.worked_to worker.rests start.0 (s.work (log_at h.logs s.place) worker.stands).1
 
     pub start_later : w.worked_to ≤ start.0
     start_later = begins.0

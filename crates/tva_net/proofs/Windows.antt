@@ -23,9 +23,10 @@ use Rattle.tva_log.specs.declared.kinds.Sending.{Sending}
 use Rattle.tva_log.specs.Sites.{Site, link_out, site_of}
 use Rattle.tva_log.specs.Entries.{Entry, input_time, input_source, entry_time, entry_rank}
 use Rattle.tva_log.specs.NodeLog.{IsNodeLog, due, in_turn}
+use Rattle.tva_log.specs.Next.{IsQuiet, IsWorkAt}
 use Rattle.tva_log.specs.Told.{event_of, events, sending_of, sendings}
 use Rattle.tva_log.proofs.Logs.{IsNodeLog-unique}
-use Rattle.tva_node.specs.States.{IsAdvanced, Keeps, NodeState, Stands, StandsFor}
+use Rattle.tva_node.specs.States.{Keeps, NodeState, Stands, StandsFor}
 use Rattle.tva_run.specs.Reaching.{Logs, log_at, arrival, arrival_of, arrivals, arrivals_at, links_out, reaches, rows_at, site_at}
 use Rattle.tva_run.specs.Report.{AreEvents, event_node, event_time, events_at}
 use Rattle.tva_run.specs.Run.{HasLog, IsRunTo, logs_before}
@@ -38,34 +39,29 @@ use Rattle.tva_run.proofs.Sites.{link_out_is, sent_arrives, site_number}
 use Rattle.tva_net.specs.Mail.{CanDeliver, GotMail, GotMails, IsPostable, goes_to, mail_to}
 use Rattle.tva_net.specs.News.{IsFirstTime, since, told_since}
 use Rattle.tva_net.specs.Nets.{EachBeginsWith, IsNodeAt, WorkState, WorksFor}
-use Rattle.tva_net.specs.Work.{if_some}
+use Rattle.tva_net.specs.Work.{IsThrough, if_some}
 use Rattle.tva_net.proofs.Lists.{each_map, map_same, some_same, split_at, zip_from, zip_length}
 use Rattle.tva_net.proofs.Given.{given_more, held_more}
 use Rattle.tva_net.proofs.Nodes.{has_log}
+use Rattle.tva_net.proofs.Resting.{comes_early, log_then}
 use Rattle.tva_net.proofs.Rises.{reaches_rise}
 use Rattle.tva_net.proofs.Senders.{HasLink, IsSentFrom, arrive_no_rows, each_since, goes_linked, mail_none, mail_on, out_is, sends_none, sent_from, since_one}
 use Rattle.tva_net.proofs.Standing.{events_there, first_ends, first_push, length_some, place_of, rest_start, run_start, start_later, start_within, work_starts}
 
 -- ## the nodes' logs once they are worked
 
-abbrev pub advanced_logs : (until : ℕ) (olds mids : List NodeState) → AllZip (IsAdvanced until) olds mids → Logs
-advanced_logs until [] [] h = []
-advanced_logs until [] (y ∷ ys) h = []
-advanced_logs until (x ∷ xs) [] h = []
-advanced_logs until (x ∷ xs) (y ∷ ys) h = h.0.stands.0 ∷ advanced_logs until xs ys h.1
+abbrev pub through_logs : (until : ℕ) (mids : List NodeState) → AllByRecursion (IsThrough until) mids → Logs
+through_logs until [] h = []
+through_logs until (y ∷ ys) h = h.0.stands.0 ∷ through_logs until ys h.1
 
-advanced_count : (until : ℕ) (olds mids : List NodeState) (h : AllZip (IsAdvanced until) olds mids) → length (advanced_logs until olds mids h) ≡ length mids
-advanced_count until [] [] h = refl
-advanced_count until [] (y ∷ ys) h = absurd h
-advanced_count until (x ∷ xs) [] h = absurd h
-advanced_count until (x ∷ xs) (y ∷ ys) h = ap suc (advanced_count until xs ys h.1)
+through_count : (until : ℕ) (mids : List NodeState) (h : AllByRecursion (IsThrough until) mids) → length (through_logs until mids h) ≡ length mids
+through_count until [] h = refl
+through_count until (y ∷ ys) h = ap suc (through_count until ys h.1)
 
-advanced_at : (until : ℕ) (olds mids : List NodeState) (h : AllZip (IsAdvanced until) olds mids) (n : ℕ) (d : NodeState) → n < length mids → StandsFor (get_or mids n d) (log_at (advanced_logs until olds mids h) n)
-advanced_at until [] [] h n d l = absurd (omega (arith, l))
-advanced_at until [] (y ∷ ys) h n d l = absurd h
-advanced_at until (x ∷ xs) [] h n d l = absurd h
-advanced_at until (x ∷ xs) (y ∷ ys) h zero d l = h.0.stands.1
-advanced_at until (x ∷ xs) (y ∷ ys) h (suc n) d l = advanced_at until xs ys h.1 n d (omega (arith, l))
+through_at : (until : ℕ) (mids : List NodeState) (h : AllByRecursion (IsThrough until) mids) (n : ℕ) (d : NodeState) → n < length mids → StandsFor (get_or mids n d) (log_at (through_logs until mids h) n)
+through_at until [] h n d l = absurd (omega (arith, l))
+through_at until (y ∷ ys) h zero d l = h.0.stands.1
+through_at until (y ∷ ys) h (suc n) d l = through_at until ys h.1 n d (omega (arith, l))
 
 each_right : {X : Type 0} (P : X → Type 0) (xs ys : List X) → AllByRecursion P (xs ++ ys) → AllByRecursion P ys
 each_right P [] ys h = h
@@ -75,12 +71,13 @@ each_any : (es : List Entry) → AllByRecursion (λ e. 0 ≤ entry_time e) es
 each_any [] = tt
 each_any (e ∷ es) = (omega arith, each_any es)
 
--- a node that is worked up to a time, over what reaches it of what was sent before
+-- a node at which nothing is left to be done before a time, over what reaches it of what was sent before
 pub record IsMid (config : Config) (rows : List Row) (sent longer : Logs) (until : ℕ) (n : ℕ) (v : NodeState) : Type 0 where
   pub site : site_at config n ≡ Some v.site
   pub horizon : v.horizon ≡ config.horizon.0
-  pub worked_to : v.worked_to ≡ until
+  pub worked_to : v.worked_to ≤ until
   pub stands : StandsFor v (log_at longer n)
+  pub rests : IsQuiet v.site (in_turn v.inbox) (log_at longer n) v.worked_to until
   pub mail : (source : ℕ) → from_source input_source source v.inbox ≡ due (config.horizon.0 + 1) (reaches config rows sent n source)
 
 -- what its log has further
@@ -96,9 +93,9 @@ pub record IsGoing (config : Config) (until : ℕ) (s : Sending) : Type 0 where
 
 module _ (config : Config) (rows : List Row) (windows : List Window) (told : List Event) (w : WorkState) (h : WorksFor config rows windows told w)
     (start : Time) (first : IsFirstTime w.nodes (Some start)) (until : ℕ) (ends : until ≡ min (start.0 + w.span) (w.horizon + 1))
-    (mids : List NodeState) (advanced : AllZip (IsAdvanced until) w.nodes mids) (kept : AllZip Keeps w.nodes mids) where
+    (mids : List NodeState) (through : AllByRecursion (IsThrough until) mids) (kept : AllZip Keeps w.nodes mids) where
   abbrev pub longer : Logs
-  longer = advanced_logs until w.nodes mids advanced
+  longer = through_logs until mids through
 
   -- ## the window
 
@@ -126,30 +123,33 @@ module _ (config : Config) (rows : List Row) (windows : List Window) (told : Lis
   -- ## the nodes
 
   pub mid_count : length mids ≡ length w.nodes
-  mid_count = zip_length (IsAdvanced until) w.nodes mids advanced
+  mid_count = zip_length Keeps w.nodes mids kept
 
   config_count : length mids ≡ length config.nodes
   config_count = mid_count ∙ h.count
 
   long_count : length longer ≡ length config.nodes
-  long_count = advanced_count until w.nodes mids advanced ∙ config_count
+  long_count = through_count until mids through ∙ config_count
 
   pub mid_at : (n : ℕ) (d : NodeState) → n < length mids → IsMid config rows h.logs longer until n (get_or mids n d)
   mid_at n d l =
       let k : n < length w.nodes = omega (arith, l, mid_count) in
       let a = h.nodes n d k in
       let keeps : Keeps (get_or w.nodes n d) (get_or mids n d) = AllZip-get_or Keeps w.nodes mids n d d kept k in
-      let done : IsAdvanced until (get_or w.nodes n d) (get_or mids n d) = AllZip-get_or (IsAdvanced until) w.nodes mids n d d advanced k in
-      let upto = done.upto in
-      let from = a.worked_to in
-      let bound = a.horizon in
+      let done : IsThrough until (get_or mids n d) = All-from_recursion (IsThrough until) mids through n d l in
+      let stands : StandsFor (get_or mids n d) (log_at longer n) = through_at until mids through n d l in
+      let bound : (get_or mids n d).horizon ≡ config.horizon.0 = keeps.horizon ∙ a.horizon in
       record {
         site = a.site ∙ ap Some (sym keeps.site);
-        horizon = keeps.horizon ∙ bound;
-        worked_to = omega (arith, upto, from, bound, later, some, whole);
-        stands = advanced_at until w.nodes mids advanced n d l;
+        horizon = bound;
+        worked_to = done.worked_to;
+        stands = stands;
+        rests = λ t m x. done.rests (log_at longer n) t stands (omega (arith, m, bound, whole)) m x;
         mail = λ source. ap (from_source input_source source) keeps.inbox ∙ a.mail source;
       }
+
+  mid_bound : (n : ℕ) (d : NodeState) → n < length mids → until ≤ (get_or mids n d).horizon + 1
+  mid_bound n d l = let e = (mid_at n d l).horizon in omega (arith, e, whole)
 
   mid_of : (n : ℕ) (site : Site) → site_at config n ≡ Some site → (d : NodeState) × (n < length mids) × ((get_or mids n d).site ≡ site)
   mid_of n site e =
@@ -164,7 +164,7 @@ module _ (config : Config) (rows : List Row) (windows : List Window) (told : Lis
       let m = mid_at n d l in
       subst (λ (s : Site). HasLog config rows h.logs until s (log_at longer n)) same
       (has_log config rows h.logs n v m.site m.mail (reaches_rise config rows w.worked_to h.logs h.valid h.trace.order h.run n) (log_at longer n) until whole
-      (subst (λ (t : ℕ). IsNodeLog v.site (in_turn v.inbox) t (log_at longer n)) m.worked_to m.stands.whole))
+      (log_then v (log_at longer n) m.stands until (mid_bound n d l) m.worked_to m.rests))
 
   starts : IsRunTo config rows start.0 h.logs
   starts = run_start config rows windows told w h start first
@@ -468,20 +468,23 @@ module _ (config : Config) (rows : List Row) (windows : List Window) (told : Lis
         let g : GotMail (mail n) v u = got.each n d k in
         let q = g.keeps in
         let (other, s) = g.stands (log_at longer n, m.stands) in
-        let inputs : due until (in_turn u.inbox) ≡ due until (in_turn v.inbox) =
-        ap (λ (is : List Input). due until (in_turn is)) g.inbox
-        ∙ (ap (due until) (put_all-append input_time input_source v.inbox (mail n) [])
-        ∙ cut-put_all input_time input_source until (mail n) (in_turn v.inbox) (mail_late n)) in
-        let upto : u.worked_to ≡ until = q.worked_to ∙ m.worked_to in
-        let new_log : IsNodeLog v.site (in_turn u.inbox) until other =
-        subst (λ (t : ℕ). IsNodeLog v.site (in_turn u.inbox) t other) upto (subst (λ (x : Site). IsNodeLog x (in_turn u.inbox) u.worked_to other) q.site s.whole) in
-        let mid_log : IsNodeLog v.site (in_turn v.inbox) until (log_at longer n) = subst (λ (t : ℕ). IsNodeLog v.site (in_turn v.inbox) t (log_at longer n)) m.worked_to m.stands.whole in
-        let same : other ≡ log_at longer n = IsNodeLog-unique v.site until (in_turn u.inbox) (in_turn v.inbox) other (log_at longer n) inputs new_log mid_log in
+        let inputs : (t : ℕ) → t ≤ until → due t (in_turn u.inbox) ≡ due t (in_turn v.inbox) = λ t e.
+        ap (λ (is : List Input). due t (in_turn is)) g.inbox
+        ∙ (ap (due t) (put_all-append input_time input_source v.inbox (mail n) [])
+        ∙ cut-put_all input_time input_source t (mail n) (in_turn v.inbox)
+        (each-weaker (λ i. until ≤ input_time i) (λ i. t ≤ input_time i) (λ i k. omega (arith, k, e)) (mail n) (mail_late n))) in
+        let new_log : IsNodeLog v.site (in_turn u.inbox) v.worked_to other =
+        subst (λ (t : ℕ). IsNodeLog v.site (in_turn u.inbox) t other) q.worked_to (subst (λ (x : Site). IsNodeLog x (in_turn u.inbox) u.worked_to other) q.site s.whole) in
+        let same : other ≡ log_at longer n = IsNodeLog-unique v.site v.worked_to (in_turn u.inbox) (in_turn v.inbox) other (log_at longer n) (inputs v.worked_to m.worked_to) new_log m.stands.whole in
         record {
           site = m.site ∙ ap Some (sym q.site);
           horizon = q.horizon ∙ m.horizon;
-          worked_to = upto;
+          worked_to = subst (λ (t : ℕ). t ≤ until) (sym q.worked_to) m.worked_to;
           stands = subst (StandsFor u) same s;
+          rests = λ t k x.
+              let y : IsWorkAt v.site (in_turn u.inbox) (log_at longer n) v.worked_to t =
+              subst (λ (from : ℕ). IsWorkAt v.site (in_turn u.inbox) (log_at longer n) from t) q.worked_to (subst (λ (z : Site). IsWorkAt z (in_turn u.inbox) (log_at longer n) u.worked_to t) q.site x) in
+              m.rests t k (y.0, elim y.1 [ inl c ↦ inl (comes_early until t (in_turn u.inbox) (in_turn v.inbox) (inputs until (omega arith)) k c) | inr e ↦ inr e ]);
           mail = λ source.
               ap (from_source input_source source) g.inbox
               ∙ (filter-append (λ i. input_source i == source) v.inbox (mail n)

@@ -48,6 +48,12 @@ pub record KeepsWork (old new : NodeState) : Type 0 where
   pub sendings : new.sendings ≡ old.sendings
   pub worked_to : new.worked_to ≡ old.worked_to
 
+-- nothing happened to nodes in other places
+abbrev pub IsSameBut : ℕ → List NodeState → List NodeState → Type 0
+IsSameBut place old new =
+    (length new ≡ length old)
+    × ((other : ℕ) (d : NodeState) → (other ≡ place → ⊥) → slice_index_or new other d ≡ slice_index_or old other d)
+
 -- a node got this mail, and nothing else happened to it
 pub record GotMail (mail : List Input) (old new : NodeState) : Type 0 where
   pub inbox : new.inbox ≡ old.inbox ++ mail

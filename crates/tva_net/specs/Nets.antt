@@ -11,7 +11,8 @@ use Rattle.tva_trace.specs.declared.rows.Row.{Row}
 use Rattle.tva_trace.specs.Valid.{AreTraceRows}
 use Rattle.tva_joins.specs.Joins.{from_source}
 use Rattle.tva_log.specs.Entries.{input_source}
-use Rattle.tva_log.specs.NodeLog.{due}
+use Rattle.tva_log.specs.NodeLog.{due, in_turn}
+use Rattle.tva_log.specs.Next.{IsQuiet}
 use Rattle.tva_run.specs.Reaching.{Logs, log_at, site_at, reaches}
 use Rattle.tva_run.specs.Report.{AreEvents, events_at, totals_of}
 use Rattle.tva_run.specs.Run.{IsRun, IsRunTo}
@@ -71,19 +72,20 @@ pub record IsWholeRun (config : Config) (rows : List Row) (windows : List Window
 
 -- ## the nodes
 
--- a node at work in the network: it is worked up to a time, and has just what reaches it up to the horizon over the
--- logs so far, from each source in the order in which it comes
+-- a node at work in the network: it is worked up to a time from which on nothing is to be done up to that one, and has
+-- just what reaches it up to the horizon over the logs so far, from each source in the order in which it comes
 pub record IsNodeAt (config : Config) (rows : List Row) (logs : Logs) (until : ℕ) (place : ℕ) (node : NodeState)
     : Type 0 where
   pub site : site_at config place ≡ Some node.site
   pub horizon : node.horizon ≡ config.horizon.0
-  pub worked_to : node.worked_to ≡ until
+  pub worked_to : node.worked_to ≤ until
   pub stands : states.StandsFor node (log_at logs place)
+  pub rests : IsQuiet node.site (in_turn node.inbox) (log_at logs place) node.worked_to until
   pub mail : (source : ℕ)
       → from_source input_source source node.inbox ≡ due (config.horizon.0 + 1) (reaches config rows logs place source)
 
 -- the nodes and links at work: the horizon in nanoseconds, the links, how long a window is, how much each node's links
--- sent that was posted and how much it told that was shown, and the time up to which the nodes are worked
+-- sent that was posted and how much it told that was shown, and the time before which nothing is left to be done
 pub record WorkState : Type 0 where
   pub horizon : ℕ
   pub links : List LinkPlan

@@ -1,7 +1,7 @@
 -- Kit: how the nodes are worked over a window, and over several.
 use Rattle.std.specs.Prelude.{◌≡◌, ℕ, ◌+◌, ◌<◌, ◌≤◌, min, nat_lt, List, [], ◌∷◌, ◌++◌, filter}
-use Rattle.std.specs.Prelude.{length, map, Option, Some, None}
-use Rattle.std.specs.List.{AllZip}
+use Rattle.std.specs.Prelude.{length, map, Option, Some, None, slice_index_or, slice_set}
+use Rattle.std.specs.List.{AllByRecursion, AllZip}
 use Rattle.tva_base.specs.declared.event.Event.{Event}
 use Rattle.tva_base.specs.declared.packet.Time.{Time}
 use Rattle.tva_base.specs.declared.plan.LinkPlan.{LinkPlan}
@@ -10,9 +10,10 @@ use Rattle.tva_trace.specs.declared.rows.Row.{Row}
 use Rattle.tva_joins.specs.Joins.{IsJoin}
 use Rattle.tva_run.specs.Report.{event_time, event_node}
 use Rattle.tva_run.specs.Windows.{Window, given}
-use Rattle.tva_node.specs.States.{IsAdvanced, Keeps, NodeState}
+use Rattle.tva_node.specs.States.{IsAdvanced, Keeps, NodeState, Stands}
 use Rattle.tva_net.specs.Mail.{GotMails, mail_to}
-use Rattle.tva_net.specs.News.{IsFirstTime, since, told_since}
+use Rattle.tva_net.specs.News.{HasNoneBefore, IsFirstTime, since, told_since}
+use Rattle.tva_net.specs.Places.{ArePlaces, IsElsewhere}
 use Rattle.tva_net.specs.Nets.{IsWholeRun, WorksFor, WorkState}
 
 -- ## how the work goes on
@@ -96,11 +97,35 @@ CanBeWorked until horizon links posted shown nodes =
       worked_to = worked_to;
     }) until
 
+-- a node can be worked up to a time
+abbrev pub CanGoTo : ℕ → NodeState → Type 0
+CanGoTo until v = (v.worked_to ≤ until) × (until ≤ v.horizon + 1)
+
+-- at a node nothing is left to be done before a time
+pub record IsThrough (until : ℕ) (v : NodeState) : Type 0 where
+  pub stands : Stands v
+  pub worked_to : v.worked_to ≤ until
+  pub rests : HasNoneBefore until v
+
+-- the node in a place was worked up to a time, and nothing else happened
+pub record IsWorkedAt (until place : ℕ) (olds news : List NodeState) : Type 0 where
+  pub node : NodeState
+  pub written : news ≡ slice_set olds place node
+  pub advanced : (d : NodeState) → IsAdvanced until (slice_index_or olds place d) node
+  pub keeps : (d : NodeState) → Keeps (slice_index_or olds place d) node
+
+-- nothing is left to be done before a time at any node, and nothing happened to nodes that aren't in these places
+pub record AreThrough (until : ℕ) (olds news : List NodeState) (places : List ℕ) : Type 0 where
+  pub each : AllByRecursion (IsThrough until) news
+  pub placed : ArePlaces (length news) places
+  pub others : (place : ℕ) (d : NodeState) → place < length news → IsElsewhere places place
+      → slice_index_or news place d ≡ slice_index_or olds place d
+
 -- the nodes were worked up to a time, what they told is this list, and what they sent was posted
 pub record AreWorked (until horizon : ℕ) (links : List LinkPlan) (posted shown : List ℕ) (olds : List NodeState)
     (list : List Event) (posts shows : List ℕ) (news : List NodeState) : Type 0 where
   pub mids : List NodeState
-  pub advanced : AllZip (IsAdvanced until) olds mids
+  pub through : AllByRecursion (IsThrough until) mids
   pub kept : AllZip Keeps olds mids
   pub told : IsJoin event_time event_node (told_since mids shown) list
   pub mail : GotMails (mail_to horizon links (since (λ node. node.sendings) mids posted)) mids news

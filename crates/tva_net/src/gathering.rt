@@ -4,40 +4,50 @@ ghost use Rattle.std.specs.List.{AllZip};
 ghost use Rattle.tva_joins.specs.Joins.{IsJoin};
 ghost use Rattle.tva_node.specs.States.{NodeState, Stands};
 ghost use Rattle.tva_run.specs.Report.{event_node, event_time};
-ghost use Rattle.tva_net.specs.News.{IsByTime, since, told_since};
+ghost use Rattle.tva_net.specs.News.{IsByTime, told_since};
+ghost use Rattle.tva_net.specs.Places.{AreKnownElsewhere, ArePlaces, picked};
 
 use std::alloc::{AllocError, Global};
 use tva_base::Event;
 use tva_node::Node;
 
 /// What happened at the nodes behind their first so many events: by time, at one time by node, and in
-/// the order of the node's log. Then all of their events are given. The error is want of memory; the
-/// count of those that are given then stays.
+/// the order of the node's log. Then all of their events are given. Only nodes in these places have
+/// such events. The error is want of memory; the count of those that are given then stays.
 pub(crate) fn gather(
     alloc: Global,
     nodes: &[Node],
+    places: &[usize],
     given: &mut [usize],
 ) -> Result<Vec<Event>, AllocError>
     requires known { AllZip (λ v n. n ≤ length v.events) nodes.now given.old }
+    requires places { ArePlaces (length nodes.now) places.now }
+    requires others { AreKnownElsewhere (λ v. v.events) nodes.now given.old places.now }
     requires stand { All Stands nodes.now }
     requires numbers { (n : ℕ) (d : NodeState) → n < length nodes.now → (slice_index_or nodes.now n d).site.number ≡ n }
     ensures join { IfOk result (λ events. IsJoin event_time event_node (told_since nodes.now given.old) events.items) }
     ensures given { OnOk result (given.new ≡ map (λ v. length v.events) nodes.now) }
 {
-    let mut events = news_of(alloc, nodes, given)?;
+    let mut events = news_of(alloc, nodes, places, given)?;
     put_in_order(&mut events)?;
-    note_given(nodes, given);
+    note_given(nodes, places, given);
     Ok(events)
 }
 
 // The events, one node after another.
-fn news_of(alloc: Global, nodes: &[Node], given: &[usize]) -> Result<Vec<Event>, AllocError>
-    requires { AllZip (λ v n. n ≤ length v.events) nodes.now given.now }
-    ensures { IfOk result (λ events. events.items ≡ since (λ v. v.events) nodes.now given.now) }
+fn news_of(
+    alloc: Global,
+    nodes: &[Node],
+    places: &[usize],
+    given: &[usize],
+) -> Result<Vec<Event>, AllocError>
+    requires known { AllZip (λ v n. n ≤ length v.events) nodes.now given.now }
+    requires within { All (λ place. place < length nodes.now) places.now }
+    ensures { IfOk result (λ events. events.items ≡ picked (λ v. v.events) nodes.now given.now places.now) }
 {
     let mut events = Vec::new(alloc);
-    for (place, node) in nodes.iter().enumerate() {
-        push_news(&mut events, node, given[place])?;
+    for place in places {
+        push_news(&mut events, &nodes[*place], given[*place])?;
     }
     Ok(events)
 }
@@ -61,11 +71,13 @@ fn put_in_order(events: &mut Vec<Event>) -> Result<(), AllocError>
 }
 
 // All events of the nodes are given.
-fn note_given(nodes: &[Node], given: &mut [usize])
-    requires { length given.old ≡ length nodes.now }
+fn note_given(nodes: &[Node], places: &[usize], given: &mut [usize])
+    requires count { length given.old ≡ length nodes.now }
+    requires within { All (λ place. place < length nodes.now) places.now }
+    requires others { AreKnownElsewhere (λ v. v.events) nodes.now given.old places.now }
     ensures { given.new ≡ map (λ v. length v.events) nodes.now }
 {
-    for (place, node) in nodes.iter().enumerate() {
-        given[place] = node.log().len();
+    for place in places {
+        given[*place] = nodes[*place].log().len();
     }
 }

@@ -6,6 +6,7 @@
 #![tactic(auto)]
 
 mod building;
+mod due;
 mod gathering;
 mod kinds;
 mod net;
@@ -13,6 +14,7 @@ mod pace;
 mod parts;
 mod posting;
 mod sums;
+mod times;
 mod timing;
 mod works;
 

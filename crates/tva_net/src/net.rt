@@ -34,7 +34,11 @@ impl Model for Net {
 
     ghost Value = { NetState };
 
+    ghost use Rattle.tva_net.specs.Times.{KnowsTimes};
+
     ghost view = { λ n. state_of n.parts };
+
+    ghost invariant = { λ n. KnowsTimes n.parts };
 }
 
 impl Net {

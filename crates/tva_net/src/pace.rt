@@ -1,40 +1,88 @@
 // How the nodes are worked in a window: in halves at once, or one after another where little happens.
-ghost use Rattle.std.specs.Prelude.{◌≡◌, OnOk};
+ghost use Rattle.std.specs.Prelude.{◌≡◌, ◌≤◌, All, IfOk, OnOk, length};
 ghost use Rattle.std.specs.List.{AllByRecursion, AllZip};
-ghost use Rattle.tva_node.specs.States.{IsAdvanced, Keeps, Stands};
+ghost use Rattle.tva_node.specs.States.{Keeps, Stands};
+ghost use Rattle.tva_net.specs.Times.{AreNoted};
+ghost use Rattle.tva_net.specs.Work.{AreThrough, CanGoTo};
 
-use std::alloc::AllocError;
+use crate::due::{all_places, work_due};
+use crate::times::note_all;
+use std::alloc::{AllocError, Global};
 use std::thread::Threads;
 use tva_base::Time;
-use tva_node::{Node, advance_all, advance_each};
+use tva_index::Lowest;
+use tva_node::{Node, advance_all};
 use tva_outside::Gate;
 
 // So many events take less time than the start of a thread.
 const HANDFUL: usize = 64;
 
-/// The most events of a window so far, with one more window; none stands for no window.
-pub(crate) fn busier(so_far: Option<usize>, events: usize) -> Option<usize> {
-    match so_far {
-        Some(most) => Some(most.max(events)),
+/// The pace after one more window: as many events as it held, and no less than half of what it was
+/// before; none stands for no window.
+pub(crate) fn pace_after(pace: Option<usize>, events: usize) -> Option<usize> {
+    match pace {
+        Some(before) => Some(events.max(before / 2)),
         None => Some(events),
     }
 }
 
-/// Works the nodes before a time, in nanoseconds: one after another where there were windows and each
-/// held a handful of events at most, and else in halves at once.
+/// Works the nodes before a time, in nanoseconds, and gives the places of those to which something
+/// happened in it, and maybe more: in halves at once where there was no window or they held more than
+/// a handful of events, and else one after another, only those that have work.
 pub(crate) fn advance<R: Threads + Sync, G: Gate>(
     rt: &R,
+    alloc: Global,
     gate: &G,
-    busiest: Option<usize>,
+    pace: Option<usize>,
+    times: &mut Lowest,
     until: Time,
     nodes: &mut [Node],
-) -> Result<(), AllocError>
-    requires { AllByRecursion Stands nodes.old }
-    ensures ok { OnOk result (AllZip (IsAdvanced until.0) nodes.old nodes.new) }
+) -> Result<Vec<usize>, AllocError>
+    requires few { length nodes.old ≤ 1024 }
+    requires stand { AllByRecursion Stands nodes.old }
+    requires reach { All (CanGoTo until.0) nodes.old }
+    requires noted { AreNoted times.old nodes.old }
+    ensures through { IfOk result (λ places. AreThrough until.0 nodes.old nodes.new places.items) }
+    ensures noted { OnOk result (AreNoted times.new nodes.new) }
     ensures kept { AllZip Keeps nodes.old nodes.new }
 {
-    match busiest {
-        Some(most) if most <= HANDFUL => advance_each(gate, until, nodes),
-        _ => advance_all(rt, gate, until, nodes),
+    match pace {
+        Some(events) if events <= HANDFUL => {
+            tell_each(gate, nodes.len());
+            work_due(alloc, times, until, nodes)
+        }
+        _ => work_all(rt, alloc, gate, times, until, nodes),
     }
+}
+
+// The gate is told of each of so many nodes.
+fn tell_each<G: Gate>(gate: &G, count: usize)
+    requires { count ≤ 1024 }
+{
+    for number in 0..count {
+        gate.at_start(number as u16);
+    }
+}
+
+// Works all nodes in halves at once, and gives all their places.
+fn work_all<R: Threads + Sync, G: Gate>(
+    rt: &R,
+    alloc: Global,
+    gate: &G,
+    times: &mut Lowest,
+    until: Time,
+    nodes: &mut [Node],
+) -> Result<Vec<usize>, AllocError>
+    requires few { length nodes.old ≤ 1024 }
+    requires stand { AllByRecursion Stands nodes.old }
+    requires reach { All (CanGoTo until.0) nodes.old }
+    requires noted { AreNoted times.old nodes.old }
+    ensures through { IfOk result (λ places. AreThrough until.0 nodes.old nodes.new places.items) }
+    ensures noted { OnOk result (AreNoted times.new nodes.new) }
+    ensures kept { AllZip Keeps nodes.old nodes.new }
+{
+    advance_all(rt, gate, until, nodes)?;
+    note_all(times, nodes);
+    let places = all_places(alloc, nodes.len())?;
+    Ok(places)
 }

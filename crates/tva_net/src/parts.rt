@@ -12,6 +12,7 @@ ghost use Rattle.tva_node.specs.States.{BeginsWith};
 ghost use Rattle.tva_net.specs.Nets.{IsSound, StandsFor, state_of, told_by};
 ghost use Rattle.tva_net.specs.Steps.{Gives, Refuses};
 ghost use Rattle.tva_net.specs.Sums.{AreWithin};
+ghost use Rattle.tva_net.specs.Times.{KnowsTimes};
 
 use crate::kinds::{NetError, Window};
 use crate::sums::add_up;
@@ -38,7 +39,8 @@ impl Parts {
     pub fn build(alloc: Global, config: &Config, rows: Vec<Row>) -> Result<Parts, AllocError>
         requires config { IsConfig config.now }
         requires rows { AreTraceRows config.now rows.items }
-        ensures { IfOk result (λ parts. StandsFor config.now rows.items [] [] (state_of parts)) }
+        ensures stands { IfOk result (λ parts. StandsFor config.now rows.items [] [] (state_of parts)) }
+        ensures times { IfOk result KnowsTimes }
     {
         Ok(Parts {
             works: Works::build(alloc, config, rows)?,
@@ -64,7 +66,8 @@ impl Parts {
         alloc: Global,
         gate: &G,
     ) -> Result<Window, NetError>
-        requires { IsSound (state_of self.old) }
+        requires sound { IsSound (state_of self.old) }
+        requires times { KnowsTimes self.old }
         ensures sound { IsSound (state_of self.new) }
         ensures again { IfSome self.old.failed (λ error. (result ≡ Err error) × (self.new ≡ self.old)) }
         ensures failed { IfErr result (λ error. self.new.failed ≡ Some error) }
@@ -73,6 +76,7 @@ impl Parts {
         ensures refuses { IfErr result (λ error. (config : Config) (rows : List Row) (windows : List Span) (told : List Event)
             → StandsFor config rows windows told (state_of self.old)
             → Refuses config rows windows told error (state_of self.old) (state_of self.new)) }
+        ensures times { KnowsTimes self.new }
         ensures kept { AllZip BeginsWith (told_by self.old.works.nodes.items) (told_by self.new.works.nodes.items) }
     {
         if let Some(error) = self.failed {

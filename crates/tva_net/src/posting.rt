@@ -1,48 +1,66 @@
 // What nodes sent is posted to the nodes at the other ends of their links.
 ghost use Rattle.std.specs.Prelude.{◌≡◌, ◌<◌, ◌≤◌, ◌∷◌, [], All, OnOk, IfOk, drop, length, map};
 ghost use Rattle.std.specs.List.{AllZip};
-ghost use Rattle.tva_net.specs.Mail.{CanDeliver, GotMails, IsPostable, KeepsWork, mail_at, mail_to};
+ghost use Rattle.tva_net.specs.Mail.{CanDeliver, GotMails, IsPostable, KeepsWork, IsSameBut, mail_at, mail_to};
 ghost use Rattle.tva_net.specs.News.{sent_by, since};
+ghost use Rattle.tva_net.specs.Places.{AreKnownElsewhere, ArePlaces, picked};
+ghost use Rattle.tva_net.specs.Times.{AreNoted};
 
+use crate::times::note;
 use std::alloc::AllocError;
 use tva_base::{LinkPlan, Time};
+use tva_index::Lowest;
 use tva_log::{Input, Sending};
 use tva_node::Node;
 
 /// Posts what the nodes sent behind their first so many sendings, where it arrives by the horizon,
 /// in nanoseconds: node after node, each in the order of its sendings. Then all of their sendings
-/// are posted. The error is want of memory; the count of those that are posted then stays.
+/// are posted, and it is noted when each node has work next. Only nodes in these places sent
+/// anything. The error is want of memory; the count of those that are posted then stays.
 pub(crate) fn post_all(
     nodes: &mut [Node],
+    times: &mut Lowest,
     horizon: Time,
     links: &[LinkPlan],
+    places: &[usize],
     posted: &mut [usize],
 ) -> Result<(), AllocError>
+    requires few { length nodes.old ≤ 1024 }
     requires known { AllZip (λ v n. n ≤ length v.sendings) nodes.old posted.old }
+    requires places { ArePlaces (length nodes.old) places.now }
+    requires others { AreKnownElsewhere (λ v. v.sendings) nodes.old posted.old places.now }
+    requires noted { AreNoted times.old nodes.old }
     requires postable { All (IsPostable horizon.0 links.now nodes.old) (since (λ v. v.sendings) nodes.old posted.old) }
     ensures got { OnOk result (GotMails (mail_to horizon.0 links.now (since (λ v. v.sendings) nodes.old posted.old)) nodes.old nodes.new) }
     ensures posted { OnOk result (posted.new ≡ map (λ v. length v.sendings) nodes.old) }
+    ensures noted { OnOk result (AreNoted times.new nodes.new) }
     ensures keeps { AllZip KeepsWork nodes.old nodes.new }
 {
-    post_each(nodes, horizon, links, posted)?;
-    note_posted(nodes, posted);
+    post_each(nodes, times, horizon, links, places, posted)?;
+    note_posted(nodes, places, posted);
     Ok(())
 }
 
-// The same, without noting it.
+// The same of the nodes in these places, without noting that it is posted.
 fn post_each(
     nodes: &mut [Node],
+    times: &mut Lowest,
     horizon: Time,
     links: &[LinkPlan],
+    places: &[usize],
     posted: &[usize],
 ) -> Result<(), AllocError>
+    requires few { length nodes.old ≤ 1024 }
     requires known { AllZip (λ v n. n ≤ length v.sendings) nodes.old posted.now }
-    requires postable { All (IsPostable horizon.0 links.now nodes.old) (since (λ v. v.sendings) nodes.old posted.now) }
-    ensures got { OnOk result (GotMails (mail_to horizon.0 links.now (since (λ v. v.sendings) nodes.old posted.now)) nodes.old nodes.new) }
+    requires within { All (λ place. place < length nodes.old) places.now }
+    requires postable { All (IsPostable horizon.0 links.now nodes.old) (picked (λ v. v.sendings) nodes.old posted.now places.now) }
+    requires noted { AreNoted times.old nodes.old }
+    ensures got { OnOk result (GotMails (mail_to horizon.0 links.now (picked (λ v. v.sendings) nodes.old posted.now places.now)) nodes.old nodes.new) }
+    ensures noted { OnOk result (AreNoted times.new nodes.new) }
     ensures keeps { AllZip KeepsWork nodes.old nodes.new }
 {
-    for from in 0..nodes.len() {
-        post_from(nodes, horizon, links, from, posted[from])?;
+    for from in places {
+        post_from(nodes, times, horizon, links, *from, posted[*from])?;
     }
     Ok(())
 }
@@ -50,34 +68,42 @@ fn post_each(
 // Posts what one node sent behind its first so many.
 fn post_from(
     nodes: &mut [Node],
+    times: &mut Lowest,
     horizon: Time,
     links: &[LinkPlan],
     from: usize,
     posted: usize,
 ) -> Result<(), AllocError>
+    requires few { length nodes.old ≤ 1024 }
     requires node { from < length nodes.old }
     requires known { posted ≤ length (sent_by nodes.old from) }
     requires postable { All (IsPostable horizon.0 links.now nodes.old) (drop posted (sent_by nodes.old from)) }
+    requires noted { AreNoted times.old nodes.old }
     ensures got { OnOk result (GotMails (mail_to horizon.0 links.now (drop posted (sent_by nodes.old from))) nodes.old nodes.new) }
+    ensures noted { OnOk result (AreNoted times.new nodes.new) }
     ensures keeps { AllZip KeepsWork nodes.old nodes.new }
 {
     let count = nodes[from].outbox().len();
     for place in posted..count {
         let sending = copied(&nodes[from].outbox()[place]);
-        post_one(nodes, horizon, links, sending)?;
+        post_one(nodes, times, horizon, links, sending)?;
     }
     Ok(())
 }
 
-// Posts a packet, where it arrives by the horizon.
+// Posts a packet, where it arrives by the horizon, and notes when the node there has work next.
 fn post_one(
     nodes: &mut [Node],
+    times: &mut Lowest,
     horizon: Time,
     links: &[LinkPlan],
     sending: Sending,
 ) -> Result<(), AllocError>
-    requires { IsPostable horizon.0 links.now nodes.old sending }
+    requires few { length nodes.old ≤ 1024 }
+    requires postable { IsPostable horizon.0 links.now nodes.old sending }
+    requires noted { AreNoted times.old nodes.old }
     ensures got { OnOk result (GotMails (mail_to horizon.0 links.now (sending ∷ [])) nodes.old nodes.new) }
+    ensures noted { OnOk result (AreNoted times.new nodes.new) }
     ensures keeps { AllZip KeepsWork nodes.old nodes.new }
 {
     let Sending {
@@ -88,13 +114,14 @@ fn post_one(
     if arrive.0 > horizon.0 {
         return Ok(());
     }
-    let to = links[usize::from(link)].to;
+    let to = usize::from(links[usize::from(link)].to);
     let input = Input::Arrival {
         time: arrive,
         link,
         packet,
     };
-    deliver(nodes, usize::from(to), input)?;
+    deliver(nodes, to, input)?;
+    note(times, nodes, to);
     Ok(())
 }
 
@@ -113,6 +140,7 @@ fn copied(sending: &Sending) -> Sending
 pub(crate) fn deliver(nodes: &mut [Node], to: usize, input: Input) -> Result<(), AllocError>
     requires { CanDeliver nodes.old to input }
     ensures got { OnOk result (GotMails (mail_at to (input ∷ [])) nodes.old nodes.new) }
+    ensures others { IsSameBut to nodes.old nodes.new }
     ensures keeps { AllZip KeepsWork nodes.old nodes.new }
 {
     nodes[to].post(input)?;
@@ -120,11 +148,13 @@ pub(crate) fn deliver(nodes: &mut [Node], to: usize, input: Input) -> Result<(),
 }
 
 // All that the nodes sent is posted.
-fn note_posted(nodes: &[Node], posted: &mut [usize])
-    requires { length posted.old ≡ length nodes.now }
+fn note_posted(nodes: &[Node], places: &[usize], posted: &mut [usize])
+    requires count { length posted.old ≡ length nodes.now }
+    requires within { All (λ place. place < length nodes.now) places.now }
+    requires others { AreKnownElsewhere (λ v. v.sendings) nodes.now posted.old places.now }
     ensures { posted.new ≡ map (λ v. length v.sendings) nodes.now }
 {
-    for (place, node) in nodes.iter().enumerate() {
-        posted[place] = node.outbox().len();
+    for place in places {
+        posted[*place] = nodes[*place].outbox().len();
     }
 }

@@ -1,40 +1,45 @@
 // The nodes of a network at work.
-ghost use Rattle.std.specs.Prelude.{◌≡◌, ◌+◌, List, [], IfOk, MatchOption};
+ghost use Rattle.std.specs.Prelude.{◌≡◌, ◌+◌, List, [], IfOk, MatchOption, OnOk};
 ghost use Rattle.std.specs.Option.{option_map};
 ghost use Rattle.std.specs.List.{AllZip};
 ghost use Rattle.tva_config.specs.Valid.{IsConfig};
 ghost use Rattle.tva_trace.specs.Valid.{AreTraceRows};
 ghost use Rattle.tva_node.specs.States.{BeginsWith};
 ghost use Rattle.tva_net.specs.Nets.{WorksFor, told_by, work_of};
+ghost use Rattle.tva_net.specs.Times.{AreNoted};
 ghost use Rattle.tva_net.specs.Work.{AreWorked, CanBeWorked, CanWork, WorksOn, WorksUpTo};
 
 use crate::building::first_nodes;
 use crate::gathering::gather;
-use crate::pace::{advance, busier};
+use crate::pace::{advance, pace_after};
 use crate::posting::post_all;
-use crate::timing::{first_time, window_length};
+use crate::times::{first_time, times_of};
+use crate::timing::window_length;
 use std::alloc::{AllocError, Global};
 use std::cmp;
 use std::thread::Threads;
 use tva_base::{Event, LinkPlan, Time};
 use tva_config::Config;
+use tva_index::Lowest;
 use tva_node::Node;
 use tva_outside::Gate;
 use tva_trace::Row;
 
-/// The horizon, the links, the length of a window in nanoseconds, the nodes, how much of what each
-/// one's links sent was posted and how much of what each told was shown, the time up to which they
-/// are worked, and the most events of a window so far, if there was one.
+/// The horizon, the links, the length of a window in nanoseconds, the nodes, when each of them has
+/// work next, how much of what each one's links sent was posted and how much of what each told was
+/// shown, the time before which nothing is left to be done, and the pace of the windows so far, if
+/// there was one.
 #[derive(Drop)]
 pub(crate) struct Works {
     pub horizon: Time,
     pub links: Vec<LinkPlan>,
     pub span: u64,
     pub nodes: Vec<Node>,
+    pub times: Lowest,
     pub posted: Vec<usize>,
     pub shown: Vec<usize>,
     pub worked_to: u64,
-    pub busiest: Option<usize>,
+    pub pace: Option<usize>,
 }
 
 impl Works {
@@ -42,20 +47,23 @@ impl Works {
     pub fn build(alloc: Global, config: &Config, rows: Vec<Row>) -> Result<Works, AllocError>
         requires config { IsConfig config.now }
         requires rows { AreTraceRows config.now rows.items }
-        ensures { IfOk result (λ works. WorksFor config.now rows.items [] [] (work_of works)) }
+        ensures works { IfOk result (λ works. WorksFor config.now rows.items [] [] (work_of works)) }
+        ensures noted { IfOk result (λ works. AreNoted works.times works.nodes.items) }
     {
         let nodes = first_nodes(alloc, config, rows)?;
         let links = config.links.as_slice().to_vec(alloc)?;
         let count = nodes.len();
+        let times = times_of(alloc, nodes.as_slice())?;
         Ok(Works {
             horizon: config.horizon,
             span: window_length(config.horizon, links.as_slice()),
             links,
             nodes,
+            times,
             posted: vec![in alloc; 0; count]?,
             shown: vec![in alloc; 0; count]?,
             worked_to: 0,
-            busiest: None,
+            pace: None,
         })
     }
 
@@ -66,8 +74,10 @@ impl Works {
         alloc: Global,
         gate: &G,
     ) -> Result<Option<Vec<Event>>, AllocError>
-        requires { CanWork (work_of self.old) }
+        requires works { CanWork (work_of self.old) }
+        requires noted { AreNoted self.old.times self.old.nodes.items }
         ensures works { IfOk result (λ some. WorksUpTo (work_of self.old) (option_map (λ events. events.items) some) (work_of self.new)) }
+        ensures noted { OnOk result (AreNoted self.new.times self.new.nodes.items) }
         ensures kept { AllZip BeginsWith (told_by self.old.nodes.items) (told_by self.new.nodes.items) }
     {
         while let Some(events) = self.work_next(rt, alloc, gate)? {
@@ -85,11 +95,13 @@ impl Works {
         alloc: Global,
         gate: &G,
     ) -> Result<Option<Vec<Event>>, AllocError>
-        requires { CanWork (work_of self.old) }
+        requires works { CanWork (work_of self.old) }
+        requires noted { AreNoted self.old.times self.old.nodes.items }
         ensures works { IfOk result (λ some. WorksOn (work_of self.old) (option_map (λ events. events.items) some) (work_of self.new)) }
+        ensures noted { OnOk result (AreNoted self.new.times self.new.nodes.items) }
         ensures kept { AllZip BeginsWith (told_by self.old.nodes.items) (told_by self.new.nodes.items) }
     {
-        let Some(start) = first_time(self.nodes.as_slice()) else {
+        let Some(start) = first_time(&self.times, self.nodes.as_slice()) else {
             return Ok(None);
         };
         let until = cmp::min(start.0 + self.span, self.horizon.0 + 1);
@@ -97,15 +109,16 @@ impl Works {
             rt,
             alloc,
             gate,
-            self.busiest,
+            self.pace,
             Time(until),
             self.horizon,
             self.links.as_slice(),
+            &mut self.times,
             self.posted.as_mut_slice(),
             self.shown.as_mut_slice(),
             self.nodes.as_mut_slice(),
         )?;
-        self.busiest = busier(self.busiest, events.len());
+        self.pace = pace_after(self.pace, events.len());
         self.worked_to = until;
         Ok(Some(events))
     }
@@ -116,20 +129,23 @@ fn work_nodes<R: Threads + Sync, G: Gate>(
     rt: &R,
     alloc: Global,
     gate: &G,
-    busiest: Option<usize>,
+    pace: Option<usize>,
     until: Time,
     horizon: Time,
     links: &[LinkPlan],
+    times: &mut Lowest,
     posted: &mut [usize],
     shown: &mut [usize],
     nodes: &mut [Node],
 ) -> Result<Vec<Event>, AllocError>
-    requires { CanBeWorked until.0 horizon.0 links.now posted.old shown.old nodes.old }
+    requires works { CanBeWorked until.0 horizon.0 links.now posted.old shown.old nodes.old }
+    requires noted { AreNoted times.old nodes.old }
     ensures worked { IfOk result (λ list. AreWorked until.0 horizon.0 links.now posted.old shown.old nodes.old list.items posted.new shown.new nodes.new) }
+    ensures noted { OnOk result (AreNoted times.new nodes.new) }
     ensures kept { AllZip BeginsWith (told_by nodes.old) (told_by nodes.new) }
 {
-    advance(rt, gate, busiest, until, nodes)?;
-    let events = gather(alloc, nodes, shown)?;
-    post_all(nodes, horizon, links, posted)?;
+    let places = advance(rt, alloc, gate, pace, times, until, nodes)?;
+    let events = gather(alloc, nodes, places.as_slice(), shown)?;
+    post_all(nodes, times, horizon, links, places.as_slice(), posted)?;
     Ok(events)
 }

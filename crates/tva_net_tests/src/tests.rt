@@ -20,7 +20,9 @@ use tva_trace::read_trace;
 fn network(alloc: Global, config: &str, trace: &str) -> Result<Net, Fail>
     ensures { IfOk result IsSound }
 {
-    let config = read_config(alloc, config.as_bytes())?;
+    let Ok(config) = read_config(alloc, config.as_bytes()) else {
+        return Err(Fail::from("no configuration"));
+    };
     let rows = read_trace(alloc, trace.as_bytes(), &config)?;
     let net = Net::build(alloc, &config, rows)?;
     Ok(net)

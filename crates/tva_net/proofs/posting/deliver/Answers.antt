@@ -2,7 +2,7 @@ use Rattle.std.proofs.Common.{◌∷◌, [], get_or, subst}
 use Rattle.std.proofs.lemmas.List.{get_or_default}
 use Rattle.tva_node.specs.States.{NodeState}
 use Rattle.tva_net.specs.Mail.{GotMail, KeepsWork}
-use Rattle.tva_net.proofs.Mails.{got_at, kept_by, keeps_same, zip_set}
+use Rattle.tva_net.proofs.Mails.{got_at, kept_by, keeps_same, same_but, zip_set}
 use Rattle.tva_net.proofs.posting.deliver.Goals as goal
 
 pub returns-in_err-post-clause-keeps : goal.returns-in_err-post-clause-keeps
@@ -33,3 +33,9 @@ returns-clause-keeps c =
     let kept : KeepsWork (get_or xs to c.index-nodes-to.result) w = kept_by (get_or xs to c.index-nodes-to.result) w c.in_ok-post.ensures.same in
     zip_set KeepsWork keeps_same xs to w
     (subst (λ (v : NodeState). KeepsWork v w) (get_or_default xs to c.index-nodes-to.result w c.requires.node) kept)
+
+pub returns-in_err-post-clause-others : goal.returns-in_err-post-clause-others
+returns-in_err-post-clause-others c = same_but c.args.to c.args.nodes.now c.post.new.self
+
+pub returns-clause-others : goal.returns-clause-others
+returns-clause-others c = same_but c.args.to c.args.nodes.now c.post.new.self

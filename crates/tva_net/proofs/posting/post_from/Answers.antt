@@ -8,11 +8,15 @@ use Rattle.tva_net.proofs.posting.post_from.Goals as goal
 pub loop-place-init : goal.loop-place-init
 loop-place-init c = record {
   going = going_first (mail_to c.args.horizon.0 c.args.links.now (drop c.args.posted (sent_by c.args.nodes.now c.args.from))) c.args.nodes.now;
+  noted = c.requires.noted;
   keeps = zip_same KeepsWork keeps_same c.args.nodes.now;
 }
 
-pub post_one-requires : goal.post_one-requires
-post_one-requires c =
+pub post_one-requires-clause-few : goal.post_one-requires-clause-few
+post_one-requires-clause-few c = let n = c.loop-place.invariant.going.got.count in omega (arith, n, c.requires.few)
+
+pub post_one-requires-clause-postable : goal.post_one-requires-clause-postable
+post_one-requires-clause-postable c =
     let nodes = c.args.nodes.now in
     let now = c.loop-place.nodes in
     let from = c.args.from in
@@ -44,6 +48,7 @@ loop-place-preserved c =
       going = going_one c.args.horizon.0 c.args.links.now (sent_by nodes from) c.args.posted c.loop-place.place c.copied-sending.result nodes now c.post_one.new.nodes within
           (read_as c.outbox.result.now (sent_by nodes from) c.loop-place.place c.copied-sending.result c.index-outbox-place.result c.copied-sending.ensures c.index-outbox-place.is same)
           g c.in_ok-post_one.ensures.got;
+      noted = c.in_ok-post_one.ensures.noted;
       keeps = all_keep nodes now c.post_one.new.nodes c.loop-place.invariant.keeps c.in_ok-post_one.ensures.keeps;
     }
 

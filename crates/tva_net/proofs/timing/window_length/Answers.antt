@@ -1,5 +1,5 @@
 use Rattle.std.proofs.Common.{◌+◌}
-use Rattle.tva_net.proofs.Times.{least_next}
+use Rattle.tva_net.proofs.Delays.{least_next}
 use Rattle.tva_net.proofs.timing.window_length.Goals as goal
 
 pub loop-link-preserved : goal.loop-link-preserved

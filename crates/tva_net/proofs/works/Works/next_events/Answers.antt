@@ -6,7 +6,7 @@ use Rattle.tva_net.proofs.Ends.{can_still, passes_none, passes_one, passes_to_no
 use Rattle.tva_net.proofs.works.Works.next_events.Goals as goal
 
 pub loop-events-init : goal.loop-events-init
-loop-events-init g c = record { can = c.requires; passes = passes_none (work_of c.args.self.now); kept = told_same c.args.self.now.nodes.items }
+loop-events-init g c = record { can = c.requires.works; noted = c.requires.noted; passes = passes_none (work_of c.args.self.now); kept = told_same c.args.self.now.nodes.items }
 
 pub returns-in_err-events-clause-kept : goal.returns-in_err-events-clause-kept
 returns-in_err-events-clause-kept g c =
@@ -32,6 +32,7 @@ loop-events-preserved g c =
     let empty : list ≡ [] = nothing_in list zero in
     let on = rw c.in-Some.is at c.in_ok-events.ensures.works in
     record {
+      noted = c.in_ok-events.ensures.noted;
       can = can_still (work_of c.loop-events.self) (work_of c.work_next.new.self) list c.loop-events.invariant.can on;
       passes = passes_one (work_of c.args.self.now) (work_of c.loop-events.self) (work_of c.work_next.new.self) list empty c.loop-events.invariant.passes on;
       kept = told_more (told_by c.args.self.now.nodes.items) (told_by c.loop-events.self.nodes.items) (told_by c.work_next.new.self.nodes.items)

@@ -1,10 +1,12 @@
-use Rattle.std.proofs.Common.{rules, ◌≡◌, ◌+◌, min, List, Option, Some, None, subst, ◌∙◌, arith}
+use Rattle.std.proofs.Common.{rules, ◌≡◌, ◌+◌, min, List, Option, Some, None, sym, subst, ◌∙◌, arith}
+use Rattle.std.specs.List.{AllByRecursion}
 use Rattle.std.proofs.lemmas.List.{with_items_is}
 use Rattle.tva_base.specs.declared.packet.Time.{Time}
-use Rattle.tva_node.specs.States.{NodeState}
+use Rattle.tva_node.specs.States.{NodeState, Stands}
 use Rattle.tva_net.specs.News.{IsFirstTime}
 use Rattle.tva_net.specs.Nets.{work_of}
-use Rattle.tva_net.proofs.Ends.{ends_window, none_left, room_in_time, told_same, window_works_as}
+use Rattle.tva_net.specs.Times.{AreNoted}
+use Rattle.tva_net.proofs.Ends.{can_stand, ends_window, none_left, room_in_time, told_same, window_works_as}
 use Rattle.tva_net.proofs.works.Works.work_next.Goals as goal
 
 pub returns-in_default-clause-works : goal.returns-in_default-clause-works
@@ -20,17 +22,17 @@ pub overflow_add-start : goal.overflow_add-start
 overflow_add-start g c =
     let first : IsFirstTime c.args.self.now.nodes.items (Some c.in-Some.start) =
     subst (λ (vs : List NodeState). IsFirstTime vs (Some c.in-Some.start)) c.as_slice.ensures.value (subst (λ (o : Option Time). IsFirstTime c.as_slice.result.now o) c.in-Some.is c.first_time.ensures) in
-    let room = room_in_time (work_of c.args.self.now) c.in-Some.start c.requires first in
+    let room = room_in_time (work_of c.args.self.now) c.in-Some.start c.requires.works first in
     omega (arith, room)
 
-pub work_nodes-requires-after_bounds : goal.work_nodes-requires-after_bounds
-work_nodes-requires-after_bounds g c κs within =
+pub work_nodes-requires-clause-works : goal.work_nodes-requires-clause-works
+work_nodes-requires-clause-works g c κs within =
     let w = work_of c.args.self.now in
     let first : IsFirstTime c.args.self.now.nodes.items (Some c.in-Some.start) =
     subst (λ (vs : List NodeState). IsFirstTime vs (Some c.in-Some.start)) c.as_slice.ensures.value (subst (λ (o : Option Time). IsFirstTime c.as_slice.result.now o) c.in-Some.is c.first_time.ensures) in
     let ends : c.min-until.result ≡ min (c.in-Some.start.0 + c.args.self.now.span) (c.args.self.now.horizon.0 + 1) = grind (arith, rules, c.min-until.ensures) in
     rw (c.as_slice-2.ensures.value, c.as_mut_slice.ensures.value, c.as_mut_slice-2.ensures.value, c.as_mut_slice-3.ensures.value)
-    (w.span, w.worked_to, ends_window w c.in-Some.start c.min-until.result c.requires first ends)
+    (w.span, w.worked_to, ends_window w c.in-Some.start c.min-until.result c.requires.works first ends)
 
 pub returns-clause-works : goal.returns-clause-works
 returns-clause-works g c =
@@ -39,7 +41,13 @@ returns-clause-works g c =
     let ends : c.min-until.result ≡ min (c.in-Some.start.0 + c.args.self.now.span) (c.args.self.now.horizon.0 + 1) = grind (arith, rules, c.min-until.ensures) in
     let worked = rw (c.as_slice-2.ensures.value, c.as_mut_slice.ensures.value, c.as_mut_slice-2.ensures.value, c.as_mut_slice-3.ensures.value) at c.in_ok-events.ensures.worked in
     window_works_as (work_of c.args.self.now) c.in-Some.start c.min-until.result c.in_ok-events.events.items c.work_nodes.new.posted c.work_nodes.new.shown
-    _ _ c.work_nodes.new.nodes _ c.requires first ends worked
+    _ _ c.work_nodes.new.nodes _ c.requires.works first ends worked
     (with_items_is c.args.self.now.posted c.work_nodes.new.posted (c.work_nodes.auto.posted ∙ c.as_mut_slice.ensures.len))
     (with_items_is c.args.self.now.shown c.work_nodes.new.shown (c.work_nodes.auto.shown ∙ c.as_mut_slice-2.ensures.len))
     (with_items_is c.args.self.now.nodes c.work_nodes.new.nodes (c.work_nodes.auto.nodes ∙ c.as_mut_slice-3.ensures.len))
+
+pub first_time-requires-clause-noted : goal.first_time-requires-clause-noted
+first_time-requires-clause-noted g c = subst (AreNoted c.args.self.now.times) (sym c.as_slice.ensures.value) c.requires.noted
+
+pub first_time-requires-clause-stand : goal.first_time-requires-clause-stand
+first_time-requires-clause-stand g c = subst (AllByRecursion Stands) (sym c.as_slice.ensures.value) (can_stand (work_of c.args.self.now) c.requires.works)

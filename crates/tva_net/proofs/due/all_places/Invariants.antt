@@ -1,0 +1,5 @@
+use Rattle.tva_net.specs.Places.{AreAllPlaces}
+use Rattle.tva_net.proofs.due.all_places.Given as goal
+
+abbrev pub invariant-loop-place : goal.invariant-loop-place
+invariant-loop-place l = AreAllPlaces l.place l.places.items
