@@ -67,14 +67,13 @@ via = \"B\"\n\
 /// The two numbers that the top level must have.
 const TOP: &str = "horizon_ns = 0\nmax_events = 1\n";
 
-const TABLES: [&str; 7] = [
+const TABLES: [&str; 6] = [
     texts::CASES,
     keys::routers::CASES,
     keys::hosts::CASES,
     keys::links::CASES,
     keys::routes::CASES,
     steps::CASES,
-    sizes::CASES,
 ];
 
 #[test]
@@ -82,6 +81,11 @@ fn texts_have_their_answers(rt: HostRuntime) {
     for cases in TABLES {
         check(&rt, rt.alloc(), cases);
     }
+}
+
+#[test]
+fn texts_with_many_entries_have_their_answers(rt: HostRuntime) {
+    check(&rt, rt.alloc(), sizes::CASES);
 }
 
 #[test]
@@ -177,8 +181,11 @@ fn written<R: Abort>(rt: &R, alloc: Global, text: &str) -> Result<String, AllocE
 }
 
 // Copies of a text, in which `<` and `>` are the high and the low byte of the copy's number.
-fn copies(alloc: Global, count: u32, text: &str) -> Result<String, AllocError> {
+fn copies(alloc: Global, count: usize, text: &str) -> Result<String, AllocError> {
     let text = text.replace(alloc, "|", "\n")?;
+    if !text.contains('<') && !text.contains('>') {
+        return text.repeat(alloc, count);
+    }
     let mut copies = String::new(alloc);
     for i in 0..count {
         let high = (i / 256).to_string(alloc)?;
