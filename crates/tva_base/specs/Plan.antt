@@ -1,5 +1,5 @@
 -- Which plans and limits are valid.
-use Rattle.std.specs.Prelude.{◌≡◌, ◌<◌, ◌≤◌, ℕ, ◌+◌, ◌-◌, ◌^◌, ◌%◌, List, [], ◌∷◌, All, Contains, map}
+use Rattle.std.specs.Prelude.{◌≡◌, ◌<◌, ◌≤◌, ℕ, ◌+◌, ◌-◌, ◌^◌, ◌%◌, List, [], ◌∷◌, All, Contains, map, Some}
 use Rattle.tva_base.specs.declared.addresses.Prefix.{Prefix}
 use Rattle.tva_base.specs.declared.limits.DrrLimits.{DrrLimits}
 use Rattle.tva_base.specs.declared.limits.LinkLimits.{LinkLimits}
@@ -34,6 +34,7 @@ pub record AreLinkLimits (l : LinkLimits) : Type 0 where
   pub regular : AreClassLimits l.regular
   pub legacy_ring : (1 ≤ l.legacy_ring) × (l.legacy_ring ≤ 65536)
   pub legacy_bytes : (2048 ≤ l.legacy_bytes) × (l.legacy_bytes ≤ 2 ^ 30)
+  pub request_inner : (inner : ℕ) → l.request_inner ≡ Some inner → (1 ≤ inner) × (inner ≤ 65536)
 
 -- a prefix of at most 32 bits whose address is zero past them
 pub record IsPrefix (p : Prefix) : Type 0 where

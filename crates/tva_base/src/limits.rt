@@ -13,7 +13,10 @@ pub struct DrrLimits {
 }
 
 /// The limits of a link: nanoseconds per byte, the share of requests (one part in so many),
-/// the bytes of requests that may come at once, and the limits of its three classes.
+/// the bytes of requests that may come at once, and the limits of its three classes. On a link
+/// with two levels requests are queued by their last nonzero tag and within it by the one
+/// before, with at most so many queues behind one tag; on a link with one level by the last
+/// alone, and there is no such number.
 #[derive(Clone, Copy, Debug, PartialEq, Eq)]
 pub struct LinkLimits {
     pub ns_per_byte: u64,
@@ -23,4 +26,5 @@ pub struct LinkLimits {
     pub regular: DrrLimits,
     pub legacy_ring: u32,
     pub legacy_bytes: u32,
+    pub request_inner: Option<u32>,
 }

@@ -1,5 +1,5 @@
 -- What the entries of the tables keep that were read.
-use Rattle.std.proofs.Common.{◌≡◌, ◌≤◌, ◌<◌, ◌^◌, ◌&&◌, nat_le, Bool, true, false, cond, eqb, ℕ, List, [], Ok, All, codes, refl, subst, arith}
+use Rattle.std.proofs.Common.{◌≡◌, ◌≤◌, ◌<◌, ◌^◌, ◌&&◌, nat_le, Bool, true, false, cond, eqb, ℕ, List, [], None, Ok, All, codes, refl, subst, arith}
 use Rattle.std.proofs.lemmas.Bool.{and_parts, leb-true}
 use Rattle.std.proofs.lemmas.List.Elements.{All-nil}
 use Rattle.toml.specs.Data.{Members}
@@ -151,6 +151,7 @@ limits_valid p ns ms l rate gave =
       regular = class_limits queues.1 rings.1 queue_bytes.1 class_bytes.1 quantum;
       legacy_ring = legacy_ring;
       legacy_bytes = legacy_bytes;
+      request_inner = None;
     } in
     let same : made ≡ l = gave_one made l g9 in
     let few = number_or 2048 1000000 2048 p ms (codes "quantum") quantum refl k3 in
@@ -167,6 +168,7 @@ limits_valid p ns ms l rate gave =
       regular = class_valid queues.1 rings.1 queue_bytes.1 class_bytes.1 quantum q1 r1 b1 c1 few;
       legacy_ring = number_or 1 65536 256 p ms (codes "legacy_ring") legacy_ring refl k8;
       legacy_bytes = bytes_within legacy_bytes legacy;
+      request_inner = λ inner e. absurd (cc);
     } in
     subst AreLinkLimits same valid)))))))))
 

@@ -1,5 +1,5 @@
 -- The keys of each table, in the order of their faults: a key, its kind, and its default.
-use Rattle.std.specs.Prelude.{ℕ, List, [], ◌∷◌, Ok, codes}
+use Rattle.std.specs.Prelude.{ℕ, List, [], ◌∷◌, Ok, None, codes}
 use Rattle.toml.specs.Data.{Members}
 use Rattle.tva_base.specs.declared.limits.DrrLimits.{DrrLimits}
 use Rattle.tva_base.specs.declared.limits.LinkLimits.{LinkLimits}
@@ -110,6 +110,7 @@ limits_of p ns_per_byte ms = do
     regular = class_limits queues.1 rings.1 queue_bytes.1 class_bytes.1 quantum;
     legacy_ring = legacy_ring;
     legacy_bytes = legacy_bytes;
+    request_inner = None;
   })
 
 unfoldable pub link_of : Place → Members → Read LinkEntry

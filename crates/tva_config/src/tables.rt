@@ -194,6 +194,7 @@ fn limits(place: Place, ns_per_byte: u64, table: &Table) -> Result<LinkLimits, C
         regular: class_limits(queues.1, rings.1, queue_bytes.1, class_bytes.1, quantum),
         legacy_ring,
         legacy_bytes,
+        request_inner: None,
     })
 }
 

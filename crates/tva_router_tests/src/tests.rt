@@ -96,6 +96,7 @@ fn limits_of(rt: &impl Abort, line: &str) -> LinkLimits
         regular,
         legacy_ring,
         legacy_bytes,
+        request_inner: None,
     }
 }
 

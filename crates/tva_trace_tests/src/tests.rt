@@ -76,6 +76,7 @@ fn link(from: u16, to: u16, tag: u16) -> LinkPlan {
             regular: queues,
             legacy_ring: 256,
             legacy_bytes: 262_144,
+            request_inner: None,
         },
     }
 }

@@ -51,6 +51,7 @@ fn limits() -> LinkLimits
         regular: queues(),
         legacy_ring: 256,
         legacy_bytes: 262_144,
+        request_inner: None,
     }
 }
 
