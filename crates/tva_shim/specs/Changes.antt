@@ -22,9 +22,20 @@ last_or_zero [] = 0
 last_or_zero (n ∷ []) = n
 last_or_zero (n ∷ m ∷ ns) = last_or_zero (m ∷ ns)
 
+-- the last of the numbers but one, or 0 where there are fewer than two
+abbrev pub last_but_one_or_zero : List ℕ → ℕ
+last_but_one_or_zero [] = 0
+last_but_one_or_zero (n ∷ []) = 0
+last_but_one_or_zero (n ∷ m ∷ []) = n
+last_but_one_or_zero (n ∷ m ∷ k ∷ ns) = last_but_one_or_zero (m ∷ k ∷ ns)
+
 -- the last nonzero tag, else 0
 abbrev pub last_tag : List Entry → ℕ
 last_tag entries = last_or_zero (nonzero_tags entries)
+
+-- the last nonzero tag but one, else 0
+abbrev pub tag_before : List Entry → ℕ
+tag_before entries = last_but_one_or_zero (nonzero_tags entries)
 
 -- the request with that entry after its own
 abbrev pub with_entry : Entry → ShimData → ShimData

@@ -10,7 +10,7 @@ use Rattle.tva_shim.specs.declared.kinds.ReturnInfo.TheVariants as backs
 use Rattle.tva_shim.specs.declared.packets.Carried.{Carried}
 use Rattle.tva_shim.specs.declared.packets.Carried.TheVariants as carried
 use Rattle.tva_shim.specs.Shims.{entries_of}
-use Rattle.tva_shim.specs.Changes.{last_tag}
+use Rattle.tva_shim.specs.Changes.{last_tag, tag_before}
 use Rattle.tva_shim.specs.Packets.{PacketData}
 
 -- the entries of a request that a packet carries
@@ -24,6 +24,10 @@ abbrev pub key_of : Class → PacketData → ℕ
 key_of classes.Request p = last_tag (entries_in p.carried)
 key_of classes.Regular p = p.flow.dst.0
 key_of classes.Legacy p = 0
+
+-- the inner key of a request on a link with two levels; a packet without entries has 0
+abbrev pub inner_key_of : PacketData → ℕ
+inner_key_of p = tag_before (entries_in p.carried)
 
 abbrev pub kind_nonce : Kind → ℕ
 kind_nonce (kinds.Request entries) = 0

@@ -20,7 +20,7 @@ pub use kinds::{Kind, ReturnInfo, Shown};
 pub use limits::{HOPS_MAX, MALFORMED_MAX, PAYLOAD_MAX, limits_hold, packets_are_short};
 pub use packets::{Carried, Packet, class_of, length};
 pub use shims::Shim;
-pub use shows::{queue_key, return_shown};
+pub use shows::{inner_queue_key, queue_key, return_shown};
 
 #[cfg(test)]
 mod tests;

@@ -5,7 +5,7 @@ ghost use Rattle.tva_shim.specs.Widths.{AreEntries, AreCaps};
 ghost use Rattle.tva_shim.specs.Packets.{HasFew};
 ghost use Rattle.tva_shim.specs.Shims.{IsShim, IsKind, IsReturn, entries_of, caps_of, granted_caps};
 ghost use Rattle.tva_shim.specs.Layout.{layout, shim_size, kind_size, return_size};
-ghost use Rattle.tva_shim.specs.Changes.{IsRequest, PointsAtOne, last_tag, with_entry, with_next_pointer, with_fresh, with_mark};
+ghost use Rattle.tva_shim.specs.Changes.{IsRequest, PointsAtOne, last_tag, tag_before, with_entry, with_next_pointer, with_fresh, with_mark};
 
 use crate::entries::{Entry, PathFull};
 use crate::kinds::{Kind, ReturnInfo};
@@ -81,6 +81,18 @@ impl Shim {
         }
     }
 
+    /// The last nonzero tag of a request but one, else 0. It names the sender's path as far as the
+    /// trust boundary before the last one knows it.
+    pub fn inner_key(&self) -> u16
+        requires { IsRequest self.now.kind }
+        ensures { result ≡ tag_before (entries_of self.now.kind) }
+    {
+        match &self.kind {
+            Kind::Request(entries) => tag_before_of(entries.as_slice()),
+            _ => unreachable!(),
+        }
+    }
+
     /// Puts an entry last in a request. It is refused exactly where 16 entries are there.
     pub fn push_entry(&mut self, entry: Entry) -> Result<(), PathFull>
         requires { IsRequest self.old.kind }
@@ -135,6 +147,26 @@ fn last_tag_of(entries: &[Entry]) -> u16
         last = nonzero_or(entry.tag, last);
     }
     last
+}
+
+// the last nonzero tag but one, else 0
+fn tag_before_of(entries: &[Entry]) -> u16
+    ensures { result ≡ tag_before entries.now }
+{
+    let mut before = 0;
+    let mut last = 0;
+    for entry in entries {
+        before = where_tagged(entry.tag, last, before);
+        last = where_tagged(entry.tag, entry.tag, last);
+    }
+    before
+}
+
+// the number where the tag isn't 0, else the other one
+fn where_tagged(tag: u16, number: u16, other: u16) -> u16
+    ensures { result ≡ (if nat_lt 0 tag then number else other) }
+{
+    if tag == 0 { other } else { number }
 }
 
 // the tag, or the other one where it is 0

@@ -3,7 +3,7 @@ ghost use Rattle.std.specs.Prelude.{◌≡◌, IfSome, IfNone};
 ghost use Rattle.tva_shim.specs.declared.kinds.ReturnInfo.TheVariants as backs;
 ghost use Rattle.tva_shim.specs.Changes.{last_tag};
 ghost use Rattle.tva_shim.specs.Shims.{IsReturn};
-ghost use Rattle.tva_shim.specs.Shows.{entries_in, key_of, back_in, version_in};
+ghost use Rattle.tva_shim.specs.Shows.{entries_in, key_of, inner_key_of, back_in, version_in};
 
 use crate::kinds::{Kind, ReturnInfo};
 use crate::packets::{Carried, Packet};
@@ -29,6 +29,20 @@ fn path_tag(carried: &Carried) -> u16
     match carried {
         Carried::Shim(shim) => match &shim.kind {
             Kind::Request(_) => shim.tag_key(),
+            Kind::List(_) | Kind::Nonce(_) | Kind::Renewal(_) => 0,
+        },
+        Carried::Nothing | Carried::Malformed(_) => 0,
+    }
+}
+
+/// The inner key under which a request is queued on a link with two levels: the last nonzero tag of
+/// its path but one, 0 where there is none. A packet that is no request has 0.
+pub fn inner_queue_key(packet: &Packet) -> u32
+    ensures { result ≡ inner_key_of packet.now }
+{
+    match &packet.carried {
+        Carried::Shim(shim) => match &shim.kind {
+            Kind::Request(_) => u32::from(shim.inner_key()),
             Kind::List(_) | Kind::Nonce(_) | Kind::Renewal(_) => 0,
         },
         Carried::Nothing | Carried::Malformed(_) => 0,

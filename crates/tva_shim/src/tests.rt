@@ -1,6 +1,6 @@
 use crate::{
     Carried, Entries, Entry, Kind, Packet, PathFull, ReturnInfo, Shim, Shown, class_of, decode,
-    encode, length, queue_key, return_shown,
+    encode, inner_queue_key, length, queue_key, return_shown,
 };
 use arrayvec::ArrayVec;
 use std::alloc::{AllocError, Global};
@@ -219,15 +219,25 @@ fn requests_take_sixteen_entries(rt: HostRuntime) {
         ReturnInfo::Notice,
     );
     assert_eq!(rt; shim.tag_key(), 0);
-    for (tag, key) in [(0, 0), (5, 5), (7, 7), (0, 7), (0, 7), (3, 3)] {
+    assert_eq!(rt; shim.inner_key(), 0);
+    for (tag, key, inner) in [
+        (0, 0, 0),
+        (5, 5, 0),
+        (7, 7, 5),
+        (0, 7, 5),
+        (3, 3, 7),
+        (3, 3, 3),
+    ] {
         assert_eq!(rt; shim.push_entry(Entry { tag, precap: 1 }), Ok(()));
         assert_eq!(rt; shim.tag_key(), key);
+        assert_eq!(rt; shim.inner_key(), inner);
     }
     for tag in 0..10 {
         assert_eq!(rt; shim.push_entry(Entry { tag, precap: 1 }), Ok(()));
     }
     assert_eq!(rt; shim.push_entry(Entry { tag: 1, precap: 1 }), Err(PathFull));
     assert_eq!(rt; shim.tag_key(), 9);
+    assert_eq!(rt; shim.inner_key(), 8);
 }
 
 #[test]
@@ -304,6 +314,28 @@ fn packets_show_their_key(rt: HostRuntime) -> Result<(), Fail> {
     assert_eq!(rt; queue_key(Class::Legacy, &legacy), 0);
     assert!(rt; return_shown(&legacy.carried).is_none());
     Ok(())
+}
+
+#[test]
+fn requests_show_the_tag_before(rt: HostRuntime) {
+    let mut shim = Shim::new(
+        1,
+        false,
+        6,
+        Kind::Request(Entries::new()),
+        ReturnInfo::Nothing,
+    );
+    for tag in [2, 0, 7, 0] {
+        assert_eq!(rt; shim.push_entry(Entry { tag, precap: 1 }), Ok(()));
+    }
+    let request = Packet::new(ID, FLOW, 0, 0, Carried::Shim(shim));
+    assert_eq!(rt; queue_key(Class::Request, &request), 7);
+    assert_eq!(rt; inner_queue_key(&request), 2);
+    let shim = Shim::new(1, false, 6, Kind::Nonce(2), ReturnInfo::Nothing);
+    let regular = Packet::new(ID, FLOW, 0, 0, Carried::Shim(shim));
+    assert_eq!(rt; inner_queue_key(&regular), 0);
+    let legacy = Packet::new(ID, FLOW, 0, 0, Carried::Nothing);
+    assert_eq!(rt; inner_queue_key(&legacy), 0);
 }
 
 fn crosses<T: Send + Sync>() {}
