@@ -87,7 +87,7 @@ module _ {T : Type 0} where
   length-as [] = refl
   length-as (g ∷ gs) = ap suc (length-as gs)
 
-  has-as : (key : ℕ) (gs : List (Group T)) → has_key key (as_queues gs) ≡ has_group key gs
+  pub has-as : (key : ℕ) (gs : List (Group T)) → has_key key (as_queues gs) ≡ has_group key gs
   has-as key [] = refl
   has-as key (g ∷ gs) = ap (λ z. cond (eqb g.key key) true z) (has-as key gs)
 
@@ -105,7 +105,7 @@ module _ {T : Type 0} where
   first_alone measure [] = refl
   first_alone measure (x ∷ xs) = refl
 
-  first_next : (measure : T → ℕ) (qs : List (Queue T)) → first_bytes measure (next_alone qs) ≡ head_bytes measure qs
+  pub first_next : (measure : T → ℕ) (qs : List (Queue T)) → first_bytes measure (next_alone qs) ≡ head_bytes measure qs
   first_next measure [] = refl
   first_next measure (q ∷ qs) = first_alone measure q.items
 
@@ -234,7 +234,8 @@ module _ {T : Type 0} where
             );
           }
 
-      fair_as_all : (gs : List (Group T)) → AreDrrLimits l → AreHier measure l inner gs → AreFair measure (wide l) (as_queues gs)
+      pub fair_as_all : (gs : List (Group T)) → AreDrrLimits l → AreHier measure l inner gs
+          → AreFair measure (wide l) (as_queues gs)
       fair_as_all [] v h = record { few = omega arith; each = tt; turn = tt; bytes = omega arith }
       fair_as_all (g ∷ gs) v h =
           let i = h.each.0 in
@@ -283,7 +284,7 @@ module _ {T : Type 0} where
       others_ahead m key r qs = omega arith
 
       -- what fair queues send next is ahead of what a key has yet to send
-      head_ahead : (m : DrrLimits) (key r : ℕ) (qs : List (Queue T)) → AreFair measure m qs → has_key key qs ≡ true
+      pub head_ahead : (m : DrrLimits) (key r : ℕ) (qs : List (Queue T)) → AreFair measure m qs → has_key key qs ≡ true
           → first_bytes measure (items_of key qs) ≤ r → head_bytes measure qs ≤ bytes_ahead m key r qs
       head_ahead m key r [] f h k = absurd (cc)
       head_ahead m key r (q ∷ qs) f h k =

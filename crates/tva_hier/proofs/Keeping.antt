@@ -78,7 +78,7 @@ module _ {T : Type 0} (measure : T → ℕ) where
       (cond b (queue q.key q.deficit (q.items ++ x ∷ []) ∷ qs) (q ∷ put 0 key x qs))) (λ _. omega arith) (λ _. omega arith)
 
   -- an item that is put behind others isn't sent next
-  head-put : (m : DrrLimits) (start key : ℕ) (x : T) (qs : List (Queue T)) → AreQueues measure m qs → 1 ≤ length qs
+  pub head-put : (m : DrrLimits) (start key : ℕ) (x : T) (qs : List (Queue T)) → AreQueues measure m qs → 1 ≤ length qs
       → head_bytes measure (put start key x qs) ≡ head_bytes measure qs
   head-put m start key x [] a h = absurd (omega arith)
   head-put m start key x (q ∷ qs) a h =
@@ -288,7 +288,7 @@ module _ {T : Type 0} (measure : T → ℕ) where
               })
         ]
 
-    hier-taken : (gs : List (Group T)) → AreDrrLimits l → AreHier measure l inner gs
+    pub hier-taken : (gs : List (Group T)) → AreDrrLimits l → AreHier measure l inner gs
         → AreHier measure l inner (groups_taken measure l.quantum gs)
     hier-taken [] v h = h
     hier-taken (g ∷ gs) v h =

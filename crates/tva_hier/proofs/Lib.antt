@@ -4,3 +4,4 @@ pub mod Orders
 pub mod Offering
 pub mod Aheads
 pub mod Untils
+pub mod Nexts

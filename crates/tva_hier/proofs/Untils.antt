@@ -24,14 +24,14 @@ use Rattle.tva_hier.proofs.Offering.{left_keeps}
 use Rattle.tva_hier.proofs.Aheads.{falls_under, offer_under, most_under, enough_under}
 
 -- both keys stand at the front, or one of them doesn't
-front_both : (a outer key k : ℕ) (f : Bool) → f ≡ eqb k key → (eqb a outer && f) ≡ true → (a ≡ outer) × (k ≡ key)
+pub front_both : (a outer key k : ℕ) (f : Bool) → f ≡ eqb k key → (eqb a outer && f) ≡ true → (a ≡ outer) × (k ≡ key)
 front_both a outer key k f e t =
     by_key a outer (λ b. (b && f) ≡ true → (a ≡ outer) × (k ≡ key))
     (λ s w. by_key k key (λ b. f ≡ b → (a ≡ outer) × (k ≡ key)) (λ q _. (s, q)) (λ _ z. absurd (let y : true ≡ false = sym w ∙ z in cc)) e)
     (λ _ w. absurd (cc))
     t
 
-front_apart : (a outer key k : ℕ) (f : Bool) → f ≡ eqb k key → (eqb a outer && f) ≡ false → outer ≡ a → key ≡ k → ⊥
+pub front_apart : (a outer key k : ℕ) (f : Bool) → f ≡ eqb k key → (eqb a outer && f) ≡ false → outer ≡ a → key ≡ k → ⊥
 front_apart a outer key k f e t s q =
     by_key a outer (λ b. (b && f) ≡ false → ⊥)
     (λ _ w. by_key k key (λ b. f ≡ b → ⊥) (λ _ z. absurd (let y : true ≡ false = sym z ∙ w in cc)) (λ n _. n (sym q)) e)
@@ -73,7 +73,8 @@ module _ {T : Type 0} (measure : T → ℕ) (l : DrrLimits) (inner : ℕ) where
       (none_true (lacks_room measure (queues_of (inner_limits l inner) o gs) i x)
       (leb (suc l.class_bytes) (all_group_bytes measure gs + measure x)) s).0) w)
 
-  front_key : (qs : List (Queue T)) → 1 ≤ length qs → (k : ℕ) × (IsFront k qs × ((key : ℕ) → is_front key qs ≡ eqb k key))
+  pub front_key : (qs : List (Queue T)) → 1 ≤ length qs
+      → (k : ℕ) × (IsFront k qs × ((key : ℕ) → is_front key qs ≡ eqb k key))
   front_key [] h = absurd (omega arith)
   front_key (q ∷ qs) h = (q.key, (refl, λ key. refl))
 

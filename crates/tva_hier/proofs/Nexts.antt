@@ -1,0 +1,134 @@
+-- What two-level queues send next: an offer leaves it, a take of it leaves the other items, and it is ahead of what any two
+-- keys have yet to send.
+use Rattle.std.proofs.Common.{◌≡◌, ℕ, ◌≤◌, true, cond, eqb, List, [], ◌∷◌, length, Some, refl, sym, ◌∙◌, subst, arith}
+use Rattle.std.specs.Bool.{MatchBool}
+use Rattle.tva_base.specs.declared.limits.DrrLimits.{DrrLimits}
+use Rattle.tva_drr.specs.Queues.{Fair, fair, has_key, items_of}
+use Rattle.tva_drr.specs.Offer.{put, lacks_queue, lacks_room, offer_leaves}
+use Rattle.tva_drr.specs.Fair.{AreQueues, AreFair}
+use Rattle.tva_drr.specs.Service.{is_front, first_bytes, head_bytes}
+use Rattle.tva_drr.specs.Ahead.{bytes_ahead}
+use Rattle.tva_drr.proofs.Falling.{by_test}
+use Rattle.tva_drr.proofs.Until.{offer_cases}
+use Rattle.tva_hier.specs.Groups.{Group, Hier, group, hier, inner_limits, queues_of, items_under, next}
+use Rattle.tva_hier.specs.Offer.{lacks_place, lacks_space, changed, put_under, left_by_offer}
+use Rattle.tva_hier.specs.Take.{groups_taken, left_by_take}
+use Rattle.tva_hier.specs.Hier.{IsHier}
+use Rattle.tva_hier.specs.Ahead.{next_alone, as_queues, bytes_ahead_under, are_front, next_bytes}
+use Rattle.tva_hier.proofs.Keeping.{head_some, head_there, head-put, inner_there, hier-taken}
+use Rattle.tva_hier.proofs.Orders.{goes_first_under}
+use Rattle.tva_hier.proofs.Aheads.{wide, has-as, has_group_from, first_next, fair_as_all, head_ahead}
+use Rattle.tva_hier.proofs.Untils.{front_both, front_apart, front_key}
+
+module _ {T : Type 0} (measure : T → ℕ) (l : DrrLimits) (inner : ℕ) where
+  -- the bytes of the next item
+  pub next_some : (gs : List (Group T)) (x : T) → next gs ≡ Some x → next_bytes measure gs ≡ measure x
+  next_some [] x e = absurd (cc)
+  next_some (g ∷ gs) x e = head_some measure g.queues.queues x e
+
+  -- where there are groups there is a next item
+  pub next_there : (gs : List (Group T)) → IsHier measure (hier l inner gs) → 1 ≤ length gs
+      → (x : T) × ((next gs ≡ Some x) × (next_bytes measure gs ≡ measure x))
+  next_there [] h n = absurd (omega arith)
+  next_there (g ∷ gs) h n =
+      let a = h.groups.each.0 in
+      head_there measure g.queues.limits g.queues.queues a.fair.queues.each a.filled
+
+  -- where something waits under two keys there are groups
+  pub groups_there : (outer key : ℕ) (gs : List (Group T))
+      → has_key key (queues_of (inner_limits l inner) outer gs).queues ≡ true
+      → 1 ≤ length gs
+  groups_there outer key [] h = absurd (cc)
+  groups_there outer key (g ∷ gs) h = omega arith
+
+  -- ## an offer
+
+  head-left : (m : DrrLimits) (f : Fair T) (key : ℕ) (x : T) → AreQueues measure m f.queues → 1 ≤ length f.queues
+      → head_bytes measure (offer_leaves measure f key x).queues ≡ head_bytes measure f.queues
+  head-left m f key x a n =
+      offer_cases (lacks_queue f key) (lacks_room measure f key x) f
+      (fair f.limits (put f.limits.quantum key x f.queues))
+      (λ (z : Fair T). head_bytes measure z.queues ≡ head_bytes measure f.queues) refl
+      (λ _ _. head-put measure m f.limits.quantum key x f.queues a n)
+
+  pub next-offered : (o i : ℕ) (x : T) (gs : List (Group T)) → IsHier measure (hier l inner gs) → 1 ≤ length gs
+      → next_bytes measure (left_by_offer measure (hier l inner gs) o i x).groups ≡ next_bytes measure gs
+  next-offered o i x [] h n = absurd (omega arith)
+  next-offered o i x (g ∷ gs) h n =
+      let a = h.groups.each.0 in
+      offer_cases (lacks_place (hier l inner (g ∷ gs)) o i) (lacks_space measure (hier l inner (g ∷ gs)) o i x)
+      (hier l inner (g ∷ gs))
+      (hier l inner (put_under measure (hier l inner (g ∷ gs)) o i x))
+      (λ (z : Hier T). next_bytes measure z.groups ≡ next_bytes measure (g ∷ gs)) refl
+      (λ _ _. by_test (eqb g.key o)
+      (λ b. next_bytes measure (cond b (group g.key g.deficit (offer_leaves measure g.queues i x) ∷ gs)
+      (g ∷ changed (λ f. offer_leaves measure f i x) (inner_limits l inner) 0 o gs)) ≡ next_bytes measure (g ∷ gs))
+      (λ _. head-left g.queues.limits g.queues i x a.fair.queues.each a.filled) (λ _. refl))
+
+  -- ## a take
+
+  pub hier_taken : (gs : List (Group T)) → IsHier measure (hier l inner gs)
+      → IsHier measure (left_by_take measure (hier l inner gs))
+  hier_taken gs h = record {
+    limits = h.limits;
+    inner = h.inner;
+    groups = hier-taken measure l inner gs h.limits
+        h.groups;
+  }
+
+  -- the item was the first under its keys, and the items under all others stay
+  pub taken_under : (outer key : ℕ) (gs : List (Group T)) (x : T) → IsHier measure (hier l inner gs) → next gs ≡ Some x
+      → MatchBool (are_front outer key gs)
+      (items_under (hier l inner gs) outer key ≡ x ∷ items_under (left_by_take measure (hier l inner gs)) outer key)
+      (items_under (left_by_take measure (hier l inner gs)) outer key ≡ items_under (hier l inner gs) outer key)
+  taken_under outer key [] x h e = absurd (cc)
+  taken_under outer key (g ∷ gs) x h e =
+      let old : Hier T = hier l inner (g ∷ gs) in
+      let new : Hier T = hier l inner (groups_taken measure l.quantum (g ∷ gs)) in
+      let k = front_key measure l inner g.queues.queues h.groups.each.0.filled in
+      let goes = goes_first_under measure l inner g.key k.0 (g ∷ gs) x h.groups.each (refl, k.1.0) e in
+      by_test (are_front outer key (g ∷ gs))
+      (λ b. are_front outer key (g ∷ gs) ≡ b → MatchBool b (items_under old outer key ≡ x ∷ items_under new outer key)
+      (items_under new outer key ≡ items_under old outer key))
+      (λ _ t.
+      let both = front_both g.key outer key k.0 (is_front key g.queues.queues) (k.1.1 key) t in
+      subst (λ z. items_under old z key ≡ x ∷ items_under new z key) both.0
+      (subst (λ z. items_under old g.key z ≡ x ∷ items_under new g.key z) both.1 goes.own))
+      (λ _ t. goes.others outer key (front_apart g.key outer key k.0 (is_front key g.queues.queues) (k.1.1 key) t))
+      refl
+
+  -- ## what is ahead
+
+  items_as : (outer : ℕ) (gs : List (Group T))
+      → items_of outer (as_queues gs) ≡ next_alone (queues_of (inner_limits l inner) outer gs).queues
+  items_as outer [] = refl
+  items_as outer (g ∷ gs) =
+      by_test (eqb g.key outer) (λ b. cond b (next_alone g.queues.queues) (items_of outer (as_queues gs))
+      ≡ next_alone (cond b g.queues (queues_of (inner_limits l inner) outer gs)).queues)
+      (λ _. refl) (λ _. items_as outer gs)
+
+  head_as : (gs : List (Group T)) → head_bytes measure (as_queues gs) ≡ next_bytes measure gs
+  head_as [] = refl
+  head_as (g ∷ gs) = first_next measure g.queues.queues
+
+  -- the next item is ahead of so many bytes that two keys have yet to send
+  pub next_ahead : (outer key bytes : ℕ) (gs : List (Group T)) → IsHier measure (hier l inner gs)
+      → has_key key (queues_of (inner_limits l inner) outer gs).queues ≡ true
+      → first_bytes measure (items_under (hier l inner gs) outer key) ≤ bytes
+      → next_bytes measure gs ≤ bytes_ahead_under (hier l inner gs) outer key bytes
+  next_ahead outer key bytes gs h t n =
+      let li : DrrLimits = inner_limits l inner in
+      let f : Fair T = queues_of li outer gs in
+      let there = has_group_from li outer key gs t in
+      let i = inner_there measure l inner outer gs h.groups.each there in
+      let own : AreFair measure li f.queues = subst (λ z. AreFair measure z f.queues) i.limits i.fair.queues in
+      let within : head_bytes measure f.queues ≤ bytes_ahead li key bytes f.queues = head_ahead measure l inner li
+      key bytes f.queues own t n in
+      let first : first_bytes measure (items_of outer (as_queues gs)) ≤ bytes_ahead li key bytes f.queues =
+      subst (λ z. first_bytes measure z ≤ bytes_ahead li key bytes f.queues) (sym (items_as outer gs))
+      (omega (arith, first_next measure f.queues, within)) in
+      let whole : head_bytes measure (as_queues gs) ≤ bytes_ahead l outer (bytes_ahead li key bytes f.queues)
+      (as_queues gs) =
+      head_ahead measure l inner (wide l) outer (bytes_ahead li key bytes f.queues) (as_queues gs)
+      (fair_as_all measure l inner gs h.limits h.groups) (has-as outer gs ∙ there) first in
+      omega (arith, whole, head_as gs)
