@@ -9,6 +9,7 @@ use Rattle.tva_drr.specs.Queues.{first, head}
 use Rattle.tva_port.specs.declared.decision.Decision.{Decision}
 use Rattle.tva_port.specs.declared.decision.Decision.TheVariants.{Start}
 use Rattle.tva_port.specs.Requests.{cost}
+use Rattle.tva_port.specs.Levels.{next_in}
 use Rattle.tva_port.specs.Waiting.{Waiting}
 use Rattle.tva_port.specs.Decide.{covered, start_or, wait_for, decide_on, is_start}
 
@@ -35,11 +36,13 @@ no_start l credit now (Some p) = refl
 
 -- the next packet of a class
 abbrev pub next_of : LinkLimits → Waiting → ℕ → Class → Option PacketData
-next_of l w credit Request = covered l credit (head w.requests.queues)
+next_of l w credit Request = covered l credit (next_in w.requests)
 next_of l w credit Regular = head w.regulars.queues
 next_of l w credit Legacy = first w.legacy
 
-by_class : (l : LinkLimits) (w : Waiting) (credit : ℕ) (class : Class) (o : Option PacketData) → pick class (covered l credit (head w.requests.queues)) (head w.regulars.queues) (first w.legacy) ≡ o → next_of l w credit class ≡ o
+by_class : (l : LinkLimits) (w : Waiting) (credit : ℕ) (class : Class) (o : Option PacketData)
+    → pick class (covered l credit (next_in w.requests)) (head w.regulars.queues) (first w.legacy) ≡ o
+    → next_of l w credit class ≡ o
 by_class l w credit Request o e = e
 by_class l w credit Regular o e = e
 by_class l w credit Legacy o e = e
@@ -47,7 +50,8 @@ by_class l w credit Legacy o e = e
 pub start_is : (l : LinkLimits) (w : Waiting) (credit now : ℕ) (class : Class) (p : PacketData) → decide_on l w credit now ≡ Start class p → next_of l w credit class ≡ Some p
 start_is l w credit now class p e =
     by_class l w credit class (Some p)
-    (picked (covered l credit (head w.requests.queues)) (head w.regulars.queues) (first w.legacy) (wait_for l credit now (head w.requests.queues)) class p (no_start l credit now (head w.requests.queues)) e)
+    (picked (covered l credit (next_in w.requests)) (head w.regulars.queues) (first w.legacy)
+    (wait_for l credit now (next_in w.requests)) class p (no_start l credit now (next_in w.requests)) e)
 
 pub covered_pays : (l : LinkLimits) (credit : ℕ) (o : Option PacketData) (p : PacketData) → covered l credit o ≡ Some p → (o ≡ Some p) × (cost l (packet_length p) ≤ credit)
 covered_pays l credit None p e = absurd (cc)
@@ -61,7 +65,7 @@ covered_pays l credit (Some x) p e =
 
 -- nothing starts where a request lacks credit and nothing else waits
 pub record Rests (l : LinkLimits) (w : Waiting) (credit : ℕ) : Type 0 where
-  pub requests : covered l credit (head w.requests.queues) ≡ None
+  pub requests : covered l credit (next_in w.requests) ≡ None
   pub regulars : head w.regulars.queues ≡ None
   pub legacy : first w.legacy ≡ None
 
@@ -73,7 +77,8 @@ none_picked None None None d e = (refl, refl, refl)
 
 pub none_starts : (l : LinkLimits) (w : Waiting) (credit now : ℕ) → is_start (decide_on l w credit now) ≡ false → Rests l w credit
 none_starts l w credit now e =
-    let r = none_picked (covered l credit (head w.requests.queues)) (head w.regulars.queues) (first w.legacy) (wait_for l credit now (head w.requests.queues)) e in
+    let r = none_picked (covered l credit (next_in w.requests)) (head w.regulars.queues) (first w.legacy)
+    (wait_for l credit now (next_in w.requests)) e in
     record { requests = r.0; regulars = r.1; legacy = r.2 }
 
 from_none : (a b c : Option PacketData) (d : Decision) → a ≡ None → b ≡ None → c ≡ None → start_or Request a (start_or Regular b (start_or Legacy c d)) ≡ d
@@ -82,11 +87,13 @@ from_none (Some x) b c d e f g = absurd (cc)
 from_none None (Some x) c d e f g = absurd (cc)
 from_none None None (Some x) d e f g = absurd (cc)
 
-pub rests_is : (l : LinkLimits) (w : Waiting) (credit now : ℕ) → Rests l w credit → decide_on l w credit now ≡ wait_for l credit now (head w.requests.queues)
-rests_is l w credit now r = from_none (covered l credit (head w.requests.queues)) (head w.regulars.queues) (first w.legacy) (wait_for l credit now (head w.requests.queues)) r.requests r.regulars r.legacy
+pub rests_is : (l : LinkLimits) (w : Waiting) (credit now : ℕ) → Rests l w credit
+    → decide_on l w credit now ≡ wait_for l credit now (next_in w.requests)
+rests_is l w credit now r = from_none (covered l credit (next_in w.requests)) (head w.regulars.queues)
+    (first w.legacy) (wait_for l credit now (next_in w.requests)) r.requests r.regulars r.legacy
 
 pub rests_no_start : (l : LinkLimits) (w : Waiting) (credit now : ℕ) → Rests l w credit → is_start (decide_on l w credit now) ≡ false
-rests_no_start l w credit now r = ap is_start (rests_is l w credit now r) ∙ no_start l credit now (head w.requests.queues)
+rests_no_start l w credit now r = ap is_start (rests_is l w credit now r) ∙ no_start l credit now (next_in w.requests)
 
 -- a request that isn't covered lacks some credit
 pub lacking : (l : LinkLimits) (credit : ℕ) (p : PacketData) → covered l credit (Some p) ≡ None → credit < cost l (packet_length p)

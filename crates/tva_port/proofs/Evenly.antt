@@ -1,5 +1,5 @@
 -- Two queues of a class that are never empty send about as much as each other.
-use Rattle.std.proofs.Common.{◌≡◌, ◌≢◌, ℕ, ◌+◌, ◌*◌, ◌<◌, true, ◌&&◌, cond, List, [], ◌∷◌, ◌++◌, Some, refl, sym, ap, ◌∙◌, subst, zero-add, arith}
+use Rattle.std.proofs.Common.{◌≡◌, ◌≢◌, ℕ, ◌+◌, ◌*◌, ◌<◌, true, ◌&&◌, cond, List, [], ◌∷◌, ◌++◌, Some, None, refl, sym, ap, ◌∙◌, subst, zero-add, arith}
 use Rattle.tva_base.specs.declared.limits.DrrLimits.{DrrLimits}
 use Rattle.tva_base.specs.declared.limits.LinkLimits.{LinkLimits}
 use Rattle.tva_base.specs.declared.packet.Class.{Class}
@@ -9,22 +9,84 @@ use Rattle.tva_shim.specs.Packets.{PacketData, packet_length}
 use Rattle.tva_drr.specs.Queues.{Queue, Fair, fair, has_key, first, head}
 use Rattle.tva_drr.specs.Offer.{put, lacks_queue, lacks_room, offer_leaves}
 use Rattle.tva_drr.specs.Take.{take_leaves}
+use Rattle.tva_drr.specs.Fair.{IsFair}
 use Rattle.tva_drr.specs.Service as drr
 use Rattle.tva_drr.specs.Service.{Step, Offer, Take, is_front, first_bytes, head_bytes, AreOffers, bytes_from}
 use Rattle.tva_drr.proofs.Falling.{by_test}
 use Rattle.tva_drr.proofs.Until.{offer_cases}
 use Rattle.tva_drr.proofs.Fairness.{fairly}
+use Rattle.tva_port.specs.declared.requests.RequestQueues.{RequestQueues}
+use Rattle.tva_port.specs.declared.requests.RequestQueues.TheVariants.{OneLevel, TwoLevels}
+use Rattle.tva_port.specs.Levels.{next_in, single_queues}
 use Rattle.tva_port.specs.Log.{Entry, Queued, Started}
-use Rattle.tva_port.specs.Waiting.{same_class, fair_step, waiting_after}
+use Rattle.tva_port.specs.Waiting.{same_class, request_step, fair_step, waiting_after}
 use Rattle.tva_port.specs.Decide.{credit_after}
 use Rattle.tva_port.specs.Legal.{Follows, GoesOn, IsStarted, IsLegal}
+use Rattle.tva_port.specs.Keeps.{AreWithin, IsWithinLimits}
 use Rattle.tva_port.specs.Bounds.{queues_of, bytes_started, AlwaysWaits}
-use Rattle.tva_port.proofs.Logs.{legal-front, goes_on-push}
+use Rattle.tva_port.proofs.Logs.{legal-front, requests-push, goes_on-push}
 use Rattle.tva_port.proofs.Deciding.{covered_pays}
 use Rattle.tva_port.proofs.Legality.{started_is}
 use Rattle.tva_port.proofs.Idling.{within}
-use Rattle.tva_port.proofs.Tracking.{IsQueueing, limits_of, fair_now, queues-step}
+use Rattle.tva_port.proofs.Tracking.{IsQueueing, regulars-step, regulars_now}
 use Rattle.tva_port.proofs.Beginning.{goes_rest}
+
+-- ## queues by keys alone
+
+-- the class has fair queues by its keys
+abbrev HasKeys : LinkLimits → Class → Type 0
+HasKeys l Request = l.request_inner ≡ None
+HasKeys l Regular = Unit {0}
+HasKeys l Legacy = ⊥
+
+abbrev pub limits_of : LinkLimits → Class → DrrLimits
+limits_of l Request = l.request
+limits_of l Regular = l.regular
+limits_of l Legacy = l.regular
+
+-- on a link with one level the requests are in such queues
+one_level : (l : LinkLimits) (rs : RequestQueues) → l.request_inner ≡ None → AreWithin l rs
+    → (rs ≡ OneLevel (fair l.request (single_queues rs))) × IsFair packet_length (fair l.request (single_queues rs))
+one_level l (OneLevel f) n w =
+    let e : f ≡ fair l.request f.queues = ap (λ (d : DrrLimits). fair d f.queues) w.2 in
+    (ap (λ z. OneLevel z) e, subst (λ z. IsFair packet_length z) e w.1)
+one_level l (TwoLevels h) n w = absurd (let k : None ≡ Some h.inner = sym n ∙ w.0 in cc)
+
+-- where something waits in them, the link has one level
+is_one_level : (l : LinkLimits) (rs : RequestQueues) (key : ℕ) → AreWithin l rs
+    → has_key key (single_queues rs) ≡ true → l.request_inner ≡ None
+is_one_level l (OneLevel f) key w h = w.0
+is_one_level l (TwoLevels h) key w k = absurd (cc)
+
+step_single : (f : Fair PacketData) (e : Entry)
+    → single_queues (request_step (OneLevel f) e) ≡ (fair_step Request f e).queues
+step_single f (Queued t d k x) = by_test (same_class d Request)
+    (λ b. single_queues (cond b (OneLevel (offer_leaves packet_length f k x)) (OneLevel f)) ≡
+    (cond b (offer_leaves packet_length f k x) f).queues) (λ _. refl) (λ _. refl)
+step_single f (Started t d x) = by_test (same_class d Request)
+    (λ b. single_queues (cond b (OneLevel (take_leaves packet_length f)) (OneLevel f)) ≡
+    (cond b (take_leaves packet_length f) f).queues) (λ _. refl) (λ _. refl)
+
+-- the queues of the class under their limits, after one more entry
+queues-step : (l : LinkLimits) (c : Class) (log : List Entry) (e : Entry) → HasKeys l c
+    → IsWithinLimits l (waiting_after l log)
+    → queues_of c (waiting_after l (log ++ e ∷ [])) ≡
+    (fair_step c (fair (limits_of l c) (queues_of c (waiting_after l log))) e).queues
+queues-step l Request log e q w =
+    let rs : RequestQueues = (waiting_after l log).requests in
+    ap (λ (z : RequestQueues). single_queues z) (requests-push l log e)
+    ∙ ap (λ (z : RequestQueues). single_queues (request_step z e)) (one_level l rs q w.requests).0
+    ∙ step_single (fair l.request (single_queues rs)) e
+queues-step l Regular log e q w = regulars-step l log e w
+queues-step l Legacy log e q w = absurd q
+
+fair_now : (l : LinkLimits) (c : Class) (log : List Entry) → HasKeys l c → IsWithinLimits l (waiting_after l log)
+    → IsFair packet_length (fair (limits_of l c) (queues_of c (waiting_after l log)))
+fair_now l Request log q w = (one_level l (waiting_after l log).requests q w.requests).1
+fair_now l Regular log q w = regulars_now l log w
+fair_now l Legacy log q w = absurd q
+
+-- ## steps
 
 -- what an entry does to the queues of a class
 abbrev step_of : Class → Entry → List (Step PacketData)
@@ -61,18 +123,28 @@ head_of : (qs : List (Queue PacketData)) (x : PacketData) → head qs ≡ Some x
 head_of [] x e = absurd (cc)
 head_of (p ∷ ps) x e = first_of p.items x e
 
-head_started : (l : LinkLimits) (c : Class) (log : List Entry) (t : ℕ) (x : PacketData) → IsQueueing c → IsStarted l log t c x → head (queues_of c (waiting_after l log)) ≡ Some x
-head_started l Request log t x q f = (covered_pays l (credit_after l log t) (head (waiting_after l log).requests.queues) x (started_is l log t Request x f)).0
-head_started l Regular log t x q f = started_is l log t Regular x f
-head_started l Legacy log t x q f = absurd q
+next_single : (l : LinkLimits) (rs : RequestQueues) → l.request_inner ≡ None → AreWithin l rs
+    → head (single_queues rs) ≡ next_in rs
+next_single l (OneLevel f) n w = refl
+next_single l (TwoLevels h) n w = absurd (let k : None ≡ Some h.inner = sym n ∙ w.0 in cc)
 
-module _ (l : LinkLimits) (c : Class) (q : IsQueueing c) (a : AreLinkLimits l) where
+head_started : (l : LinkLimits) (c : Class) (log : List Entry) (t : ℕ) (x : PacketData) → HasKeys l c
+    → IsWithinLimits l (waiting_after l log) → IsStarted l log t c x → head (queues_of c (waiting_after l log)) ≡ Some x
+head_started l Request log t x q w f =
+    next_single l (waiting_after l log).requests q w.requests
+    ∙ (covered_pays l (credit_after l log t) (next_in (waiting_after l log).requests) x
+    (started_is l log t Request x f)).0
+head_started l Regular log t x q w f = started_is l log t Regular x f
+head_started l Legacy log t x q w f = absurd q
+
+module _ (l : LinkLimits) (c : Class) (q : HasKeys l c) (a : AreLinkLimits l) where
   state-step : (log : List Entry) (e : Entry) → IsLegal l log → state l c (log ++ e ∷ []) ≡ fair (limits_of l c) (fair_step c (state l c log) e).queues
   state-step log e g = ap (λ qs. fair (limits_of l c) qs) (queues-step l c log e q (within l log a g))
 
   -- the packet that starts is the first of the front
-  starts_head : (log : List Entry) (t : ℕ) (x : PacketData) → IsStarted l log t c x → head (queues_of c (waiting_after l log)) ≡ Some x
-  starts_head log t x f = head_started l c log t x q f
+  starts_head : (log : List Entry) (t : ℕ) (x : PacketData) → IsLegal l log → IsStarted l log t c x
+      → head (queues_of c (waiting_after l log)) ≡ Some x
+  starts_head log t x g f = head_started l c log t x q (within l log a g) f
 
   -- one more entry, by whether it is of the class
   started_one : (key : ℕ) (log : List Entry) (e : Entry) (es : List Entry) → IsLegal l log → Follows l log e → bytes_started l c key (log ++ e ∷ []) es ≡ bytes_from packet_length key (state l c (log ++ e ∷ [])) (steps_of c es)
@@ -89,7 +161,8 @@ module _ (l : LinkLimits) (c : Class) (q : IsQueueing c) (a : AreLinkLimits l) w
       → cond (b && is_front key (queues_of c (waiting_after l log))) (packet_length x) 0 + bytes_started l c key (log ++ Started t d x ∷ []) es ≡ bytes_from packet_length key (state l c log) (cond b (Take ∷ []) [] ++ steps_of c es))
       (λ _ w e.
       let own : IsStarted l log t c x = subst (λ z. IsStarted l log t z x) (same_own d c w) f in
-      let bytes : packet_length x ≡ head_bytes packet_length (queues_of c (waiting_after l log)) = sym (head_of (queues_of c (waiting_after l log)) x (starts_head log t x own)) in
+      let bytes : packet_length x ≡ head_bytes packet_length (queues_of c (waiting_after l log)) = sym
+      (head_of (queues_of c (waiting_after l log)) x (starts_head log t x g own)) in
       ap (λ z. cond (is_front key (queues_of c (waiting_after l log))) z 0 + bytes_started l c key (log ++ Started t d x ∷ []) es) bytes
       ∙ ap (λ z. cond (is_front key (queues_of c (waiting_after l log))) (head_bytes packet_length (queues_of c (waiting_after l log))) 0 + z) (h ∙ ap (λ z. bytes_from packet_length key z (steps_of c es)) (sym e)))
       (λ _ _ e. zero-add (bytes_started l c key (log ++ Started t d x ∷ []) es) ∙ h ∙ ap (λ z. bytes_from packet_length key z (steps_of c es)) (sym e))
@@ -133,12 +206,26 @@ most_of l Request a = a.request.max
 most_of l Regular a = a.regular.max
 most_of l Legacy a = a.regular.max
 
+-- what waits all along waits at first
+waits_first : (l : LinkLimits) (c : Class) (key : ℕ) (before between : List Entry)
+    → AlwaysWaits l c key before between → has_key key (queues_of c (waiting_after l before)) ≡ true
+waits_first l c key before [] w = w
+waits_first l c key before (e ∷ es) w = w.0
+
+has_keys : (l : LinkLimits) (c : Class) (key : ℕ) (before between : List Entry) → IsQueueing c
+    → IsWithinLimits l (waiting_after l before) → AlwaysWaits l c key before between → HasKeys l c
+has_keys l Request key before between q i w = is_one_level l (waiting_after l before).requests key i.requests
+    (waits_first l Request key before between w)
+has_keys l Regular key before between q i w = tt
+has_keys l Legacy key before between q i w = absurd q
+
 -- between two places of a log
 pub even : (l : LinkLimits) (c : Class) (before between : List Entry) (a b : ℕ) → IsQueueing c → AreLinkLimits l → IsLegal l (before ++ between) → a ≢ b → AlwaysWaits l c a before between → AlwaysWaits l c b before between
     → bytes_started l c a before between < bytes_started l c b before between + ((limits_of l c).quantum + 2 * (limits_of l c).max)
-even l c before between a b q v g n w u =
+even l c before between a b r v g n w u =
     let legal = legal-front l [] before between g in
     let rest = goes_rest l [] before between g in
+    let q = has_keys l c a before between r (within l before v legal) w in
     let now = fair_now l c before q (within l before v legal) in
     omega (
       arith,

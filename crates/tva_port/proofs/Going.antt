@@ -4,17 +4,16 @@ use Rattle.std.specs.List.{filter_map}
 use Rattle.std.proofs.Math.Nat.{mul-le-mul_right, add-mul, mul_comm}
 use Rattle.std.proofs.lemmas.Bool.Decides.{leb_tells}
 use Rattle.std.proofs.lemmas.List.Elements.{filter-append}
-use Rattle.tva_base.specs.declared.limits.DrrLimits.{DrrLimits}
 use Rattle.tva_base.specs.declared.limits.LinkLimits.{LinkLimits}
 use Rattle.tva_base.specs.declared.packet.Class.{Class}
 use Rattle.tva_base.specs.declared.packet.Class.TheVariants.{Request, Regular, Legacy}
 use Rattle.tva_base.specs.Plan.{AreLinkLimits}
 use Rattle.tva_shim.specs.Packets.{PacketData, packet_length}
-use Rattle.tva_drr.specs.Queues.{Queue, first, head}
-use Rattle.tva_drr.specs.Fair.{AreMeasured, AreFair}
+use Rattle.tva_drr.specs.Queues.{first, head}
 use Rattle.tva_port.specs.declared.decision.Decision.{Decision}
 use Rattle.tva_port.specs.declared.decision.Decision.TheVariants.{Start}
 use Rattle.tva_port.specs.Requests.{cost}
+use Rattle.tva_port.specs.Levels.{next_in}
 use Rattle.tva_port.specs.Log.{Entry, Queued, Started, entry_time, NoneLater, cut, free_after}
 use Rattle.tva_port.specs.Waiting.{waiting_after, queued_legacy}
 use Rattle.tva_port.specs.Decide.{covered, start_or, decision, credit_after, is_start, RestsAt}
@@ -23,8 +22,9 @@ use Rattle.tva_port.specs.Bounds.{starts_first, start_of}
 use Rattle.tva_port.proofs.Logs.{later-front, cut-all, free-queued, free-started, legal-all, queued-push, goes_on-push}
 use Rattle.tva_port.proofs.Deciding.{Rests, none_starts, covered_pays}
 use Rattle.tva_port.proofs.Legality.{started_is}
+use Rattle.tva_port.proofs.Levels.{head_sized, request_sized}
 use Rattle.tva_port.proofs.Idling.{within}
-use Rattle.tva_port.proofs.Tracking.{fair_now}
+use Rattle.tva_port.proofs.Tracking.{regulars_now}
 
 -- ## costs
 
@@ -95,13 +95,17 @@ no_regular (Some x) b other p e = absurd (let k : Request ≡ Legacy = cc in cc)
 no_regular None None other p e = refl
 no_regular None (Some x) other p e = absurd (let k : Regular ≡ Legacy = cc in cc)
 
-pub not_covered : (l : LinkLimits) (log : List Entry) (time : ℕ) (class : Class) (p : PacketData) → (class ≡ Request → ⊥) → decision l log time ≡ Start class p → covered l (credit_after l log time) (head (waiting_after l log).requests.queues) ≡ None
+pub not_covered : (l : LinkLimits) (log : List Entry) (time : ℕ) (class : Class) (p : PacketData)
+    → (class ≡ Request → ⊥) → decision l log time ≡ Start class p
+    → covered l (credit_after l log time) (next_in (waiting_after l log).requests) ≡ None
 unfolding decision
-not_covered l log time class p n e = no_request (Start class p) _ (covered l (credit_after l log time) (head (waiting_after l log).requests.queues)) class p n e
+not_covered l log time class p n e = no_request (Start class p) _
+    (covered l (credit_after l log time) (next_in (waiting_after l log).requests)) class p n e
 
 pub no_regulars : (l : LinkLimits) (log : List Entry) (time : ℕ) (p : PacketData) → decision l log time ≡ Start Legacy p → head (waiting_after l log).regulars.queues ≡ None
 unfolding decision
-no_regulars l log time p e = no_regular (covered l (credit_after l log time) (head (waiting_after l log).requests.queues)) (head (waiting_after l log).regulars.queues) _ p e
+no_regulars l log time p e = no_regular (covered l (credit_after l log time)
+    (next_in (waiting_after l log).requests)) (head (waiting_after l log).regulars.queues) _ p e
 
 -- ## sizes
 
@@ -130,21 +134,19 @@ sized-drop zero (x ∷ xs) p h e = let k : x ≡ p = cc in subst (λ z. packet_l
 sized-drop (suc n) [] p h e = absurd (cc)
 sized-drop (suc n) (x ∷ xs) p h e = sized-drop n xs p h.1 e
 
-first_sized : (d : DrrLimits) (xs : List PacketData) (p : PacketData) → AreMeasured packet_length d xs → first xs ≡ Some p → (1 ≤ packet_length p) × (packet_length p ≤ d.max)
-first_sized d [] p m e = absurd (cc)
-first_sized d (x ∷ xs) p m e = let k : x ≡ p = cc in subst (λ z. (1 ≤ packet_length z) × (packet_length z ≤ d.max)) k m.0
-
-pub head_sized : (d : DrrLimits) (qs : List (Queue PacketData)) (p : PacketData) → AreFair packet_length d qs → head qs ≡ Some p → (1 ≤ packet_length p) × (packet_length p ≤ d.max)
-head_sized d [] p f e = absurd (cc)
-head_sized d (q ∷ qs) p f e = first_sized d q.items p f.each.0.measured e
-
 -- each packet that starts has at most 2,048 bytes
 pub start_sized : (l : LinkLimits) (log : List Entry) (time : ℕ) (class : Class) (p : PacketData) → AreLinkLimits l → IsLegal l log → IsStarted l log time class p → packet_length p ≤ 2048
 start_sized l log time Request p a g f =
-    let h = (covered_pays l (credit_after l log time) (head (waiting_after l log).requests.queues) p (started_is l log time Request p f)).0 in
-    omega (arith, head_sized l.request (waiting_after l log).requests.queues p (fair_now l Request log tt (within l log a g)).queues h, a.request.max)
+    let h = (covered_pays l (credit_after l log time) (next_in (waiting_after l log).requests) p
+    (started_is l log time Request p f)).0 in
+    omega (arith, request_sized l (waiting_after l log).requests p (within l log a g).requests h, a.request.max)
 start_sized l log time Regular p a g f =
-    omega (arith, head_sized l.regular (waiting_after l log).regulars.queues p (fair_now l Regular log tt (within l log a g)).queues (started_is l log time Regular p f), a.regular.max)
+    omega (
+      arith,
+      head_sized l.regular (waiting_after l log).regulars.queues p
+          (regulars_now l log (within l log a g)).queues.each (started_is l log time Regular p f),
+      a.regular.max,
+    )
 start_sized l log time Legacy p a g f = sized-drop _ (filter_map queued_legacy log) p (all_sized l log g) (started_is l log time Legacy p f)
 
 -- so a link is free at most the time of a greatest packet after its last entry
@@ -169,19 +171,38 @@ free_soon l log time a g n = (legal-all l (IsFreeSoon l) (tt, λ t _. omega arit
 -- among these entries the packet starts by that time, where so many wait before it
 pub record Finds (l : LinkLimits) (class : Class) (key : ℕ) (p : PacketData) (ahead : ℕ) (log rest : List Entry) (time : ℕ) : Type 0 where
   pub start : ℕ
-  pub found : start_of l class key ahead log rest ≡ Some (Started start class p)
+  pub found : start_of l class key p ahead log rest ≡ Some (Started start class p)
   pub soon : start ≤ time
 
 module _ (l : LinkLimits) (class : Class) (key : ℕ) (p : PacketData) where
-  start_other : (n : ℕ) (log : List Entry) (e : Entry) (es : List Entry) → starts_first l class key log e ≡ false → start_of l class key n log (e ∷ es) ≡ start_of l class key n (log ++ e ∷ []) es
-  start_other zero log e es h = ap (λ b. cond b (Some e) (start_of l class key zero (log ++ e ∷ []) es)) h
-  start_other (suc n) log e es h = ap (λ b. start_of l class key (cond b n (suc n)) (log ++ e ∷ []) es) h
+  start_other : (n : ℕ) (log : List Entry) (e : Entry) (es : List Entry) → starts_first l class key p log e ≡ false
+      → start_of l class key p n log (e ∷ es) ≡ start_of l class key p n (log ++ e ∷ []) es
+  start_other zero log e es h = ap (λ b. cond b (Some e) (start_of l class key p zero (log ++ e ∷ []) es)) h
+  start_other (suc n) log e es h = ap (λ b. start_of l class key p (cond b n (suc n)) (log ++ e ∷ []) es) h
 
-  pub finds_later : (n : ℕ) (log : List Entry) (e : Entry) (es : List Entry) (time : ℕ) → starts_first l class key log e ≡ false → Finds l class key p n (log ++ e ∷ []) es time → Finds l class key p n log (e ∷ es) time
+  pub finds_later : (n : ℕ) (log : List Entry) (e : Entry) (es : List Entry) (time : ℕ)
+      → starts_first l class key p log e ≡ false → Finds l class key p n (log ++ e ∷ []) es time
+      → Finds l class key p n log (e ∷ es) time
   finds_later n log e es time h f = record { start = f.start; found = start_other n log e es h ∙ f.found; soon = f.soon }
 
-  pub finds_next : (n : ℕ) (log : List Entry) (e : Entry) (es : List Entry) (time : ℕ) → starts_first l class key log e ≡ true → Finds l class key p n (log ++ e ∷ []) es time → Finds l class key p (suc n) log (e ∷ es) time
-  finds_next n log e es time h f = record { start = f.start; found = ap (λ b. start_of l class key (cond b n (suc n)) (log ++ e ∷ []) es) h ∙ f.found; soon = f.soon }
+  pub finds_next : (n : ℕ) (log : List Entry) (e : Entry) (es : List Entry) (time : ℕ)
+      → starts_first l class key p log e ≡ true → Finds l class key p n (log ++ e ∷ []) es time
+      → Finds l class key p (suc n) log (e ∷ es) time
+  finds_next n log e es time h f = record {
+    start = f.start;
+    found = ap
+        (λ b. start_of l class key p (cond b n (suc n)) (log ++ e ∷ []) es) h ∙ f.found;
+    soon = f.soon;
+  }
 
-  pub finds_here : (log : List Entry) (start : ℕ) (q : PacketData) (es : List Entry) (time : ℕ) → starts_first l class key log (Started start class q) ≡ true → q ≡ p → start ≤ time → Finds l class key p zero log (Started start class q ∷ es) time
-  finds_here log start q es time h e k = record { start = start; found = ap (λ b. cond b (Some (Started start class q)) (start_of l class key zero (log ++ Started start class q ∷ []) es)) h ∙ ap (λ z. Some (Started start class z)) e; soon = k }
+  pub finds_here : (log : List Entry) (start : ℕ) (q : PacketData) (es : List Entry) (time : ℕ)
+      → starts_first l class key p log (Started start class q) ≡ true → q ≡ p → start ≤ time
+      → Finds l class key p zero log (Started start class q ∷ es) time
+  finds_here log start q es time h e k = record {
+    start = start;
+    found = ap
+        (λ b. cond b (Some (Started start class q))
+        (start_of l class key p zero (log ++ Started start class q ∷ []) es)) h ∙ ap
+        (λ z. Some (Started start class z)) e;
+    soon = k;
+  }

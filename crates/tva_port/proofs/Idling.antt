@@ -1,13 +1,13 @@
 -- A link is idle exactly where nothing waits, and waits only where requests alone wait.
-use Rattle.std.proofs.Common.{◌≡◌, ℕ, ◌↔◌, List, [], ◌∷◌, length, None, refl, sym, ap, ◌∙◌, arith, append-nil}
+use Rattle.std.proofs.Common.{◌≡◌, ℕ, ◌↔◌, List, [], ◌∷◌, Option, None, refl, sym, ap, ◌∙◌, append-nil}
 use Rattle.tva_base.specs.declared.limits.LinkLimits.{LinkLimits}
 use Rattle.tva_base.specs.declared.packet.Time.{Time}
 use Rattle.tva_base.specs.Plan.{AreLinkLimits}
-use Rattle.tva_shim.specs.Packets.{PacketData, packet_length}
-use Rattle.tva_drr.specs.Queues.{Queue, Fair, first, head}
-use Rattle.tva_drr.specs.Fair.{AreFair}
+use Rattle.tva_shim.specs.Packets.{PacketData}
+use Rattle.tva_drr.specs.Queues.{Queue, first, head}
 use Rattle.tva_port.specs.declared.decision.Decision.{Decision}
 use Rattle.tva_port.specs.declared.decision.Decision.TheVariants.{WaitUntil, Idle}
+use Rattle.tva_port.specs.Levels.{next_in}
 use Rattle.tva_port.specs.Log.{Entry}
 use Rattle.tva_port.specs.Waiting.{Waiting, waiting_after, IsEmpty, IsRequestAlone}
 use Rattle.tva_port.specs.Decide.{covered, wait_for, decision, credit_after, is_start}
@@ -16,27 +16,24 @@ use Rattle.tva_port.specs.Keeps.{IsWithinLimits}
 use Rattle.tva_port.proofs.Deciding.{Rests, rests_is}
 use Rattle.tva_port.proofs.Resting.{resting, wait_is, idle_is}
 use Rattle.tva_port.proofs.Limits.{stays_within}
+use Rattle.tva_port.proofs.Levels.{no_head, none_left, none_next}
 
 no_first : (xs : List PacketData) → first xs ≡ None → xs ≡ []
 no_first [] e = refl
 no_first (x ∷ xs) e = absurd (cc)
 
--- each queue has an item, so fair queues without a head are none
-no_head : (f : Fair PacketData) (qs : List (Queue PacketData)) → AreFair packet_length f.limits qs → head qs ≡ None → qs ≡ []
-no_head f [] a e = refl
-no_head f (q ∷ qs) a e = absurd (let n : q.items ≡ [] = no_first q.items e in omega (arith, a.each.0.filled, ap length n))
-
 pub within : (l : LinkLimits) (log : List Entry) → AreLinkLimits l → IsLegal l log → IsWithinLimits l (waiting_after l log)
 within l log a g = stays_within l log a g log [] (sym (append-nil log))
 
-idle_none : (l : LinkLimits) (log : List Entry) (now : ℕ) → Idle ≡ decision l log now → (head (waiting_after l log).requests.queues ≡ None) × Rests l (waiting_after l log) (credit_after l log now)
+idle_none : (l : LinkLimits) (log : List Entry) (now : ℕ) → Idle ≡ decision l log now
+    → (next_in (waiting_after l log).requests ≡ None) × Rests l (waiting_after l log) (credit_after l log now)
 idle_none l log now e =
     let r = resting l log now (ap is_start (sym e)) in
-    (idle_is (l) (credit_after l log now) now (head (waiting_after l log).requests.queues) (sym r.1 ∙ sym e), r.0)
+    (idle_is (l) (credit_after l log now) now (next_in (waiting_after l log).requests) (sym r.1 ∙ sym e), r.0)
 
 empty_rests : (l : LinkLimits) (w : Waiting) (credit : ℕ) → IsEmpty w → Rests l w credit
 empty_rests l w credit e = record {
-  requests = ap (λ (qs : List (Queue PacketData)). covered l credit (head qs)) e.requests;
+  requests = ap (λ (o : Option PacketData). covered l credit o) (none_next w.requests e.requests);
   regulars = ap (λ (qs : List (Queue PacketData)). head qs) e.regulars;
   legacy = ap (λ (xs : List PacketData). first xs) e.legacy;
 }
@@ -45,7 +42,8 @@ pub empty_idles : (l : LinkLimits) (log : List Entry) (now : ℕ) → IsEmpty (w
 unfolding decision
 empty_idles l log now e =
     rests_is l (waiting_after l log) (credit_after l log now) now (empty_rests l (waiting_after l log) (credit_after l log now) e)
-    ∙ ap (λ (qs : List (Queue PacketData)). wait_for l (credit_after l log now) now (head qs)) e.requests
+    ∙ ap (λ (o : Option PacketData). wait_for l (credit_after l log now) now o)
+    (none_next (waiting_after l log).requests e.requests)
 
 -- a link is idle exactly where nothing waits
 pub idles : (l : LinkLimits) (log : List Entry) (now : ℕ) (d : Decision) → AreLinkLimits l → IsLegal l log → d ≡ decision l log now → (d ≡ Idle) ↔ IsEmpty (waiting_after l log)
@@ -54,8 +52,9 @@ idles l log now d a g e = (
       let n = idle_none l log now (sym i ∙ e) in
       let w = within l log a g in
       record {
-        requests = no_head (waiting_after l log).requests (waiting_after l log).requests.queues w.requests.0.queues n.0;
-        regulars = no_head (waiting_after l log).regulars (waiting_after l log).regulars.queues w.regulars.0.queues n.1.regulars;
+        requests = none_left l (waiting_after l log).requests w.requests n.0;
+        regulars = no_head (waiting_after l log).regulars.limits
+            (waiting_after l log).regulars.queues w.regulars.0.queues n.1.regulars;
         legacy = no_first (waiting_after l log).legacy n.1.legacy;
       },
   λ i. e ∙ empty_idles l log now i,
@@ -65,12 +64,13 @@ idles l log now d a g e = (
 pub waits_alone : (l : LinkLimits) (log : List Entry) (now : ℕ) (u : Time) → AreLinkLimits l → IsLegal l log → WaitUntil u ≡ decision l log now → (p : PacketData) × IsRequestAlone (waiting_after l log) p
 waits_alone l log now u a g e =
     let r = resting l log now (ap is_start (sym e)) in
-    let x = wait_is l (credit_after l log now) now (head (waiting_after l log).requests.queues) u (sym r.1 ∙ sym e) in
+    let x = wait_is l (credit_after l log now) now (next_in (waiting_after l log).requests) u (sym r.1 ∙ sym e) in
     let w = within l log a g in (
       x.0,
       record {
         request = x.1.0;
-        regulars = no_head (waiting_after l log).regulars (waiting_after l log).regulars.queues w.regulars.0.queues r.0.regulars;
+        regulars = no_head (waiting_after l log).regulars.limits
+            (waiting_after l log).regulars.queues w.regulars.0.queues r.0.regulars;
         legacy = no_first (waiting_after l log).legacy r.0.legacy;
       },
     )

@@ -11,8 +11,9 @@ use Rattle.tva_base.specs.declared.limits.LinkLimits.{LinkLimits}
 use Rattle.tva_base.specs.declared.packet.Class.{Class}
 use Rattle.tva_base.specs.declared.packet.Class.TheVariants.{Request, Regular, Legacy}
 use Rattle.tva_shim.specs.Packets.{PacketData, packet_length}
-use Rattle.tva_drr.specs.Queues.{first, head}
+use Rattle.tva_drr.specs.Queues.{first}
 use Rattle.tva_port.specs.Requests.{Start, start, cost, costs, debt, cap}
+use Rattle.tva_port.specs.Levels.{next_in}
 use Rattle.tva_port.specs.Log.{Entry, Queued, Started, NoneLater, request_starts, free_after}
 use Rattle.tva_port.specs.Waiting.{queued_legacy, is_legacy_start, waiting_after}
 use Rattle.tva_port.specs.Decide.{decision, credit_after}
@@ -53,7 +54,8 @@ abbrev IsCapped : LinkLimits → List Entry → Type 0
 IsCapped l log = (now : ℕ) → NoneLater now log → debt l (request_starts log) now ≤ cap l
 
 pub request_paid : (l : LinkLimits) (before : List Entry) (time : ℕ) (p : PacketData) → IsStarted l before time Request p → cost l (packet_length p) ≤ cap l - debt l (request_starts before) time
-request_paid l before time p s = (covered_pays l (credit_after l before time) (head (waiting_after l before).requests.queues) p (started_is l before time Request p s)).1
+request_paid l before time p s = (covered_pays l (credit_after l before time)
+    (next_in (waiting_after l before).requests) p (started_is l before time Request p s)).1
 
 capped-same : (l : LinkLimits) (before : List Entry) (e : Entry) → request_starts (e ∷ []) ≡ [] → IsCapped l before → IsCapped l (before ++ e ∷ [])
 capped-same l before e n h now k = subst (λ ss. debt l ss now ≤ cap l) (sym (starts-same before e n)) (h now (later-front now before e k).0)

@@ -3,12 +3,15 @@ pub mod Logs
 pub mod Deciding
 pub mod Legality
 pub mod Waits
+pub mod Levels
+pub mod Holding
 pub mod Limits
 pub mod Standing
 pub mod Resting
 pub mod Idling
 pub mod Steady
 pub mod Tracking
+pub mod RequestTracking
 pub mod Going
 pub mod Beginning
 pub mod RequestBound

@@ -1,5 +1,5 @@
 -- What waits after a legal log is within the limits of each class.
-use Rattle.std.proofs.Common.{◌≡◌, ℕ, ◌+◌, ◌≤◌, ◌<◌, Bool, true, false, cond, List, [], ◌∷◌, ◌++◌, length, drop, refl, ap, ◌∙◌, subst, arith}
+use Rattle.std.proofs.Common.{◌≡◌, ℕ, ◌+◌, ◌≤◌, ◌<◌, Bool, true, false, cond, List, [], ◌∷◌, ◌++◌, length, drop, Option, Some, None, refl, sym, ap, ◌∙◌, subst, arith}
 use Rattle.std.proofs.lemmas.Bool.Decides.{nat_tests}
 use Rattle.std.proofs.lemmas.List.{length-append}
 use Rattle.std.proofs.lemmas.List.Sums.{sum_by-cons, sum_by_push}
@@ -14,10 +14,19 @@ use Rattle.tva_drr.specs.Offer.{lacks_queue, lacks_room, put, offer_leaves}
 use Rattle.tva_drr.specs.Take.{take_leaves}
 use Rattle.tva_drr.specs.Fair.{IsFair}
 use Rattle.tva_drr.proofs.Keeps.{fair-put, fair-taken}
+use Rattle.tva_drr.proofs.Until.{offer_cases}
+use Rattle.tva_shim.specs.Shows.{inner_key_of}
+use Rattle.tva_hier.specs.Groups.{Hier, hier}
+use Rattle.tva_hier.specs.Offer.{lacks_place, lacks_space, put_under, left_by_offer}
+use Rattle.tva_hier.proofs.Offering.{left_keeps}
+use Rattle.tva_hier.proofs.Nexts.{hier_taken}
+use Rattle.tva_port.specs.declared.requests.RequestQueues.{RequestQueues}
+use Rattle.tva_port.specs.declared.requests.RequestQueues.TheVariants.{OneLevel, TwoLevels}
+use Rattle.tva_port.specs.Levels.{none_under, request_leaves, request_taken}
 use Rattle.tva_port.specs.Log.{Entry, Queued, Started}
 use Rattle.tva_port.specs.Waiting.{Waiting, waiting_after, lacks_legacy_room}
 use Rattle.tva_port.specs.Legal.{Follows, GoesOn, IsLegal}
-use Rattle.tva_port.specs.Keeps.{IsWithinLimits, StaysWithinLimits}
+use Rattle.tva_port.specs.Keeps.{AreWithin, IsWithinLimits, StaysWithinLimits}
 use Rattle.tva_port.specs.Steps.{put_leaves, start_leaves}
 use Rattle.tva_port.proofs.Logs.{FewStarted, legal-all, legal-front}
 use Rattle.tva_port.proofs.Legality.{few-step}
@@ -60,6 +69,46 @@ stays-offered l f key p a z s = stays_by (lacks_queue f key) (lacks_room packet_
 stays-taken : (l : DrrLimits) (f : Fair PacketData) → Stays l f → Stays l (take_leaves packet_length f)
 stays-taken l f s = (record { limits = s.0.limits; queues = fair-taken packet_length f.limits f.queues s.0.limits s.0.queues }, s.1)
 
+left_same : (h : Hier PacketData) (o i : ℕ) (x : PacketData)
+    → ((left_by_offer packet_length h o i x).limits ≡ h.limits) ×
+    ((left_by_offer packet_length h o i x).inner ≡ h.inner)
+left_same h o i x =
+    offer_cases (lacks_place h o i) (lacks_space packet_length h o i x) h
+    (hier h.limits h.inner (put_under packet_length h o i x))
+    (λ (z : Hier PacketData). (z.limits ≡ h.limits) × (z.inner ≡ h.inner)) (refl, refl) (λ _ _. (refl, refl))
+
+pub within-offered : (l : LinkLimits) (rs : RequestQueues) (key : ℕ) (p : PacketData) → AreLinkLimits l
+    → (20 ≤ packet_length p) × (packet_length p ≤ 2048) → AreWithin l rs → AreWithin l (request_leaves rs key p)
+within-offered l (OneLevel f) key p a z w = let s = stays-offered l.request f key p a.request z (w.1, w.2) in
+    (w.0, s.0, s.1)
+within-offered l (TwoLevels h) key p a z w =
+    let most : h.limits.max ≡ 2048 = ap (λ (x : DrrLimits). x.max) w.2 ∙ a.request.max in
+    let same = left_same h key (inner_key_of p) p in (
+      w.0 ∙ ap (λ n. Some n) (sym same.1),
+      left_keeps packet_length h key (inner_key_of p) p w.1
+          (omega arith, omega (arith, most)),
+      same.0 ∙ w.2,
+    )
+
+pub within-taken : (l : LinkLimits) (rs : RequestQueues) → AreWithin l rs → AreWithin l (request_taken rs)
+within-taken l (OneLevel f) w = let s = stays-taken l.request f (w.1, w.2) in (w.0, s.0, s.1)
+within-taken l (TwoLevels h) w = (w.0, hier_taken packet_length h.limits h.inner h.groups w.1, w.2)
+
+within_none : (l : LinkLimits) (inner : Option ℕ) → l.request_inner ≡ inner → AreLinkLimits l
+    → AreWithin l (none_under l.request inner)
+within_none l None e a = (e, (fair_empty l.request a.request).0, refl)
+within_none l (Some n) e a =
+    let i = a.request_inner n e in (
+      e,
+      record {
+        limits = class_limits l.request a.request;
+        inner =
+            (i.0, omega (arith, i.1));
+        groups = record { few = omega arith; each = tt; turn = tt; bytes = omega arith };
+      },
+      refl,
+    )
+
 legacy_room : (l : LinkLimits) (xs : List PacketData) (p : PacketData) → lacks_legacy_room l xs p ≡ false → (length (xs ++ p ∷ []) ≤ l.legacy_ring) × (bytes_in packet_length (xs ++ p ∷ []) ≤ l.legacy_bytes)
 legacy_room l xs p h =
     let k : (length xs + 1 ≤ l.legacy_ring) × (bytes_in packet_length xs + packet_length p ≤ l.legacy_bytes) = (grind (arith, nat_tests), grind (arith, nat_tests)) in
@@ -74,12 +123,20 @@ legacy_less l [] h = h
 legacy_less l (x ∷ xs) h = (omega arith, omega (arith, h.1, sum_by-cons packet_length x xs))
 
 within-queued : (l : LinkLimits) (w : Waiting) (class : Class) (key : ℕ) (p : PacketData) → AreLinkLimits l → (20 ≤ packet_length p) × (packet_length p ≤ 2048) → IsWithinLimits l w → IsWithinLimits l (put_leaves l w class key p)
-within-queued l w Request key p a z h = record { requests = stays-offered l.request w.requests key p a.request z h.requests; regulars = h.regulars; legacy = h.legacy }
+within-queued l w Request key p a z h = record {
+  requests = within-offered l w.requests key p a z h.requests;
+  regulars = h.regulars;
+  legacy = h.legacy;
+}
 within-queued l w Regular key p a z h = record { requests = h.requests; regulars = stays-offered l.regular w.regulars key p a.regular z h.regulars; legacy = h.legacy }
 within-queued l w Legacy key p a z h = record { requests = h.requests; regulars = h.regulars; legacy = legacy_kept l w.legacy p (lacks_legacy_room l w.legacy p) refl h.legacy }
 
 within-started : (l : LinkLimits) (w : Waiting) (class : Class) → IsWithinLimits l w → IsWithinLimits l (start_leaves class w)
-within-started l w Request h = record { requests = stays-taken l.request w.requests h.requests; regulars = h.regulars; legacy = h.legacy }
+within-started l w Request h = record {
+  requests = within-taken l w.requests h.requests;
+  regulars = h.regulars;
+  legacy = h.legacy;
+}
 within-started l w Regular h = record { requests = h.requests; regulars = stays-taken l.regular w.regulars h.regulars; legacy = h.legacy }
 within-started l w Legacy h = record { requests = h.requests; regulars = h.regulars; legacy = legacy_less l w.legacy h.legacy }
 
@@ -93,7 +150,14 @@ bounded-step l a before (Started t class p) f h =
     (subst (λ (w : Waiting). IsWithinLimits l w) (waits-started l before t class p) (within-started l (waiting_after l before) class h.0), few-step l before (Started t class p) f h.1)
 
 begins : (l : LinkLimits) → AreLinkLimits l → IsBounded l []
-begins l a = (record { requests = fair_empty l.request a.request; regulars = fair_empty l.regular a.regular; legacy = (omega arith, omega arith) }, omega arith)
+begins l a = (
+  record {
+    requests = within_none l l.request_inner refl a;
+    regulars = fair_empty l.regular a.regular;
+    legacy = (omega arith, omega arith);
+  },
+  omega arith,
+)
 
 pub stays_within : (l : LinkLimits) (log : List Entry) → AreLinkLimits l → IsLegal l log → StaysWithinLimits l log
 stays_within l log a g = λ before rest e. (legal-all l (IsBounded l) (begins l a) (bounded-step l a) before (legal-front l [] before rest (subst (λ z. GoesOn l [] z) e g))).0

@@ -9,10 +9,12 @@ use Rattle.tva_base.specs.declared.limits.LinkLimits.{LinkLimits}
 use Rattle.tva_base.specs.declared.packet.Class.{Class}
 use Rattle.tva_base.specs.declared.packet.Class.TheVariants.{Request, Regular, Legacy}
 use Rattle.tva_shim.specs.Packets.{PacketData, packet_length}
-use Rattle.tva_drr.specs.Queues.{Fair}
+use Rattle.tva_drr.specs.Queues.{Fair, fair}
+use Rattle.tva_port.specs.declared.requests.RequestQueues.{RequestQueues}
+use Rattle.tva_port.specs.Levels.{no_requests}
 use Rattle.tva_port.specs.Requests.{Start}
 use Rattle.tva_port.specs.Log.{Entry, Queued, Started, entry_time, NoneLater, cut, request_start, request_starts, free_from}
-use Rattle.tva_port.specs.Waiting.{fair_step, after, queued_legacy, is_legacy_start, legacy_after}
+use Rattle.tva_port.specs.Waiting.{request_step, regular_step, after, queued_legacy, is_legacy_start, legacy_after}
 use Rattle.tva_port.specs.Legal.{Follows, GoesOn, IsLegal}
 use Rattle.tva_port.proofs.Debts.{AreBy}
 
@@ -82,12 +84,24 @@ free-started l free (Started u d q ∷ es) t c p = free-started l (u + packet_le
 
 -- ## what waits
 
-abbrev pub fair_after : Class → Fair PacketData → List Entry → Fair PacketData
-fair_after c f log = after (fair_step c) f log
+pub after-push : {A : Type 0} (step : A → Entry → A) (begin : A) (log : List Entry) (e : Entry)
+    → after step begin (log ++ e ∷ []) ≡ step (after step begin log) e
+after-push step begin [] e = refl
+after-push step begin (d ∷ ds) e = after-push step (step begin d) ds e
 
-pub fair-push : (c : Class) (f : Fair PacketData) (log : List Entry) (e : Entry) → fair_after c f (log ++ e ∷ []) ≡ fair_step c (fair_after c f log) e
-fair-push c f [] e = refl
-fair-push c f (d ∷ ds) e = fair-push c (fair_step c f d) ds e
+abbrev pub requests_after : LinkLimits → List Entry → RequestQueues
+requests_after l log = after request_step (no_requests l) log
+
+abbrev pub regulars_after : LinkLimits → List Entry → Fair PacketData
+regulars_after l log = after regular_step (fair l.regular []) log
+
+pub requests-push : (l : LinkLimits) (log : List Entry) (e : Entry)
+    → requests_after l (log ++ e ∷ []) ≡ request_step (requests_after l log) e
+requests-push l log e = after-push request_step (no_requests l) log e
+
+pub regulars-push : (l : LinkLimits) (log : List Entry) (e : Entry)
+    → regulars_after l (log ++ e ∷ []) ≡ regular_step (regulars_after l log) e
+regulars-push l log e = after-push regular_step (fair l.regular []) log e
 
 -- no more legacy packets started than were queued
 abbrev pub FewStarted : List Entry → Type 0

@@ -19,14 +19,14 @@ use Rattle.tva_port.specs.Log.{Entry, Queued, Started, entry_time, NoneLater, cu
 use Rattle.tva_port.specs.Waiting.{waiting_after}
 use Rattle.tva_port.specs.Decide.{RestsAt, MissesNone}
 use Rattle.tva_port.specs.Legal.{Follows, GoesOn, IsStarted, IsLegal}
-use Rattle.tva_port.specs.Bounds.{waiting_under, bytes_under, regular_bound, AreRegularsServed, StartsBy}
+use Rattle.tva_port.specs.Bounds.{waiting_with, bytes_with, regular_bound, AreRegularsServed, StartsBy}
 use Rattle.tva_port.proofs.Debts.{AreBy, debt-later, debt-push}
 use Rattle.tva_port.proofs.Logs.{cut-all, legal-front, legal-here, later-push, later-weaker, later-front, starts_by, starts-push, starts-same, free-queued, free-started, goes_on-push}
 use Rattle.tva_port.proofs.Legality.{started_is, debt_capped}
 use Rattle.tva_port.proofs.Idling.{within}
-use Rattle.tva_port.proofs.Tracking.{fair_now, Tracks, waits, tracks-offer, queues-step, takes, head_among}
+use Rattle.tva_port.proofs.Tracking.{regulars_now, regulars-step, Tracks, waits, tracks-offer, takes, head_among}
 use Rattle.tva_port.proofs.Going.{cut_here, free_soon, Finds, finds_later, finds_next, finds_here, cost-add, cost_le, rests_free, resting_at, no_regulars}
-use Rattle.tva_port.proofs.Beginning.{legal_rest, legal_up, under_queued, tracks_first, starts_by_found}
+use Rattle.tva_port.proofs.Beginning.{legal_rest, legal_up, queued_last, regular_first, starts_by_found}
 
 abbrev regulars : LinkLimits → List Entry → List (Queue PacketData)
 regulars l log = (waiting_after l log).regulars.queues
@@ -67,7 +67,7 @@ module _ (l : LinkLimits) (key : ℕ) (p : PacketData) (begin most : ℕ) (a : A
   -- the link doesn't rest while the packet waits
   no_rest : (log : List Entry) (v : ℕ) → IsLegal l log → has_key key (regulars l log) ≡ true → RestsAt l log v → free_after l log ≤ v → ⊥
   no_rest log v g h r f =
-      let s = some_head packet_length l.regular (regulars l log) (fair_now l Regular log tt (within l log a g)).queues key h in
+      let s = some_head packet_length l.regular (regulars l log) (regulars_now l log (within l log a g)).queues key h in
       let o = (resting_at l log v (rests_free l log v r f)).regulars in
       let k : None ≡ Some s.0 = sym o ∙ s.1.0 in
       absurd (cc)
@@ -82,11 +82,15 @@ module _ (l : LinkLimits) (key : ℕ) (p : PacketData) (begin most : ℕ) (a : A
 
   queued_leaves : (log : List Entry) (before : List PacketData) (sent s : ℕ) (c : Class) (k : ℕ) (x : PacketData) → IsLegal l log → Tracks l.regular key p most (regulars l log) before sent → Tracks l.regular key p most (regulars l (log ++ Queued s c k x ∷ [])) before sent
   queued_leaves log before sent s Regular k x g t =
-      subst (λ z. Tracks l.regular key p most z before sent) (sym (queues-step l Regular log (Queued s Regular k x) tt (within l log a g))) (tracks-offer l.regular key p most (regulars l log) before sent k x t)
+      subst (λ z. Tracks l.regular key p most z before sent)
+      (sym (regulars-step l log (Queued s Regular k x) (within l log a g)))
+      (tracks-offer l.regular key p most (regulars l log) before sent k x t)
   queued_leaves log before sent s Request k x g t =
-      subst (λ z. Tracks l.regular key p most z before sent) (sym (queues-step l Regular log (Queued s Request k x) tt (within l log a g))) t
+      subst (λ z. Tracks l.regular key p most z before sent)
+      (sym (regulars-step l log (Queued s Request k x) (within l log a g))) t
   queued_leaves log before sent s Legacy k x g t =
-      subst (λ z. Tracks l.regular key p most z before sent) (sym (queues-step l Regular log (Queued s Legacy k x) tt (within l log a g))) t
+      subst (λ z. Tracks l.regular key p most z before sent)
+      (sym (regulars-step l log (Queued s Legacy k x) (within l log a g))) t
 
   -- a packet is queued
   queued : (log : List Entry) (before : List PacketData) (sent asked time from s : ℕ) (c : Class) (k : ℕ) (x : PacketData) → Serving l key p begin most log before sent asked time from → Follows l log (Queued s c k x) → s ≤ ready l begin log
@@ -124,7 +128,8 @@ module _ (l : LinkLimits) (key : ℕ) (p : PacketData) (begin most : ℕ) (a : A
         legal = goes_on-push l [] log e w.legal f;
         past = past;
         exact = λ t n. (later-front t log e n).1;
-        tracks = subst (λ z. Tracks l.regular key p most z before sent) (sym (queues-step l Regular log e tt (within l log a w.legal))) w.tracks;
+        tracks = subst (λ z. Tracks l.regular key p most z before sent)
+            (sym (regulars-step l log e (within l log a w.legal))) w.tracks;
         begun = omega (arith, reach);
         steady = omega (arith, free);
         filled = omega (arith, w.filled, free, reach, i, add-mul (asked + sent) (packet_length x) l.ns_per_byte, (let q : asked + packet_length x + sent ≡ asked + sent + packet_length x = omega arith in ap (λ z. z * l.ns_per_byte) q));
@@ -146,7 +151,8 @@ module _ (l : LinkLimits) (key : ℕ) (p : PacketData) (begin most : ℕ) (a : A
         legal = goes_on-push l [] log e w.legal f;
         past = later-push s log e f.order (omega arith);
         exact = λ t n. (later-front t log e n).1;
-        tracks = subst (λ z. Tracks l.regular key p most z next (sent + packet_length x)) (sym (queues-step l Regular log e tt (within l log a w.legal))) k;
+        tracks = subst (λ z. Tracks l.regular key p most z next (sent + packet_length x))
+            (sym (regulars-step l log e (within l log a w.legal))) k;
         begun = omega (arith, reach);
         steady = omega (arith, free);
         filled = omega (arith, w.filled, free, reach, i, add-mul (asked + sent) (packet_length x) l.ns_per_byte, (let q : asked + (sent + packet_length x) ≡ asked + sent + packet_length x = omega arith in ap (λ z. z * l.ns_per_byte) q));
@@ -168,7 +174,8 @@ module _ (l : LinkLimits) (key : ℕ) (p : PacketData) (begin most : ℕ) (a : A
   in_time : (log : List Entry) (before : List PacketData) (sent asked time from bytes t : ℕ) → Serving l key p begin most log before sent asked time from → most ≡ most_until l.regular bytes → begin ≤ t + 2048 * l.ns_per_byte → ready l begin log ≤ t + regular_bound l bytes
   in_time log before sent asked time from bytes t w e h =
       let x : ℕ = (asked + sent) * l.ns_per_byte in
-      let among = head_among l.regular key p most (regulars l log) before sent (fair_now l Regular log tt (within l log a w.legal)).queues w.tracks in
+      let among = head_among l.regular key p most (regulars l log) before sent
+      (regulars_now l log (within l log a w.legal)).queues w.tracks in
       let whole : cost l (asked + sent) ≡ x * l.share = share_of l (asked + sent) in
       let parts = cost-add l asked sent in
       let sends = cost_le l sent most (omega (arith, among)) in
@@ -209,10 +216,12 @@ module _ (l : LinkLimits) (key : ℕ) (p : PacketData) (begin most : ℕ) (a : A
     serve_one (Started s Request x) es log before sent asked time from next q f g h w i =
         finds_later l Regular key p (length before) log (Started s Request x) es last refl (next (log ++ Started s Request x ∷ []) before sent (asked + packet_length x) s s q g h (started_request log before sent asked time from s x w f i))
     serve_one (Started s Legacy x) es log before sent asked time from next q f g h w i =
-        let y = some_head packet_length l.regular (regulars l log) (fair_now l Regular log tt (within l log a w.legal)).queues key (waits l.regular key p most (regulars l log) before sent w.tracks) in
+        let y = some_head packet_length l.regular (regulars l log)
+        (regulars_now l log (within l log a w.legal)).queues key
+        (waits l.regular key p most (regulars l log) before sent w.tracks) in
         absurd (let k : None ≡ Some y.0 = sym (no_regulars l log s x f.decided) ∙ y.1.0 in cc)
     serve_one (Started s Regular x) es log before sent asked time from next q f g h w i =
-        let fair = (fair_now l Regular log tt (within l log a w.legal)) in
+        let fair = (regulars_now l log (within l log a w.legal)) in
         let e = Started s Regular x in
         elim (takes l.regular key p most (regulars l log) before sent x fair.limits fair.queues (started_is l log s Regular x f) w.tracks) [
           | inl z ↦ subst (λ xs. Finds l Regular key p (length xs) log (e ∷ es) last) (sym z.1.0) (finds_here l Regular key p log s x es last z.0 z.1.1.0 h)
@@ -235,8 +244,9 @@ module _ (l : LinkLimits) (key : ℕ) (p : PacketData) (begin most : ℕ) (a : A
 
 -- a regular packet that is queued starts within its bound, where no start was missed up to then
 pub regular_bounded : (l : LinkLimits) (before after : List Entry) (t key : ℕ) (p : PacketData) (until : ℕ) → AreLinkLimits l → IsLegal l (before ++ Queued t Regular key p ∷ after) → MissesNone l until (before ++ Queued t Regular key p ∷ after)
-    → t + regular_bound l (bytes_under l Regular key (before ++ Queued t Regular key p ∷ [])) < until
-    → StartsBy l Regular key p (before ++ Queued t Regular key p ∷ []) after (t + regular_bound l (bytes_under l Regular key (before ++ Queued t Regular key p ∷ [])))
+    → t + regular_bound l (bytes_with l Regular key p (before ++ Queued t Regular key p ∷ [])) < until
+    → StartsBy l Regular key p (before ++ Queued t Regular key p ∷ []) after
+    (t + regular_bound l (bytes_with l Regular key p (before ++ Queued t Regular key p ∷ [])))
 regular_bounded l before after t key p until a g m k =
     let e = Queued t Regular key p in
     let log : List Entry = before ++ e ∷ [] in
@@ -244,16 +254,17 @@ regular_bounded l before after t key p until a g m k =
     let b = legal-front l [] before (e ∷ after) g in
     let up = legal_up l before e after g in
     let begin : ℕ = max t (free_after l before) in
-    let bytes : ℕ = bytes_in packet_length (waiting_under l Regular key log) in
+    let bytes : ℕ = bytes_in packet_length (waiting_with l Regular key p log) in
     let past = later-push t before e f.order (omega arith) in
     let near = free_soon l before t a b f.order in
     let free = free-queued l 0 before t Regular key p in
     let late : NoneLater begin log = later-weaker t begin log (omega arith) past in
-    let w : Serving l key p begin (most_until l.regular bytes) log (waiting_under l Regular key before) 0 0 t begin = record {
+    let w : Serving l key p begin (most_until l.regular bytes) log
+    (waiting_with l Regular key p before) 0 0 t begin = record {
       legal = up;
       past = past;
       exact = λ u n. (later-front u before e n).1;
-      tracks = tracks_first l Regular before t key p tt a up b f;
+      tracks = regular_first l before t key p a up f;
       begun = omega (arith, free);
       steady = omega (arith, free);
       filled = omega (arith, free);
@@ -262,8 +273,10 @@ regular_bounded l before after t key p until a g m k =
       starts = starts_by begin log late;
       paid = omega arith;
     } in
-    starts_by_found l Regular before after t key p (t + regular_bound l bytes) (under_queued l Regular before t key p tt a b f)
-    (serve l key p begin (most_until l.regular bytes) a bytes t (t + regular_bound l bytes) until refl (omega (arith, near)) refl (before ++ e ∷ after) m k after log (waiting_under l Regular key before) 0 0 t begin
+    starts_by_found l Regular before after t key p (t + regular_bound l bytes)
+    (queued_last l Regular before t key p tt f)
+    (serve l key p begin (most_until l.regular bytes) a bytes t (t + regular_bound l bytes) until refl
+    (omega (arith, near)) refl (before ++ e ∷ after) m k after log (waiting_with l Regular key p before) 0 0 t begin
     (sym (append_assoc before (e ∷ []) after)) (legal_rest l before e after g) (omega arith) w)
 
 pub regulars_served : (l : LinkLimits) (log : List Entry) (now until : ℕ) → AreLinkLimits l → IsLegal l log → MissesNone l until log → now < until → AreRegularsServed l now log

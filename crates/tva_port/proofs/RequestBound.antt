@@ -1,5 +1,5 @@
 -- A request that is queued starts within its bound.
-use Rattle.std.proofs.Common.{◌≡◌, ℕ, ◌+◌, ◌-◌, ◌*◌, ◌<◌, ◌≤◌, true, max, List, [], ◌∷◌, ◌++◌, length, Some, None, refl, sym, ap, ◌∙◌, subst, inl, inr, ◌⊎◌, arith, append-nil, append_assoc}
+use Rattle.std.proofs.Common.{◌≡◌, ℕ, ◌+◌, ◌-◌, ◌*◌, ◌<◌, ◌≤◌, max, List, [], ◌∷◌, ◌++◌, length, Some, None, refl, sym, ap, ◌∙◌, subst, inl, inr, ◌⊎◌, arith, append-nil, append_assoc}
 use Rattle.std.proofs.Math.Nat.{mul-le-mul_right}
 use Rattle.std.specs.Bool.{MatchBool}
 use Rattle.std.proofs.lemmas.Bool.{cases_lt}
@@ -8,36 +8,36 @@ use Rattle.tva_base.specs.declared.packet.Class.{Class}
 use Rattle.tva_base.specs.declared.packet.Class.TheVariants.{Request, Regular, Legacy}
 use Rattle.tva_base.specs.Plan.{AreLinkLimits}
 use Rattle.tva_shim.specs.Packets.{PacketData, packet_length}
-use Rattle.tva_drr.specs.Queues.{Queue, has_key, bytes_in, head}
-use Rattle.tva_drr.specs.Service.{is_front, head_bytes, most_until}
-use Rattle.tva_drr.specs.Take.{taken}
+use Rattle.tva_drr.specs.Queues.{bytes_in}
 use Rattle.tva_drr.proofs.Falling.{by_test}
-use Rattle.tva_drr.proofs.Until.{some_head}
+use Rattle.tva_port.specs.declared.requests.RequestQueues.{RequestQueues}
+use Rattle.tva_port.specs.Levels.{next_in, request_taken, are_next}
 use Rattle.tva_port.specs.Requests.{cost, cap, debt, start}
 use Rattle.tva_port.specs.Log.{Entry, Queued, Started, entry_time, NoneLater, cut, request_starts, free_after}
 use Rattle.tva_port.specs.Waiting.{waiting_after}
 use Rattle.tva_port.specs.Decide.{covered, credit_after, RestsAt, MissesNone}
 use Rattle.tva_port.specs.Legal.{Follows, GoesOn, IsStarted, IsLegal}
-use Rattle.tva_port.specs.Bounds.{waiting_under, bytes_under, request_bound, AreRequestsServed, StartsBy}
+use Rattle.tva_port.specs.Bounds.{waiting_with, bytes_with, requests_until, request_bound, AreRequestsServed, StartsBy}
 use Rattle.tva_port.proofs.Debts.{AreBy, debt-later, debt-push}
-use Rattle.tva_port.proofs.Logs.{cut-all, legal-front, legal-here, later-push, later-weaker, later-front, starts_by, starts-push, starts-same, free-queued, free-started, goes_on-push}
+use Rattle.tva_port.proofs.Logs.{cut-all, legal-front, legal-here, later-push, later-weaker, later-front, starts_by, starts-push, starts-same, requests-push, free-queued, free-started, goes_on-push}
 use Rattle.tva_port.proofs.Deciding.{lacking, covered_pays}
 use Rattle.tva_port.proofs.Legality.{started_is, debt_capped}
-use Rattle.tva_port.proofs.Beginning.{legal_rest, legal_up, under_queued, tracks_first, starts_by_found}
+use Rattle.tva_port.proofs.Beginning.{legal_rest, legal_up, queued_last, request_first, starts_by_found}
 use Rattle.tva_port.proofs.Idling.{within}
 use Rattle.tva_port.proofs.Resting.{same_head}
-use Rattle.tva_port.proofs.Tracking.{fair_now, Tracks, waits, tracks-offer, head-offer, queues-step, takes, head_among}
-use Rattle.tva_port.proofs.Going.{cut_here, free_soon, Finds, finds_later, finds_next, finds_here, cost-add, cost_le, cost_twice, rests_free, resting_at, not_covered, head_sized, start_sized}
+use Rattle.tva_port.proofs.Levels.{request_sized}
+use Rattle.tva_port.proofs.RequestTracking.{bytes_next, Tracks, tracks-offer, takes, next_among, next_is, next-offer}
+use Rattle.tva_port.proofs.Going.{cut_here, free_soon, Finds, finds_later, finds_next, finds_here, cost-add, cost_le, cost_twice, rests_free, resting_at, not_covered, start_sized}
 
-abbrev requests : LinkLimits → List Entry → List (Queue PacketData)
-requests l log = (waiting_after l log).requests.queues
+abbrev requests : LinkLimits → List Entry → RequestQueues
+requests l log = (waiting_after l log).requests
 
 abbrev debt_at : LinkLimits → List Entry → ℕ → ℕ
 debt_at l log time = debt l (request_starts log) time
 
 -- what the next request costs
 abbrev next_cost : LinkLimits → List Entry → ℕ
-next_cost l log = cost l (head_bytes packet_length (requests l log))
+next_cost l log = cost l (bytes_next (requests l log))
 
 -- when the link is free, and not before the request and what occupied the link when it came
 abbrev ready : LinkLimits → ℕ → List Entry → ℕ
@@ -49,7 +49,7 @@ pub record Serving (l : LinkLimits) (key : ℕ) (p : PacketData) (begin most : �
   pub legal : IsLegal l log
   pub past : NoneLater time log
   pub exact : (t : ℕ) → NoneLater t log → time ≤ t
-  pub tracks : Tracks l.request key p most (requests l log) before sent
+  pub tracks : Tracks key p most (requests l log) before sent
   pub begun : begin ≤ max time (free_after l log)
   pub since : begin ≤ from
   pub free : from ≤ ready l begin log
@@ -60,16 +60,21 @@ pub record Serving (l : LinkLimits) (key : ℕ) (p : PacketData) (begin most : �
 
 module _ (l : LinkLimits) (key : ℕ) (p : PacketData) (begin most : ℕ) (a : AreLinkLimits l) where
   -- the next request has at most 2,048 bytes
-  next_within : (log : List Entry) → IsLegal l log → has_key key (requests l log) ≡ true → (x : PacketData) × ((head (requests l log) ≡ Some x) × ((head_bytes packet_length (requests l log) ≡ packet_length x) × (packet_length x ≤ 2048)))
-  next_within log g h =
-      let f = (fair_now l Request log tt (within l log a g)).queues in
-      let s = some_head packet_length l.request (requests l log) f key h in
-      (s.0, (s.1.0, (s.1.1, omega (arith, head_sized l.request (requests l log) s.0 f s.1.0, a.request.max))))
+  next_within : (log : List Entry) (before : List PacketData) (sent : ℕ) → IsLegal l log
+      → Tracks key p most (requests l log) before sent
+      → (x : PacketData) × ((next_in (requests l log) ≡ Some x) ×
+      ((bytes_next (requests l log) ≡ packet_length x) × (packet_length x ≤ 2048)))
+  next_within log before sent g t =
+      let w = (within l log a g).requests in
+      let s = next_is key p most l (requests l log) before sent w t in
+      (s.0, (s.1.0, (s.1.1, omega (arith, request_sized l (requests l log) s.0 w s.1.0, a.request.max))))
 
   -- at a time at which the link rests, the next request isn't covered
-  lacks : (log : List Entry) (v : ℕ) → IsLegal l log → has_key key (requests l log) ≡ true → RestsAt l log v → free_after l log ≤ v → cap l < debt_at l log v + next_cost l log
-  lacks log v g h r f =
-      let n = next_within log g h in
+  lacks : (log : List Entry) (before : List PacketData) (sent v : ℕ) → IsLegal l log
+      → Tracks key p most (requests l log) before sent → RestsAt l log v → free_after l log ≤ v
+      → cap l < debt_at l log v + next_cost l log
+  lacks log before sent v g t r f =
+      let n = next_within log before sent g t in
       let o = (resting_at l log v (rests_free l log v r f)).requests in
       let k : credit_after l log v < cost l (packet_length n.0) = lacking l (credit_after l log v) n.0 (subst (λ z. covered l (credit_after l log v) z ≡ None) n.1.0 o) in
       omega (arith, k, ap (λ z. cost l z) n.1.1.0)
@@ -80,14 +85,14 @@ module _ (l : LinkLimits) (key : ℕ) (p : PacketData) (begin most : ℕ) (a : A
   idle_to log before sent time from later s r v h k =
       elim (cases_lt v time) [
         | inl y ↦ s.idle v h y
-        | inr y ↦ lacks log v s.legal (waits l.request key p most (requests l log) before sent s.tracks) (r v y k) (omega arith)
+        | inr y ↦ lacks log before sent v s.legal s.tracks (r v y k) (omega arith)
       ]
 
   -- what is owed at a time at which the link is ready, where it rested up to then
   owed_at : (log : List Entry) (before : List PacketData) (sent time from s : ℕ) → Serving l key p begin most log before sent time from → ready l begin log ≤ s → ((v : ℕ) → ready l begin log ≤ v → v < s → cap l < debt_at l log v + next_cost l log)
       → (s + debt_at l log s ≤ begin + cap l + cost l sent) × ((s ≤ ready l begin log) ⊎ (s ≤ begin + cost l sent + next_cost l log))
   owed_at log before sent time from s w h i =
-      let n = next_within log w.legal (waits l.request key p most (requests l log) before sent w.tracks) in
+      let n = next_within log before sent w.legal w.tracks in
       let c = ap (λ z. cost l z) n.1.1.0 in
       let small = cost_le l (packet_length n.0) 2048 n.1.1.1 in
       let most2 : cost l (2048 + 2048) ≤ cap l = cost_le l (2048 + 2048) l.burst (omega (arith, a.burst.0)) in
@@ -102,7 +107,8 @@ module _ (l : LinkLimits) (key : ℕ) (p : PacketData) (begin most : ℕ) (a : A
 
   -- an entry that starts no request, and leaves the next one
   serving-same : (log later : List Entry) (before : List PacketData) (sent time from s : ℕ) → Serving l key p begin most log before sent time from → time ≤ s → IsLegal l later → NoneLater s later → ((t : ℕ) → NoneLater t later → s ≤ t)
-      → Tracks l.request key p most (requests l later) before sent → free_after l later ≡ free_after l log → request_starts later ≡ request_starts log → head_bytes packet_length (requests l later) ≡ head_bytes packet_length (requests l log)
+      → Tracks key p most (requests l later) before sent → free_after l later ≡ free_after l log
+      → request_starts later ≡ request_starts log → bytes_next (requests l later) ≡ bytes_next (requests l log)
       → ((v : ℕ) → ready l begin log ≤ v → v < s → cap l < debt_at l log v + next_cost l log) → Serving l key p begin most later before sent s from
   serving-same log later before sent time from s w t g n x k f ss h i = record {
     legal = g;
@@ -118,17 +124,24 @@ module _ (l : LinkLimits) (key : ℕ) (p : PacketData) (begin most : ℕ) (a : A
     idle = λ v r e. (let j = i v (omega (arith, r, f)) e in omega (arith, j, ap (λ z. debt l z v) ss, ap (λ z. cost l z) h));
   }
 
-  queued_leaves : (log : List Entry) (before : List PacketData) (sent s : ℕ) (c : Class) (k : ℕ) (x : PacketData) → IsLegal l log → Tracks l.request key p most (requests l log) before sent
-      → Tracks l.request key p most (requests l (log ++ Queued s c k x ∷ [])) before sent × (head_bytes packet_length (requests l (log ++ Queued s c k x ∷ [])) ≡ head_bytes packet_length (requests l log))
+  queued_leaves : (log : List Entry) (before : List PacketData) (sent s : ℕ) (c : Class) (k : ℕ) (x : PacketData)
+      → IsLegal l log → Tracks key p most (requests l log) before sent
+      → Tracks key p most (requests l (log ++ Queued s c k x ∷ [])) before sent ×
+      (bytes_next (requests l (log ++ Queued s c k x ∷ [])) ≡ bytes_next (requests l log))
   queued_leaves log before sent s Request k x g t =
-      let q = queues-step l Request log (Queued s Request k x) tt (within l log a g) in
-      let f = (fair_now l Request log tt (within l log a g)).queues in
-      subst (λ z. Tracks l.request key p most z before sent × (head_bytes packet_length z ≡ head_bytes packet_length (requests l log))) (sym q)
-      (tracks-offer l.request key p most (requests l log) before sent k x t, head-offer l.request key p most (requests l log) k x f (waits l.request key p most (requests l log) before sent t))
+      let w = (within l log a g).requests in
+      subst (λ z. Tracks key p most z before sent × (bytes_next z ≡ bytes_next (requests l log)))
+      (sym (requests-push l log (Queued s Request k x))) (
+        tracks-offer key p most l (requests l log) before sent k x w t,
+        next-offer key p most l
+            (requests l log) before sent k x w t,
+      )
   queued_leaves log before sent s Regular k x g t =
-      subst (λ z. Tracks l.request key p most z before sent × (head_bytes packet_length z ≡ head_bytes packet_length (requests l log))) (sym (queues-step l Request log (Queued s Regular k x) tt (within l log a g))) (t, refl)
+      subst (λ z. Tracks key p most z before sent × (bytes_next z ≡ bytes_next (requests l log)))
+      (sym (requests-push l log (Queued s Regular k x))) (t, refl)
   queued_leaves log before sent s Legacy k x g t =
-      subst (λ z. Tracks l.request key p most z before sent × (head_bytes packet_length z ≡ head_bytes packet_length (requests l log))) (sym (queues-step l Request log (Queued s Legacy k x) tt (within l log a g))) (t, refl)
+      subst (λ z. Tracks key p most z before sent × (bytes_next z ≡ bytes_next (requests l log)))
+      (sym (requests-push l log (Queued s Legacy k x))) (t, refl)
 
   -- a packet is queued
   queued : (log : List Entry) (before : List PacketData) (sent time from s : ℕ) (c : Class) (k : ℕ) (x : PacketData) → Serving l key p begin most log before sent time from → Follows l log (Queued s c k x)
@@ -145,8 +158,7 @@ module _ (l : LinkLimits) (key : ℕ) (p : PacketData) (begin most : ℕ) (a : A
       → ((v : ℕ) → ready l begin log ≤ v → v < s → cap l < debt_at l log v + next_cost l log) → Serving l key p begin most (log ++ Started s c x ∷ []) before sent s s
   started_other log before sent time from s c x w f n o q i =
       let e = Started s c x in
-      let there = waits l.request key p most (requests l log) before sent w.tracks in
-      let y = next_within log w.legal there in
+      let y = next_within log before sent w.legal w.tracks in
       let free = free-started l 0 log s c x in
       let reach : ready l begin log ≤ s = omega (arith, f.free, w.exact s f.order, w.begun) in
       let owes = owed_at log before sent time from s w reach i in
@@ -160,7 +172,7 @@ module _ (l : LinkLimits) (key : ℕ) (p : PacketData) (begin most : ℕ) (a : A
         legal = g;
         past = past;
         exact = λ t m. (later-front t log e m).1;
-        tracks = subst (λ z. Tracks l.request key p most z before sent) (sym q) w.tracks;
+        tracks = subst (λ z. Tracks key p most z before sent) (sym q) w.tracks;
         begun = omega (arith, reach);
         since = omega (arith, reach);
         free = omega (arith, free);
@@ -172,14 +184,14 @@ module _ (l : LinkLimits) (key : ℕ) (p : PacketData) (begin most : ℕ) (a : A
 
   -- a request starts
   started_own : (log : List Entry) (before next : List PacketData) (sent time from s : ℕ) (x : PacketData) → Serving l key p begin most log before sent time from → IsStarted l log s Request x
-      → Tracks l.request key p most (taken packet_length l.request.quantum (requests l log)) next (sent + packet_length x)
+      → Tracks key p most (request_taken (requests l log)) next (sent + packet_length x)
       → ((v : ℕ) → ready l begin log ≤ v → v < s → cap l < debt_at l log v + next_cost l log) → Serving l key p begin most (log ++ Started s Request x ∷ []) next (sent + packet_length x) s s
   started_own log before next sent time from s x w f k i =
       let e = Started s Request x in
-      let there = waits l.request key p most (requests l log) before sent w.tracks in
-      let y = next_within log w.legal there in
-      let paid = covered_pays l (credit_after l log s) (head (requests l log)) x (started_is l log s Request x f) in
-      let same : cost l (head_bytes packet_length (requests l log)) ≡ cost l (packet_length x) = ap (λ z. cost l z) y.1.1.0 ∙ ap (λ z. cost l (packet_length z)) (same_head (head (requests l log)) y.0 x y.1.0 paid.0) in
+      let y = next_within log before sent w.legal w.tracks in
+      let paid = covered_pays l (credit_after l log s) (next_in (requests l log)) x (started_is l log s Request x f) in
+      let same : cost l (bytes_next (requests l log)) ≡ cost l (packet_length x) = ap (λ z. cost l z) y.1.1.0 ∙ ap
+      (λ z. cost l (packet_length z)) (same_head (next_in (requests l log)) y.0 x y.1.0 paid.0) in
       let free = free-started l 0 log s Request x in
       let reach : ready l begin log ≤ s = omega (arith, f.free, w.exact s f.order, w.begun) in
       let owes = owed_at log before sent time from s w reach i in
@@ -196,7 +208,7 @@ module _ (l : LinkLimits) (key : ℕ) (p : PacketData) (begin most : ℕ) (a : A
         legal = g;
         past = past;
         exact = λ t m. (later-front t log e m).1;
-        tracks = subst (λ z. Tracks l.request key p most z next (sent + packet_length x)) (sym (queues-step l Request log e tt (within l log a w.legal))) k;
+        tracks = subst (λ z. Tracks key p most z next (sent + packet_length x)) (sym (requests-push l log e)) k;
         begun = omega (arith, reach);
         since = omega (arith, reach);
         free = omega (arith, free);
@@ -213,15 +225,14 @@ module _ (l : LinkLimits) (key : ℕ) (p : PacketData) (begin most : ℕ) (a : A
   module _ (last until : ℕ) (enough : begin + 2048 * l.ns_per_byte + cost l (most + 2048) ≤ last) (whole : List Entry) (none : MissesNone l until whole) (known : last < until) where
     never : (log : List Entry) (before : List PacketData) (sent time from : ℕ) → Serving l key p begin most log before sent time from → time ≤ last → ((v : ℕ) → time ≤ v → v < last + 1 → RestsAt l log v) → ⊥
     never log before sent time from w t r =
-        let fair = (fair_now l Request log tt (within l log a w.legal)).queues in
-        let among = head_among l.request key p most (requests l log) before sent fair w.tracks in
-        let le = cost_le l (sent + head_bytes packet_length (requests l log)) most among in
-        let sum = cost-add l sent (head_bytes packet_length (requests l log)) in
+        let among = next_among key p most l (requests l log) before sent (within l log a w.legal).requests w.tracks in
+        let le = cost_le l (sent + bytes_next (requests l log)) most among in
+        let sum = cost-add l sent (bytes_next (requests l log)) in
         let fits = cost_le l (sent + 2048) (most + 2048) (omega (arith, among)) in
         let ready_by : ready l begin log ≤ last = omega (arith, w.busy, fits, enough) in
         let lack = idle_to log before sent time from (last + 1) w r last ready_by (omega arith) in
         let d = debt-later l (request_starts log) from last w.starts (omega (arith, w.free, ready_by)) in
-        let n = next_within log w.legal (waits l.request key p most (requests l log) before sent w.tracks) in
+        let n = next_within log before sent w.legal w.tracks in
         let c = ap (λ z. cost l z) n.1.1.0 in
         let small = cost_le l (packet_length n.0) 2048 n.1.1.1 in
         let most2 : cost l (2048 + 2048) ≤ cap l = cost_le l (2048 + 2048) l.burst (omega (arith, a.burst.0)) in
@@ -244,18 +255,26 @@ module _ (l : LinkLimits) (key : ℕ) (p : PacketData) (begin most : ℕ) (a : A
         finds_later l Request key p (length before) log (Queued s c k x) es last refl (next (log ++ Queued s c k x ∷ []) before sent s from same g t (queued log before sent time from s c k x w f i))
     serve_one (Started s Regular x) es log before sent time from next same f g t w i =
         finds_later l Request key p (length before) log (Started s Regular x) es last refl
-        (next (log ++ Started s Regular x ∷ []) before sent s s same g t (started_other log before sent time from s Regular x w f (λ n. cc) refl (queues-step l Request log (Started s Regular x) tt (within l log a w.legal)) i))
+        (next (log ++ Started s Regular x ∷ []) before sent s s same g t
+        (started_other log before sent time from s Regular x w f (λ n. cc) refl
+        (requests-push l log (Started s Regular x)) i))
     serve_one (Started s Legacy x) es log before sent time from next same f g t w i =
         finds_later l Request key p (length before) log (Started s Legacy x) es last refl
-        (next (log ++ Started s Legacy x ∷ []) before sent s s same g t (started_other log before sent time from s Legacy x w f (λ n. cc) refl (queues-step l Request log (Started s Legacy x) tt (within l log a w.legal)) i))
+        (next (log ++ Started s Legacy x ∷ []) before sent s s same g t
+        (started_other log before sent time from s Legacy x w f (λ n. cc) refl
+        (requests-push l log (Started s Legacy x)) i))
     serve_one (Started s Request x) es log before sent time from next same f g t w i =
-        let fair = (fair_now l Request log tt (within l log a w.legal)) in
-        let paid = covered_pays l (credit_after l log s) (head (requests l log)) x (started_is l log s Request x f) in
+        let paid = covered_pays l (credit_after l log s) (next_in (requests l log)) x
+        (started_is l log s Request x f) in
         let e = Started s Request x in
-        elim (takes l.request key p most (requests l log) before sent x fair.limits fair.queues paid.0 w.tracks) [
+        elim (takes key p most l (requests l log) before sent x (within l log a w.legal).requests paid.0 w.tracks) [
           | inl z ↦ subst (λ xs. Finds l Request key p (length xs) log (e ∷ es) last) (sym z.1.0) (finds_here l Request key p log s x es last z.0 z.1.1.0 t)
-          | inr z ↦ by_test (is_front key (requests l log)) (λ b. (is_front key (requests l log) ≡ b) → MatchBool b ((rest : List PacketData) × ((before ≡ x ∷ rest) × Tracks l.request key p most (taken packet_length l.request.quantum (requests l log)) rest (sent + packet_length x)))
-              (Tracks l.request key p most (taken packet_length l.request.quantum (requests l log)) before (sent + packet_length x)) → Finds l Request key p (length before) log (e ∷ es) last)
+          | inr z ↦ by_test (are_next (requests l log) key p)
+              (λ b. (are_next (requests l log) key p ≡ b) → MatchBool b
+              ((rest : List PacketData) ×
+              ((before ≡ x ∷ rest) × Tracks key p most (request_taken (requests l log)) rest (sent + packet_length x)))
+              (Tracks key p most (request_taken (requests l log)) before
+              (sent + packet_length x)) → Finds l Request key p (length before) log (e ∷ es) last)
               (λ h _ m. subst (λ xs. Finds l Request key p (length xs) log (e ∷ es) last) (sym m.1.0)
               (finds_next l Request key p (length m.0) log e es last h (next (log ++ e ∷ []) m.0 (sent + packet_length x) s s same g t (started_own log before m.0 sent time from s x w f m.1.1 i))))
               (λ h _ m. finds_later l Request key p (length before) log e es last h (next (log ++ e ∷ []) before (sent + packet_length x) s s same g t (started_own log before before sent time from s x w f m i)))
@@ -273,8 +292,9 @@ module _ (l : LinkLimits) (key : ℕ) (p : PacketData) (begin most : ℕ) (a : A
 
 -- a request that is queued starts within its bound, where no start was missed up to then
 pub request_bounded : (l : LinkLimits) (before after : List Entry) (t key : ℕ) (p : PacketData) (until : ℕ) → AreLinkLimits l → IsLegal l (before ++ Queued t Request key p ∷ after) → MissesNone l until (before ++ Queued t Request key p ∷ after)
-    → t + request_bound l (bytes_under l Request key (before ++ Queued t Request key p ∷ [])) < until
-    → StartsBy l Request key p (before ++ Queued t Request key p ∷ []) after (t + request_bound l (bytes_under l Request key (before ++ Queued t Request key p ∷ [])))
+    → t + request_bound l (bytes_with l Request key p (before ++ Queued t Request key p ∷ [])) < until
+    → StartsBy l Request key p (before ++ Queued t Request key p ∷ []) after
+    (t + request_bound l (bytes_with l Request key p (before ++ Queued t Request key p ∷ [])))
 request_bounded l before after t key p until a g m k =
     let e = Queued t Request key p in
     let log : List Entry = before ++ e ∷ [] in
@@ -282,7 +302,8 @@ request_bounded l before after t key p until a g m k =
     let b = legal-front l [] before (e ∷ after) g in
     let up = legal_up l before e after g in
     let begin : ℕ = max t (free_after l before) in
-    let most : ℕ = most_until l.request (bytes_in packet_length (waiting_under l Request key log)) in
+    let most : ℕ = requests_until l.request l.request_inner
+    (bytes_in packet_length (waiting_with l Request key p log)) in
     let past = later-push t before e f.order (omega arith) in
     let near = free_soon l before t a b f.order in
     let free = free-queued l 0 before t Request key p in
@@ -290,11 +311,11 @@ request_bounded l before after t key p until a g m k =
     let size : cost l (most + 2 * l.request.max) ≡ cost l (most + 2 * 2048) = ap (λ z. cost l (most + 2 * z)) a.request.max in
     let sum : cost l (most + 2 * 2048) ≡ cost l (most + 2048) + cost l 2048 = (let q : most + 2 * 2048 ≡ (most + 2048) + 2048 = omega arith in ap (λ z. cost l z) q ∙ cost-add l (most + 2048) 2048) in
     let late : NoneLater begin log = later-weaker t begin log (omega arith) past in
-    let w : Serving l key p begin most log (waiting_under l Request key before) 0 t begin = record {
+    let w : Serving l key p begin most log (waiting_with l Request key p before) 0 t begin = record {
       legal = up;
       past = past;
       exact = λ u n. (later-front u before e n).1;
-      tracks = tracks_first l Request before t key p tt a up b f;
+      tracks = request_first l before t key p a up f;
       begun = omega (arith, free);
       since = omega arith;
       free = omega arith;
@@ -303,8 +324,12 @@ request_bounded l before after t key p until a g m k =
       busy = omega (arith, free);
       idle = λ v r h. absurd (omega arith);
     } in
-    starts_by_found l Request before after t key p (t + request_bound l (bytes_in packet_length (waiting_under l Request key log))) (under_queued l Request before t key p tt a b f)
-    (serve l key p begin most a (t + request_bound l (bytes_in packet_length (waiting_under l Request key log))) until (omega (arith, near, twice, size, sum)) (before ++ e ∷ after) m k after log (waiting_under l Request key before) 0 t begin
+    starts_by_found l Request before after t key p
+    (t + request_bound l (bytes_in packet_length (waiting_with l Request key p log)))
+    (queued_last l Request before t key p tt f)
+    (serve l key p begin most a (t + request_bound l
+    (bytes_in packet_length (waiting_with l Request key p log))) until (omega (arith, near, twice, size, sum))
+    (before ++ e ∷ after) m k after log (waiting_with l Request key p before) 0 t begin
     (sym (append_assoc before (e ∷ []) after)) (legal_rest l before e after g) (omega arith) w)
 
 pub requests_served : (l : LinkLimits) (log : List Entry) (now until : ℕ) → AreLinkLimits l → IsLegal l log → MissesNone l until log → now < until → AreRequestsServed l now log

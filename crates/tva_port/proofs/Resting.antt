@@ -6,10 +6,10 @@ use Rattle.tva_base.specs.declared.limits.LinkLimits.{LinkLimits}
 use Rattle.tva_base.specs.Plan.{AreLinkLimits}
 use Rattle.tva_base.specs.declared.packet.Time.{Time}
 use Rattle.tva_shim.specs.Packets.{PacketData, packet_length}
-use Rattle.tva_drr.specs.Queues.{head}
 use Rattle.tva_port.specs.declared.decision.Decision.{Decision}
 use Rattle.tva_port.specs.declared.decision.Decision.TheVariants.{Start, WaitUntil, Idle}
 use Rattle.tva_port.specs.Requests.{cost, cap}
+use Rattle.tva_port.specs.Levels.{next_in}
 use Rattle.tva_port.specs.Log.{Entry, Started, NoneLater, cut, request_starts}
 use Rattle.tva_port.specs.Waiting.{Waiting, waiting_after}
 use Rattle.tva_port.specs.Decide.{covered, wait_for, decision, decide_on, credit_after, is_start, started_by, RestsAt, MissesNone, NoneDueBefore, IsFirstCovered}
@@ -29,10 +29,15 @@ still_lacks l later None h = refl
 still_lacks l later (Some p) h = not_covered l later p (h p refl)
 
 -- nothing starts at a later time either, where the request at the head is still not covered
-still : (l : LinkLimits) (w : Waiting) (credit later time : ℕ) → Rests l w credit → ((p : PacketData) → head w.requests.queues ≡ Some p → later < cost l (packet_length p)) → is_start (decide_on l w later time) ≡ false
-still l w credit later time r h = rests_no_start l w later time (record { requests = still_lacks l later (head w.requests.queues) h; regulars = r.regulars; legacy = r.legacy })
+still : (l : LinkLimits) (w : Waiting) (credit later time : ℕ) → Rests l w credit
+    → ((p : PacketData) → next_in w.requests ≡ Some p → later < cost l (packet_length p))
+    → is_start (decide_on l w later time) ≡ false
+still l w credit later time r h = rests_no_start l w later time
+    (record { requests = still_lacks l later (next_in w.requests) h; regulars = r.regulars; legacy = r.legacy })
 
-no_start_later : (l : LinkLimits) (log : List Entry) (credit time : ℕ) → Rests l (waiting_after l log) credit → ((p : PacketData) → head (waiting_after l log).requests.queues ≡ Some p → credit_after l log time < cost l (packet_length p)) → is_start (decision l log time) ≡ false
+no_start_later : (l : LinkLimits) (log : List Entry) (credit time : ℕ) → Rests l (waiting_after l log) credit
+    → ((p : PacketData) → next_in (waiting_after l log).requests ≡ Some p → credit_after l log time < cost l
+    (packet_length p)) → is_start (decision l log time) ≡ false
 unfolding decision
 no_start_later l log credit time r h = still l (waiting_after l log) credit (credit_after l log time) time r h
 
@@ -49,7 +54,9 @@ idle_is l credit now None e = refl
 idle_is l credit now (Some p) e = absurd (cc)
 
 -- where a decision starts nothing, it says how long the request at the head waits
-pub resting : (l : LinkLimits) (log : List Entry) (now : ℕ) → is_start (decision l log now) ≡ false → Rests l (waiting_after l log) (credit_after l log now) × (decision l log now ≡ wait_for l (credit_after l log now) now (head (waiting_after l log).requests.queues))
+pub resting : (l : LinkLimits) (log : List Entry) (now : ℕ) → is_start (decision l log now) ≡ false
+    → Rests l (waiting_after l log) (credit_after l log now) ×
+    (decision l log now ≡ wait_for l (credit_after l log now) now (next_in (waiting_after l log).requests))
 unfolding decision
 resting l log now e =
     let r = none_starts l (waiting_after l log) (credit_after l log now) now e in
@@ -68,15 +75,18 @@ none_or_some o q e f = cc
 waits_until : (l : LinkLimits) (log : List Entry) (now time : ℕ) (u : Time) → IsLegal l log → NoneLater now log → WaitUntil u ≡ decision l log now → now ≤ time → time < u.0 → is_start (decision l log time) ≡ false
 waits_until l log now time u g n e h k =
     let r = resting l log now (ap is_start (sym e)) in
-    let w = wait_is l (credit_after l log now) now (head (waiting_after l log).requests.queues) u (sym r.1 ∙ sym e) in
+    let w = wait_is l (credit_after l log now) now (next_in (waiting_after l log).requests) u (sym r.1 ∙ sym e) in
     no_start_later l log (credit_after l log now) time r.0
-    (λ q hq. subst (λ x. credit_after l log time < cost l (packet_length x)) (same_head (head (waiting_after l log).requests.queues) w.0 q w.1.0 hq) (lacks_before l log now time u.0 w.0 g n w.1.1 h k))
+    (λ q hq. subst (λ x. credit_after l log time < cost l (packet_length x))
+    (same_head (next_in (waiting_after l log).requests) w.0 q w.1.0 hq)
+    (lacks_before l log now time u.0 w.0 g n w.1.1 h k))
 
 stays_idle : (l : LinkLimits) (log : List Entry) (now time : ℕ) → Idle ≡ decision l log now → is_start (decision l log time) ≡ false
 stays_idle l log now time e =
     let r = resting l log now (ap is_start (sym e)) in
     no_start_later l log (credit_after l log now) time r.0
-    (λ q hq. absurd (none_or_some (head (waiting_after l log).requests.queues) q (idle_is l (credit_after l log now) now (head (waiting_after l log).requests.queues) (sym r.1 ∙ sym e)) hq))
+    (λ q hq. absurd (none_or_some (next_in (waiting_after l log).requests) q
+    (idle_is l (credit_after l log now) now (next_in (waiting_after l log).requests) (sym r.1 ∙ sym e)) hq))
 
 pub rests_same : (l : LinkLimits) (log : List Entry) (time : ℕ) → is_start (decision l log time) ≡ false → RestsAt l (log ++ []) time
 rests_same l log time e = subst (λ z. RestsAt l z time) (sym (append-nil log)) (inr e)
@@ -109,11 +119,15 @@ pub cost_within : (l : LinkLimits) (n : ℕ) → AreLinkLimits l → n ≤ 2048 
 cost_within l n a h = let b : n ≤ l.burst = omega (arith, a.burst.0) in mul-le-mul_right l.ns_per_byte (mul-le-mul_right l.share b)
 
 -- a wait ends at the first time at which the request at the head is covered
-pub first_covered : (l : LinkLimits) (log : List Entry) (now : ℕ) (u : Time) (p : PacketData) → AreLinkLimits l → IsLegal l log → NoneLater now log → packet_length p ≤ 2048 → WaitUntil u ≡ decision l log now → head (waiting_after l log).requests.queues ≡ Some p → IsFirstCovered l log p now u.0
+pub first_covered : (l : LinkLimits) (log : List Entry) (now : ℕ) (u : Time) (p : PacketData) → AreLinkLimits l
+    → IsLegal l log → NoneLater now log → packet_length p ≤ 2048 → WaitUntil u ≡ decision l log now
+    → next_in (waiting_after l log).requests ≡ Some p → IsFirstCovered l log p now u.0
 first_covered l log now u p a g n z e hp =
     let r = resting l log now (ap is_start (sym e)) in
-    let w = wait_is l (credit_after l log now) now (head (waiting_after l log).requests.queues) u (sym r.1 ∙ sym e) in
-    let t : u.0 ≡ now + (cost l (packet_length p) - credit_after l log now) = subst (λ x. u.0 ≡ now + (cost l (packet_length x) - credit_after l log now)) (same_head (head (waiting_after l log).requests.queues) w.0 p w.1.0 hp) w.1.1 in
+    let w = wait_is l (credit_after l log now) now (next_in (waiting_after l log).requests) u (sym r.1 ∙ sym e) in
+    let t : u.0 ≡ now + (cost l (packet_length p) - credit_after l log now) = subst
+    (λ x. u.0 ≡ now + (cost l (packet_length x) - credit_after l log now))
+    (same_head (next_in (waiting_after l log).requests) w.0 p w.1.0 hp) w.1.1 in
     let k : credit_after l log now < cost l (packet_length p) = lacking l (credit_after l log now) p (ap (λ (o : Option PacketData). covered l (credit_after l log now) o) (sym hp) ∙ r.0.requests) in
     record {
       later = omega arith;

@@ -2,7 +2,6 @@
 -- and neither a start nor a queueing lets a start be missed meanwhile.
 use Rattle.std.proofs.Common.{◌≡◌, ℕ, ◌+◌, ◌-◌, ◌≤◌, ◌<◌, max, false, List, [], ◌∷◌, ◌++◌, Option, Some, refl, sym, ap, ◌∙◌, subst, inl, inr, suc, arith, append-nil}
 use Rattle.std.proofs.lemmas.Bool.Decides.{leb_tells}
-use Rattle.tva_base.specs.declared.limits.DrrLimits.{DrrLimits}
 use Rattle.tva_base.specs.declared.limits.LinkLimits.{LinkLimits}
 use Rattle.tva_base.specs.declared.packet.Class.{Class}
 use Rattle.tva_base.specs.declared.packet.Time.{Time}
@@ -10,8 +9,6 @@ use Rattle.tva_base.specs.Plan.{AreLinkLimits}
 use Rattle.tva_shim.specs.Packets.{PacketData, packet_length}
 use Rattle.tva_drr.specs.declared.offered.Offered.{Offered}
 use Rattle.tva_drr.specs.declared.offered.Offered.TheVariants as offers
-use Rattle.tva_drr.specs.Queues.{Queue, first, head}
-use Rattle.tva_drr.specs.Fair.{AreMeasured, AreQueues}
 use Rattle.tva_port.specs.declared.decision.Decision.{Decision}
 use Rattle.tva_port.specs.declared.decision.Decision.TheVariants.{Start, WaitUntil, Idle}
 use Rattle.tva_port.specs.Requests.{cost}
@@ -23,23 +20,18 @@ use Rattle.tva_port.specs.Steps.{freed}
 use Rattle.tva_port.proofs.Logs.{later-push, cut-all, cut-push, free-queued, free-started}
 use Rattle.tva_port.proofs.Deciding.{Rests, rests_is}
 use Rattle.tva_port.proofs.Legality.{occupies}
+use Rattle.tva_port.proofs.Levels.{none_first, request_sized}
 use Rattle.tva_port.proofs.Resting.{credit-later, still_lacks, resting, wait_is, lacks_before, same_head, rests_same, rests, misses, cost_within, first_covered}
 use Rattle.tva_port.proofs.Idling.{within, idles, empty_idles}
 
-first_measured : (l : DrrLimits) (xs : List PacketData) (p : PacketData) → AreMeasured packet_length l xs → first xs ≡ Some p → packet_length p ≤ l.max
-first_measured l [] p m e = absurd (cc)
-first_measured l (x ∷ xs) p m e = let same : x ≡ p = cc in subst (λ z. packet_length z ≤ l.max) same m.0.1
-
-head_measured : (l : DrrLimits) (qs : List (Queue PacketData)) (p : PacketData) → AreQueues packet_length l qs → head qs ≡ Some p → packet_length p ≤ l.max
-head_measured l [] p a e = absurd (cc)
-head_measured l (q ∷ qs) p a e = first_measured l q.items p a.0.measured e
-
 -- the next request has at most 2,048 bytes
 pub next_sized : (l : LinkLimits) (log : List Entry) (p : PacketData) → AreLinkLimits l → IsLegal l log → next_request (waiting_after l log) ≡ Some p → packet_length p ≤ 2048
-next_sized l log p a g e =
-    let w = within l log a g in
-    let most = head_measured (waiting_after l log).requests.limits (waiting_after l log).requests.queues p w.requests.0.queues.each e in
-    omega (arith, most, ap (λ (x : DrrLimits). x.max) w.requests.1, a.request.max)
+next_sized l log p a g e = omega (
+  arith,
+  request_sized l (waiting_after l log).requests p
+      (within l log a g).requests e,
+  a.request.max,
+)
 
 -- the wait at a later time ends when it did
 same_end : (l : LinkLimits) (credit time : ℕ) (o : Option PacketData) (p : PacketData) (u : Time) → o ≡ Some p → time + (cost l (packet_length p) - credit) ≡ u.0 → wait_for l credit time o ≡ WaitUntil u
@@ -95,7 +87,9 @@ none_again l log now Idle a e = rests_same l log now (ap is_start (sym e))
 
 -- where nothing came, nothing is missed
 pub misses_empty : (l : LinkLimits) (until : ℕ) → MissesNone l until []
-misses_empty l until = λ time k. inr (ap is_start (empty_idles l [] time (record { requests = refl; regulars = refl; legacy = refl })))
+misses_empty l until = λ time k. inr (ap is_start
+    (empty_idles l [] time
+    (record { requests = none_first l.request l.request_inner; regulars = refl; legacy = refl })))
 
 -- ## a queueing
 

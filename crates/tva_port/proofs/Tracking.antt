@@ -21,8 +21,7 @@ use Rattle.tva_drr.proofs.Until.{offer_cases, has_from_items}
 use Rattle.tva_port.specs.Log.{Entry}
 use Rattle.tva_port.specs.Waiting.{fair_step, waiting_after}
 use Rattle.tva_port.specs.Keeps.{IsWithinLimits}
-use Rattle.tva_port.specs.Bounds.{queues_of}
-use Rattle.tva_port.proofs.Logs.{fair-push}
+use Rattle.tva_port.proofs.Logs.{regulars-push}
 
 -- ## one class
 
@@ -32,31 +31,48 @@ IsQueueing Request = Unit {0}
 IsQueueing Regular = Unit {0}
 IsQueueing Legacy = ⊥
 
-abbrev pub limits_of : LinkLimits → Class → DrrLimits
-limits_of l Request = l.request
-limits_of l Regular = l.regular
-limits_of l Legacy = l.regular
-
 same_fair : (f : Fair PacketData) (d : DrrLimits) → f.limits ≡ d → f ≡ fair d f.queues
 same_fair f d e = ap (λ (z : DrrLimits). fair z f.queues) e
 
--- the queues of the class under their limits, after one more entry
-pub queues-step : (l : LinkLimits) (c : Class) (log : List Entry) (e : Entry) → IsQueueing c → IsWithinLimits l (waiting_after l log)
-    → queues_of c (waiting_after l (log ++ e ∷ [])) ≡ (fair_step c (fair (limits_of l c) (queues_of c (waiting_after l log))) e).queues
-queues-step l Request log e q w =
-    ap (λ (f : Fair PacketData). f.queues) (fair-push Request (fair l.request []) log e)
-    ∙ ap (λ (f : Fair PacketData). (fair_step Request f e).queues) (same_fair (waiting_after l log).requests l.request w.requests.1)
-queues-step l Regular log e q w =
-    ap (λ (f : Fair PacketData). f.queues) (fair-push Regular (fair l.regular []) log e)
+-- the queues of regular packets under their limits, after one more entry
+pub regulars-step : (l : LinkLimits) (log : List Entry) (e : Entry) → IsWithinLimits l (waiting_after l log)
+    → (waiting_after l (log ++ e ∷ [])).regulars.queues ≡
+    (fair_step Regular (fair l.regular (waiting_after l log).regulars.queues) e).queues
+regulars-step l log e w =
+    ap (λ (f : Fair PacketData). f.queues) (regulars-push l log e)
     ∙ ap (λ (f : Fair PacketData). (fair_step Regular f e).queues) (same_fair (waiting_after l log).regulars l.regular w.regulars.1)
-queues-step l Legacy log e q w = absurd q
 
-pub fair_now : (l : LinkLimits) (c : Class) (log : List Entry) → IsQueueing c → IsWithinLimits l (waiting_after l log) → IsFair packet_length (fair (limits_of l c) (queues_of c (waiting_after l log)))
-fair_now l Request log q w = subst (λ f. IsFair packet_length f) (same_fair (waiting_after l log).requests l.request w.requests.1) w.requests.0
-fair_now l Regular log q w = subst (λ f. IsFair packet_length f) (same_fair (waiting_after l log).regulars l.regular w.regulars.1) w.regulars.0
-fair_now l Legacy log q w = absurd q
+pub regulars_now : (l : LinkLimits) (log : List Entry) → IsWithinLimits l (waiting_after l log)
+    → IsFair packet_length (fair l.regular (waiting_after l log).regulars.queues)
+regulars_now l log w = subst (λ f. IsFair packet_length f)
+    (same_fair (waiting_after l log).regulars l.regular w.regulars.1) w.regulars.0
 
 -- ## one packet
+
+-- a packet among others
+pub some_items : (p : PacketData) (xs ys : List PacketData) → 1 ≤ length (xs ++ p ∷ ys)
+some_items p [] ys = omega arith
+some_items p (x ∷ xs) ys = omega arith
+
+pub next_le : (p : PacketData) (xs ys zs : List PacketData) → zs ≡ xs ++ p ∷ ys
+    → first_bytes packet_length zs ≤ bytes_in packet_length (xs ++ p ∷ [])
+next_le p [] ys zs e = subst (λ ws. first_bytes packet_length ws ≤ bytes_in packet_length (p ∷ [])) (sym e)
+    (omega (arith, sum_by-cons packet_length p []))
+next_le p (x ∷ xs) ys zs e = subst
+    (λ ws. first_bytes packet_length ws ≤ bytes_in packet_length (x ∷ (xs ++ p ∷ []))) (sym e)
+    (omega (arith, sum_by-cons packet_length x (xs ++ p ∷ [])))
+
+pub one_before : (p : PacketData) (xs ys zs : List PacketData) (x : PacketData) → xs ++ p ∷ ys ≡ x ∷ zs
+    → ((xs ≡ []) × ((x ≡ p) × (ys ≡ zs))) ⊎ ((rest : List PacketData) × ((xs ≡ x ∷ rest) × (zs ≡ rest ++ p ∷ ys)))
+one_before p [] ys zs x e = inl (refl, (let k : p ≡ x = cc in sym k, cc))
+one_before p (y ∷ rest) ys zs x e = inr (
+  rest,
+  (let k : y ≡ x = cc in ap (λ z. z ∷ rest) k, (let k : rest ++ p ∷ ys ≡ zs = cc in sym k)),
+)
+
+head_of : (xs : List PacketData) (x : PacketData) → first xs ≡ Some x → first_bytes packet_length xs ≡ packet_length x
+head_of [] x e = absurd (cc)
+head_of (y ∷ ys) x e = let k : y ≡ x = cc in ap packet_length k
 
 -- in the queues of a class the packet waits under the key behind these, and so many bytes went since
 -- it was queued, of at most so many up to it
@@ -66,12 +82,9 @@ pub record Tracks (d : DrrLimits) (key : ℕ) (p : PacketData) (most : ℕ) (qs 
   pub ahead : sent + bytes_ahead d key (bytes_in packet_length (before ++ p ∷ [])) qs ≤ most
 
 module _ (d : DrrLimits) (key : ℕ) (p : PacketData) (most : ℕ) where
-  some_items : (xs ys : List PacketData) → 1 ≤ length (xs ++ p ∷ ys)
-  some_items [] ys = omega arith
-  some_items (x ∷ xs) ys = omega arith
-
   pub waits : (qs : List (Queue PacketData)) (before : List PacketData) (sent : ℕ) → Tracks d key p most qs before sent → has_key key qs ≡ true
-  waits qs before sent t = has_from_items key qs (subst (λ zs. 1 ≤ length zs) (sym t.items) (some_items before t.behind))
+  waits qs before sent t = has_from_items key qs (subst (λ zs. 1 ≤ length zs) (sym t.items)
+      (some_items p before t.behind))
 
   -- an offer leaves it
   pub tracks-offer : (qs : List (Queue PacketData)) (before : List PacketData) (sent k : ℕ) (x : PacketData) → Tracks d key p most qs before sent → Tracks d key p most (offer_leaves packet_length (fair d qs) k x).queues before sent
@@ -92,24 +105,12 @@ module _ (d : DrrLimits) (key : ℕ) (p : PacketData) (most : ℕ) where
       (λ m. record { behind = t.behind; items = g.others key (λ n. m (sym n)) ∙ t.items; ahead = omega (arith, t.ahead, e) }))
       same
 
-  next_le : (xs ys zs : List PacketData) → zs ≡ xs ++ p ∷ ys → first_bytes packet_length zs ≤ bytes_in packet_length (xs ++ p ∷ [])
-  next_le [] ys zs e = subst (λ ws. first_bytes packet_length ws ≤ bytes_in packet_length (p ∷ [])) (sym e) (omega (arith, sum_by-cons packet_length p []))
-  next_le (x ∷ xs) ys zs e = subst (λ ws. first_bytes packet_length ws ≤ bytes_in packet_length (x ∷ (xs ++ p ∷ []))) (sym e) (omega (arith, sum_by-cons packet_length x (xs ++ p ∷ [])))
-
   -- a take gives this packet, or one before it, or one of another key
   abbrev pub Taken : List (Queue PacketData) → List PacketData → ℕ → PacketData → Type 0
   Taken qs before sent x =
       ((is_front key qs ≡ true) × ((before ≡ []) × ((x ≡ p) × (sent + packet_length x ≤ most))))
       ⊎ ((MatchBool (is_front key qs) ((rest : List PacketData) × ((before ≡ x ∷ rest) × Tracks d key p most (taken packet_length d.quantum qs) rest (sent + packet_length x)))
       (Tracks d key p most (taken packet_length d.quantum qs) before (sent + packet_length x))))
-
-  one_before : (xs ys zs : List PacketData) (x : PacketData) → xs ++ p ∷ ys ≡ x ∷ zs → ((xs ≡ []) × ((x ≡ p) × (ys ≡ zs))) ⊎ ((rest : List PacketData) × ((xs ≡ x ∷ rest) × (zs ≡ rest ++ p ∷ ys)))
-  one_before [] ys zs x e = inl (refl, (let k : p ≡ x = cc in sym k, cc))
-  one_before (y ∷ rest) ys zs x e = inr (rest, (let k : y ≡ x = cc in ap (λ z. z ∷ rest) k, (let k : rest ++ p ∷ ys ≡ zs = cc in sym k)))
-
-  head_of : (xs : List PacketData) (x : PacketData) → first xs ≡ Some x → first_bytes packet_length xs ≡ packet_length x
-  head_of [] x e = absurd (cc)
-  head_of (y ∷ ys) x e = let k : y ≡ x = cc in ap packet_length k
 
   taken_own : (q : Queue PacketData) (qs : List (Queue PacketData)) (before : List PacketData) (sent : ℕ) (x : PacketData) → AreDrrLimits d → AreFair packet_length d (q ∷ qs) → q.key ≡ key → head (q ∷ qs) ≡ Some x → Tracks d key p most (q ∷ qs) before sent
       → ((before ≡ []) × ((x ≡ p) × (sent + packet_length x ≤ most))) ⊎ ((rest : List PacketData) × ((before ≡ x ∷ rest) × Tracks d key p most (taken packet_length d.quantum (q ∷ qs)) rest (sent + packet_length x)))
@@ -118,7 +119,7 @@ module _ (d : DrrLimits) (key : ℕ) (p : PacketData) (most : ℕ) where
       let g = goes_first packet_length d.quantum d q.key (q ∷ qs) x f.each refl h in
       let own : items_of key (q ∷ qs) ≡ x ∷ items_of key new = subst (λ z. items_of z (q ∷ qs) ≡ x ∷ items_of z new) e g.own in
       let bytes = head_of q.items x h in
-      elim (one_before before t.behind (items_of key new) x (sym t.items ∙ own)) [
+      elim (one_before p before t.behind (items_of key new) x (sym t.items ∙ own)) [
         | inl k ↦ inl (
           k.0,
           (
@@ -136,10 +137,11 @@ module _ (d : DrrLimits) (key : ℕ) (p : PacketData) (most : ℕ) where
             k.1.0,
             (let sum : packet_length x + bytes_in packet_length (k.0 ++ p ∷ []) ≡ bytes_in packet_length (before ++ p ∷ []) =
                 subst (λ zs. packet_length x + bytes_in packet_length (k.0 ++ p ∷ []) ≡ bytes_in packet_length (zs ++ p ∷ [])) (sym k.1.0) (omega (arith, sum_by-cons packet_length x (k.0 ++ p ∷ []))) in
-                let there : has_key key new ≡ true = has_from_items key new (subst (λ zs. 1 ≤ length zs) (sym k.1.1) (some_items k.0 t.behind)) in
+                let there : has_key key new ≡ true = has_from_items key new
+                (subst (λ zs. 1 ≤ length zs) (sym k.1.1) (some_items p k.0 t.behind)) in
                 let left : IsLeft packet_length d key (bytes_in packet_length (before ++ p ∷ [])) (bytes_in packet_length (k.0 ++ p ∷ [])) (q ∷ qs) =
                 by_key q.key key (λ b. MatchBool b ((head_bytes packet_length (q ∷ qs) + bytes_in packet_length (k.0 ++ p ∷ []) ≡ bytes_in packet_length (before ++ p ∷ [])) × (first_bytes packet_length (items_of key new) ≤ bytes_in packet_length (k.0 ++ p ∷ []))) (bytes_in packet_length (k.0 ++ p ∷ []) ≡ bytes_in packet_length (before ++ p ∷ [])))
-                (λ _. (omega (arith, bytes, sum), next_le k.0 t.behind (items_of key new) k.1.1))
+                (λ _. (omega (arith, bytes, sum), next_le p k.0 t.behind (items_of key new) k.1.1))
                 (λ n. absurd (n e)) in
                 let falls = taken_falls packet_length d key (bytes_in packet_length (before ++ p ∷ [])) (bytes_in packet_length (k.0 ++ p ∷ [])) (q ∷ qs) v f (waits (q ∷ qs) before sent t) there left in
                 record { behind = t.behind; items = k.1.1; ahead = omega (arith, falls, bytes, t.ahead) }),
@@ -155,7 +157,8 @@ module _ (d : DrrLimits) (key : ℕ) (p : PacketData) (most : ℕ) where
       let same : items_of key new ≡ before ++ p ∷ t.behind = g.others key (λ k. e (sym k)) ∙ t.items in
       let bytes = head_of q.items x h in
       let r : ℕ = bytes_in packet_length (before ++ p ∷ []) in
-      let there : has_key key new ≡ true = has_from_items key new (subst (λ zs. 1 ≤ length zs) (sym same) (some_items before t.behind)) in
+      let there : has_key key new ≡ true = has_from_items key new
+      (subst (λ zs. 1 ≤ length zs) (sym same) (some_items p before t.behind)) in
       let left : IsLeft packet_length d key r r (q ∷ qs) =
       by_key q.key key (λ b. MatchBool b ((head_bytes packet_length (q ∷ qs) + r ≡ r) × (first_bytes packet_length (items_of key new) ≤ r)) (r ≡ r)) (λ k. absurd (e k)) (λ _. refl) in
       let falls = taken_falls packet_length d key r r (q ∷ qs) v f (waits (q ∷ qs) before sent t) there left in
@@ -179,7 +182,7 @@ module _ (d : DrrLimits) (key : ℕ) (p : PacketData) (most : ℕ) where
   head_among (q ∷ qs) before sent f t =
       let least : head_bytes packet_length (q ∷ qs) ≤ bytes_ahead d key (bytes_in packet_length (before ++ p ∷ [])) (q ∷ qs) =
       head_ahead packet_length d key (bytes_in packet_length (before ++ p ∷ [])) (q ∷ qs) f
-      (λ e. next_le before t.behind q.items (own_items q qs e ∙ t.items)) in
+      (λ e. next_le p before t.behind q.items (own_items q qs e ∙ t.items)) in
       omega (arith, least, t.ahead)
 
   -- an offer leaves the next item of all

@@ -5,6 +5,9 @@ use Rattle.tva_base.specs.declared.limits.LinkLimits.{LinkLimits}
 use Rattle.tva_shim.specs.Packets.{packet_length}
 use Rattle.tva_drr.specs.Queues.{bytes_in}
 use Rattle.tva_drr.specs.Fair.{IsFair}
+use Rattle.tva_hier.specs.Hier.{IsHier}
+use Rattle.tva_port.specs.declared.requests.RequestQueues.{RequestQueues}
+use Rattle.tva_port.specs.declared.requests.RequestQueues.TheVariants.{OneLevel, TwoLevels}
 use Rattle.tva_port.specs.Requests.{Start, costs, cap}
 use Rattle.tva_port.specs.Log.{Entry, Queued, Started, request_starts}
 use Rattle.tva_port.specs.Waiting.{Waiting, waiting_after}
@@ -30,9 +33,14 @@ abbrev pub AreRising : List ℕ → Type 0
 AreRising [] = Unit {0}
 AreRising (t ∷ ts) = All (λ u. t < u) ts × AreRising ts
 
+-- the requests are in queues of the link's number of levels, and within their limits
+abbrev pub AreWithin : LinkLimits → RequestQueues → Type 0
+AreWithin l (OneLevel f) = (l.request_inner ≡ None) × IsFair packet_length f × (f.limits ≡ l.request)
+AreWithin l (TwoLevels h) = (l.request_inner ≡ Some h.inner) × IsHier packet_length h × (h.limits ≡ l.request)
+
 -- what waits is within the limits of each class
 pub record IsWithinLimits (l : LinkLimits) (w : Waiting) : Type 0 where
-  pub requests : IsFair packet_length w.requests × (w.requests.limits ≡ l.request)
+  pub requests : AreWithin l w.requests
   pub regulars : IsFair packet_length w.regulars × (w.regulars.limits ≡ l.regular)
   pub legacy : (length w.legacy ≤ l.legacy_ring) × (bytes_in packet_length w.legacy ≤ l.legacy_bytes)
 

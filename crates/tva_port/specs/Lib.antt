@@ -1,5 +1,6 @@
 pub mod Requests
 pub mod Log
+pub mod Levels
 pub mod Waiting
 pub mod Decide
 pub mod Legal

@@ -6,6 +6,8 @@ use Rattle.tva_drr.specs.declared.offered.Offered.TheVariants.{Queued, QueueFull
 use Rattle.tva_drr.specs.Queues.{Fair, bytes_in}
 use Rattle.tva_base.specs.declared.limits.LinkLimits.{LinkLimits}
 use Rattle.tva_base.specs.Plan.{AreLinkLimits}
+use Rattle.tva_port.specs.declared.requests.RequestQueues.{RequestQueues}
+use Rattle.tva_port.specs.Levels.{limits_in}
 use Rattle.tva_port.specs.Requests.{cap}
 
 -- at most so many packets, at most so many bytes, and the packets, oldest first
@@ -29,11 +31,12 @@ legacy_leaves w packet = if lacks_room w packet then w else legacy_data w.places
 
 -- a port within its limits: each part has its limits, the credit is at most its cap, and the link is
 -- busy for no longer than 2,048 bytes take
-pub record IsSound (l : LinkLimits) (last c free : ℕ) (rs gs : Fair PacketData) (w : LegacyData) : Type 0 where
+pub record IsSound (l : LinkLimits) (last c free : ℕ) (rs : RequestQueues) (gs : Fair PacketData)
+    (w : LegacyData) : Type 0 where
   pub limits : AreLinkLimits l
   pub credit : c ≤ cap l
   pub soon : free ≤ last + 2048000000
-  pub requests : rs.limits ≡ l.request
+  pub requests : limits_in rs ≡ l.request
   pub regulars : gs.limits ≡ l.regular
   pub places : w.places ≡ l.legacy_ring
   pub most : w.most ≡ l.legacy_bytes

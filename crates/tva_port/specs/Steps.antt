@@ -8,6 +8,7 @@ use Rattle.tva_drr.specs.Offer.{offer_leaves}
 use Rattle.tva_drr.specs.Take.{take_leaves}
 use Rattle.tva_port.specs.declared.decision.Decision.{Decision}
 use Rattle.tva_port.specs.declared.decision.Decision.TheVariants.{Start}
+use Rattle.tva_port.specs.Levels.{request_leaves, request_taken}
 use Rattle.tva_port.specs.Requests.{cost, cap}
 use Rattle.tva_port.specs.Waiting.{Waiting, waiting, lacks_legacy_room}
 
@@ -17,14 +18,14 @@ grown l credit passed = min (cap l) (credit + passed)
 
 -- what waits after a packet was queued or refused
 abbrev pub put_leaves : LinkLimits → Waiting → Class → ℕ → PacketData → Waiting
-put_leaves l w Request key packet = waiting (offer_leaves packet_length w.requests key packet) w.regulars w.legacy
+put_leaves l w Request key packet = waiting (request_leaves w.requests key packet) w.regulars w.legacy
 put_leaves l w Regular key packet = waiting w.requests (offer_leaves packet_length w.regulars key packet) w.legacy
 put_leaves l w Legacy key packet =
     waiting w.requests w.regulars (if lacks_legacy_room l w.legacy packet then w.legacy else w.legacy ++ packet ∷ [])
 
 -- what waits after a start of the class
 abbrev pub start_leaves : Class → Waiting → Waiting
-start_leaves Request w = waiting (take_leaves packet_length w.requests) w.regulars w.legacy
+start_leaves Request w = waiting (request_taken w.requests) w.regulars w.legacy
 start_leaves Regular w = waiting w.requests (take_leaves packet_length w.regulars) w.legacy
 start_leaves Legacy w = waiting w.requests w.regulars (drop 1 w.legacy)
 

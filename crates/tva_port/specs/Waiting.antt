@@ -1,4 +1,4 @@
--- What waits at a port after a log, by the offers and takes of fair queues.
+-- What waits at a port after a log, by the offers and takes of its queues.
 use Rattle.std.specs.Prelude.{◌≡◌, ℕ, ◌+◌, nat_lt, Bool, true, false, ◌||◌, if◌then◌else◌, List, [], ◌∷◌, drop, length, count_by, Option, Some, None}
 use Rattle.std.specs.List.{filter_map}
 use Rattle.tva_base.specs.declared.limits.LinkLimits.{LinkLimits}
@@ -7,18 +7,20 @@ use Rattle.tva_base.specs.declared.packet.Class.TheVariants.{Request, Regular, L
 use Rattle.tva_shim.specs.Packets.{PacketData, packet_length}
 use Rattle.tva_drr.specs.declared.offered.Offered.{Offered}
 use Rattle.tva_drr.specs.declared.offered.Offered.TheVariants as offers
-use Rattle.tva_drr.specs.Queues.{Fair, fair, bytes_in, head}
+use Rattle.tva_drr.specs.Queues.{Fair, fair, bytes_in}
 use Rattle.tva_drr.specs.Offer.{offer_answer, offer_leaves}
 use Rattle.tva_drr.specs.Take.{take_leaves}
+use Rattle.tva_port.specs.declared.requests.RequestQueues.{RequestQueues}
+use Rattle.tva_port.specs.Levels.{no_requests, next_in, request_answer, request_leaves, request_taken, AreNone}
 use Rattle.tva_port.specs.Log.{Entry, Queued, Started}
 
--- requests and regular packets in their fair queues, and legacy packets, oldest first
+-- requests in the queues of their link, regular packets in fair queues, and legacy packets, oldest first
 pub record Waiting : Type 0 where
-  pub requests : Fair PacketData
+  pub requests : RequestQueues
   pub regulars : Fair PacketData
   pub legacy : List PacketData
 
-abbrev pub waiting : Fair PacketData → Fair PacketData → List PacketData → Waiting
+abbrev pub waiting : RequestQueues → Fair PacketData → List PacketData → Waiting
 waiting requests regulars legacy = record { requests = requests; regulars = regulars; legacy = legacy }
 
 abbrev pub same_class : Class → Class → Bool
@@ -34,9 +36,12 @@ fair_step c queues (Queued time class key packet) =
 fair_step c queues (Started time class packet) =
     if same_class class c then take_leaves packet_length queues else queues
 
--- the requests that wait, and the regular packets that do, after one more entry
-abbrev pub request_step : Fair PacketData → Entry → Fair PacketData
-request_step queues e = fair_step Request queues e
+-- the requests that wait after one more entry, and the regular packets that do
+abbrev pub request_step : RequestQueues → Entry → RequestQueues
+request_step queues (Queued time class key packet) =
+    if same_class class Request then request_leaves queues key packet else queues
+request_step queues (Started time class packet) =
+    if same_class class Request then request_taken queues else queues
 
 abbrev pub regular_step : Fair PacketData → Entry → Fair PacketData
 regular_step queues e = fair_step Regular queues e
@@ -61,11 +66,11 @@ legacy_after log = drop (count_by is_legacy_start log) (filter_map queued_legacy
 -- what waits after these entries at a port that began empty
 abbrev pub waiting_after : LinkLimits → List Entry → Waiting
 waiting_after l log =
-    waiting (after request_step (fair l.request []) log) (after regular_step (fair l.regular []) log) (legacy_after log)
+    waiting (after request_step (no_requests l) log) (after regular_step (fair l.regular []) log) (legacy_after log)
 
 -- the request that is the next to start
 abbrev pub next_request : Waiting → Option PacketData
-next_request w = head w.requests.queues
+next_request w = next_in w.requests
 
 -- with the packet too many legacy packets would wait, or too many of their bytes
 abbrev pub lacks_legacy_room : LinkLimits → List PacketData → PacketData → Bool
@@ -75,7 +80,7 @@ lacks_legacy_room l packets packet =
 
 -- what the port answers to a packet of a class with a key, of which a legacy packet needs none
 abbrev pub queue_answer : LinkLimits → Waiting → Class → ℕ → PacketData → Offered PacketData
-queue_answer l w Request key packet = offer_answer packet_length w.requests key packet
+queue_answer l w Request key packet = request_answer w.requests key packet
 queue_answer l w Regular key packet = offer_answer packet_length w.regulars key packet
 queue_answer l w Legacy key packet =
     if lacks_legacy_room l w.legacy packet then offers.QueueFull packet else offers.Queued
@@ -86,7 +91,7 @@ is_queued answer = false
 
 -- nothing waits
 pub record IsEmpty (w : Waiting) : Type 0 where
-  pub requests : w.requests.queues ≡ []
+  pub requests : AreNone w.requests
   pub regulars : w.regulars.queues ≡ []
   pub legacy : w.legacy ≡ []
 

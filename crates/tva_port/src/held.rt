@@ -3,7 +3,7 @@ ghost use Rattle.std.specs.Prelude.{◌≡◌, ◌≤◌};
 ghost use Rattle.tva_shim.specs.Packets.{packet_length};
 
 use std::marker::Model;
-use tva_drr::Measured;
+use tva_drr::{Measured, Offered};
 use tva_shim::{Packet, length};
 
 /// A packet that waits, with its length in bytes, which is measured once. Contracts see the packet.
@@ -53,5 +53,16 @@ impl HeldPacket {
         ensures { result ≡ self }
     {
         self.packet
+    }
+}
+
+/// The answer to an offer, with the packet that it hands back.
+pub(crate) fn given_back(answer: Offered<HeldPacket>) -> Offered<Packet>
+    ensures { result ≡ answer }
+{
+    match answer {
+        Offered::Queued => Offered::Queued,
+        Offered::NoQueue(held) => Offered::NoQueue(held.into_packet()),
+        Offered::QueueFull(held) => Offered::QueueFull(held.into_packet()),
     }
 }

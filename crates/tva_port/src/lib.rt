@@ -1,8 +1,9 @@
-//! A link's port: requests under a rate limit, then regular packets in fair queues, then the rest in
-//! order. Its contract promises that each queueing and each decision is the one that the list of all
-//! packets queued and started so far gives, though the port keeps no such list; that requests never
-//! start faster than the link's share for them and a burst allow; that no start is missed; and that,
-//! whatever others send, a queued request or regular packet starts within its bound.
+//! A link's port: requests under a rate limit, in queues of one level or of two, then regular
+//! packets in fair queues, then the rest in order. Its contract promises that each queueing and
+//! each decision is the one that the list of all packets queued and started so far gives, though
+//! the port keeps no such list; that requests never start faster than the link's share for them
+//! and a burst allow; that no start is missed; and that, whatever others send, a queued request
+//! or regular packet starts within its bound.
 #![tactic(auto)]
 
 mod bounds;
@@ -10,11 +11,15 @@ mod bounds;
 mod cases;
 mod credits;
 mod decision;
+mod fair;
 mod held;
 mod laws;
 mod legacy;
+#[cfg(test)]
+mod level_cases;
 mod parts;
 mod port;
+mod requests;
 
 pub use bounds::{
     keys_are_served_alike, longest_regular_wait, longest_request_wait, packets_start_in_time,

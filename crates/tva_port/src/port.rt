@@ -4,6 +4,7 @@ ghost use Rattle.tva_base.specs.Plan.{AreLinkLimits};
 ghost use Rattle.tva_drr.specs.Queues.{fair};
 ghost use Rattle.tva_shim.specs.Packets.{PacketData, packet_length};
 ghost use Rattle.tva_port.specs.Requests.{cap};
+ghost use Rattle.tva_port.specs.Levels.{no_requests};
 ghost use Rattle.tva_port.specs.Log.{Entry, free_after};
 ghost use Rattle.tva_port.specs.Waiting.{waiting, waiting_after, next_request, queue_answer, queued_by, is_queued, IsEmpty, IsRequestAlone};
 ghost use Rattle.tva_port.specs.Decide.{decision, is_start, started_by, RestsAt, MissesNone, NoneDueBefore, IsFirstCovered};
@@ -17,6 +18,7 @@ use crate::decision::Decision;
 use crate::held::HeldPacket;
 use crate::legacy::LegacyList;
 use crate::parts::{put, start_next};
+use crate::requests::RequestQueues;
 use std::alloc::{AllocError, Global};
 use std::marker::Model;
 use tva_base::{Class, LinkLimits, Time};
@@ -41,7 +43,7 @@ pub struct Port {
     last: u64,
     credit: u64,
     free_at: u64,
-    requests: FairQueues<HeldPacket>,
+    requests: RequestQueues,
     regulars: FairQueues<HeldPacket>,
     legacy: LegacyList,
 }
@@ -65,7 +67,7 @@ impl Port {
     pub fn build(alloc: Global, limits: LinkLimits) -> Result<Port, AllocError>
         requires { AreLinkLimits limits }
         ensures value { IfOk result (λ port. port ≡ port_data limits 0 (cap limits) 0
-            (waiting (fair limits.request []) (fair limits.regular []) [])) }
+            (waiting (no_requests limits) (fair limits.regular []) [])) }
         ensures stands { IfOk result (λ port. StandsFor port []) }
         // No start is missed, as long as nothing comes.
         ensures missed { IfOk result (λ port. (until : ℕ) → MissesNone limits until []) }
@@ -75,18 +77,21 @@ impl Port {
             last: 0,
             credit: most_credit(&limits),
             free_at: 0,
-            requests: FairQueues::with_limits(alloc, limits.request)?,
+            requests: RequestQueues::with_limits(alloc, &limits)?,
             regulars: FairQueues::with_limits(alloc, limits.regular)?,
             legacy: LegacyList::with_limits(alloc, limits.legacy_ring, limits.legacy_bytes)?,
         })
     }
 
     /// Queues a packet of a class at a time, in nanoseconds, which never falls. A request and a
-    /// regular packet are offered to the fair queues of their class under their key: they are refused
-    /// with `NoQueue` where the key has no queue and all are given, and with `QueueFull` where items
-    /// or bytes would be too many. A legacy packet goes last, whatever its key, and is refused with
-    /// `QueueFull` exactly where too many packets or bytes would wait. A refusal hands the packet
-    /// back, and changes nothing but the last time. It takes no memory.
+    /// regular packet are offered to the queues of their class under their key: they are refused
+    /// with `NoQueue` where the key has no queue and all are given, and with `QueueFull` where
+    /// items or bytes would be too many. On a link with two levels a request is offered under its
+    /// key and, within it, under the tag before, which is found in the packet; `NoQueue` comes
+    /// there where the key has no group, or the tag no queue in it, and all are given. A legacy
+    /// packet goes last, whatever its key, and is refused with `QueueFull` exactly where too many
+    /// packets or bytes would wait. A refusal hands the packet back, and changes nothing but the
+    /// last time. It takes no memory.
     pub fn queue(&mut self, now: Time, class: Class, key: u32, packet: Packet) -> Offered<Packet>
         requires time { self.old.last ≤ now.0 }
         requires horizon { now.0 ≤ 1000000000000000 }

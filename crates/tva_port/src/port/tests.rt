@@ -1,13 +1,14 @@
-ghost use Rattle.std.specs.Prelude.{◌≡◌, ◌≤◌, IfOk};
+ghost use Rattle.std.specs.Prelude.{◌≡◌, ◌≤◌, IfOk, IfSome};
 ghost use Rattle.tva_base.specs.Plan.{AreClassLimits, AreLinkLimits};
 
 use super::*;
 use crate::bounds::{longest_regular_wait, longest_request_wait};
 use crate::cases::CASES;
+use crate::level_cases::LEVEL_CASES;
 use std::process::Abort;
 use std::test::Fail;
 use tva_base::{Address, DrrLimits, Flow, PacketId};
-use tva_shim::{Carried, length};
+use tva_shim::{Carried, Entries, Entry, Kind, ReturnInfo, Shim, length};
 
 fn crosses<T: Send + Sync>() {}
 
@@ -77,6 +78,7 @@ fn limits_of(rt: &impl Abort, line: &str) -> LinkLimits
     let mut parts = value(words.next()).unwrap_or("").split("/");
     let legacy_ring = small_number(parts.next());
     let legacy_bytes = small_number(parts.next());
+    let request_inner = inner_queues(rt, words.next());
     assert!(rt; 1 <= ns_per_byte && ns_per_byte <= 1_000_000);
     assert!(rt; 2 <= share && share <= 1000);
     assert!(rt; 4096 <= burst && burst <= 1_000_000);
@@ -90,7 +92,18 @@ fn limits_of(rt: &impl Abort, line: &str) -> LinkLimits
         regular,
         legacy_ring,
         legacy_bytes,
+        request_inner,
     }
+}
+
+/// How many queues stand behind a key, where there are two levels.
+fn inner_queues(rt: &impl Abort, word: Option<&str>) -> Option<u32>
+    ensures { IfSome result (λ inner. (1 ≤ inner) × (inner ≤ 65536)) }
+{
+    let word = word?;
+    let inner = small_number(value(Some(word)));
+    assert!(rt; 1 <= inner && inner <= 65536);
+    Some(inner)
 }
 
 /// A packet with that number, of so many bytes from 20 to 2,020.
@@ -109,6 +122,35 @@ fn packet(rt: &impl Abort, ordinal: u64, bytes: u32) -> Packet {
         dst: Address(2),
     };
     Packet::new(id, flow, 0, payload as u16, carried)
+}
+
+/// A request with two tags, of so many bytes from 43 to 1,643.
+fn request(rt: &impl Abort, ordinal: u64, bytes: u32, key: u32, inner: u32) -> Packet {
+    assert!(rt; 43 <= bytes && bytes <= 1643);
+    assert!(rt; key <= 0xffff && inner <= 0xffff);
+    let mut shim = Shim::new(
+        1,
+        false,
+        6,
+        Kind::Request(Entries::new()),
+        ReturnInfo::Nothing,
+    );
+    let first = Entry {
+        tag: inner as u16,
+        precap: 1,
+    };
+    let last = Entry {
+        tag: key as u16,
+        precap: 1,
+    };
+    assert!(rt; shim.push_entry(first).is_ok());
+    assert!(rt; shim.push_entry(last).is_ok());
+    let id = PacketId { node: 1, ordinal };
+    let flow = Flow {
+        src: Address(1),
+        dst: Address(2),
+    };
+    Packet::new(id, flow, 0, (bytes - 43) as u16, Carried::Shim(shim))
 }
 
 fn class_named(word: Option<&str>) -> Class {
@@ -135,8 +177,12 @@ fn queue(rt: &impl Abort, port: &mut Port, ordinal: u64, call: &str) -> &'static
     let class = class_named(words.next());
     let key = small_number(words.next());
     let bytes = small_number(words.next());
+    let packet = match words.next() {
+        None => packet(rt, ordinal, bytes),
+        Some(inner) => request(rt, ordinal, bytes, key, small_number(Some(inner))),
+    };
     assert!(rt; port.last <= now && now <= 1_000_000_000_000_000);
-    match port.queue(Time(now), class, key, packet(rt, ordinal, bytes)) {
+    match port.queue(Time(now), class, key, packet) {
         Offered::Queued => "Queued",
         Offered::NoQueue(packet) => {
             assert_eq!(rt; packet.id.ordinal, ordinal);
@@ -172,14 +218,14 @@ fn decide(rt: &impl Abort, alloc: Global, port: &mut Port, call: &str) -> Result
     }
 }
 
-#[test]
-fn sequences_of_queueings_and_decisions(rt: HostRuntime) -> Result<(), Fail> {
+/// Makes the calls of some cases, compares their answers, and gives the number of calls.
+fn calls_of(rt: &impl Abort, alloc: Global, cases: &str) -> Result<u64, Fail> {
     let mut port: Option<Port> = None;
     let mut ordinal = 0u64;
     let mut calls = 0u64;
-    for line in CASES.lines() {
+    for line in cases.lines() {
         if line.starts_with("port") {
-            port = Some(Port::build(rt.alloc(), limits_of(&rt, line))?);
+            port = Some(Port::build(alloc, limits_of(rt, line))?);
             ordinal = 0;
         }
         let Some((call, wanted)) = line.split_once(" -> ") else {
@@ -190,14 +236,28 @@ fn sequences_of_queueings_and_decisions(rt: HostRuntime) -> Result<(), Fail> {
         };
         if call.starts_with("queue") {
             ordinal = ordinal.wrapping_add(1);
-            assert_eq!(rt; queue(&rt, port, ordinal, call), wanted, "{line}");
+            assert_eq!(rt; queue(rt, port, ordinal, call), wanted, "{line}");
         } else {
-            let answer = decide(&rt, rt.alloc(), port, call)?;
+            let answer = decide(rt, alloc, port, call)?;
             assert_eq!(rt; answer.as_str(), wanted, "{line}");
         }
         calls = calls.wrapping_add(1);
     }
+    Ok(calls)
+}
+
+#[test]
+fn sequences_of_queueings_and_decisions(rt: HostRuntime) -> Result<(), Fail> {
+    let calls = calls_of(&rt, rt.alloc(), CASES)?;
     assert_eq!(rt; calls, 540);
+    Ok(())
+}
+
+/// On a link with two levels the neighbours behind one tag take turns.
+#[test]
+fn sequences_on_two_levels(rt: HostRuntime) -> Result<(), Fail> {
+    let calls = calls_of(&rt, rt.alloc(), LEVEL_CASES)?;
+    assert_eq!(rt; calls, 145);
     Ok(())
 }
 
@@ -219,4 +279,17 @@ fn bounds_of_the_cases(rt: HostRuntime) {
     );
     assert_eq!(rt; longest_request_wait(&near, 38_380), 42_476_000);
     assert_eq!(rt; longest_regular_wait(&near, 16_160), 22_327);
+}
+
+/// The bound of a request of 1,000 bytes behind 64 tags with 4 queues each: of its tag's requests
+/// at most 3 * (2,048 + 2,048) + 1,000 = 13,288 bytes go up to it, and of all 63 * (14,336 +
+/// 2,048) + 13,288.
+#[test]
+fn bound_on_two_levels(rt: HostRuntime) {
+    let levels = limits_of(
+        &rt,
+        "port ns_per_byte=10 share=20 burst=4096 quantum=2048 request=64/32/65536/1048576 regular=64/32/65536/1048576 legacy=256/262144 inner=4",
+    );
+    assert_eq!(rt; longest_request_wait(&levels, 1000), 209_915_200);
+    assert_eq!(rt; longest_regular_wait(&levels, 1000), 2_791_495);
 }

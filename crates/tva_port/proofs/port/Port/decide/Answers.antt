@@ -1,7 +1,7 @@
 use Rattle.std.proofs.Common.{◌≡◌, ◌↔◌, ℕ, ◌+◌, ◌*◌, ◌++◌, Some, ap, sym, ◌∙◌, subst}
 use Rattle.tva_shim.specs.Packets.{PacketData, packet_length}
 use Rattle.tva_base.specs.Plan.{AreLinkLimits}
-use Rattle.tva_drr.specs.Queues.{head}
+use Rattle.tva_port.specs.Levels.{next_in}
 use Rattle.tva_port.specs.Waiting.{Waiting, IsEmpty, IsRequestAlone}
 use Rattle.tva_port.specs.Decide.{NoneDueBefore, started_by}
 use Rattle.tva_port.specs.Legal.{IsLegal}
@@ -32,9 +32,9 @@ returns-clause-wait c log u p s e h =
     (subst (λ (z : PortData). AreLinkLimits z.limits) c.self.view_is c.self.invariant.limits)
     s.legal
     (later-weaker c.args.self.now.last c.args.now.0 log c.requires.time s.past)
-    (c.start_next-decision.ensures.sized p (subst (λ (z : PortData). head z.waiting.requests.queues ≡ Some p) (sym c.self.view_is) h))
+    (c.start_next-decision.ensures.sized p (subst (λ (z : PortData). next_in z.waiting.requests ≡ Some p) (sym c.self.view_is) h))
     (sym e ∙ d)
-    (ap (λ (w : Waiting). head w.requests.queues) (sym s.waiting) ∙ h)
+    (ap (λ (w : Waiting). next_in w.requests) (sym s.waiting) ∙ h)
 
 pub returns-clause-idle : goal.returns-clause-idle
 returns-clause-idle c log s =
