@@ -1,49 +1,34 @@
 -- What a port decides while nothing more comes to it.
-use Rattle.std.proofs.Common.{◌≡◌, ℕ, suc, ◌+◌, ◌-◌, ◌<◌, ◌≤◌, false, List, [], ◌∷◌, Option, Some, None, refl, sym, subst, ◌∙◌, ap, arith, inl, inr, ◌⊎◌, append-nil}
+use Rattle.std.proofs.Common.{◌≡◌, ℕ, suc, ◌+◌, ◌-◌, ◌<◌, ◌≤◌, false, List, Option, Some, None, refl, sym, subst, ◌∙◌, ap, arith, inl, inr, ◌⊎◌, append-nil}
 use Rattle.std.proofs.Math.Nat.{mul-le-mul_right}
 use Rattle.std.specs.Prelude.{nat_lt, nat_le, ◌&&◌}
 use Rattle.std.proofs.lemmas.Bool.{cases_lt, cases_Bool, cond-true, cond-false, le-leb, lt-leb}
 use Rattle.std.proofs.lemmas.Bool.Decides.{nat_tests, leb_tells}
 use Rattle.tva_base.specs.declared.limits.LinkLimits.{LinkLimits}
-use Rattle.tva_base.specs.declared.limits.DrrLimits.{DrrLimits}
 use Rattle.tva_base.specs.declared.packet.Class.TheVariants.{Request}
 use Rattle.tva_base.specs.declared.packet.Time.{Time}
 use Rattle.tva_base.specs.Plan.{AreLinkLimits}
 use Rattle.tva_shim.specs.Packets.{PacketData, packet_length}
-use Rattle.tva_drr.specs.Queues.{Queue, head, first}
-use Rattle.tva_drr.specs.Fair.{AreMeasured, AreQueues}
 use Rattle.tva_port.specs.declared.decision.Decision.{Decision}
 use Rattle.tva_port.specs.declared.decision.Decision.TheVariants.{Start, WaitUntil, Idle}
 use Rattle.tva_port.specs.Requests.{cost, cap}
 use Rattle.tva_port.specs.Log.{Entry, NoneLater, free_after}
-use Rattle.tva_port.specs.Waiting.{waiting_after}
+use Rattle.tva_port.specs.Waiting.{waiting_after, next_request}
 use Rattle.tva_port.specs.Decide.{covered, wait_for, decision, is_start, credit_after, RestsAt}
 use Rattle.tva_port.specs.Legal.{IsLegal}
-use Rattle.tva_port.proofs.Limits.{stays_within}
 use Rattle.tva_port.proofs.Deciding.{rests_is, lacking, not_covered}
+use Rattle.tva_port.proofs.Steady.{next_sized}
 use Rattle.tva_port.proofs.Resting.{credit-later, resting, wait_is, idle_is, rests}
 use Rattle.tva_log.specs.NodeLog.{start_of, start_after}
 use Rattle.tva_log.specs.Next.{next_by, next_decision}
 
--- ## the request at the head
+-- ## the next request
 
-module _ (limits : DrrLimits) where
-  first_sized : (xs : List PacketData) (p : PacketData) → AreMeasured packet_length limits xs → first xs ≡ Some p → packet_length p ≤ limits.max
-  first_sized [] p m e = absurd (cc)
-  first_sized (x ∷ xs) p m e = let same : x ≡ p = cc in subst (λ y. packet_length y ≤ limits.max) same m.0.1
-
-  head_sized : (qs : List (Queue PacketData)) (p : PacketData) → AreQueues packet_length limits qs → head qs ≡ Some p → packet_length p ≤ limits.max
-  head_sized [] p a e = absurd (cc)
-  head_sized (q ∷ qs) p a e = first_sized q.items p a.0.measured e
-
--- the request at the head costs no more than the cap
-head_within : (l : LinkLimits) (log : List Entry) (p : PacketData) → AreLinkLimits l → IsLegal l log → head (waiting_after l log).requests.queues ≡ Some p → cost l (packet_length p) ≤ cap l
+-- it costs no more than the cap
+head_within : (l : LinkLimits) (log : List Entry) (p : PacketData) → AreLinkLimits l → IsLegal l log
+    → next_request (waiting_after l log) ≡ Some p → cost l (packet_length p) ≤ cap l
 head_within l log p a g e =
-    let w = stays_within l log a g log [] (sym (append-nil log)) in
-    let f = (waiting_after l log).requests in
-    let short : packet_length p ≤ f.limits.max = head_sized f.limits f.queues p w.requests.0.queues.each e in
-    let most : f.limits.max ≡ 2048 = ap (λ (x : DrrLimits). x.max) w.requests.1 ∙ a.request.max in
-    let less : packet_length p ≤ l.burst = omega (arith, a.burst.0) in
+    let less : packet_length p ≤ l.burst = omega (arith, next_sized l log p a g e, a.burst.0) in
     mul-le-mul_right l.ns_per_byte (mul-le-mul_right l.share less)
 
 -- ## decisions of a link to which nothing comes
@@ -54,15 +39,18 @@ module _ (l : LinkLimits) (log : List Entry) (now : ℕ) (limits : AreLinkLimits
   unfolding decision
   idle_again time e =
       let r = resting l log now (ap is_start (sym e)) in
-      let none : head (waiting_after l log).requests.queues ≡ None = idle_is l (credit_after l log now) now (head (waiting_after l log).requests.queues) (sym r.1 ∙ sym e) in
+      let none : next_request (waiting_after l log) ≡ None = idle_is l (credit_after l log now) now
+      (next_request (waiting_after l log)) (sym r.1 ∙ sym e) in
       rests_is l (waiting_after l log) (credit_after l log time) time (record { requests = ap (covered l (credit_after l log time)) none; regulars = r.0.regulars; legacy = r.0.legacy })
       ∙ ap (wait_for l (credit_after l log time) time) none
 
   -- a wait tells whom it is for
-  waits_for : (u : Time) → WaitUntil u ≡ decision l log now → (p : PacketData) × ((head (waiting_after l log).requests.queues ≡ Some p) × (u.0 ≡ now + (cost l (packet_length p) - credit_after l log now)))
+  waits_for : (u : Time) → WaitUntil u ≡ decision l log now
+      → (p : PacketData) × ((next_request (waiting_after l log) ≡ Some p) ×
+      (u.0 ≡ now + (cost l (packet_length p) - credit_after l log now)))
   waits_for u e =
       let r = resting l log now (ap is_start (sym e)) in
-      wait_is l (credit_after l log now) now (head (waiting_after l log).requests.queues) u (sym r.1 ∙ sym e)
+      wait_is l (credit_after l log now) now (next_request (waiting_after l log)) u (sym r.1 ∙ sym e)
 
   -- up to its end a wait stays the same
   wait_again : (u : Time) (time : ℕ) → WaitUntil u ≡ decision l log now → now ≤ time → time < u.0 → decision l log time ≡ WaitUntil u
@@ -201,7 +189,7 @@ late_by : (l : LinkLimits) (log : List Entry) (from t : ℕ) (d : Decision) → 
 late_by l log from t (Start class p) e h = let same : from ≡ t = cc in omega arith
 late_by l log from t (WaitUntil u) e h =
     let r = resting l log from (ap is_start (sym e)) in
-    let w = wait_is l (credit_after l log from) from (head (waiting_after l log).requests.queues) u (sym r.1 ∙ sym e) in
+    let w = wait_is l (credit_after l log from) from (next_request (waiting_after l log)) u (sym r.1 ∙ sym e) in
     let at : u.0 ≡ from + (cost l (packet_length w.0) - credit_after l log from) = w.1.1 in
     let same : u.0 ≡ t = cc in
     omega arith
@@ -219,7 +207,7 @@ next_late l log from t e =
 pub wait_later : (l : LinkLimits) (log : List Entry) (now : ℕ) (u : Time) → WaitUntil u ≡ decision l log now → now < u.0
 wait_later l log now u e =
     let r = resting l log now (ap is_start (sym e)) in
-    let w = wait_is l (credit_after l log now) now (head (waiting_after l log).requests.queues) u (sym r.1 ∙ sym e) in
+    let w = wait_is l (credit_after l log now) now (next_request (waiting_after l log)) u (sym r.1 ∙ sym e) in
     let short : credit_after l log now < cost l (packet_length w.0) = lacking l (credit_after l log now) w.0 (ap (λ (o : Option PacketData). covered l (credit_after l log now) o) (sym w.1.0) ∙ r.0.requests) in
     omega (arith, w.1.1)
 
