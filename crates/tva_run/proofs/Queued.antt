@@ -1,21 +1,24 @@
 -- What waits at the port of a link was queued there, and so was what starts.
-use Rattle.std.proofs.Common.{◌≡◌, ℕ, ◌-◌, Bool, true, false, cond, List, [], ◌∷◌, ◌++◌, drop, Option, Some, None, refl, subst}
-use Rattle.std.specs.Prelude.{nat_le, nat_lt, ◌==◌, count_by}
+use Rattle.std.proofs.Common.{◌≡◌, ℕ, Bool, true, false, cond, List, [], ◌∷◌, drop, Option, Some, None, refl, subst}
+use Rattle.std.specs.Prelude.{nat_le, count_by}
 use Rattle.std.specs.List.{AllByRecursion, filter_map}
 use Rattle.std.proofs.lemmas.List.Elements.{All-drop, All-from_recursion, recursion_from_All}
 use Rattle.tva_base.specs.declared.limits.LinkLimits.{LinkLimits}
 use Rattle.tva_base.specs.declared.packet.Class.{Class}
 use Rattle.tva_base.specs.declared.packet.Class.TheVariants.{Request, Regular, Legacy}
 use Rattle.tva_shim.specs.Packets.{PacketData, packet_length}
-use Rattle.tva_drr.specs.Queues.{Queue, Fair, queue, fair, first, head}
-use Rattle.tva_drr.specs.Offer.{lacks_queue, lacks_room, put, offer_leaves}
-use Rattle.tva_drr.specs.Take.{refilled, popped, settled, front_settled, taken, take_leaves}
+use Rattle.tva_drr.specs.Queues.{Fair, fair, first, head}
+use Rattle.tva_drr.specs.Offer.{offer_leaves}
+use Rattle.tva_drr.specs.Take.{take_leaves}
+use Rattle.tva_drr.proofs.Falling.{by_test}
+use Rattle.tva_port.specs.declared.requests.RequestQueues.{RequestQueues}
+use Rattle.tva_port.specs.Levels.{no_requests, request_leaves, request_taken}
+use Rattle.tva_port.proofs.Holding.{Each, each-offered, each-taken, each-first, each-head, EachRequest, request-none, request-offered, request-taken, request-next}
 use Rattle.tva_port.specs.declared.decision.Decision.{Decision}
 use Rattle.tva_port.specs.Requests.{cost}
 use Rattle.tva_port.specs.Log.{Entry, Queued, Started, free_after}
-use Rattle.tva_port.specs.Waiting.{Waiting, same_class, fair_step, request_step, regular_step, after, queued_legacy, is_legacy_start, waiting_after, next_request}
+use Rattle.tva_port.specs.Waiting.{Waiting, same_class, request_step, regular_step, after, queued_legacy, is_legacy_start, waiting_after, next_request}
 use Rattle.tva_port.specs.Decide.{covered, start_or, wait_for, credit_after, decision}
-use Rattle.tva_joins.proofs.Joins.{each-append}
 use Rattle.tva_log.specs.NodeLog.{start_of, start_after}
 
 some_same : {X : Type 0} (x y : X) → Some x ≡ Some y → x ≡ y
@@ -23,65 +26,6 @@ some_same x y e = cc
 
 -- for whatever holds of each packet that was queued
 module _ (P : PacketData → Type 0) where
-  -- ## fair queues
-
-  abbrev Each : List (Queue PacketData) → Type 0
-  Each qs = AllByRecursion (λ (q : Queue PacketData). AllByRecursion P q.items) qs
-
-  either : (b : Bool) (xs ys : List (Queue PacketData)) → Each xs → Each ys → Each (cond b xs ys)
-  either true xs ys h k = h
-  either false xs ys h k = k
-
-  fair_either : (b : Bool) (f g : Fair PacketData) → Each f.queues → Each g.queues → Each (cond b f g).queues
-  fair_either true f g h k = h
-  fair_either false f g h k = k
-
-  each-put : (start key : ℕ) (p : PacketData) (qs : List (Queue PacketData)) → P p → Each qs → Each (put start key p qs)
-  each-put start key p [] h k = ((h, tt), tt)
-  each-put start key p (q ∷ qs) h k =
-      either (q.key == key) (queue q.key q.deficit (q.items ++ p ∷ []) ∷ qs) (q ∷ put 0 key p qs)
-      (each-append P q.items (p ∷ []) k.0 (h, tt), k.1)
-      (k.0, each-put 0 key p qs h k.1)
-
-  each-offered : (f : Fair PacketData) (key : ℕ) (p : PacketData) → P p → Each f.queues → Each (offer_leaves packet_length f key p).queues
-  each-offered f key p h k =
-      fair_either (lacks_queue f key) f (cond (lacks_room packet_length f key p) f (fair f.limits (put f.limits.quantum key p f.queues))) k
-      (fair_either (lacks_room packet_length f key p) f (fair f.limits (put f.limits.quantum key p f.queues)) k
-      (each-put f.limits.quantum key p f.queues h k))
-
-  each-refilled : (quantum : ℕ) (qs : List (Queue PacketData)) → Each qs → Each (refilled quantum qs)
-  each-refilled quantum [] h = tt
-  each-refilled quantum (q ∷ qs) h = h
-
-  each-settled : (quantum key deficit : ℕ) (xs : List PacketData) (qs : List (Queue PacketData))
-      → AllByRecursion P xs → Each qs → Each (settled packet_length quantum key deficit xs qs)
-  each-settled quantum key deficit [] qs h k = each-refilled quantum qs k
-  each-settled quantum key deficit (x ∷ xs) qs h k =
-      let last : List (Queue PacketData) = queue key deficit (x ∷ xs) ∷ [] in
-      either (nat_lt deficit (packet_length x)) (refilled quantum (qs ++ last)) (queue key deficit (x ∷ xs) ∷ qs)
-      (each-refilled quantum (qs ++ last) (each-append (λ (q : Queue PacketData). AllByRecursion P q.items) qs last k (h, tt)))
-      (h, k)
-
-  each-popped : (quantum key deficit : ℕ) (xs : List PacketData) (qs : List (Queue PacketData))
-      → AllByRecursion P xs → Each qs → Each (front_settled packet_length quantum (popped packet_length key deficit xs ∷ qs))
-  each-popped quantum key deficit [] qs h k = each-settled quantum key deficit [] qs h k
-  each-popped quantum key deficit (x ∷ xs) qs h k = each-settled quantum key (deficit - packet_length x) xs qs h.1 k
-
-  each-left : (quantum : ℕ) (qs : List (Queue PacketData)) → Each qs → Each (taken packet_length quantum qs)
-  each-left quantum [] h = tt
-  each-left quantum (q ∷ qs) h = each-popped quantum q.key q.deficit q.items qs h.0 h.1
-
-  each-taken : (f : Fair PacketData) → Each f.queues → Each (take_leaves packet_length f).queues
-  each-taken f h = each-left f.limits.quantum f.queues h
-
-  each-first : (xs : List PacketData) (p : PacketData) → AllByRecursion P xs → first xs ≡ Some p → P p
-  each-first [] p h e = absurd (cc)
-  each-first (x ∷ xs) p h e = subst P (some_same x p e) h.0
-
-  each-head : (qs : List (Queue PacketData)) (p : PacketData) → Each qs → head qs ≡ Some p → P p
-  each-head [] p h e = absurd (cc)
-  each-head (q ∷ qs) p h e = each-first q.items p h.0 e
-
   -- ## what waits after a log
 
   -- it holds of the packet that an entry queues
@@ -89,15 +33,28 @@ module _ (P : PacketData → Type 0) where
   Brings (Queued time class key packet) = P packet
   Brings (Started time class packet) = Unit {0}
 
-  each-step : (c : Class) (f : Fair PacketData) (e : Entry) → Brings e → Each f.queues → Each (fair_step c f e).queues
-  each-step c f (Queued t class key p) b h = fair_either (same_class class c) (offer_leaves packet_length f key p) f (each-offered f key p b h) h
-  each-step c f (Started t class p) b h = fair_either (same_class class c) (take_leaves packet_length f) f (each-taken f h) h
+  -- the requests, and the regular packets
+  request-step : (rs : RequestQueues) (e : Entry) → Brings e → EachRequest P rs → EachRequest P (request_step rs e)
+  request-step rs (Queued t class key p) b h =
+      by_test (same_class class Request) (λ c. EachRequest P (cond c (request_leaves rs key p) rs))
+      (λ _. request-offered P rs key p b h) (λ _. h)
+  request-step rs (Started t class p) b h =
+      by_test (same_class class Request) (λ c. EachRequest P (cond c (request_taken rs) rs))
+      (λ _. request-taken P rs h) (λ _. h)
 
-  each-after : (step : Fair PacketData → Entry → Fair PacketData)
-      → ((f : Fair PacketData) (e : Entry) → Brings e → Each f.queues → Each (step f e).queues)
-      → (f : Fair PacketData) (log : List Entry) → AllByRecursion Brings log → Each f.queues → Each (after step f log).queues
-  each-after step keeps f [] b h = h
-  each-after step keeps f (e ∷ es) b h = each-after step keeps (step f e) es b.1 (keeps f e b.0 h)
+  regular-step : (f : Fair PacketData) (e : Entry) → Brings e → Each P f.queues → Each P (regular_step f e).queues
+  regular-step f (Queued t class key p) b h =
+      by_test (same_class class Regular) (λ c. Each P (cond c (offer_leaves packet_length f key p) f).queues)
+      (λ _. each-offered P f key p b h) (λ _. h)
+  regular-step f (Started t class p) b h =
+      by_test (same_class class Regular) (λ c. Each P (cond c (take_leaves packet_length f) f).queues)
+      (λ _. each-taken P f h) (λ _. h)
+
+  each-after : {A : Type 0} (Holds : A → Type 0) (step : A → Entry → A)
+      → ((a : A) (e : Entry) → Brings e → Holds a → Holds (step a e))
+      → (a : A) (log : List Entry) → AllByRecursion Brings log → Holds a → Holds (after step a log)
+  each-after Holds step keeps a [] b h = h
+  each-after Holds step keeps a (e ∷ es) b h = each-after Holds step keeps (step a e) es b.1 (keeps a e b.0 h)
 
   each-legacy : (log : List Entry) → AllByRecursion Brings log → AllByRecursion P (filter_map queued_legacy log)
   each-legacy [] b = tt
@@ -137,16 +94,19 @@ module _ (P : PacketData → Type 0) where
   decided_good l log now s b e =
       let w : Waiting = waiting_after l log in
       let c : ℕ = credit_after l log now in
-      let requests : Each w.requests.queues = each-after request_step (each-step Request) (fair l.request []) log b tt in
-      let regulars : Each w.regulars.queues = each-after regular_step (each-step Regular) (fair l.regular []) log b tt in
+      let requests : EachRequest P w.requests = each-after (EachRequest P) request_step request-step
+      (no_requests l) log b (request-none P l) in
+      let regulars : Each P w.regulars.queues = each-after
+      (λ (f : Fair PacketData). Each P f.queues) regular_step regular-step (fair l.regular []) log b tt in
       let legacy : AllByRecursion P w.legacy = each-drop (count_by is_legacy_start log) (filter_map queued_legacy log) (each-legacy log b) in
-      let next : (p : PacketData) → next_request w ≡ Some p → P p = λ p h. each-head w.requests.queues p requests h in
+      let next : (p : PacketData) → next_request w ≡ Some p → P p = λ p h. request-next P w.requests p requests h in
       let last : Decision = wait_for l c now (next_request w) in
       started Request (covered l c (next_request w)) (start_or Regular (head w.regulars.queues) (start_or Legacy (first w.legacy) last)) s
       (covered_good l c (next_request w) next)
       (started Regular (head w.regulars.queues) (start_or Legacy (first w.legacy) last) s
-      (λ p h. each-head w.regulars.queues p regulars h)
-      (started Legacy (first w.legacy) last s (λ p h. each-first w.legacy p legacy h) (waits l c now (next_request w) s)))
+      (λ p h. each-head P w.regulars.queues p regulars h)
+      (started Legacy (first w.legacy) last s (λ p h. each-first P w.legacy p legacy h)
+      (waits l c now (next_request w) s)))
       e
 
   free_or_none : (b : Bool) (o : Option (Class × PacketData)) (s : Class × PacketData) → (o ≡ Some s → P s.1) → cond b o None ≡ Some s → P s.1
