@@ -28,7 +28,7 @@ pub record KeepsGrants (plan : RouterPlan) (h : List Charge) : Type 0 where
   pub living : (now : ℕ) → NoneLater now h → living_count h now ≤ plan.slots
 
 -- from one place of a port's log to another, two keys of a class under which something waits all along start less than
--- so many bytes more than each other
+-- so many bytes more than each other; on a link with two levels this says nothing of requests, which wait under two keys
 abbrev pub AreServedAlike : LinkLimits → Class → ℕ → List port.Entry → List port.Entry → Type 0
 AreServedAlike limits class more before between =
     (a b : ℕ) → a ≢ b → AlwaysWaits limits class a before between → AlwaysWaits limits class b before between
