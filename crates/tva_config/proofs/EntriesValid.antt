@@ -1,5 +1,5 @@
 -- What the entries of the tables keep that were read.
-use Rattle.std.proofs.Common.{◌≡◌, ◌≤◌, ◌<◌, ◌^◌, ◌&&◌, nat_le, Bool, true, false, cond, eqb, ℕ, List, [], None, Ok, All, codes, refl, subst, arith}
+use Rattle.std.proofs.Common.{◌≡◌, ◌≤◌, ◌<◌, ◌^◌, ◌&&◌, nat_le, Bool, true, false, cond, eqb, ℕ, List, [], Option, Some, None, Ok, All, codes, refl, subst, arith}
 use Rattle.std.proofs.lemmas.Bool.{and_parts, leb-true}
 use Rattle.std.proofs.lemmas.List.Elements.{All-nil}
 use Rattle.toml.specs.Data.{Members}
@@ -16,7 +16,7 @@ use Rattle.tva_config.specs.declared.entries.RouteEntry.{RouteEntry}
 use Rattle.tva_config.specs.Faults.{Read}
 use Rattle.tva_config.specs.Keys.{only_listed, required, optional}
 use Rattle.tva_config.specs.Values as value
-use Rattle.tva_config.specs.Entries.{router_keys, router_of, host_keys, host_of, link_keys, row, class_limits, limits_of, link_of, route_keys, route_of}
+use Rattle.tva_config.specs.Entries.{router_keys, router_of, host_keys, host_of, link_keys, row, class_limits, behind_a_tag, inner_of, limits_of, link_of, route_keys, route_of}
 use Rattle.tva_config.specs.Tables.{entry_step, entries_of}
 use Rattle.tva_config.specs.Valid.{IsName, IsRouterEntry, IsHostEntry, IsLinkEntry, IsRouteEntry}
 use Rattle.tva_config.proofs.KindsValid.{IsWithin, required_valid, optional_valid, number_valid, name_valid, prefix_kind_valid, nonce_valid}
@@ -131,6 +131,22 @@ class_valid queues ring queue_bytes class_bytes quantum a b c d e = record {
   quantum = e;
 }
 
+inner_chosen : (b : Bool) (inner n : ℕ) → cond b (Some inner) None ≡ Some n → inner ≡ n
+inner_chosen true inner n e = cc
+inner_chosen false inner n e = absurd (cc)
+
+inner_valid : (p : Place) (ms : Members) (o : Option ℕ) → inner_of p ms ≡ Ok o → (n : ℕ) → o ≡ Some n
+    → (1 ≤ n) × (n ≤ 65536)
+inner_valid p ms o gave =
+    when_gave (λ (r : Option ℕ). (n : ℕ) → r ≡ Some n → (1 ≤ n) × (n ≤ 65536))
+    (optional p ms (codes "request_levels") (value.number 1 2) 1) _ o gave (λ levels k1 g1.
+    when_gave (λ (r : Option ℕ). (n : ℕ) → r ≡ Some n → (1 ≤ n) × (n ≤ 65536))
+    (optional p ms (codes "request_inner") (value.number 1 65536) 4) _ o g1 (λ inner k2 g2.
+    let same : behind_a_tag levels inner ≡ o = gave_one (behind_a_tag levels inner) o g2 in
+    subst (λ (r : Option ℕ). (n : ℕ) → r ≡ Some n → (1 ≤ n) × (n ≤ 65536)) same
+    (λ n e. subst (λ z. (1 ≤ z) × (z ≤ 65536)) (inner_chosen (eqb levels 2) inner n e)
+    (number_or 1 65536 4 p ms (codes "request_inner") inner refl k2))))
+
 limits_valid : (p : Place) (ns : ℕ) (ms : Members) (l : LinkLimits) → IsWithin 1 1000000 ns → limits_of p ns ms ≡ Ok l → AreLinkLimits l
 unfolding limits_of
 limits_valid p ns ms l rate gave =
@@ -143,6 +159,7 @@ limits_valid p ns ms l rate gave =
     when_gave AreLinkLimits (row p ms (codes "request_bytes") (codes "regular_bytes") 2048 1073741824 1048576) _ l g6 (λ class_bytes k7 g7.
     when_gave AreLinkLimits (optional p ms (codes "legacy_ring") (value.number 1 65536) 256) _ l g7 (λ legacy_ring k8 g8.
     when_gave AreLinkLimits (optional p ms (codes "legacy_bytes") (value.number 2048 1073741824) 262144) _ l g8 (λ legacy_bytes k9 g9.
+    when_gave AreLinkLimits (inner_of p ms) _ l g9 (λ inner k10 g10.
     let made : LinkLimits = record {
       ns_per_byte = ns;
       share = share;
@@ -151,9 +168,9 @@ limits_valid p ns ms l rate gave =
       regular = class_limits queues.1 rings.1 queue_bytes.1 class_bytes.1 quantum;
       legacy_ring = legacy_ring;
       legacy_bytes = legacy_bytes;
-      request_inner = None;
+      request_inner = inner;
     } in
-    let same : made ≡ l = gave_one made l g9 in
+    let same : made ≡ l = gave_one made l g10 in
     let few = number_or 2048 1000000 2048 p ms (codes "quantum") quantum refl k3 in
     let (q0, q1) = row_valid p ms (codes "request_queues") (codes "regular_queues") 1 65536 64 queues refl k4 in
     let (r0, r1) = row_valid p ms (codes "request_ring") (codes "regular_ring") 1 65536 32 rings refl k5 in
@@ -168,9 +185,9 @@ limits_valid p ns ms l rate gave =
       regular = class_valid queues.1 rings.1 queue_bytes.1 class_bytes.1 quantum q1 r1 b1 c1 few;
       legacy_ring = number_or 1 65536 256 p ms (codes "legacy_ring") legacy_ring refl k8;
       legacy_bytes = bytes_within legacy_bytes legacy;
-      request_inner = λ inner e. absurd (cc);
+      request_inner = inner_valid p ms inner k10;
     } in
-    subst AreLinkLimits same valid)))))))))
+    subst AreLinkLimits same valid))))))))))
 
 pub link_valid : (p : Place) (ms : Members) (l : LinkEntry) → link_of p ms ≡ Ok l → IsLinkEntry l
 unfolding link_of

@@ -1,5 +1,5 @@
 -- The keys of each table, in the order of their faults: a key, its kind, and its default.
-use Rattle.std.specs.Prelude.{ℕ, List, [], ◌∷◌, Ok, None, codes}
+use Rattle.std.specs.Prelude.{ℕ, ◌==◌, if◌then◌else◌, List, [], ◌∷◌, Option, Some, None, Ok, codes}
 use Rattle.toml.specs.Data.{Members}
 use Rattle.tva_base.specs.declared.limits.DrrLimits.{DrrLimits}
 use Rattle.tva_base.specs.declared.limits.LinkLimits.{LinkLimits}
@@ -70,7 +70,7 @@ link_keys = codes "from" ∷ codes "to" ∷ codes "ns_per_byte" ∷ codes "delay
     ∷ codes "share" ∷ codes "burst" ∷ codes "quantum"
     ∷ codes "request_queues" ∷ codes "regular_queues" ∷ codes "request_ring" ∷ codes "regular_ring"
     ∷ codes "request_queue_bytes" ∷ codes "regular_queue_bytes" ∷ codes "request_bytes" ∷ codes "regular_bytes"
-    ∷ codes "legacy_ring" ∷ codes "legacy_bytes" ∷ []
+    ∷ codes "legacy_ring" ∷ codes "legacy_bytes" ∷ codes "request_levels" ∷ codes "request_inner" ∷ []
 
 -- a row of two keys: one of requests, and one of regular packets
 abbrev pub row : Place → Members → List ℕ → List ℕ → ℕ → ℕ → ℕ → Read (ℕ × ℕ)
@@ -90,6 +90,16 @@ class_limits queues ring queue_bytes class_bytes quantum = record {
   max = 2048;
 }
 
+-- how many queues stand behind a tag, on a link whose requests have two levels
+abbrev pub behind_a_tag : ℕ → ℕ → Option ℕ
+behind_a_tag levels inner = if levels == 2 then Some inner else None
+
+abbrev pub inner_of : Place → Members → Read (Option ℕ)
+inner_of p ms = do
+  levels ← optional p ms (codes "request_levels") (value.number 1 2) 1
+  inner ← optional p ms (codes "request_inner") (value.number 1 65536) 4
+  Ok (behind_a_tag levels inner)
+
 -- the keys behind `tag`
 unfoldable pub limits_of : Place → ℕ → Members → Read LinkLimits
 limits_of p ns_per_byte ms = do
@@ -102,6 +112,7 @@ limits_of p ns_per_byte ms = do
   class_bytes ← row p ms (codes "request_bytes") (codes "regular_bytes") 2048 1073741824 1048576
   legacy_ring ← optional p ms (codes "legacy_ring") (value.number 1 65536) 256
   legacy_bytes ← optional p ms (codes "legacy_bytes") (value.number 2048 1073741824) 262144
+  inner ← inner_of p ms
   Ok (record {
     ns_per_byte = ns_per_byte;
     share = share;
@@ -110,7 +121,7 @@ limits_of p ns_per_byte ms = do
     regular = class_limits queues.1 rings.1 queue_bytes.1 class_bytes.1 quantum;
     legacy_ring = legacy_ring;
     legacy_bytes = legacy_bytes;
-    request_inner = None;
+    request_inner = inner;
   })
 
 unfoldable pub link_of : Place → Members → Read LinkEntry

@@ -64,10 +64,15 @@ uplink_step routers links earlier host = uplink_of routers links (length earlier
 unfoldable pub uplinks_of : ℕ → List LinkPlan → List HostEntry → Read (List ℕ)
 uplinks_of routers links hosts = in_turn (uplink_step routers links) [] hosts
 
+-- the queues behind a tag, one on a link with one level
+abbrev pub queues_behind : Option ℕ → ℕ
+queues_behind None = 1
+queues_behind (Some inner) = inner
+
 -- the places of a link's queues
 abbrev pub places : LinkPlan → ℕ
 places link =
-    link.limits.request.queues * link.limits.request.ring
+    link.limits.request.queues * queues_behind link.limits.request_inner * link.limits.request.ring
     + link.limits.regular.queues * link.limits.regular.ring
     + link.limits.legacy_ring
 

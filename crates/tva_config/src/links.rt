@@ -4,7 +4,7 @@ ghost use Rattle.std.specs.List.{list_any};
 ghost use Rattle.std.specs.HashMap.{get_by_text};
 ghost use Rattle.tva_config.specs.Faults.{AnswersBy};
 ghost use Rattle.tva_config.specs.Views.{IsPairs, link_at};
-ghost use Rattle.tva_config.specs.Links.{joins, link_between, link_step, links_of, links_from, only, uplink_of, uplinks_of, places, all_places, rings_of};
+ghost use Rattle.tva_config.specs.Links.{joins, link_between, link_step, links_of, links_from, only, uplink_of, uplinks_of, queues_behind, places, all_places, rings_of};
 
 use crate::entries::{HostEntry, LinkEntry};
 use crate::fault::{ConfigError, ConfigFault, ConfigRule, ConfigTable};
@@ -173,11 +173,23 @@ fn all_places(links: &[LinkPlan]) -> u128
 // The places of a link's queues.
 fn places(link: &LinkPlan) -> u128
     ensures value { result ≡ places link.now }
-    ensures room { result < 2 ^ 66 }
+    ensures room { result < 2 ^ 97 }
 {
-    let request = product(link.limits.request.queues, link.limits.request.ring);
-    let regular = product(link.limits.regular.queues, link.limits.regular.ring);
-    together(request, regular, link.limits.legacy_ring)
+    let limits = &link.limits;
+    let behind = queues_behind(limits.request_inner);
+    let request = product_of_three(limits.request.queues, behind, limits.request.ring);
+    let regular = product(limits.regular.queues, limits.regular.ring);
+    together(request, regular, limits.legacy_ring)
+}
+
+// The queues behind a tag, one on a link with one level.
+fn queues_behind(inner: Option<u32>) -> u32
+    ensures { result ≡ queues_behind inner }
+{
+    match inner {
+        None => 1,
+        Some(inner) => inner,
+    }
 }
 
 fn product(queues: u32, ring: u32) -> u64
@@ -186,9 +198,17 @@ fn product(queues: u32, ring: u32) -> u64
     u64::from(queues) * u64::from(ring)
 }
 
-fn together(request: u64, regular: u64, legacy: u32) -> u128
-    ensures value { result ≡ request + regular + legacy }
-    ensures room { result < 2 ^ 66 }
+fn product_of_three(queues: u32, behind: u32, ring: u32) -> u128
+    ensures value { result ≡ queues * behind * ring }
+    ensures room { result < 2 ^ 96 }
 {
-    u128::from(request) + u128::from(regular) + u128::from(legacy)
+    u128::from(queues) * u128::from(behind) * u128::from(ring)
+}
+
+fn together(request: u128, regular: u64, legacy: u32) -> u128
+    requires { request < 2 ^ 96 }
+    ensures value { result ≡ request + regular + legacy }
+    ensures room { result < 2 ^ 97 }
+{
+    request + u128::from(regular) + u128::from(legacy)
 }

@@ -7,7 +7,7 @@ ghost use Rattle.tva_base.specs.Versions.{seconds_max, units_max};
 ghost use Rattle.tva_config.specs.Faults.{Answers, Read};
 ghost use Rattle.tva_config.specs.Keys.{optional};
 ghost use Rattle.tva_config.specs.Values.{number};
-ghost use Rattle.tva_config.specs.Entries.{router_of, host_of, link_of, row, class_limits, limits_of, route_of};
+ghost use Rattle.tva_config.specs.Entries.{router_of, host_of, link_of, row, class_limits, behind_a_tag, inner_of, limits_of, route_of};
 
 use crate::entries::{HostEntry, LinkEntry, RouteEntry, RouterEntry};
 use crate::fault::{ConfigError, ConfigFault};
@@ -92,7 +92,7 @@ impl Entry for RouteEntry {
     }
 }
 
-const LINK_KEYS: [&str; 18] = [
+const LINK_KEYS: [&str; 20] = [
     "from",
     "to",
     "ns_per_byte",
@@ -111,6 +111,8 @@ const LINK_KEYS: [&str; 18] = [
     "regular_bytes",
     "legacy_ring",
     "legacy_bytes",
+    "request_levels",
+    "request_inner",
 ];
 
 /// A link, or its first fault.
@@ -186,6 +188,7 @@ fn limits(place: Place, ns_per_byte: u64, table: &Table) -> Result<LinkLimits, C
         BYTES_MAX,
         262_144,
     )?;
+    let request_inner = inner_queues(place, table)?;
     Ok(LinkLimits {
         ns_per_byte,
         share,
@@ -194,8 +197,23 @@ fn limits(place: Place, ns_per_byte: u64, table: &Table) -> Result<LinkLimits, C
         regular: class_limits(queues.1, rings.1, queue_bytes.1, class_bytes.1, quantum),
         legacy_ring,
         legacy_bytes,
-        request_inner: None,
+        request_inner,
     })
+}
+
+// How many queues stand behind a tag, where the requests of a link have two levels.
+fn inner_queues(place: Place, table: &Table) -> Result<Option<u32>, ConfigFault>
+    ensures { result ≡ inner_of place (table_view table.now) }
+{
+    let levels = keys::count_or(place, table, "request_levels", 1, 2, 1)?;
+    let inner = keys::count_or(place, table, "request_inner", 1, 65_536, 4)?;
+    Ok(behind_a_tag(levels, inner))
+}
+
+fn behind_a_tag(levels: u32, inner: u32) -> Option<u32>
+    ensures { result ≡ behind_a_tag levels inner }
+{
+    if levels == 2 { Some(inner) } else { None }
 }
 
 // A row of two keys: one of requests, and one of regular packets.

@@ -95,6 +95,8 @@ request_bytes = 2900
 regular_bytes = 3100
 legacy_ring = 31
 legacy_bytes = 3200
+request_levels = 2
+request_inner = 5
 [[link]]
 from = "h_2"
 to = "second"
@@ -125,6 +127,7 @@ router second 0000000000000000000000000000000000000000000000000000000000000001 o
  in 2 tag 33
  out 0 rate 19 share 22 burst 5000
   request 23 25 2700 2900 3000 2048
+  inner 5
   regular 24 26 2800 3100 3000 2048
   legacy 31 3200
  route 4278190080/12 by 0
@@ -140,6 +143,7 @@ host h_2 16909061 nonce 1 margin 1000000 retry 2000000000 version 2 uplink 1
  deny 32 10 grants 1000
 link 1 to 0 delay 20 tag 21 rate 19 share 22 burst 5000
   request 23 25 2700 2900 3000 2048
+  inner 5
   regular 24 26 2800 3100 3000 2048
   legacy 31 3200
 link 3 to 1 delay 1 tag 0 rate 1 share 20 burst 8192
@@ -297,6 +301,9 @@ fn add_limits(text: &mut String, limits: &LinkLimits) -> Result<(), AllocError> 
         limits.ns_per_byte, limits.share, limits.burst
     )?;
     add_class(text, "request", &limits.request)?;
+    if let Some(inner) = limits.request_inner {
+        writeln!(text, "  inner {inner}")?;
+    }
     add_class(text, "regular", &limits.regular)?;
     writeln!(
         text,

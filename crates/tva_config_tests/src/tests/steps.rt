@@ -225,6 +225,24 @@ queue places of all links a million and one
 ^ tag = 2|request_queues = 1|request_ring = 1|regular_queues = 986|regular_ring = 1000|legacy_ring = 944
 ^ bad config: rings link 0 -
 
+queue places of two levels: all links a million
+^ walk
+^ tag = 2
+^ tag = 2|request_levels = 2|request_inner = 15385|request_ring = 1
+^ config nodes=3 links=4 routes=2 slots=8
+
+queue places of two levels: all links past a million
+^ walk
+^ tag = 2
+^ tag = 2|request_levels = 2|request_inner = 15386|request_ring = 1
+^ bad config: rings link 0 -
+
+queues behind a tag have no places on a link with one level
+^ walk
+^ tag = 2
+^ tag = 2|request_inner = 15386|request_ring = 1
+^ config nodes=3 links=4 routes=2 slots=8
+
 request queues alone past a million
 ^ walk
 ^ tag = 2

@@ -2,7 +2,7 @@
 pub const CASES: &str = r#"an unknown key of a link
 ^ walk
 ^ tag = 2
-^ tag = 2|request_levels = 1
+^ tag = 2|request_level = 1
 ^ bad config: unknown link 3 -
 
 a link without from
@@ -110,13 +110,19 @@ tag below zero
 all further numbers of a link at their lower ends
 ^ walk
 ^ tag = 2
-^ tag = 2|share = 2|burst = 4096|quantum = 2048|request_queues = 1|regular_queues = 1|request_ring = 1|regular_ring = 1|request_queue_bytes = 2048|regular_queue_bytes = 2048|request_bytes = 2048|regular_bytes = 2048|legacy_ring = 1|legacy_bytes = 2048
+^ tag = 2|share = 2|burst = 4096|quantum = 2048|request_queues = 1|regular_queues = 1|request_ring = 1|regular_ring = 1|request_queue_bytes = 2048|regular_queue_bytes = 2048|request_bytes = 2048|regular_bytes = 2048|legacy_ring = 1|legacy_bytes = 2048|request_levels = 1|request_inner = 1
 ^ config nodes=3 links=4 routes=2 slots=8
 
 all further numbers of a link at their upper ends, one queue item by one
 ^ walk
 ^ tag = 2
-^ tag = 2|share = 1000|burst = 1000000|quantum = 1000000|request_queues = 65536|regular_queues = 65536|request_ring = 1|regular_ring = 1|request_queue_bytes = 1073741824|regular_queue_bytes = 1073741824|request_bytes = 1073741824|regular_bytes = 1073741824|legacy_bytes = 1073741824|legacy_ring = 65536
+^ tag = 2|share = 1000|burst = 1000000|quantum = 1000000|request_queues = 65536|regular_queues = 65536|request_ring = 1|regular_ring = 1|request_queue_bytes = 1073741824|regular_queue_bytes = 1073741824|request_bytes = 1073741824|regular_bytes = 1073741824|legacy_bytes = 1073741824|legacy_ring = 65536|request_inner = 65536
+^ config nodes=3 links=4 routes=2 slots=8
+
+two levels with as many queues behind a tag as there may be
+^ walk
+^ tag = 2
+^ tag = 2|request_levels = 2|request_inner = 65536|request_queues = 1|request_ring = 1
 ^ config nodes=3 links=4 routes=2 slots=8
 
 rings at their upper ends with one queue each
@@ -280,6 +286,42 @@ legacy_bytes past its upper end
 ^ tag = 2
 ^ tag = 2|legacy_bytes = 1073741825
 ^ bad config: value link 3 legacy_bytes
+
+no level of requests
+^ walk
+^ tag = 2
+^ tag = 2|request_levels = 0
+^ bad config: value link 3 request_levels
+
+three levels of requests
+^ walk
+^ tag = 2
+^ tag = 2|request_levels = 3
+^ bad config: value link 3 request_levels
+
+no queue behind a tag
+^ walk
+^ tag = 2
+^ tag = 2|request_levels = 2|request_inner = 0
+^ bad config: value link 3 request_inner
+
+queues behind a tag past their end, on a link with one level
+^ walk
+^ tag = 2
+^ tag = 2|request_inner = 65537
+^ bad config: value link 3 request_inner
+
+legacy_bytes before the levels, and these before the queues behind a tag
+^ walk
+^ tag = 2
+^ tag = 2|request_inner = 0|request_levels = 0|legacy_bytes = 0
+^ bad config: value link 3 legacy_bytes
+
+the levels before the queues behind a tag
+^ walk
+^ tag = 2
+^ tag = 2|request_inner = 0|request_levels = 0
+^ bad config: value link 3 request_levels
 
 all further numbers of a link bad: the first is told
 ^ walk
