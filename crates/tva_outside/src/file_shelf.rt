@@ -71,13 +71,16 @@ pub(crate) enum Reading {
     OutOfMemory,
 }
 
+// The bytes that one read takes at most.
+const PIECE: usize = 65_536;
+
 // All of the bytes that a reader gives, where they are no more than the limit.
 pub(crate) fn read_whole<F: Read>(alloc: Global, file: &mut F, max: u64) -> Reading
     requires { max ≤ 2 ^ 40 }
     ensures { IsWithin max result }
 {
     let mut bytes = Vec::new(alloc);
-    let mut piece = [0u8; 4096];
+    let mut piece = [0u8; PIECE];
     // A reader may be one that never ends.
     for _ in 0..u64::MAX {
         match file.read(&mut piece) {
