@@ -1,5 +1,5 @@
 // Lists that contracts see as lists.
-ghost use Rattle.std.specs.Prelude.{◌≡◌, ◌<◌, ◌≤◌, ◌^◌, [], ◌∷◌, ◌++◌, length, All};
+ghost use Rattle.std.specs.Prelude.{◌≡◌, ◌<◌, ◌≤◌, ◌^◌, [], ◌∷◌, ◌++◌, length, slice_set, All};
 
 use arrayvec::ArrayVec;
 use std::marker::Model;
@@ -76,6 +76,14 @@ impl Caps {
         ensures { self.new ≡ self.old ++ cap ∷ [] }
     {
         self.0.push(cap);
+    }
+
+    /// Puts another capability at a place.
+    pub fn set(&mut self, place: usize, cap: u64)
+        requires { place < length self.old }
+        ensures { self.new ≡ slice_set self.old place cap }
+    {
+        self.0.as_mut_slice()[place] = cap;
     }
 
     pub fn as_slice(&self) -> &[u64]

@@ -42,21 +42,8 @@ impl Shown {
         requires { self.old.pointer < length self.old.caps }
         ensures { self.new ≡ record self.old { caps = slice_set self.old.caps self.old.pointer precap } }
     {
-        self.caps = with_cap(&self.caps, self.pointer, precap);
+        self.caps.set(usize::from(self.pointer), precap);
     }
-}
-
-// the capabilities with another one at that place
-fn with_cap(caps: &Caps, place: u8, cap: u64) -> Caps
-    requires { place < length caps.now }
-    ensures { result ≡ slice_set caps.now place cap }
-{
-    let mut changed = Caps::new();
-    for (index, old) in caps.as_slice().iter().enumerate() {
-        let here = index == usize::from(place);
-        changed.push(if here { cap } else { *old });
-    }
-    changed
 }
 
 /// What a shim is: a request with the entries of the routers that it passed, a list of
