@@ -1,7 +1,5 @@
-use Rattle.std.proofs.Common.{◌≡◌, ℕ, refl, sym, subst, ap, ◌∙◌, ◌∷◌, [], ◌++◌, Option, None, arith}
+use Rattle.std.proofs.Common.{◌≡◌, refl, sym, subst, ap, ◌∙◌, ◌∷◌, [], ◌++◌, Option, None, arith}
 use Rattle.std.proofs.Math.Nat.{le_refl}
-use Rattle.std.specs.Prelude.{nat_eq, is_some}
-use Rattle.std.specs.Map.{lookup}
 use Rattle.tva_sender.specs.declared.peer.Peer.{Peer}
 use Rattle.tva_sender.specs.Contacts.{Notice}
 use Rattle.tva_sender.specs.Book.{Book, StandsFor, of_peer, peer_at, IsKept, knows}

@@ -1,4 +1,4 @@
-use Rattle.std.proofs.Common.{◌≡◌, ℕ, Bool, ◌&&◌, refl, sym, subst, ap, ◌∙◌, None, Option, arith}
+use Rattle.std.proofs.Common.{◌≡◌, Bool, ◌&&◌, refl, sym, subst, ap, ◌∙◌, None, Option, arith}
 use Rattle.std.proofs.Math.Nat.{le_refl}
 use Rattle.tva_sender.specs.declared.peer.Peer.{Peer}
 use Rattle.tva_sender.specs.Contacts.{is_within, takes}

@@ -1,4 +1,4 @@
-use Rattle.std.proofs.Common.{◌≡◌, ◌≤◌, ◌<◌, ◌-◌, ℕ, ◌||◌, cond, eqb, length, refl, sym, subst, ap, ◌∙◌, List, ◌∷◌, [], ◌++◌, Option, None, Some, false, arith}
+use Rattle.std.proofs.Common.{◌≡◌, ◌≤◌, ◌-◌, ℕ, ◌||◌, cond, eqb, length, refl, sym, subst, ap, ◌∙◌, List, ◌∷◌, [], ◌++◌, Option, None, Some, false, arith}
 use Rattle.std.specs.Prelude.{is_some, nat_eq, IfSome}
 use Rattle.std.proofs.Math.Nat.{le_refl}
 use Rattle.std.proofs.lemmas.List.{length_push}
