@@ -11,7 +11,9 @@ use Rattle.tva_base.specs.declared.limits.LinkLimits.{LinkLimits}
 use Rattle.tva_base.specs.declared.plan.LinkPlan.{LinkPlan}
 use Rattle.tva_base.specs.Plan.{AreLinkLimits, links_of}
 use Rattle.tva_config.specs.declared.config.NodePlan.{NodePlan}
-use Rattle.tva_port.specs.Decide.{decision}
+use Rattle.tva_port.specs.Waiting.{waiting_after, IsEmpty}
+use Rattle.tva_port.proofs.Idling.{empty_idles}
+use Rattle.tva_port.proofs.Levels.{none_first as no_request_first}
 use Rattle.tva_joins.specs.Joins.{precedes, put_in}
 use Rattle.tva_joins.proofs.Joins.{each-cut, each-weaker}
 use Rattle.tva_joins.proofs.Putting.{cut-put_all, put_all-append}
@@ -19,7 +21,7 @@ use Rattle.tva_log.specs.declared.kinds.Input.{Input}
 use Rattle.tva_log.specs.Sites.{Site, IsLinkOut, IsSite, limits_out, site_of}
 use Rattle.tva_log.specs.Entries.{Entry, input_source, input_time}
 use Rattle.tva_log.specs.NodeLog.{in_turn, due}
-use Rattle.tva_log.specs.Next.{next_decision, IsWorkAt}
+use Rattle.tva_log.specs.Next.{next_by, next_decision, IsWorkAt}
 use Rattle.tva_log.proofs.Logs.{IsNodeLog-same}
 use Rattle.tva_node.specs.declared.parts.Link.{Link}
 use Rattle.tva_node.specs.declared.role.Role.{Role}
@@ -121,8 +123,14 @@ posted v i late within fits (log, h) =
 -- ## a new node
 
 nothing_next : (limits : LinkLimits) → next_decision limits [] 0 ≡ None
-unfolding next_decision decision
-nothing_next limits = refl
+unfolding next_decision
+nothing_next limits =
+    let none : IsEmpty (waiting_after limits []) = record {
+      requests = no_request_first limits.request limits.request_inner;
+      regulars = refl;
+      legacy = refl;
+    } in
+    ap (next_by 0) (empty_idles limits [] 0 none)
 
 next_nothing : (o : Option (ℕ × LinkLimits)) → None ≡ option_and_then (λ x. next_decision x.1 [] 0) o
 next_nothing None = refl
