@@ -5,6 +5,7 @@
 #![tactic(auto)]
 
 mod formulas;
+mod kept;
 mod laws;
 mod minters;
 mod secrets;
@@ -12,5 +13,6 @@ mod secrets;
 mod tests;
 
 pub use formulas::{capability, precap_at};
+pub use kept::KeptSecret;
 pub use laws::capability_lasts;
 pub use minters::{Checked, Minter};

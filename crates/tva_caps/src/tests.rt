@@ -6,7 +6,7 @@
 //   capability(p) = p[:1] + sha(p + be(n, 2) + be(t, 1))[:7] where n <= 1023 and t <= 63,
 //                   and else p[:1] + sha(p + be(2, 1) + be(n, 4) + be(t, 1))[:7]
 use crate::formulas::secret_at;
-use crate::{Checked, Minter, capability, precap_at};
+use crate::{Checked, KeptSecret, Minter, capability, precap_at};
 use std::process::Abort;
 use tva_base::{Address, Flow, Grant, Rights, SECOND, TIME_MAX, Time, carries};
 
@@ -142,12 +142,18 @@ fn precaps_of_seconds(rt: HostRuntime) {
         (ZEROS, HERE, THERE, 5, 0x05e85cde805f3354),
         (ONES, HERE, THERE, 5, 0x05263ec90a676ead),
     ];
+    let mut kept = KeptSecret::new(ZEROS);
     for (master, src, dst, second, precap) in cases {
         assert!(rt; second <= 2_000_000);
         assert_eq!(rt;
             precap_at(master, second, flow(src, dst)),
             precap,
             "at {second}"
+        );
+        assert_eq!(rt;
+            kept.precap_at(&master, second, flow(src, dst)),
+            precap,
+            "kept, at {second}"
         );
     }
 }
@@ -372,6 +378,7 @@ fn crosses<T: Send + Sync>() {}
 
 #[test]
 fn crosses_to_threads() {
+    crosses::<KeptSecret>();
     crosses::<Minter>();
     crosses::<Checked>();
 }
