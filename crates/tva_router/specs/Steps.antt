@@ -2,17 +2,22 @@
 use Rattle.std.specs.Prelude.{◌≡◌, ℕ, ◌≤◌, List, [], ◌∷◌, ◌++◌, Option, Some, None, Ok, Err}
 use Rattle.tva_base.specs.Plan.{IsRouterPlan}
 use Rattle.tva_base.specs.declared.limits.LinkLimits.{LinkLimits}
+use Rattle.tva_base.specs.declared.packet.Cause.{Cause}
+use Rattle.tva_base.specs.declared.packet.Class.{Class}
 use Rattle.tva_base.specs.declared.packet.Grant.{Grant}
 use Rattle.tva_base.specs.declared.plan.RouterPlan.{RouterPlan}
+use Rattle.tva_shim.specs.declared.packets.Carried.{Carried}
 use Rattle.tva_flow.specs.Charges.{Charge}
 use Rattle.tva_flow.specs.Budget.{AreTimely}
 use Rattle.tva_flow.specs.Stands as flows
 use Rattle.tva_port.specs.Stands as port
 use Rattle.tva_router.specs.declared.judged.Arrival.{Arrival}
+use Rattle.tva_router.specs.declared.judged.Judged.{Judged}
+use Rattle.tva_router.specs.declared.judged.Judgement.{Judgement}
 use Rattle.tva_router.specs.declared.guard.Guard.{Guard}
 use Rattle.tva_router.specs.declared.finding.Ways.{Ways}
 use Rattle.tva_router.specs.Tables.{ArePlaces, AreWays}
-use Rattle.tva_router.specs.Judging.{Answer}
+use Rattle.tva_router.specs.Judging.{Answer, judged}
 use Rattle.tva_router.specs.Handling.{charged_by}
 
 -- the minter and the cache are the plan's, and were called no later than that, and the places are those of
@@ -31,6 +36,13 @@ pub record MayJudge (plan : RouterPlan) (g : Guard) (a : Arrival) : Type 0 where
   pub guard : IsGuard plan a.time.0 g
   pub horizon : a.time.0 ≤ 1000000000000000
   pub sized : (20 ≤ a.bytes) × (a.bytes ≤ 2048)
+
+abbrev pub judgement : Class → Option Cause → Option Grant → Judgement
+judgement class cause charge = record { class = class; cause = cause; charge = charge }
+
+-- what a router makes of an arrival, by its judgement and what the packet then carries
+abbrev pub judged_with : Judgement → Carried → Judged
+judged_with j carries = judged j.class j.cause j.charge carries
 
 -- the grant of an answer
 abbrev pub grant_in : Answer → Option Grant

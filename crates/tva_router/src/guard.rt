@@ -3,17 +3,17 @@ ghost use Rattle.std.specs.Prelude.{◌≡◌, ◌≤◌, ◌<◌, ◌==◌, Lis
 ghost use Rattle.std.specs.List.{find};
 ghost use Rattle.tva_base.specs.Plan.{IsRouterPlan};
 ghost use Rattle.tva_base.specs.Versions.{AreSomeRights};
-ghost use Rattle.tva_shim.specs.Changes.{IsRequest, PointsAtOne, with_next_pointer, with_fresh};
+ghost use Rattle.tva_shim.specs.Changes.{IsRequest, PointsAtOne, with_next_pointer, with_fresh, with_mark};
 ghost use Rattle.tva_shim.specs.Packets.{IsCarried};
 ghost use Rattle.tva_caps.specs.Check.{IfValid, IsSecondOf};
 ghost use Rattle.tva_flow.specs.Charges.{Charge};
 ghost use Rattle.tva_flow.specs.Stands.{StandsFor};
-ghost use Rattle.tva_router.specs.Judging.{tag_or_zero, tag_of, second_of, fresh_for, answer_of, answer_to_checked, answer_to_shown, answer_to_nonce, marked, judged, judged_by, judged_request, judged_shim, judge};
+ghost use Rattle.tva_router.specs.Judging.{tag_or_zero, tag_of, second_of, fresh_for, answer_of, answer_to_checked, answer_to_shown, answer_to_nonce, judged_by, judged_request, judged_shim, judge};
 ghost use Rattle.tva_shim.specs.Shows.{kind_nonce, nonce_in};
-ghost use Rattle.tva_router.specs.Steps.{IsGuard, MayJudge, Keeps, grant_in};
+ghost use Rattle.tva_router.specs.Steps.{IsGuard, MayJudge, Keeps, grant_in, judgement, judged_with};
 ghost use Rattle.tva_router.specs.Tables.{ArePlaces};
 
-use crate::judged::{Arrival, Judged};
+use crate::judged::{Arrival, Judgement};
 use crate::key::flow_key;
 use crate::places::{place_of, places_of};
 use std::alloc::{AllocError, Global};
@@ -46,33 +46,37 @@ impl Guard {
         })
     }
 
-    /// What the router makes of an arrival that carries this.
-    pub fn judge(&mut self, plan: &RouterPlan, arrival: &Arrival, carried: Carried) -> Judged
+    /// What the router makes of an arrival that carries this, which is then what it carries on.
+    pub fn judge(
+        &mut self,
+        plan: &RouterPlan,
+        arrival: &Arrival,
+        carried: &mut Carried,
+    ) -> Judgement
         requires { MayJudge plan.now self.old arrival.now }
         ensures guard { IsGuard plan.now arrival.now.time.0 self.new }
         ensures answer { (h : List Charge) → StandsFor self.old.cache h
-            → result ≡ judge plan.now h arrival.now carried }
-        ensures keeps { Keeps plan.now arrival.now result.charge (nonce_in carried) self.old.cache self.new.cache }
-        ensures carried { IsCarried carried → IsCarried result.carried }
+            → judged_with result carried.new ≡ judge plan.now h arrival.now carried.old }
+        ensures keeps { Keeps plan.now arrival.now result.charge (nonce_in carried.old) self.old.cache self.new.cache }
+        ensures carried { IsCarried carried.old → IsCarried carried.new }
     {
         match carried {
-            Carried::Nothing => legacy(None, Carried::Nothing),
-            Carried::Malformed(size) => legacy(Some(Cause::Malformed), Carried::Malformed(size)),
+            Carried::Nothing => legacy(None),
+            Carried::Malformed(_) => legacy(Some(Cause::Malformed)),
             Carried::Shim(shim) => self.judge_shim(plan, arrival, shim),
         }
     }
 
     #[tactic(auto, using(tva_base::proofs::Widths::some_rights), unfolding(crate::specs::Judging::judged_shim))]
-    fn judge_shim(&mut self, plan: &RouterPlan, arrival: &Arrival, shim: Shim) -> Judged
+    fn judge_shim(&mut self, plan: &RouterPlan, arrival: &Arrival, shim: &mut Shim) -> Judgement
         requires { MayJudge plan.now self.old arrival.now }
         ensures guard { IsGuard plan.now arrival.now.time.0 self.new }
         ensures answer { (h : List Charge) → StandsFor self.old.cache h
-            → result ≡ judged_shim plan.now h arrival.now shim }
-        ensures keeps { Keeps plan.now arrival.now result.charge (kind_nonce shim.kind) self.old.cache self.new.cache }
-        ensures carried { IsCarried result.carried }
+            → judged_with result (Carried.Shim shim.new) ≡ judged_shim plan.now h arrival.now shim.old }
+        ensures keeps { Keeps plan.now arrival.now result.charge (kind_nonce shim.old.kind) self.old.cache self.new.cache }
     {
         if shim.demoted {
-            return legacy(None, Carried::Shim(shim));
+            return legacy(None);
         }
         match &shim.kind {
             Kind::Request(_) => self.judge_request(plan, arrival, shim),
@@ -92,24 +96,23 @@ impl Guard {
     }
 
     // A request gets an entry, where it has room.
-    fn judge_request(&mut self, plan: &RouterPlan, arrival: &Arrival, shim: Shim) -> Judged
+    fn judge_request(&mut self, plan: &RouterPlan, arrival: &Arrival, shim: &mut Shim) -> Judgement
         requires may { MayJudge plan.now self.old arrival.now }
-        requires request { IsRequest shim.kind }
+        requires request { IsRequest shim.old.kind }
         ensures guard { IsGuard plan.now arrival.now.time.0 self.new }
-        ensures answer { result ≡ judged_request plan.now arrival.now shim }
+        ensures answer { judged_with result (Carried.Shim shim.new) ≡ judged_request plan.now arrival.now shim.old }
+        ensures charge { result.charge ≡ None }
         ensures cache { self.new.cache ≡ self.old.cache }
     {
-        let mut shim = shim;
         let entry = Entry {
             tag: tag_of(plan, &self.incoming, arrival.from),
             precap: self.minter.mint(arrival.time, arrival.flow),
         };
         match shim.push_entry(entry) {
-            Ok(()) => Judged {
+            Ok(()) => Judgement {
                 class: Class::Request,
                 cause: None,
                 charge: None,
-                carried: Carried::Shim(shim),
             },
             Err(_) => marked(shim, Cause::PathFull),
         }
@@ -120,22 +123,22 @@ impl Guard {
         &mut self,
         plan: &RouterPlan,
         arrival: &Arrival,
-        shim: Shim,
+        shim: &mut Shim,
         answer: Result<Grant, Cause>,
-    ) -> Judged
+    ) -> Judgement
         requires may { MayJudge plan.now self.old arrival.now }
-        requires points { IfOk answer (λ g. PointsAtOne shim.kind) }
+        requires points { IfOk answer (λ g. PointsAtOne shim.old.kind) }
         ensures guard { IsGuard plan.now arrival.now.time.0 self.new }
-        ensures answer { result ≡ judged_by shim (with_next_pointer (with_fresh (fresh_for plan.now arrival.now) shim)) answer }
+        ensures answer { judged_with result (Carried.Shim shim.new)
+            ≡ judged_by shim.old (with_next_pointer (with_fresh (fresh_for plan.now arrival.now) shim.old)) answer }
         ensures charge { result.charge ≡ grant_in answer }
         ensures cache { self.new.cache ≡ self.old.cache }
     {
         match answer {
             Ok(grant) => {
-                let mut shim = shim;
                 shim.set_fresh(self.minter.mint(arrival.time, arrival.flow));
                 shim.advance_pointer();
-                regular(shim, grant)
+                regular(grant)
             }
             Err(cause) => marked(shim, cause),
         }
@@ -216,60 +219,58 @@ impl Guard {
 }
 
 // An authorised list goes on with its next capability.
-fn judge_list(shim: Shim, answer: Result<Grant, Cause>) -> Judged
-    requires { IfOk answer (λ g. PointsAtOne shim.kind) }
-    ensures answer { result ≡ judged_by shim (with_next_pointer shim) answer }
+fn judge_list(shim: &mut Shim, answer: Result<Grant, Cause>) -> Judgement
+    requires { IfOk answer (λ g. PointsAtOne shim.old.kind) }
+    ensures answer { judged_with result (Carried.Shim shim.new)
+        ≡ judged_by shim.old (with_next_pointer shim.old) answer }
     ensures charge { result.charge ≡ grant_in answer }
 {
     match answer {
         Ok(grant) => {
-            let mut shim = shim;
             shim.advance_pointer();
-            regular(shim, grant)
+            regular(grant)
         }
         Err(cause) => marked(shim, cause),
     }
 }
 
-fn judge_nonce(shim: Shim, answer: Result<Grant, Cause>) -> Judged
-    ensures answer { result ≡ judged_by shim shim answer }
+fn judge_nonce(shim: &mut Shim, answer: Result<Grant, Cause>) -> Judgement
+    ensures answer { judged_with result (Carried.Shim shim.new) ≡ judged_by shim.old shim.old answer }
     ensures charge { result.charge ≡ grant_in answer }
 {
     match answer {
-        Ok(grant) => regular(shim, grant),
+        Ok(grant) => regular(grant),
         Err(cause) => marked(shim, cause),
     }
 }
 
 // A packet that was authorised.
-fn regular(shim: Shim, grant: Grant) -> Judged
-    ensures { result ≡ judged Class.Regular None (Some grant) (Carried.Shim shim) }
+fn regular(grant: Grant) -> Judgement
+    ensures { result ≡ judgement Class.Regular None (Some grant) }
 {
-    Judged {
+    Judgement {
         class: Class::Regular,
         cause: None,
         charge: Some(grant),
-        carried: Carried::Shim(shim),
     }
 }
 
 // A packet that isn't what it claims to be.
-fn marked(shim: Shim, cause: Cause) -> Judged
-    ensures { result ≡ marked shim cause }
+fn marked(shim: &mut Shim, cause: Cause) -> Judgement
+    ensures shim { shim.new ≡ with_mark shim.old }
+    ensures value { result ≡ judgement Class.Legacy (Some cause) None }
 {
-    let mut shim = shim;
     shim.demote();
-    legacy(Some(cause), Carried::Shim(shim))
+    legacy(Some(cause))
 }
 
-fn legacy(cause: Option<Cause>, carried: Carried) -> Judged
-    ensures { result ≡ judged Class.Legacy cause None carried }
+fn legacy(cause: Option<Cause>) -> Judgement
+    ensures { result ≡ judgement Class.Legacy cause None }
 {
-    Judged {
+    Judgement {
         class: Class::Legacy,
         cause,
         charge: None,
-        carried,
     }
 }
 

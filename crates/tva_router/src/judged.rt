@@ -13,11 +13,20 @@ pub struct Arrival {
 }
 
 /// What a router makes of an arrival before it looks for a link: its class, why it isn't taken as what
-/// it claims to be, the grant that it is charged to, and what it carries on.
+/// it claims to be, the grant that it is charged to, and what it carries on. Contracts speak of it; the
+/// code has the judgement apart from what the packet carries, which is changed in place.
 #[derive(Debug, Drop)]
 pub struct Judged {
     pub class: Class,
     pub cause: Option<Cause>,
     pub charge: Option<Grant>,
     pub carried: Carried,
+}
+
+/// The same without what it carries on.
+#[derive(Clone, Copy, Debug)]
+pub(crate) struct Judgement {
+    pub class: Class,
+    pub cause: Option<Cause>,
+    pub charge: Option<Grant>,
 }

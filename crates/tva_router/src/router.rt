@@ -14,7 +14,7 @@ ghost use Rattle.tva_router.specs.Steps.{ArePorts};
 
 use crate::finding::{Ways, ways_of};
 use crate::guard::Guard;
-use crate::judged::{Arrival, Judged};
+use crate::judged::{Arrival, Judgement};
 use crate::sending::{decide_on, free_on, send};
 use std::alloc::{AllocError, Global};
 use std::marker::Model;
@@ -95,20 +95,13 @@ impl Router {
             return stopped(&packet);
         }
         let arrival = arrival_of(now, from, &packet);
-        let Packet {
-            id,
-            flow,
-            hops,
-            payload,
-            carried,
-        } = packet;
-        let Judged {
+        let mut packet = packet;
+        let Judgement {
             class,
             cause,
             charge,
-            carried,
-        } = self.guard.judge(&self.plan, &arrival, carried);
-        let packet = Packet::new(id, flow, hops + 1, payload, carried);
+        } = self.guard.judge(&self.plan, &arrival, &mut packet.carried);
+        packet.hops += 1;
         let outcome = send(&self.plan, &self.ways, &mut self.ports, now, class, packet);
         Fate {
             class,

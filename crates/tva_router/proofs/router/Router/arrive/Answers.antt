@@ -2,11 +2,12 @@ use Rattle.std.proofs.Common.{◌≡◌, ◌≤◌, false, leb, ◌++◌, sym, a
 use Rattle.tva_base.specs.declared.packet.Fate.{Fate}
 use Rattle.tva_shim.specs.Packets.{PacketData}
 use Rattle.tva_router.specs.declared.judged.Arrival.{Arrival}
+use Rattle.tva_router.specs.declared.judged.Judged.{Judged}
 use Rattle.tva_router.specs.Judging.{judge}
 use Rattle.tva_shim.specs.Shows.{nonce_in}
-use Rattle.tva_router.specs.Handling.{Handled, arrival, goes_on, handle, sent, queued, way_to}
+use Rattle.tva_router.specs.Handling.{Handled, arrival, fate_of, goes_on, handle, sent, queued, way_to}
 use Rattle.tva_router.specs.Stands.{RouterData, router_data, IsByPlan, StandsFor, StandForLogs, ◌with◌}
-use Rattle.tva_router.specs.Steps.{IsGuard, Keeps}
+use Rattle.tva_router.specs.Steps.{IsGuard, Keeps, judged_with}
 use Rattle.tva_router.proofs.Ports.{ports-later}
 use Rattle.tva_router.proofs.Handled.{sound-later, handle-stopped, stands-stopped, fate-forwarded, stands-forwarded, stands-uncharged, by-plan}
 use Rattle.tva_router.proofs.Known.{known, missed_handled}
@@ -42,16 +43,16 @@ returns-clause-fate c h logs s =
     subst (λ (z : RouterData). StandsFor z h logs) (sym c.self.view_is) s in
     let came : c.arrival_of-arrival.result ≡ arrival c.args.now.0 c.args.from packet =
     c.arrival_of-arrival.ensures.value ∙ ap (arrival c.args.now.0 c.args.from) (sym c.packet.view_is) in
-    let judged : c.judge-class.result ≡ judge plan h (arrival c.args.now.0 c.args.from packet) packet.carried =
+    let j : Judged = judged_with c.judge-class.result c.judge-class.new.carried in
+    let judged : j ≡ judge plan h (arrival c.args.now.0 c.args.from packet) packet.carried =
     c.judge-class.ensures.answer h stood.charges ∙ ap (λ (z : Arrival). judge plan h z packet.carried) came in
-    let went : c.send-outcome.result ≡ sent logs c.judge-class.result.class (goes_on packet c.judge-class.result.carried) (way_to plan packet.flow.dst) =
-    c.send-outcome.ensures.outcome logs stood.links
-    ∙ ap (λ (z : PacketData). sent logs c.judge-class.result.class z (way_to plan z.flow.dst)) c.new-packet.ensures in
+    let went : c.send-outcome.result ≡ sent logs j.class (goes_on packet j.carried) (way_to plan packet.flow.dst) =
+    c.send-outcome.ensures.outcome logs stood.links in
     let few : leb 32 packet.hops ≡ false = subst (λ (z : PacketData). leb 32 z.hops ≡ false) (sym c.packet.view_is) (sym c.at_hop_limit.ensures ∙ c.if-at_hop_limit.false) in
-    let fate : Fate = record { class = c.judge-class.result.class; cause = c.judge-class.result.cause; charge = c.judge-class.result.charge; outcome = c.send-outcome.result } in
+    let fate : Fate = fate_of j c.send-outcome.result in
     subst (λ (z : RouterData). fate ≡ (handle z.plan h logs c.args.now.0 c.args.from c.args.packet).fate) c.self.view_is
     (subst (λ (z : PacketData). fate ≡ (handle plan h logs c.args.now.0 c.args.from z).fate) c.packet.view_is
-    (fate-forwarded plan h logs c.args.now.0 c.args.from packet c.judge-class.result c.send-outcome.result few judged went))
+    (fate-forwarded plan h logs c.args.now.0 c.args.from packet j c.send-outcome.result few judged went))
 
 pub returns-clause-stands : goal.returns-clause-stands
 returns-clause-stands c h logs s =
@@ -61,13 +62,13 @@ returns-clause-stands c h logs s =
     subst (λ (z : RouterData). StandsFor z h logs) (sym c.self.view_is) s in
     let came : c.arrival_of-arrival.result ≡ arrival c.args.now.0 c.args.from packet =
     c.arrival_of-arrival.ensures.value ∙ ap (arrival c.args.now.0 c.args.from) (sym c.packet.view_is) in
-    let judged : c.judge-class.result ≡ judge plan h (arrival c.args.now.0 c.args.from packet) packet.carried =
+    let j : Judged = judged_with c.judge-class.result c.judge-class.new.carried in
+    let judged : j ≡ judge plan h (arrival c.args.now.0 c.args.from packet) packet.carried =
     c.judge-class.ensures.answer h stood.charges ∙ ap (λ (z : Arrival). judge plan h z packet.carried) came in
     let keeps : Keeps plan (arrival c.args.now.0 c.args.from packet) c.judge-class.result.charge (nonce_in packet.carried) c.self.inside.guard.cache c.judge-class.new.self.cache =
     subst (λ (z : Arrival). Keeps plan z c.judge-class.result.charge (nonce_in packet.carried) c.self.inside.guard.cache c.judge-class.new.self.cache) came c.judge-class.ensures.keeps in
-    let links : StandForLogs plan.outgoing c.send-outcome.new.ports.items (logs with queued logs c.args.now.0 c.judge-class.result.class (goes_on packet c.judge-class.result.carried) (way_to plan packet.flow.dst)) =
-    subst (λ (z : PacketData). StandForLogs plan.outgoing c.send-outcome.new.ports.items (logs with queued logs c.args.now.0 c.judge-class.result.class z (way_to plan z.flow.dst))) c.new-packet.ensures
-    (c.send-outcome.ensures.stands logs stood.links) in
+    let links : StandForLogs plan.outgoing c.send-outcome.new.ports.items (logs with queued logs c.args.now.0 j.class (goes_on packet j.carried) (way_to plan packet.flow.dst)) =
+    c.send-outcome.ensures.stands logs stood.links in
     let by : IsByPlan (router_data plan c.args.now.0 c.judge-class.new.self.minter c.judge-class.new.self.cache c.send-outcome.new.ports.items) =
     by-plan plan c.args.now.0 c.judge-class.new.self c.self.inside.ways c.send-outcome.new.ports.items (record {
       valid = c.self.invariant.valid;
@@ -81,7 +82,7 @@ returns-clause-stands c h logs s =
     (subst (λ (z : PacketData). StandsFor (router_data plan c.args.now.0 c.judge-class.new.self.minter c.judge-class.new.self.cache c.send-outcome.new.ports.items)
     (h ++ (handle plan h logs c.args.now.0 c.args.from z).charges) (logs with (handle plan h logs c.args.now.0 c.args.from z).queued)) c.packet.view_is
     (stands-forwarded plan c.self.inside.last c.args.now.0 c.self.inside.guard.minter c.judge-class.new.self.minter c.self.inside.guard.cache c.judge-class.new.self.cache c.self.inside.ports.items c.send-outcome.new.ports.items
-    h logs c.args.from packet c.judge-class.result few judged stood keeps links by))
+    h logs c.args.from packet j few judged stood keeps links by))
 
 pub returns-then-at_hop_limit-clause-uncharged : goal.returns-then-at_hop_limit-clause-uncharged
 returns-then-at_hop_limit-clause-uncharged c h logs s none =
