@@ -11,14 +11,15 @@ ghost use Rattle.tva_trace.specs.Items.{caps_of, hex_number_of, item_of, minted_
 ghost use Rattle.tva_config.specs.Numbers.{Numbers};
 ghost use Rattle.tva_trace.specs.Valid.{IsSaidShim};
 
-use crate::names::master_named;
+use crate::names::master_at;
 use crate::rows::RowKind;
 use crate::said::{RawBytes, SaidShim};
+use crate::secrets::KeptSecrets;
 use byteorder::{BigEndian, ByteOrder};
 use std::collections::HashMap;
 use tva_base::{Caps, Flow, Rights, decimal, seconds_max, units_max, version_for};
-use tva_caps::{capability, precap_at};
-use tva_config::NodePlan;
+use tva_caps::capability;
+use tva_config::{NodePlan, number_of};
 use tva_shim::{Kind, ReturnInfo, Shim, Shown};
 
 /// What stands before the first such byte, and what stands behind it.
@@ -73,10 +74,11 @@ fn digits_of(text: &[u8]) -> Option<u64>
 }
 
 /// The capability that a router minted in a second, by its name and the second's text.
-#[tactic(auto, unfolding(crate::specs::Items::minted_of))]
+#[tactic(auto, unfolding(crate::specs::Items::minted_of, crate::specs::Names::master_named))]
 fn minted_of(
     plans: &[NodePlan],
     numbers: &HashMap<&[u8], u16>,
+    secrets: &mut KeptSecrets,
     flow: Flow,
     rights: Rights,
     name: &[u8],
@@ -86,9 +88,11 @@ fn minted_of(
     requires rights { AreSomeRights rights }
     ensures { result ≡ minted_of plans.now flow rights (name.now, second.now) }
 {
-    let master = master_named(plans, numbers, name)?;
+    let number = number_of(plans, numbers, name)?;
+    let master = master_at(plans, number)?;
     let second = decimal(second, 2_000_000)?;
-    Some(capability(precap_at(master, second, flow), rights))
+    let precap = secrets.precap_at(number, &master, second, flow);
+    Some(capability(precap, rights))
 }
 
 /// An item.
@@ -96,6 +100,7 @@ fn minted_of(
 fn item_of(
     plans: &[NodePlan],
     numbers: &HashMap<&[u8], u16>,
+    secrets: &mut KeptSecrets,
     flow: Flow,
     rights: Rights,
     text: &[u8],
@@ -105,7 +110,7 @@ fn item_of(
     ensures { result ≡ item_of plans.now flow rights text.now }
 {
     match part(text, b'@') {
-        Some((name, second)) => minted_of(plans, numbers, flow, rights, name, second),
+        Some((name, second)) => minted_of(plans, numbers, secrets, flow, rights, name, second),
         None => digits_of(text),
     }
 }
@@ -115,6 +120,7 @@ fn item_of(
 fn caps_of(
     plans: &[NodePlan],
     numbers: &HashMap<&[u8], u16>,
+    secrets: &mut KeptSecrets,
     flow: Flow,
     rights: Rights,
     text: &[u8],
@@ -131,7 +137,7 @@ fn caps_of(
         if caps.as_slice().len() == 16 {
             return None;
         }
-        caps.push(item_of(plans, numbers, flow, rights, item)?);
+        caps.push(item_of(plans, numbers, secrets, flow, rights, item)?);
     }
     Some(caps)
 }
@@ -171,6 +177,7 @@ fn rights_of(units: &[u8], seconds: &[u8]) -> Option<Rights>
 fn shown_of(
     plans: &[NodePlan],
     numbers: &HashMap<&[u8], u16>,
+    secrets: &mut KeptSecrets,
     flow: Flow,
     text: &[u8],
 ) -> Option<Shown>
@@ -185,7 +192,7 @@ fn shown_of(
     let (pointer, items) = part(rest, b'/')?;
     let nonce = nonce_of(nonce)?;
     let rights = rights_of(units, seconds)?;
-    let caps = caps_of(plans, numbers, flow, rights, items)?;
+    let caps = caps_of(plans, numbers, secrets, flow, rights, items)?;
     let pointer = decimal(pointer, caps.as_slice().len() as u64)?;
     Some(Shown {
         nonce,
@@ -195,28 +202,12 @@ fn shown_of(
     })
 }
 
-/// The bytes of a raw row.
-#[tactic(auto, unfolding(crate::specs::Items::raw_of))]
-fn raw_of(text: &[u8]) -> Option<RawBytes>
-    ensures value { result ≡ raw_of text.now }
-    ensures few { IfSome result (λ bytes. length bytes ≤ 400) }
-{
-    if text.len() > 800 {
-        return None;
-    }
-    let mut room = [0u8; 400];
-    let bytes = &mut room[..text.len() / 2];
-    match hex::decode_to_slice(text, bytes) {
-        Ok(()) => Some(RawBytes::new(bytes)),
-        Err(_) => None,
-    }
-}
-
 /// What a row's shim is, by the row's kind.
 #[tactic(auto, unfolding(crate::specs::Items::shim_of))]
 pub fn shim_of(
     plans: &[NodePlan],
     numbers: &HashMap<&[u8], u16>,
+    secrets: &mut KeptSecrets,
     kind: RowKind,
     flow: Flow,
     text: &[u8],
@@ -227,13 +218,13 @@ pub fn shim_of(
 {
     match kind {
         RowKind::Send => None,
-        RowKind::Raw => Some(SaidShim::Bytes(raw_of(text)?)),
+        RowKind::Raw => Some(SaidShim::Bytes(RawBytes::from_digits(text)?)),
         RowKind::List => {
-            let shown = shown_of(plans, numbers, flow, text)?;
+            let shown = shown_of(plans, numbers, secrets, flow, text)?;
             Some(plain_shim(version_of(&shown), Kind::List(shown)))
         }
         RowKind::Renew => {
-            let shown = shown_of(plans, numbers, flow, text)?;
+            let shown = shown_of(plans, numbers, secrets, flow, text)?;
             Some(plain_shim(version_of(&shown), Kind::Renewal(shown)))
         }
         RowKind::Nonce => Some(plain_shim(1, Kind::Nonce(nonce_of(text)?))),

@@ -10,6 +10,7 @@ use crate::fields::{allowed, field, is_empty, kind_of};
 use crate::items::shim_of;
 use crate::rows::{RowKind, TraceRule};
 use crate::said::{SaidRow, SaidWhat};
+use crate::secrets::KeptSecrets;
 use csv::ByteRecord;
 use std::collections::HashMap;
 use tva_base::{Flow, Time, address, decimal};
@@ -55,6 +56,7 @@ fn sending_of(row: &ByteRecord) -> Result<SaidWhat, TraceRule>
 fn injection_of(
     plans: &[NodePlan],
     numbers: &HashMap<&[u8], u16>,
+    secrets: &mut KeptSecrets,
     kind: RowKind,
     row: &ByteRecord,
 ) -> Result<SaidWhat, TraceRule>
@@ -66,7 +68,7 @@ fn injection_of(
     let dst = address(field(row, 4)).ok_or(TraceRule::Dst)?;
     let payload = decimal(field(row, 5), u64::from(PAYLOAD_MAX)).ok_or(TraceRule::Payload)?;
     let flow = Flow { src, dst };
-    let shim = shim_of(plans, numbers, kind, flow, field(row, 6)).ok_or(TraceRule::Shim)?;
+    let shim = shim_of(plans, numbers, secrets, kind, flow, field(row, 6)).ok_or(TraceRule::Shim)?;
     Ok(SaidWhat::Inject {
         flow,
         payload: payload as u16,
@@ -77,6 +79,7 @@ fn injection_of(
 fn what_of(
     plans: &[NodePlan],
     numbers: &HashMap<&[u8], u16>,
+    secrets: &mut KeptSecrets,
     kind: RowKind,
     row: &ByteRecord,
 ) -> Result<SaidWhat, TraceRule>
@@ -86,7 +89,7 @@ fn what_of(
 {
     match kind {
         RowKind::Send => sending_of(row),
-        kind => injection_of(plans, numbers, kind, row),
+        kind => injection_of(plans, numbers, secrets, kind, row),
     }
 }
 
@@ -95,6 +98,7 @@ fn what_of(
 pub fn row_of(
     config: &Config,
     numbers: &HashMap<&[u8], u16>,
+    secrets: &mut KeptSecrets,
     number: u64,
     last: u64,
     row: &ByteRecord,
@@ -111,7 +115,7 @@ pub fn row_of(
     hold(TraceRule::Order, last <= time)?;
     let node = number_of(plans, numbers, field(row, 1)).ok_or(TraceRule::Node)?;
     let kind = kind_at(plans, node, field(row, 2)).ok_or(TraceRule::Kind)?;
-    let what = what_of(plans, numbers, kind, row)?;
+    let what = what_of(plans, numbers, secrets, kind, row)?;
     Ok(SaidRow {
         time: Time(time),
         node,

@@ -14,6 +14,7 @@ mod parts;
 mod read;
 mod rows;
 mod said;
+mod secrets;
 mod texts;
 mod words;
 

@@ -14,6 +14,7 @@ use crate::fields::is_header;
 use crate::judge::row_of;
 use crate::rows::{Row, TraceError, TraceFault, TraceRule};
 use crate::said::SaidRow;
+use crate::secrets::KeptSecrets;
 use csv::{ByteRecord, ErrorKind, ReaderBuilder};
 use std::alloc::{AllocError, Global};
 use std::collections::HashMap;
@@ -47,6 +48,7 @@ fn read_rows(
     ensures valid { IfOk result (λ rows. AreTraceRows config.now rows.items) }
 {
     let mut rows = room_for_rows(alloc, text)?;
+    let mut secrets = KeptSecrets::new();
     let mut number = 1u64;
     let mut last = 0u64;
     let mut reader = ReaderBuilder::new()
@@ -68,7 +70,7 @@ fn read_rows(
             }
             return Ok(rows);
         }
-        let said = match said_by(config, numbers, number, last, &record) {
+        let said = match said_by(config, numbers, &mut secrets, number, last, &record) {
             Ok(said) => said,
             Err(rule) => return Err(TraceError::Fault(TraceFault { row: number, rule })),
         };
@@ -121,6 +123,7 @@ fn put_row(rows: &mut Vec<Row>, last: u64, said: Option<SaidRow>) -> Result<u64,
 fn said_by(
     config: &Config,
     numbers: &HashMap<&[u8], u16>,
+    secrets: &mut KeptSecrets,
     number: u64,
     last: u64,
     row: &ByteRecord,
@@ -131,7 +134,7 @@ fn said_by(
     ensures valid { IfOk result (λ said. IfSome said (IsSaid config.now last)) }
 {
     if number != 1 {
-        let said = row_of(config, numbers, number, last, row)?;
+        let said = row_of(config, numbers, secrets, number, last, row)?;
         return Ok(Some(said));
     }
     if is_header(row) {

@@ -1,42 +1,52 @@
 // What a row says, before the bytes of a raw shim are taken for what they are.
-ghost use Rattle.std.specs.Prelude.{◌≡◌, ◌≤◌, length};
+ghost use Rattle.std.specs.Prelude.{◌≡◌, ◌≤◌, IfSome, length};
 
-use arrayvec::ArrayVec;
 use std::marker::Model;
 use tva_base::{Address, Flow, Time};
 use tva_shim::Shim;
 
 /// The bytes of a raw row, at most 400. Contracts see them as a list.
 #[derive(Debug, Drop)]
-pub struct RawBytes(ArrayVec<u8, 400>);
+pub struct RawBytes {
+    room: [u8; 400],
+    count: usize,
+}
 
 impl Model for RawBytes {
-    ghost use Rattle.std.specs.Prelude.{List, ℕ, ◌≤◌, length};
+    ghost use Rattle.std.specs.Prelude.{List, ℕ, ◌≤◌, take};
 
     ghost Value = { List ℕ };
 
-    ghost view = { λ bytes. bytes.0.items };
+    ghost view = { λ bytes. take bytes.count bytes.room };
 
-    ghost invariant = { λ bytes. length bytes.0.items ≤ 400 };
+    ghost invariant = { λ bytes. bytes.count ≤ 400 };
 }
 
 impl RawBytes {
-    pub fn new(bytes: &[u8]) -> RawBytes
-        requires { length bytes.now ≤ 400 }
-        ensures { result ≡ bytes.now }
+    ghost use Rattle.tva_trace.specs.Items.{raw_of};
+
+    /// The bytes that hexadecimal digits of either case write.
+    #[tactic(auto, unfolding(crate::specs::Items::raw_of))]
+    pub fn from_digits(text: &[u8]) -> Option<RawBytes>
+        ensures value { result ≡ raw_of text.now }
+        ensures few { IfSome result (λ bytes. length bytes ≤ 400) }
     {
-        let mut items = ArrayVec::new();
-        for byte in bytes {
-            items.push(*byte);
+        if text.len() > 800 {
+            return None;
         }
-        RawBytes(items)
+        let count = text.len() / 2;
+        let mut room = [0; 400];
+        match hex::decode_to_slice(text, &mut room[..count]) {
+            Ok(()) => Some(RawBytes { room, count }),
+            Err(_) => None,
+        }
     }
 
     pub fn as_slice(&self) -> &[u8]
         ensures bytes { result.now ≡ self.now }
         ensures few { length self.now ≤ 400 }
     {
-        self.0.as_slice()
+        &self.room[..self.count]
     }
 }
 
