@@ -15,7 +15,7 @@ use Rattle.tva_router.specs.Tables.{Places, ArePlacesFrom, PrefixLinks, same_pre
 use Rattle.tva_router.specs.declared.routes.RouteTable.{RouteTable}
 use Rattle.tva_router.proofs.Links.{is_at, at_within}
 use Rattle.tva_router.proofs.Ports.{same_link}
-use Rattle.tva_router.proofs.Ways.{all_at, found_is, none_is, Within, greatest, reached, both, leads_is, link_some, link_none, not_true}
+use Rattle.tva_router.proofs.Ways.{all_at, found_is, none_is, Within, greatest, reached, both, leads_is, link_none, not_true}
 
 -- ## made from the last to the first
 

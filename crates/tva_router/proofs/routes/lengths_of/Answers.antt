@@ -1,4 +1,4 @@
-use Rattle.std.proofs.Common.{◌≡◌, ℕ, ◌≤◌, ◌<◌, Bool, true, length, take, get_or, set, ◌+◌, sym, ◌∙◌, subst, arith}
+use Rattle.std.proofs.Common.{ℕ, ◌≤◌, ◌<◌, true, length, take, get_or, set, ◌+◌, sym, ◌∙◌, subst, arith}
 use Rattle.std.proofs.lemmas.List.{length-set}
 use Rattle.tva_base.specs.declared.plan.Route.{Route}
 use Rattle.tva_router.specs.Tables.{AreMarked}

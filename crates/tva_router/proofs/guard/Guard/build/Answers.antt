@@ -1,4 +1,4 @@
-use Rattle.std.proofs.Common.{◌≡◌, ℕ, List, ap, subst, arith}
+use Rattle.std.proofs.Common.{ℕ, List, ap, subst, arith}
 use Rattle.tva_caps.specs.Minting.{MinterState}
 use Rattle.tva_flow.specs.Stands.{Cache}
 use Rattle.tva_router.specs.Tables.{ArePlaces}
