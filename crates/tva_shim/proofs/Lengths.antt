@@ -9,7 +9,6 @@ use Rattle.tva_shim.specs.declared.packets.Carried.TheVariants as carried
 use Rattle.tva_shim.specs.Shims.{ShimData, IsShim, entries_of, caps_of, granted_caps}
 use Rattle.tva_shim.specs.Layout.{layout, kind_size, return_size}
 use Rattle.tva_shim.specs.Packets.{PacketData, IsCarried, HasFew, CarriesFew, IsSizedPacket, carried_bytes, packet_length}
-use Rattle.tva_base.specs.Versions.{rights_size}
 use Rattle.tva_base.proofs.Widths.{size_few}
 use Rattle.tva_shim.proofs.Sizes.{length-layout}
 

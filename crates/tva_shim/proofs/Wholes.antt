@@ -3,7 +3,7 @@ use Rattle.std.proofs.Common.{◌≡◌, ℕ, ◌+◌, ◌*◌, ◌^◌, ◌≤�
 use Rattle.std.specs.Prelude.{◌==◌}
 use Rattle.std.specs.List.{flat_map}
 use Rattle.tva_base.specs.declared.packet.Rights.{Rights}
-use Rattle.tva_base.specs.Versions.{AreRights, IsVersion}
+use Rattle.tva_base.specs.Versions.{AreRights}
 use Rattle.tva_shim.specs.declared.decoding.ShimType.{ShimType}
 use Rattle.tva_shim.specs.declared.kinds.Shown.{Shown}
 use Rattle.tva_shim.specs.declared.kinds.Kind.{Kind}

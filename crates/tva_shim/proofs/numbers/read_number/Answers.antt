@@ -1,4 +1,4 @@
-use Rattle.std.proofs.Common.{◌≡◌, ◌∙◌, ◌^◌, ℕ, sym, ap, arith}
+use Rattle.std.proofs.Common.{◌∙◌, ◌^◌, ℕ, sym, ap, arith}
 use Rattle.byteorder.specs.Endian.{big_bytes}
 use Rattle.tva_base.specs.Versions.{rights_size}
 use Rattle.tva_shim.specs.Layout.{number_bytes}
