@@ -143,12 +143,13 @@ set ylabel "honest packets that arrive, %"
 
 def title_of(report):
     """A report's title by the name of its file, as make.py gave it."""
-    name = re.fullmatch(r"(\w+?)(-4-colluders)?(-shared-tag)?-(with|without)-([0-9.]+)(-seed-[0-9]+)?\.report", os.path.basename(report))
+    name = re.fullmatch(r"(\w+?)(-4-colluders)?(-shared-tag)?(-one-tag)?(-two-levels)?-(with|without)-([0-9.]+)(-seed-[0-9]+)?\.report", os.path.basename(report))
     if not name:
         return os.path.basename(report)
-    flood, several, shared, kind, rate, _ = name.groups()
+    flood, several, shared, one, two, kind, rate, _ = name.groups()
     said = {"legacy": "legacy packets", "requests": "requests", "authorised": "four colluders" if several else "one colluder"}[flood]
-    return f"{rate} times: {said}{', shared tag' if shared else ''}, {kind} the defence"
+    tags = (", shared tag" if shared else "") + (", one tag" if one else "") + (", two levels" if two else "")
+    return f"{rate} times: {said}{tags}, {kind} the defence"
 
 
 def part_of(event):

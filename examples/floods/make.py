@@ -1,7 +1,7 @@
 #!/usr/bin/env python3
 """Writes the configuration and the trace of a flood.
 
-    make.py FLOOD RATE FOLDER [--without] [--colluders K] [--shared-tag] [--seed N]
+    make.py FLOOD RATE FOLDER [--without] [--colluders K] [--shared-tag] [--one-tag] [--levels L] [--seed N]
 
 FLOOD is `legacy`, `requests` or `authorised`, and RATE says how many times the bottleneck's rate the
 attackers send, all together: 0 is no flood. The files are FOLDER/NAME.toml and FOLDER/NAME.csv, and NAME,
@@ -16,7 +16,9 @@ attackers send from the start to the fifth second, packets with a payload of 1,5
 
 With --without nobody uses the defence: all packets come without a shim, at the same times and with the
 same payloads, through the same network. With --colluders there are K colluding destinations in place of
-one, to whom each attacker sends in turn. With --shared-tag the first honest sender's link into the network has the tag of the first attacker's.
+one, to whom each attacker sends in turn. With --shared-tag the first honest sender's link into the network has
+the tag of the first attacker's. With --one-tag all senders are behind one tagged link, and the bottleneck
+comes after it. With --levels 2 the bottleneck queues its requests by two tags, the last and the one before.
 """
 import argparse
 import heapq
@@ -43,6 +45,8 @@ FLOOD_PAYLOAD = 1_500
 HEADER = 20  # bytes of a packet's header
 
 SERVER = "10.3.0.1"
+# two levels, with more queues behind a tag than there are senders
+TWO_LEVELS = "request_levels = 2\nrequest_inner = 32\n"
 # limits of the links of single hosts, past which no flood needs them
 SMALL = "request_queues = 4\nregular_queues = 8\nrequest_ring = 32\nregular_ring = 64\nlegacy_ring = 64"
 
@@ -53,8 +57,12 @@ def piece(name, **words):
         return string.Template(file.read()).substitute(words, small=SMALL)
 
 
-def configuration(flood, colluders, shared_tag):
-    text = piece("network.toml.in", horizon=HORIZON, bottleneck=BOTTLENECK)
+def configuration(flood, colluders, shared_tag, one_tag, levels):
+    border, beyond = ("Border", "Border") if one_tag else ("West", "East")
+    divided = TWO_LEVELS if levels == 2 else ""
+    text = piece("network.toml.in", horizon=HORIZON, bottleneck=BOTTLENECK, border=border, beyond=beyond, levels=divided)
+    if one_tag:
+        text += piece("border.toml.in")
     for number in range(1, HONEST + 1):
         text += piece("honest.toml.in", number=number)
     for number in range(1, ATTACKERS + 1):
@@ -109,9 +117,9 @@ def trace(flood, rate, colluders, seed, without):
         yield row + "\n"
 
 
-def name_of(flood, rate, colluders, shared_tag, seed, without):
+def name_of(flood, rate, colluders, shared_tag, one_tag, levels, seed, without):
     several = f"-{colluders}-colluders" if flood == "authorised" and colluders > 1 else ""
-    shared = "-shared-tag" if shared_tag else ""
+    shared = ("-shared-tag" if shared_tag else "") + ("-one-tag" if one_tag else "") + ("-two-levels" if levels == 2 else "")
     seeded = "" if seed == 1 else f"-seed-{seed}"
     return f"{flood}{several}{shared}-{'without' if without else 'with'}-{rate:g}{seeded}"
 
@@ -124,12 +132,14 @@ def main():
     words.add_argument("--without", action="store_true")
     words.add_argument("--colluders", type=int, default=1)
     words.add_argument("--shared-tag", action="store_true")
+    words.add_argument("--one-tag", action="store_true")
+    words.add_argument("--levels", type=int, choices=[1, 2], default=1)
     words.add_argument("--seed", type=int, default=1)
     it = words.parse_args()
-    name = name_of(it.flood, it.rate, it.colluders, it.shared_tag, it.seed, it.without)
+    name = name_of(it.flood, it.rate, it.colluders, it.shared_tag, it.one_tag, it.levels, it.seed, it.without)
     os.makedirs(it.folder, exist_ok=True)
     with open(os.path.join(it.folder, name + ".toml"), "w", encoding="utf-8") as file:
-        file.write(configuration(it.flood, it.colluders, it.shared_tag))
+        file.write(configuration(it.flood, it.colluders, it.shared_tag, it.one_tag, it.levels))
     with open(os.path.join(it.folder, name + ".csv"), "w", encoding="utf-8") as file:
         file.writelines(trace(it.flood, it.rate, it.colluders, it.seed, it.without))
     print(name)
