@@ -7,8 +7,11 @@ mod steps;
 mod texts;
 
 use std::alloc::{AllocError, Global};
+use std::fmt::Write;
 use std::process::Abort;
-use tva_config::{ConfigError, link_count, node_count, read_config, route_count, slot_count};
+use tva_config::{
+    Config, ConfigError, link_count, node_count, read_config, route_count, slot_count,
+};
 
 pub const EDGE: &str = "horizon_ns = 1000000000000\n\
 max_events = 1000\n\
@@ -67,20 +70,14 @@ via = \"B\"\n\
 /// The two numbers that the top level must have.
 const TOP: &str = "horizon_ns = 0\nmax_events = 1\n";
 
-const TABLES: [&str; 6] = [
-    texts::CASES,
-    keys::routers::CASES,
-    keys::hosts::CASES,
-    keys::links::CASES,
-    keys::routes::CASES,
-    steps::CASES,
-];
-
 #[test]
 fn texts_have_their_answers(rt: HostRuntime) {
-    for cases in TABLES {
-        check(&rt, rt.alloc(), cases);
-    }
+    check(&rt, rt.alloc(), texts::CASES);
+    check(&rt, rt.alloc(), keys::routers::CASES);
+    check(&rt, rt.alloc(), keys::hosts::CASES);
+    check(&rt, rt.alloc(), keys::links::CASES);
+    check(&rt, rt.alloc(), keys::routes::CASES);
+    check(&rt, rt.alloc(), steps::CASES);
 }
 
 #[test]
@@ -107,8 +104,13 @@ fn bytes_that_are_no_text(rt: HostRuntime) {
 }
 
 fn tells<R: Abort>(rt: &R, alloc: Global, text: &[u8], want: &str) {
-    let said = said(alloc, text).expect(rt, "memory");
-    assert_eq!(rt; said.as_str(), want);
+    is_told(rt, said(alloc, text), want, "bytes");
+}
+
+/// What is told of a case of that name must be what is wanted.
+pub fn is_told<R: Abort>(rt: &R, told: Result<String, AllocError>, want: &str, name: &str) {
+    let told = told.expect(rt, "memory");
+    assert_eq!(rt; told.as_str(), want, "{name}");
 }
 
 // Cases stand apart by an empty line. The first line of a case is its name. Behind it stand, each
@@ -122,11 +124,14 @@ fn check<R: Abort>(rt: &R, alloc: Global, cases: &str) {
 
 fn check_case<R: Abort>(rt: &R, alloc: Global, case: &str) {
     let fields: Vec<&str> = case.split("\n^ ").collect(alloc).expect(rt, "memory");
-    let text = text_of(rt, alloc, fields.as_slice()).expect(rt, "memory");
-    let said = said(alloc, text.as_bytes()).expect(rt, "memory");
-    let name = field(fields.as_slice(), 0);
-    let want = field(fields.as_slice(), fields.len().saturating_sub(1));
-    assert_eq!(rt; said.as_str(), want, "{name}");
+    let fields = fields.as_slice();
+    let want = field(fields, fields.len().saturating_sub(1));
+    is_told(rt, answer(rt, alloc, fields), want, field(fields, 0));
+}
+
+fn answer<R: Abort>(rt: &R, alloc: Global, fields: &[&str]) -> Result<String, AllocError> {
+    let text = text_of(rt, alloc, fields)?;
+    said(alloc, text.as_bytes())
 }
 
 fn text_of<R: Abort>(rt: &R, alloc: Global, fields: &[&str]) -> Result<String, AllocError> {
@@ -183,29 +188,28 @@ fn written<R: Abort>(rt: &R, alloc: Global, text: &str) -> Result<String, AllocE
 // Copies of a text, in which `<` and `>` are the high and the low byte of the copy's number.
 fn copies(alloc: Global, count: usize, text: &str) -> Result<String, AllocError> {
     let text = text.replace(alloc, "|", "\n")?;
-    if !text.contains('<') && !text.contains('>') {
+    if !text.contains("<") && !text.contains(">") {
         return text.repeat(alloc, count);
     }
     let mut copies = String::new(alloc);
     for i in 0..count {
-        let high = (i / 256).to_string(alloc)?;
-        let low = (i % 256).to_string(alloc)?;
-        let copy = text.replace(alloc, "<", high.as_str())?;
-        copies.push_str(copy.replace(alloc, ">", low.as_str())?.as_str())?;
+        let high = with_number(alloc, text.as_str(), "<", i / 256)?;
+        let copy = with_number(alloc, high.as_str(), ">", i % 256)?;
+        copies.push_str(copy.as_str())?;
     }
     Ok(copies)
+}
+
+// The text with a number in each place of a mark.
+fn with_number(alloc: Global, text: &str, mark: &str, number: usize) -> Result<String, AllocError> {
+    let number = number.to_string(alloc)?;
+    text.replace(alloc, mark, number.as_str())
 }
 
 // What the command `check` is to write for a text, or the text of the refusal.
 fn said(alloc: Global, text: &[u8]) -> Result<String, AllocError> {
     match read_config(alloc, text) {
-        Ok(config) => format!(in alloc;
-            "config nodes={} links={} routes={} slots={}",
-            node_count(&config),
-            link_count(&config),
-            route_count(&config),
-            slot_count(&config)
-        ),
+        Ok(config) => counted(alloc, &config),
         Err(ConfigError::Fault(fault)) => format!(in alloc;
             "bad config: {} {} {} {}",
             fault.rule,
@@ -213,6 +217,26 @@ fn said(alloc: Global, text: &[u8]) -> Result<String, AllocError> {
             fault.entry,
             fault.key.as_str()
         ),
-        Err(ConfigError::OutOfMemory) => format!(in alloc; "out of memory"),
+        Err(ConfigError::OutOfMemory) => String::from_str(alloc, "out of memory"),
     }
+}
+
+fn counted(alloc: Global, config: &Config) -> Result<String, AllocError> {
+    let mut text = String::new(alloc);
+    let fields = [
+        ("config nodes=", node_count(config) as u128),
+        (" links=", link_count(config) as u128),
+        (" routes=", route_count(config)),
+        (" slots=", slot_count(config)),
+    ];
+    add_fields(&mut text, &fields, "")?;
+    Ok(text)
+}
+
+/// Adds numbers to a text, each behind its word, and what stands at their end.
+pub fn add_fields(text: &mut String, fields: &[(&str, u128)], end: &str) -> Result<(), AllocError> {
+    for (word, number) in fields {
+        write!(text, "{word}{number}")?;
+    }
+    text.push_str(end)
 }

@@ -1,8 +1,10 @@
 // Whole plans, by the tables of keys and their defaults.
-use super::{EDGE, WALK};
+use super::{EDGE, WALK, add_fields, is_told};
 use std::alloc::{AllocError, Global};
 use std::fmt::Write;
-use tva_base::{DrrLimits, HostPlan, LinkLimits, LinkPlan, PolicyKind, RouterPlan};
+use tva_base::{
+    Address, DrrLimits, HostPlan, LinkLimits, LinkPlan, PolicyKind, PolicyPlan, Route, RouterPlan,
+};
 use tva_config::{Config, NodePlan, has_host_or_link, read_config};
 
 /// What Edge lays down.
@@ -180,19 +182,13 @@ link 1 to 0 delay 4 tag 0 rate 3 share 20 burst 8192
   legacy 256 262144
 ";
 
-const PLANS: [(&str, &str); 4] = [
-    (EDGE, EDGE_PLAN),
-    (WALK, WALK_PLAN),
-    (FULL, FULL_PLAN),
-    (PAIR, PAIR_PLAN),
-];
-
 #[test]
 fn plans_are_whole(rt: HostRuntime) {
-    for (text, want) in PLANS {
-        let told = told(rt.alloc(), text).expect(&rt, "memory");
-        assert_eq!(rt; told.as_str(), want);
-    }
+    let alloc = rt.alloc();
+    is_told(&rt, told(alloc, EDGE), EDGE_PLAN, "edge");
+    is_told(&rt, told(alloc, WALK), WALK_PLAN, "walk");
+    is_told(&rt, told(alloc, FULL), FULL_PLAN, "full");
+    is_told(&rt, told(alloc, PAIR), PAIR_PLAN, "pair");
 }
 
 fn told(alloc: Global, text: &str) -> Result<String, AllocError> {
@@ -203,124 +199,180 @@ fn told(alloc: Global, text: &str) -> Result<String, AllocError> {
 }
 
 fn plan(alloc: Global, config: &Config) -> Result<String, AllocError> {
-    let joined = if has_host_or_link(config) {
-        "joined"
-    } else {
-        "alone"
-    };
-    let mut text = format!(in alloc;
-        "horizon {} events {} {joined}\n",
-        config.horizon.0, config.max_events
-    )?;
-    for node in config.nodes.as_slice() {
-        match node {
-            NodePlan::Router(plan) => add_router(&mut text, plan)?,
-            NodePlan::Host(plan) => add_host(&mut text, plan)?,
-        }
-    }
-    for link in config.links.as_slice() {
-        add_link(&mut text, link)?;
-    }
+    let mut text = String::new(alloc);
+    add_top(&mut text, config)?;
+    add_nodes(&mut text, config.nodes.as_slice())?;
+    add_links(&mut text, config.links.as_slice())?;
     Ok(text)
 }
 
+fn add_top(text: &mut String, config: &Config) -> Result<(), AllocError> {
+    let end = if has_host_or_link(config) {
+        " joined\n"
+    } else {
+        " alone\n"
+    };
+    let fields = [
+        ("horizon ", config.horizon.0 as u128),
+        (" events ", config.max_events as u128),
+    ];
+    add_fields(text, &fields, end)
+}
+
+fn add_nodes(text: &mut String, nodes: &[NodePlan]) -> Result<(), AllocError> {
+    for node in nodes {
+        match node {
+            NodePlan::Router(plan) => add_router(text, plan)?,
+            NodePlan::Host(plan) => add_host(text, plan)?,
+        }
+    }
+    Ok(())
+}
+
+fn add_links(text: &mut String, links: &[LinkPlan]) -> Result<(), AllocError> {
+    for link in links {
+        add_link(text, link)?;
+    }
+    Ok(())
+}
+
 fn add_router(text: &mut String, plan: &RouterPlan) -> Result<(), AllocError> {
-    write!(text, "router {} ", plan.name.as_str())?;
-    for byte in plan.master.iter() {
+    add_name(text, "router ", plan.name.as_str())?;
+    add_master(text, &plan.master)?;
+    let fields = [
+        (" offset ", plan.clock_offset as u128),
+        (" slots ", plan.slots as u128),
+        (" edge ", plan.edge_tag as u128),
+    ];
+    add_fields(text, &fields, "\n")?;
+    add_incoming(text, plan.incoming.as_slice())?;
+    add_outgoing(text, plan.outgoing.as_slice())?;
+    add_routes(text, plan.routes.as_slice())
+}
+
+fn add_name(text: &mut String, word: &str, name: &str) -> Result<(), AllocError> {
+    text.push_str(word)?;
+    text.push_str(name)?;
+    text.push_str(" ")
+}
+
+fn add_master(text: &mut String, master: &[u8]) -> Result<(), AllocError> {
+    for byte in master {
         write!(text, "{:02x}", *byte)?;
     }
-    writeln!(
-        text,
-        " offset {} slots {} edge {}",
-        plan.clock_offset, plan.slots, plan.edge_tag
-    )?;
-    for (link, tag) in plan.incoming.as_slice() {
-        writeln!(text, " in {link} tag {tag}")?;
+    Ok(())
+}
+
+fn add_incoming(text: &mut String, incoming: &[(u16, u16)]) -> Result<(), AllocError> {
+    for (link, tag) in incoming {
+        let fields = [(" in ", *link as u128), (" tag ", *tag as u128)];
+        add_fields(text, &fields, "\n")?;
     }
-    for (link, limits) in plan.outgoing.as_slice() {
-        write!(text, " out {link}")?;
+    Ok(())
+}
+
+fn add_outgoing(text: &mut String, outgoing: &[(u16, LinkLimits)]) -> Result<(), AllocError> {
+    for (link, limits) in outgoing {
+        add_fields(text, &[(" out ", *link as u128)], "")?;
         add_limits(text, limits)?;
     }
-    for route in plan.routes.as_slice() {
-        let prefix = route.prefix;
-        writeln!(
-            text,
-            " route {}/{} by {}",
-            prefix.address.0, prefix.bits, route.link
-        )?;
+    Ok(())
+}
+
+fn add_routes(text: &mut String, routes: &[Route]) -> Result<(), AllocError> {
+    for route in routes {
+        let fields = [
+            (" route ", route.prefix.address.0 as u128),
+            ("/", route.prefix.bits as u128),
+            (" by ", route.link as u128),
+        ];
+        add_fields(text, &fields, "\n")?;
     }
     Ok(())
 }
 
 fn add_host(text: &mut String, plan: &HostPlan) -> Result<(), AllocError> {
-    writeln!(
-        text,
-        "host {} {} nonce {} margin {} retry {} version {} uplink {}",
-        plan.name.as_str(),
-        plan.address.0,
-        plan.nonce,
-        plan.margin,
-        plan.retry,
-        plan.version,
-        plan.uplink
-    )?;
-    let policy = &plan.policy;
+    add_name(text, "host ", plan.name.as_str())?;
+    let fields = [
+        ("", plan.address.0 as u128),
+        (" nonce ", plan.nonce as u128),
+        (" margin ", plan.margin as u128),
+        (" retry ", plan.retry as u128),
+        (" version ", plan.version as u128),
+        (" uplink ", plan.uplink as u128),
+    ];
+    add_fields(text, &fields, "\n")?;
+    add_policy(text, &plan.policy)
+}
+
+fn add_policy(text: &mut String, policy: &PolicyPlan) -> Result<(), AllocError> {
     let kind = match policy.kind {
-        PolicyKind::DenyAll => "deny",
-        PolicyKind::Client => "client",
-        PolicyKind::Server => "server",
+        PolicyKind::DenyAll => " deny ",
+        PolicyKind::Client => " client ",
+        PolicyKind::Server => " server ",
     };
-    let rights = policy.rights;
-    writeln!(
-        text,
-        " {kind} {} {} grants {}",
-        rights.n, rights.t, policy.grants
-    )?;
-    for address in policy.deny.as_slice() {
-        writeln!(text, " deny {}", address.0)?;
+    let fields = [
+        (kind, policy.rights.n as u128),
+        (" ", policy.rights.t as u128),
+        (" grants ", policy.grants as u128),
+    ];
+    add_fields(text, &fields, "\n")?;
+    add_denied(text, policy.deny.as_slice())?;
+    add_denied_tags(text, policy.deny_tags.as_slice())
+}
+
+fn add_denied(text: &mut String, addresses: &[Address]) -> Result<(), AllocError> {
+    for address in addresses {
+        add_fields(text, &[(" deny ", address.0 as u128)], "\n")?;
     }
-    for tag in policy.deny_tags.as_slice() {
-        writeln!(text, " deny tag {tag}")?;
+    Ok(())
+}
+
+fn add_denied_tags(text: &mut String, tags: &[u16]) -> Result<(), AllocError> {
+    for tag in tags {
+        add_fields(text, &[(" deny tag ", *tag as u128)], "\n")?;
     }
     Ok(())
 }
 
 fn add_link(text: &mut String, plan: &LinkPlan) -> Result<(), AllocError> {
-    write!(
-        text,
-        "link {} to {} delay {} tag {}",
-        plan.from, plan.to, plan.delay, plan.tag
-    )?;
+    let fields = [
+        ("link ", plan.from as u128),
+        (" to ", plan.to as u128),
+        (" delay ", plan.delay as u128),
+        (" tag ", plan.tag as u128),
+    ];
+    add_fields(text, &fields, "")?;
     add_limits(text, &plan.limits)
 }
 
 fn add_limits(text: &mut String, limits: &LinkLimits) -> Result<(), AllocError> {
-    writeln!(
-        text,
-        " rate {} share {} burst {}",
-        limits.ns_per_byte, limits.share, limits.burst
-    )?;
-    add_class(text, "request", &limits.request)?;
+    let fields = [
+        (" rate ", limits.ns_per_byte as u128),
+        (" share ", limits.share as u128),
+        (" burst ", limits.burst as u128),
+    ];
+    add_fields(text, &fields, "\n")?;
+    add_class(text, "  request ", &limits.request)?;
     if let Some(inner) = limits.request_inner {
-        writeln!(text, "  inner {inner}")?;
+        add_fields(text, &[("  inner ", inner as u128)], "\n")?;
     }
-    add_class(text, "regular", &limits.regular)?;
-    writeln!(
-        text,
-        "  legacy {} {}",
-        limits.legacy_ring, limits.legacy_bytes
-    )
+    add_class(text, "  regular ", &limits.regular)?;
+    let fields = [
+        ("  legacy ", limits.legacy_ring as u128),
+        (" ", limits.legacy_bytes as u128),
+    ];
+    add_fields(text, &fields, "\n")
 }
 
 fn add_class(text: &mut String, class: &str, limits: &DrrLimits) -> Result<(), AllocError> {
-    writeln!(
-        text,
-        "  {class} {} {} {} {} {} {}",
-        limits.queues,
-        limits.ring,
-        limits.queue_bytes,
-        limits.class_bytes,
-        limits.quantum,
-        limits.max
-    )
+    let fields = [
+        (class, limits.queues as u128),
+        (" ", limits.ring as u128),
+        (" ", limits.queue_bytes as u128),
+        (" ", limits.class_bytes as u128),
+        (" ", limits.quantum as u128),
+        (" ", limits.max as u128),
+    ];
+    add_fields(text, &fields, "\n")
 }
