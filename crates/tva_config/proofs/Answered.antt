@@ -53,3 +53,13 @@ given r next x gave = ap (λ q. q >>= next) gave
 
 pub refused : {A B : Type 0} (r : Read A) (next : A → Read B) (fault : ConfigFault) → r ≡ Err fault → (r >>= next) ≡ Err fault
 refused r next fault gave = ap (λ q. q >>= next) gave
+
+-- the answer of a last step
+pub answered_there : {A B : Type 0} (seen : B → A) (read due : Read A) (answer : Result B ConfigError)
+    → read ≡ due → AnswersBy seen due answer → AnswersBy seen read answer
+answered_there seen read due answer same is = subst (λ r. AnswersBy seen r answer) (sym same) is
+
+-- a fault that the code makes an error
+pub fault_made : {A B : Type 0} (seen : B → A) (read : Read A) (e : ConfigError) (fault due : ConfigFault)
+    → e ≡ error.Fault fault → fault ≡ due → read ≡ Err due → AnswersBy seen read (Err e)
+fault_made seen read e fault due made same is = subst (λ x. AnswersBy seen read (Err x)) (sym made) (is ∙ ap Err (sym same))

@@ -1,17 +1,18 @@
 -- Maps that number names or pairs, and one more of them.
-use Rattle.std.proofs.Common.{◌≡◌, ◌<◌, ◌≤◌, Bor, map, take, drop, get_or, Result, Ok, Err, IfOk, codes, ℕ, ◌+◌, ◌==◌, ◌||◌, Bool, true, false, not, cond, List, [], ◌∷◌, ◌++◌, length, Some, None, is_some, refl, ap, sym, ◌∙◌, eqb-true, arith}
+use Rattle.std.proofs.Common.{◌≡◌, ◌<◌, ◌≤◌, ◌-◌, map, take, drop, get_or, Err, codes, ℕ, ◌+◌, ◌==◌, ◌||◌, Bool, true, false, not, cond, List, [], ◌∷◌, ◌++◌, length, Some, None, is_some, refl, ap, sym, subst, ◌∙◌, eqb-true, arith, length-append}
 use Rattle.std.specs.List.{list_any, position_from}
 use Rattle.std.specs.Str.{bytes_eq}
 use Rattle.std.specs.HashMap.{get}
 use Rattle.std.proofs.lemmas.Bool.{and_parts}
 use Rattle.std.proofs.lemmas.List.Folds.{list_any-append}
-use Rattle.std.proofs.lemmas.List.{take_more, drop_more, length-map, length-take-le, map-append}
+use Rattle.std.proofs.lemmas.List.{take_more, drop_more, take_all, get_or-map, get_or_append_left, get_or-append_right, length-map, length-take-le, map-append}
 use Rattle.tva_base.specs.declared.addresses.Address.{Address}
 use Rattle.tva_config.specs.declared.fault.ConfigRule.TheVariants as rule
 use Rattle.tva_config.specs.declared.fault.ConfigTable.TheVariants as table
+use Rattle.tva_config.specs.declared.entries.RouterEntry.{RouterEntry}
 use Rattle.tva_config.specs.declared.entries.HostEntry.{HostEntry}
 use Rattle.tva_config.specs.Faults.{in_turn, at, fault_at}
-use Rattle.tva_config.specs.Nodes.{node_of, node_place, name_step, address_step}
+use Rattle.tva_config.specs.Nodes.{node_names, node_of, node_place, name_step, address_step}
 use Rattle.tva_config.proofs.InTurn.{Continues}
 use Rattle.tva_base.specs.declared.plan.LinkPlan.{LinkPlan}
 use Rattle.std.specs.HashMap.{get_by_text}
@@ -80,32 +81,48 @@ names_push old new names name n is updates single last = λ q.
     ∙ ap (λ b. cond b (Some n) (position_from (bytes_eq q) 0 names)) (flipped name q)
     ∙ pushed_number (bytes_eq q) names name n last (λ same. let e : q ≡ name = (bytes_eq-Decides q name).0 same in rw e single)
 
-abbrev pub nows : List (Bor (List ℕ)) → List (List ℕ)
-nows names = map (λ n. n.now) names
+-- there are as many names as nodes
+pub names_long : (routers : List RouterEntry) (hosts : List HostEntry) → length (node_names routers hosts) ≡ length routers + length hosts
+names_long routers hosts = simp (length-append, length-map)
 
-pub nows_take : (names : List (Bor (List ℕ))) (i : ℕ) (d : Bor (List ℕ)) → i < length names → nows (take (i + 1) names) ≡ nows (take i names) ++ (get_or names i d).now ∷ []
-nows_take names i d within = ap nows (take_more names i d within) ∙ map-append (λ n. n.now) (take i names) (get_or names i d ∷ [])
+pub length_taken : (names : List (List ℕ)) (i : ℕ) → i ≤ length names → i ≡ length (take i names)
+length_taken names i within = sym (length-take-le i names within)
 
-pub length_nows_take : (names : List (Bor (List ℕ))) (i : ℕ) → i ≤ length names → i ≡ length (nows (take i names))
-length_nows_take names i within = sym (length-map (take i names) (λ n. n.now) ∙ length-take-le i names within)
+-- the name of a router, and that of a host
+pub router_name : (routers : List RouterEntry) (hosts : List HostEntry) (node : ℕ) (d : RouterEntry) → node < length routers
+    → (get_or routers node d).name ≡ get_or (node_names routers hosts) node []
+router_name routers hosts node d within =
+    let long : node < length (map (λ (x : RouterEntry). x.name) routers) = simp length-map within in
+    sym (get_or-map (λ (x : RouterEntry). x.name) routers node d [] within)
+    ∙ sym (get_or_append_left (map (λ (x : RouterEntry). x.name) routers) (map (λ (x : HostEntry). x.name) hosts) [] node long)
+
+pub host_name : (routers : List RouterEntry) (hosts : List HostEntry) (node : ℕ) (d : HostEntry) → length routers ≤ node → node - length routers < length hosts
+    → (get_or hosts (node - length routers) d).name ≡ get_or (node_names routers hosts) node []
+host_name routers hosts node d behind within =
+    sym (get_or-map (λ (x : HostEntry). x.name) hosts (node - length routers) d [] within)
+    ∙ sym (get_or-append_right (map (λ (x : RouterEntry). x.name) routers) (map (λ (x : HostEntry). x.name) hosts) (length routers) node [] (length-map routers (λ (x : RouterEntry). x.name)) behind)
 
 -- a new name takes a step
-pub name_continues : (routers : ℕ) (names : List (Bor (List ℕ))) (i : ℕ) (d : Bor (List ℕ)) (all : List (List ℕ)) → i < length names
-    → list_any (bytes_eq (get_or names i d).now) (nows (take i names)) ≡ false
-    → Continues (name_step routers) (nows (take i names)) (nows (drop i names)) all → Continues (name_step routers) (nows (take (i + 1) names)) (nows (drop (i + 1) names)) all
-name_continues routers names i d all within new before =
-    let opened = rw (drop_more names i d within, new) at before in
-    rw (nows_take names i d within) opened
+pub name_continues : (routers : ℕ) (names : List (List ℕ)) (i : ℕ) → i < length names
+    → list_any (bytes_eq (get_or names i [])) (take i names) ≡ false
+    → Continues (name_step routers) (take i names) (drop i names) names → Continues (name_step routers) (take (i + 1) names) (drop (i + 1) names) names
+name_continues routers names i within new before =
+    let opened = rw (drop_more names i [] within, new) at before in
+    rw (take_more names i [] within) opened
 
 -- and another ends the steps
-pub name_stops : (routers : ℕ) (names : List (Bor (List ℕ))) (i : ℕ) (d : Bor (List ℕ)) (all : List (List ℕ)) → i < length names
-    → list_any (bytes_eq (get_or names i d).now) (nows (take i names)) ≡ true
-    → Continues (name_step routers) (nows (take i names)) (nows (drop i names)) all
-    → in_turn (name_step routers) [] all ≡ Err (fault_at (node_place routers i) rule.Names (codes "name"))
-name_stops routers names i d all within old before =
-    let opened = rw (drop_more names i d within, old) at before in
+pub name_stops : (routers : ℕ) (names : List (List ℕ)) (i : ℕ) → i < length names
+    → list_any (bytes_eq (get_or names i [])) (take i names) ≡ true
+    → Continues (name_step routers) (take i names) (drop i names) names
+    → in_turn (name_step routers) [] names ≡ Err (fault_at (node_place routers i) rule.Names (codes "name"))
+name_stops routers names i within old before =
+    let opened = rw (drop_more names i [] within, old) at before in
     let few : i ≤ length names = omega arith in
-    sym opened ∙ ap (λ n. Err (fault_at (node_place routers n) rule.Names (codes "name"))) (sym (length_nows_take names i few))
+    sym opened ∙ ap (λ n. Err (fault_at (node_place routers n) rule.Names (codes "name"))) (sym (length_taken names i few))
+
+-- all names are numbered
+pub all_named : (numbers : Numbers) (names : List (List ℕ)) (i : ℕ) → length names ≤ i → IsNumbers numbers (take i names) → get_by_text numbers ≡ node_of names
+all_named numbers names i past is = λ j q. subst (IsNumbers numbers) (take_all i names past) is q j
 
 pub untrue : (b : Bool) → not b ≡ false → b ≡ true
 untrue true is = refl
@@ -114,11 +131,6 @@ untrue false is = absurd (cc)
 pub true_not : (b : Bool) → not b ≡ true → b ≡ false
 true_not true is = absurd (cc)
 true_not false is = refl
-
--- the numbers of a result as one function
-pub numbers_as_one : {E : Type 0} (names : List (List ℕ)) (r : Result Numbers E) → IfOk r (λ numbers. IsNumbers numbers names) → IfOk r (λ numbers. get_by_text numbers ≡ node_of names)
-numbers_as_one names (Ok numbers) is = λ i q. is q i
-numbers_as_one names (Err e) is = tt
 
 -- a new address takes a step
 pub address_continues : (hosts : List HostEntry) (i : ℕ) (h : HostEntry) (all : List HostEntry) → i < length hosts → h ≡ get_or hosts i h

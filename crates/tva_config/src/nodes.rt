@@ -1,14 +1,13 @@
 // What the nodes must be to one another.
-ghost use Rattle.std.specs.Prelude.{◌≡◌, ◌≤◌, ◌+◌, ℕ, List, [], IfOk, length, map, is_some, not, nat_lt, Some};
+ghost use Rattle.std.specs.Prelude.{◌≡◌, ◌≤◌, ◌<◌, ◌+◌, ℕ, List, [], IfOk, length, get_or, map, is_some, not, nat_lt, Some};
 ghost use Rattle.std.specs.Result.{result_map_both};
 ghost use Rattle.std.specs.Bool.{OnTrue};
 ghost use Rattle.std.specs.HashMap.{get_by_text};
 ghost use Rattle.std.specs.Map.{update};
 ghost use Rattle.std.specs.Str.{bytes_eq};
 ghost use Rattle.tva_config.specs.declared.fault.ConfigTable.TheVariants as table;
-ghost use Rattle.tva_config.specs.Faults.{AnswersBy, in_turn, at, fault_at};
-ghost use Rattle.tva_config.specs.Views.{IsNumbers};
-ghost use Rattle.tva_config.specs.Nodes.{node_names, node_of, node_place, name_step, names_of, addresses_of, retries_of, slots_of, all_slots};
+ghost use Rattle.tva_config.specs.Faults.{AnswersBy, at, fault_at};
+ghost use Rattle.tva_config.specs.Nodes.{node_names, node_of, node_place, names_of, addresses_of, retries_of, slots_of, all_slots};
 
 use crate::entries::{HostEntry, RouterEntry};
 use crate::fault::{ConfigError, ConfigFault, ConfigRule, ConfigTable};
@@ -29,44 +28,25 @@ pub fn numbers(
     ensures answer { AnswersBy (λ _. node_names routers.now hosts.now) (names_of routers.now hosts.now) result }
     ensures numbers { IfOk result (λ numbers. get_by_text numbers ≡ node_of (node_names routers.now hosts.now)) }
 {
-    let names = names_in_order(alloc, routers, hosts)?;
-    number_names(alloc, routers.len(), &names)
-}
-
-// The names of all nodes, in the order of their numbers.
-fn names_in_order<'a>(
-    alloc: Global,
-    routers: &'a [RouterEntry],
-    hosts: &'a [HostEntry],
-) -> Result<Vec<&'a str>, AllocError>
-    ensures { IfOk result (λ names. map (λ n. n.now) names.items ≡ node_names routers.now hosts.now) }
-{
-    let mut names = Vec::new(alloc);
-    for router in routers {
-        names.push(router.name.as_str())?;
-    }
-    for host in hosts {
-        names.push(host.name.as_str())?;
-    }
-    Ok(names)
-}
-
-fn number_names(
-    alloc: Global,
-    routers: usize,
-    names: &[&str],
-) -> Result<HashMap<String, u16>, ConfigError>
-    requires { length names.now ≤ 1024 }
-    ensures answer { AnswersBy (λ _. map (λ n. n.now) names.now) (in_turn (name_step routers) [] (map (λ n. n.now) names.now)) result }
-    ensures numbers { IfOk result (λ numbers. IsNumbers numbers (map (λ n. n.now) names.now)) }
-{
     let mut numbers = HashMap::new(alloc);
-    for (i, name) in names.iter().enumerate() {
+    for i in 0..routers.len() + hosts.len() {
+        let name = name_of(routers, hosts, i);
         if !add_name(alloc, &mut numbers, name, i as u16)? {
-            return Err(fault(place(routers, i), ConfigRule::Names, "name").into());
+            return Err(fault(place(routers.len(), i), ConfigRule::Names, "name").into());
         }
     }
     Ok(numbers)
+}
+
+// The name of the node of a number: the routers stand before the hosts.
+fn name_of<'a>(routers: &'a [RouterEntry], hosts: &'a [HostEntry], node: usize) -> &'a str
+    requires { node < length routers.now + length hosts.now }
+    ensures { result.now ≡ get_or (node_names routers.now hosts.now) node [] }
+{
+    if node < routers.len() {
+        return routers[node].name.as_str();
+    }
+    hosts[node - routers.len()].name.as_str()
 }
 
 // Adds a name with its number, where it isn't there.

@@ -1,6 +1,7 @@
-use Rattle.std.proofs.Common.{◌≡◌, ◌∙◌, ◌<◌, ◌==◌, ap, cond, sym, true, false, map, take, length, rules, arith}
+use Rattle.std.proofs.Common.{◌≡◌, ◌∙◌, ◌<◌, ◌==◌, ap, cond, sym, true, false, map, take, length, arith}
 use Rattle.std.specs.List.{list_any}
 use Rattle.tva_config.specs.Nodes.{addresses_of}
+use Rattle.tva_config.proofs.Answered.{fault_made}
 use Rattle.tva_config.proofs.Numbered.{address_continues, address_stops, seen_push, untrue, true_not}
 use Rattle.tva_config.proofs.nodes.addresses.Goals as goal
 
@@ -11,7 +12,7 @@ loop-i-preserved c =
     let host = c.index-hosts-i.result in
     let within : i < length hosts = omega arith in
     let added = c.in_ok-insert.ensures.added in
-    let yes : c.in_ok-insert.field-0 ≡ true = grind arith in
+    let yes : c.in_ok-insert.field-0 ≡ true = c.if-not-branch.false in
     let new : list_any (λ a. a.0 == host.address.0) (map (λ x. x.address) (take i hosts)) ≡ false =
     sym (c.loop-i.invariant.seen host.address.0) ∙ true_not _ (sym added ∙ yes) in
     record {
@@ -27,8 +28,8 @@ returns-then-not-branch c =
     let host = c.index-hosts-i.result in
     let within : i < length hosts = omega arith in
     let added = c.in_ok-insert.ensures.added in
-    let no : c.in_ok-insert.field-0 ≡ false = grind arith in
+    let no : c.in_ok-insert.field-0 ≡ false = c.if-not-branch.true in
     let old : list_any (λ a. a.0 == host.address.0) (map (λ x. x.address) (take i hosts)) ≡ true =
     sym (c.loop-i.invariant.seen host.address.0) ∙ untrue _ (sym added ∙ no) in
-    let stops = address_stops hosts i host hosts within c.index-hosts-i.is old c.loop-i.invariant.read in
-    first_of (search rules, grind (arith, stops))
+    fault_made (λ (_ : Unit {0}). map (λ h. h.address) hosts) (addresses_of hosts) c.into.result c.host_fault.result _ c.into.ensures c.host_fault.ensures
+    (address_stops hosts i host hosts within c.index-hosts-i.is old c.loop-i.invariant.read)
