@@ -5,8 +5,9 @@ use Rattle.std.proofs.lemmas.List.Elements.{All-nil}
 use Rattle.toml.specs.Data.{Members}
 use Rattle.tva_base.specs.declared.limits.LinkLimits.{LinkLimits}
 use Rattle.tva_base.specs.Plan.{AreClassLimits, AreLinkLimits, IsPrefix}
-use Rattle.tva_base.specs.Versions.{IsVersion, seconds_max, units_max}
+use Rattle.tva_base.specs.Versions.{AreRights, IsVersion, seconds_max, units_max}
 use Rattle.tva_base.specs.declared.plan.PolicyKind.TheVariants as policy
+use Rattle.tva_base.specs.declared.plan.PolicyPlan.{PolicyPlan}
 use Rattle.tva_config.specs.declared.place.Place.{Place}
 use Rattle.tva_config.specs.declared.fault.ConfigTable as tables
 use Rattle.tva_config.specs.declared.entries.RouterEntry.{RouterEntry}
@@ -16,7 +17,7 @@ use Rattle.tva_config.specs.declared.entries.RouteEntry.{RouteEntry}
 use Rattle.tva_config.specs.Faults.{Read}
 use Rattle.tva_config.specs.Keys.{only_listed, required, optional}
 use Rattle.tva_config.specs.Values as value
-use Rattle.tva_config.specs.Entries.{router_keys, router_of, host_keys, host_of, link_keys, row, class_limits, behind_a_tag, inner_of, limits_of, link_of, route_keys, route_of}
+use Rattle.tva_config.specs.Entries.{router_keys, router_of, host_keys, policy_plan_of, host_of, link_keys, row, class_limits, behind_a_tag, inner_of, limits_of, link_of, route_keys, route_of}
 use Rattle.tva_config.specs.Tables.{entry_step, entries_of}
 use Rattle.tva_config.specs.Valid.{IsName, IsRouterEntry, IsHostEntry, IsLinkEntry, IsRouteEntry}
 use Rattle.tva_config.proofs.KindsValid.{IsWithin, required_valid, optional_valid, number_valid, name_valid, prefix_kind_valid, nonce_valid}
@@ -72,6 +73,22 @@ units_usual version = at_least 32 (eqb version 1) 1023 1048575 refl refl
 seconds_usual : (version : ℕ) → (nat_le 0 10 && nat_le 10 (seconds_max version)) ≡ true
 seconds_usual version = at_least 10 (eqb version 1) 63 127 refl refl
 
+rights_valid : (version : ℕ) (p : Place) (ms : Members) (plan : PolicyPlan) → policy_plan_of version p ms ≡ Ok plan → AreRights version plan.rights
+unfolding policy_plan_of
+rights_valid version p ms plan gave =
+    when_gave (λ (q : PolicyPlan). AreRights version q.rights) (optional p ms (codes "policy") value.policy_kind policy.DenyAll) _ plan gave (λ kind k1 g1.
+    when_gave (λ (q : PolicyPlan). AreRights version q.rights) (optional p ms (codes "n") (value.number 0 (units_max version)) 32) _ plan g1 (λ n k2 g2.
+    when_gave (λ (q : PolicyPlan). AreRights version q.rights) (optional p ms (codes "t") (value.number 0 (seconds_max version)) 10) _ plan g2 (λ t k3 g3.
+    when_gave (λ (q : PolicyPlan). AreRights version q.rights) (optional p ms (codes "grants") (value.number 0 1000000) 1000) _ plan g3 (λ grants k4 g4.
+    when_gave (λ (q : PolicyPlan). AreRights version q.rights) (optional p ms (codes "deny") value.addresses []) _ plan g4 (λ deny k5 g5.
+    when_gave (λ (q : PolicyPlan). AreRights version q.rights) (optional p ms (codes "deny_tags") value.tags []) _ plan g5 (λ deny_tags k6 g6.
+    let made : PolicyPlan = record { kind = kind; rights = record { n = n; t = t }; grants = grants; deny = deny; deny_tags = deny_tags } in
+    let valid : AreRights version made.rights = record {
+      units = (number_or 0 (units_max version) 32 p ms (codes "n") n (units_usual version) k2).1;
+      seconds = (number_or 0 (seconds_max version) 10 p ms (codes "t") t (seconds_usual version) k3).1;
+    } in
+    subst (λ (q : PolicyPlan). AreRights version q.rights) (gave_one made plan g6) valid))))))
+
 pub host_valid : (version : ℕ) → IsVersion version → (p : Place) (ms : Members) (h : HostEntry) → host_of version p ms ≡ Ok h → IsHostEntry h
 unfolding host_of
 host_valid version is p ms h gave =
@@ -81,12 +98,7 @@ host_valid version is p ms h gave =
     when_gave IsHostEntry (optional p ms (codes "nonce") value.nonce 1) _ h g3 (λ nonce k3 g4.
     when_gave IsHostEntry (optional p ms (codes "margin_ns") (value.number 0 1000000000000) 1000000) _ h g4 (λ margin k4 g5.
     when_gave IsHostEntry (optional p ms (codes "retry_ns") (value.number 0 10000000000000) 2000000000) _ h g5 (λ retry k5 g6.
-    when_gave IsHostEntry (optional p ms (codes "policy") value.policy_kind policy.DenyAll) _ h g6 (λ kind k6 g7.
-    when_gave IsHostEntry (optional p ms (codes "n") (value.number 0 (units_max version)) 32) _ h g7 (λ n k7 g8.
-    when_gave IsHostEntry (optional p ms (codes "t") (value.number 0 (seconds_max version)) 10) _ h g8 (λ t k8 g9.
-    when_gave IsHostEntry (optional p ms (codes "grants") (value.number 0 1000000) 1000) _ h g9 (λ grants k9 g10.
-    when_gave IsHostEntry (optional p ms (codes "deny") value.addresses []) _ h g10 (λ deny k10 g11.
-    when_gave IsHostEntry (optional p ms (codes "deny_tags") value.tags []) _ h g11 (λ deny_tags k11 g12.
+    when_gave IsHostEntry (policy_plan_of version p ms) _ h g6 (λ plan k6 g7.
     let made : HostEntry = record {
       name = name;
       address = address;
@@ -94,21 +106,18 @@ host_valid version is p ms h gave =
       margin = margin;
       retry = retry;
       version = version;
-      policy = record { kind = kind; rights = record { n = n; t = t }; grants = grants; deny = deny; deny_tags = deny_tags };
+      policy = plan;
     } in
-    let same : made ≡ h = gave_one made h g12 in
+    let same : made ≡ h = gave_one made h g7 in
     let valid : IsHostEntry made = record {
       name = required_valid IsName value.name p ms (codes "name") name name_valid k1;
       nonce = optional_valid (λ k. k < 2 ^ 48) value.nonce p ms (codes "nonce") 1 nonce nonce_valid one_below k3;
       margin = (number_or 0 1000000000000 1000000 p ms (codes "margin_ns") margin refl k4).1;
       retry = (number_or 0 10000000000000 2000000000 p ms (codes "retry_ns") retry refl k5).1;
       version = is;
-      rights = record {
-        units = (number_or 0 (units_max version) 32 p ms (codes "n") n (units_usual version) k7).1;
-        seconds = (number_or 0 (seconds_max version) 10 p ms (codes "t") t (seconds_usual version) k8).1;
-      };
+      rights = rights_valid version p ms plan k6;
     } in
-    subst IsHostEntry same valid))))))))))))
+    subst IsHostEntry same valid)))))))
 
 row_valid : (p : Place) (ms : Members) (request regular : List ℕ) (low high default : ℕ) (q : ℕ × ℕ) → (nat_le low default && nat_le default high) ≡ true
     → row p ms request regular low high default ≡ Ok q → IsWithin low high q.0 × IsWithin low high q.1

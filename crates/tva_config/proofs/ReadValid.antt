@@ -12,11 +12,11 @@ use Rattle.tva_config.specs.Faults.{Answers, at, top, fault_at, unless}
 use Rattle.tva_config.specs.Keys.{only_listed, required, optional}
 use Rattle.tva_config.specs.Values as value
 use Rattle.tva_config.specs.Entries.{router_of, host_of, link_of, route_of}
-use Rattle.tva_config.specs.Tables.{Top, top_keys, top_of, counts_of, entry_step, entries_of, Entries, all_entries_of}
+use Rattle.tva_config.specs.Tables.{Top, top_keys, top_of, tables_of, counts_of, entry_step, entries_of, Entries, all_entries_of}
 use Rattle.tva_config.specs.Nodes.{node_names, node_of, names_of, addresses_of, retries_of, slots_of}
 use Rattle.tva_config.specs.Links.{link_between, link_step, links_of, uplink_step, uplinks_of, rings_of}
 use Rattle.tva_config.specs.Routes.{route_step, routes_of}
-use Rattle.tva_config.specs.Read.{config_of, Joined, joined_of, plan_of, members_read, document_of, document_read, read_of}
+use Rattle.tva_config.specs.Read.{config_of, Joined, joined_of, linked_of, plan_of, members_read, document_of, document_read, read_of}
 use Rattle.tva_config.specs.Valid.{IsRouterEntry, IsHostEntry, IsLinkEntry, IsRouteEntry, IsConfig}
 use Rattle.tva_config.proofs.ConfigValid.{Passed, config_valid}
 use Rattle.tva_config.proofs.EntriesValid.{number_needed, number_or, router_valid, host_valid, link_valid, route_valid, entries_valid}
@@ -27,7 +27,7 @@ abbrev AreTimes : Top → Type 0
 AreTimes t = (t.horizon ≤ 1000000000000000) × (1 ≤ t.max_events) × (t.max_events ≤ 4000000) × IsVersion t.version
 
 top_valid : (ms : Members) (t : Top) → top_of ms ≡ Ok t → AreTimes t
-unfolding top_of
+unfolding top_of tables_of
 top_valid ms t gave =
     when_gave AreTimes (only_listed top top_keys ms) _ t gave (λ u known g1.
     when_gave AreTimes (required top ms (codes "horizon_ns") (value.number 0 1000000000000000)) _ t g1 (λ horizon k1 g2.
@@ -94,7 +94,7 @@ Joins t e j = Passed t.horizon t.max_events e.routers e.hosts e.links e.routes j
 joined_passed : (t : Top) (e : Entries) (j : Joined) → AreTimes t
     → (length t.routers + length t.hosts ≤ 1024) × (length t.links ≤ 4096) × (length t.routes ≤ 65536)
     → AreRead t e → joined_of e ≡ Ok j → Joins t e j
-unfolding joined_of addresses_of links_of uplinks_of routes_of
+unfolding joined_of linked_of addresses_of links_of uplinks_of routes_of
 joined_passed t e j times counts known gave =
     let rs = e.routers in
     let hs = e.hosts in

@@ -4,6 +4,7 @@ use Rattle.toml.specs.Data.{Members}
 use Rattle.tva_base.specs.declared.limits.DrrLimits.{DrrLimits}
 use Rattle.tva_base.specs.declared.limits.LinkLimits.{LinkLimits}
 use Rattle.tva_base.specs.declared.plan.PolicyKind.TheVariants as policy
+use Rattle.tva_base.specs.declared.plan.PolicyPlan.{PolicyPlan}
 use Rattle.tva_base.specs.Versions.{seconds_max, units_max}
 use Rattle.tva_config.specs.declared.place.Place.{Place}
 use Rattle.tva_config.specs.declared.entries.RouterEntry.{RouterEntry}
@@ -33,6 +34,23 @@ abbrev pub host_keys : List (List ℕ)
 host_keys = codes "name" ∷ codes "address" ∷ codes "nonce" ∷ codes "margin_ns" ∷ codes "retry_ns" ∷ codes "policy"
     ∷ codes "n" ∷ codes "t" ∷ codes "grants" ∷ codes "deny" ∷ codes "deny_tags" ∷ []
 
+-- the policy of a host whose shims have that version
+unfoldable pub policy_plan_of : ℕ → Place → Members → Read PolicyPlan
+policy_plan_of version p ms = do
+  kind ← optional p ms (codes "policy") value.policy_kind policy.DenyAll
+  n ← optional p ms (codes "n") (value.number 0 (units_max version)) 32
+  t ← optional p ms (codes "t") (value.number 0 (seconds_max version)) 10
+  grants ← optional p ms (codes "grants") (value.number 0 1000000) 1000
+  deny ← optional p ms (codes "deny") value.addresses []
+  deny_tags ← optional p ms (codes "deny_tags") value.tags []
+  Ok (record {
+    kind = kind;
+    rights = record { n = n; t = t };
+    grants = grants;
+    deny = deny;
+    deny_tags = deny_tags;
+  })
+
 -- a host whose shims have that version
 unfoldable pub host_of : ℕ → Place → Members → Read HostEntry
 host_of version p ms = do
@@ -42,12 +60,7 @@ host_of version p ms = do
   nonce ← optional p ms (codes "nonce") value.nonce 1
   margin ← optional p ms (codes "margin_ns") (value.number 0 1000000000000) 1000000
   retry ← optional p ms (codes "retry_ns") (value.number 0 10000000000000) 2000000000
-  kind ← optional p ms (codes "policy") value.policy_kind policy.DenyAll
-  n ← optional p ms (codes "n") (value.number 0 (units_max version)) 32
-  t ← optional p ms (codes "t") (value.number 0 (seconds_max version)) 10
-  grants ← optional p ms (codes "grants") (value.number 0 1000000) 1000
-  deny ← optional p ms (codes "deny") value.addresses []
-  deny_tags ← optional p ms (codes "deny_tags") value.tags []
+  plan ← policy_plan_of version p ms
   Ok (record {
     name = name;
     address = address;
@@ -55,13 +68,7 @@ host_of version p ms = do
     margin = margin;
     retry = retry;
     version = version;
-    policy = record {
-      kind = kind;
-      rights = record { n = n; t = t };
-      grants = grants;
-      deny = deny;
-      deny_tags = deny_tags;
-    };
+    policy = plan;
   })
 
 -- the keys of `link`

@@ -97,18 +97,23 @@ pub record Joined : Type 0 where
   pub uplinks : List ℕ
   pub routes : List OwnedRoute
 
+-- the steps across tables from the links on, by the numbers of names
+unfoldable pub linked_of : (List ℕ → Option ℕ) → Entries → Read Joined
+linked_of node e = do
+  links ← links_of node e.links
+  uplinks ← uplinks_of (length e.routers) links e.hosts
+  routes ← routes_of (length e.routers) node (link_between links) e.routes
+  few_slots ← slots_of e.routers
+  few_places ← rings_of links
+  Ok (record { links = links; uplinks = uplinks; routes = routes })
+
 -- the steps across tables, in their order
 unfoldable pub joined_of : Entries → Read Joined
 joined_of e = do
   names ← names_of e.routers e.hosts
   addresses ← addresses_of e.hosts
   retries ← retries_of e.hosts
-  links ← links_of (node_of names) e.links
-  uplinks ← uplinks_of (length e.routers) links e.hosts
-  routes ← routes_of (length e.routers) (node_of names) (link_between links) e.routes
-  few_slots ← slots_of e.routers
-  few_places ← rings_of links
-  Ok (record { links = links; uplinks = uplinks; routes = routes })
+  linked_of (node_of names) e
 
 -- the plan of the entries
 unfoldable pub plan_of : ℕ → ℕ → Entries → Read Config

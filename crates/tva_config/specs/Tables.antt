@@ -28,12 +28,9 @@ abbrev pub top_keys : List (List ℕ)
 top_keys = codes "horizon_ns" ∷ codes "max_events" ∷ codes "version"
     ∷ codes "router" ∷ codes "host" ∷ codes "link" ∷ codes "route" ∷ []
 
-unfoldable pub top_of : Members → Read Top
-top_of ms = do
-  known ← only_listed top top_keys ms
-  horizon ← required top ms (codes "horizon_ns") (value.number 0 1000000000000000)
-  max_events ← required top ms (codes "max_events") (value.number 1 4000000)
-  version ← optional top ms (codes "version") (value.number 1 2) 1
+-- its tables, behind its numbers
+unfoldable pub tables_of : ℕ → ℕ → ℕ → Members → Read Top
+tables_of horizon max_events version ms = do
   routers ← optional top ms (codes "router") value.tables []
   hosts ← optional top ms (codes "host") value.tables []
   links ← optional top ms (codes "link") value.tables []
@@ -47,6 +44,14 @@ top_of ms = do
     links = links;
     routes = routes;
   })
+
+unfoldable pub top_of : Members → Read Top
+top_of ms = do
+  known ← only_listed top top_keys ms
+  horizon ← required top ms (codes "horizon_ns") (value.number 0 1000000000000000)
+  max_events ← required top ms (codes "max_events") (value.number 1 4000000)
+  version ← optional top ms (codes "version") (value.number 1 2) 1
+  tables_of horizon max_events version ms
 
 -- there are not too many entries
 unfoldable pub counts_of : ℕ → ℕ → ℕ → Read (Unit {0})

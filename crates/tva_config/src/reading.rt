@@ -1,5 +1,6 @@
 // The steps of a configuration, in their order.
 ghost use Rattle.std.specs.Prelude.{◌≡◌, ◌≤◌, ◌+◌, IfOk, Ok, Err, length, option_map};
+ghost use Rattle.std.specs.HashMap.{get_by_text};
 ghost use Rattle.toml.specs.View.{table_view};
 ghost use Rattle.tva_config.specs.declared.fault.ConfigFault.{ConfigFault};
 ghost use Rattle.tva_config.specs.declared.fault.ConfigError.TheVariants.{Fault};
@@ -8,7 +9,7 @@ ghost use Rattle.tva_config.specs.Faults.{Answers, AnswersBy, IsOrLacksMemory};
 ghost use Rattle.tva_config.specs.Valid.{IsConfig};
 ghost use Rattle.tva_config.specs.Tables.{all_entries_of};
 ghost use Rattle.tva_config.specs.Views.{seen_top, seen_entries, seen_joined};
-ghost use Rattle.tva_config.specs.Read.{config_of, joined_of, plan_of, members_read, document_of, read_of};
+ghost use Rattle.tva_config.specs.Read.{config_of, linked_of, joined_of, plan_of, members_read, document_of, read_of};
 
 use crate::config::Config;
 use crate::entries::{EntryLists, HostEntry, JoinedLists, OwnedRoute, RouterEntry};
@@ -18,6 +19,7 @@ use crate::place::Place;
 use crate::top::TopTable;
 use crate::{links, nodes, plans, routes, top};
 use std::alloc::{AllocError, Global};
+use std::collections::HashMap;
 use toml::Table;
 use tva_base::{LinkPlan, Listed, Time};
 
@@ -138,22 +140,41 @@ fn join(alloc: Global, entries: &EntryLists) -> Result<JoinedLists, ConfigError>
     ensures links { IfOk result (λ j. length j.links.items ≡ length entries.now.links.items) }
     ensures uplinks { IfOk result (λ j. length j.uplinks.items ≡ length entries.now.hosts.items) }
 {
-    let routers = &entries.routers;
-    let hosts = &entries.hosts;
+    let routers = entries.routers.as_slice();
+    let hosts = entries.hosts.as_slice();
     let numbers = nodes::numbers(alloc, routers, hosts)?;
     nodes::addresses(alloc, hosts)?;
     nodes::retries(hosts)?;
-    let links = links::number_links(alloc, &numbers, &entries.links)?;
-    let uplinks = links::uplinks(alloc, routers.len(), &links.plans, hosts)?;
+    join_links(alloc, &numbers, entries)
+}
+
+// The steps from the links on, by the numbers of names, or the first fault of them.
+#[tactic(auto, unfolding(crate::specs::Read::linked_of))]
+fn join_links(
+    alloc: Global,
+    numbers: &HashMap<String, u16>,
+    entries: &EntryLists,
+) -> Result<JoinedLists, ConfigError>
+    requires nodes { length entries.now.routers.items + length entries.now.hosts.items ≤ 1024 }
+    requires links { length entries.now.links.items ≤ 4096 }
+    requires routes { length entries.now.routes.items ≤ 65536 }
+    ensures answer { AnswersBy seen_joined (linked_of (get_by_text numbers.now) (seen_entries entries.now)) result }
+    ensures links { IfOk result (λ j. length j.links.items ≡ length entries.now.links.items) }
+    ensures uplinks { IfOk result (λ j. length j.uplinks.items ≡ length entries.now.hosts.items) }
+{
+    let routers = entries.routers.as_slice();
+    let links = links::number_links(alloc, numbers, &entries.links)?;
+    let plans = links.plans.as_slice();
+    let uplinks = links::uplinks(alloc, routers.len(), plans, &entries.hosts)?;
     let routes = routes::number_routes(
         alloc,
         routers.len(),
-        &numbers,
+        numbers,
         &links.pairs,
         &entries.routes,
     )?;
     nodes::slots(routers)?;
-    links::rings(&links.plans)?;
+    links::rings(plans)?;
     Ok(JoinedLists {
         links: links.plans,
         uplinks,

@@ -7,7 +7,7 @@ ghost use Rattle.tva_base.specs.Versions.{seconds_max, units_max};
 ghost use Rattle.tva_config.specs.Faults.{Answers, Read};
 ghost use Rattle.tva_config.specs.Keys.{optional};
 ghost use Rattle.tva_config.specs.Values.{number};
-ghost use Rattle.tva_config.specs.Entries.{router_of, host_of, link_of, row, class_limits, behind_a_tag, inner_of, limits_of, route_of};
+ghost use Rattle.tva_config.specs.Entries.{router_of, policy_plan_of, host_of, link_of, row, class_limits, behind_a_tag, inner_of, limits_of, route_of};
 
 use crate::entries::{HostEntry, LinkEntry, RouteEntry, RouterEntry};
 use crate::fault::{ConfigError, ConfigFault};
@@ -300,12 +300,7 @@ impl Entry for HostEntry {
         let nonce = keys::nonce_or(place, table, "nonce", 1)?;
         let margin = keys::number_or(place, table, "margin_ns", 0, MARGIN_MAX, 1_000_000)?;
         let retry = keys::number_or(place, table, "retry_ns", 0, RETRY_MAX, 2_000_000_000)?;
-        let kind = keys::optional(place, table, "policy", PolicyKind::DenyAll)?;
-        let n = units(version, place, table)?;
-        let t = seconds(version, place, table)?;
-        let grants = keys::count_or(place, table, "grants", 0, 1_000_000, 1000)?;
-        let deny = keys::few_items(alloc, place, table, "deny")?;
-        let deny_tags = keys::few_items(alloc, place, table, "deny_tags")?;
+        let policy = policy(alloc, version, place, table)?;
         Ok(HostEntry {
             name,
             address,
@@ -313,13 +308,32 @@ impl Entry for HostEntry {
             margin,
             retry,
             version,
-            policy: PolicyPlan {
-                kind,
-                rights: Rights { n, t },
-                grants,
-                deny,
-                deny_tags,
-            },
+            policy,
         })
     }
+}
+
+// The policy of a host, or the first fault of its keys.
+#[tactic(auto, unfolding(crate::specs::Entries::policy_plan_of))]
+fn policy(
+    alloc: Global,
+    version: u8,
+    place: Place,
+    table: &Table,
+) -> Result<PolicyPlan, ConfigError>
+    ensures { Answers (policy_plan_of version place (table_view table.now)) result }
+{
+    let kind = keys::optional(place, table, "policy", PolicyKind::DenyAll)?;
+    let n = units(version, place, table)?;
+    let t = seconds(version, place, table)?;
+    let grants = keys::count_or(place, table, "grants", 0, 1_000_000, 1000)?;
+    let deny = keys::few_items(alloc, place, table, "deny")?;
+    let deny_tags = keys::few_items(alloc, place, table, "deny_tags")?;
+    Ok(PolicyPlan {
+        kind,
+        rights: Rights { n, t },
+        grants,
+        deny,
+        deny_tags,
+    })
 }

@@ -3,7 +3,7 @@ ghost use Rattle.std.specs.Prelude.{◌≡◌, ◌≤◌, ◌+◌, IfOk, OnOk, l
 ghost use Rattle.toml.specs.View.{table_view};
 ghost use Rattle.tva_config.specs.declared.fault.ConfigRule.TheVariants as rule;
 ghost use Rattle.tva_config.specs.Faults.{AnswersBy, at, fault_at};
-ghost use Rattle.tva_config.specs.Tables.{top_of, counts_of, entries_of};
+ghost use Rattle.tva_config.specs.Tables.{top_of, tables_of, counts_of, entries_of};
 ghost use Rattle.tva_config.specs.Views.{seen_top};
 
 use crate::fault::{ConfigError, ConfigFault, ConfigRule, ConfigTable};
@@ -51,6 +51,20 @@ pub fn top<'a>(alloc: Global, table: &'a Table) -> Result<TopTable<'a>, ConfigEr
     let horizon = keys::number(TOP, table, "horizon_ns", 0, TIME_MAX)?;
     let max_events = keys::number(TOP, table, "max_events", 1, 4_000_000)?;
     let version = keys::small_or(TOP, table, "version", 1, 2, 1)?;
+    tables(alloc, horizon, max_events, version, table)
+}
+
+// The tables of the top level, behind its numbers, or the first fault in them.
+#[tactic(auto, unfolding(crate::specs::Tables::tables_of))]
+fn tables<'a>(
+    alloc: Global,
+    horizon: u64,
+    max_events: u64,
+    version: u8,
+    table: &'a Table,
+) -> Result<TopTable<'a>, ConfigError>
+    ensures { AnswersBy seen_top (tables_of horizon max_events version (table_view table.now)) result }
+{
     let routers = keys::tables(alloc, TOP, table, "router")?;
     let hosts = keys::tables(alloc, TOP, table, "host")?;
     let links = keys::tables(alloc, TOP, table, "link")?;

@@ -55,92 +55,17 @@ returns-in_err-retry c =
     ∙ given _ _ _ (sym c.in_ok-margin.ensures)
     ∙ refused _ _ _ (sym c.in_err-retry.ensures))
 
-pub returns-in_err-kind : goal.returns-in_err-kind
+pub returns-in_err-policy : goal.returns-in_err-policy
 unfolding host_of
-returns-in_err-kind c =
-    fault_told (λ x. x) (host_of c.args.version c.args.place (table_view c.args.table.now)) c.from_residual-in_err-kind.result c.in_err-kind.field-0.0 c.from_residual-in_err-kind.ensures.1
+returns-in_err-policy c =
+    error_told (λ x. x) (host_of c.args.version c.args.place (table_view c.args.table.now)) c.from_residual-in_err-policy.result _ (λ x. x) _ c.in_err-policy.field-0.0 c.from_residual-in_err-policy.ensures.1
     (given _ _ _ (sym c.in_ok-only_listed.ensures)
     ∙ given _ _ _ (sym c.in_ok-name.ensures)
     ∙ given _ _ _ (sym c.in_ok-address.ensures)
     ∙ given _ _ _ (sym c.in_ok-nonce.ensures)
     ∙ given _ _ _ (sym c.in_ok-margin.ensures)
-    ∙ given _ _ _ (sym c.in_ok-retry.ensures)
-    ∙ refused _ _ _ (sym c.in_err-kind.ensures))
-
-pub returns-in_err-n : goal.returns-in_err-n
-unfolding host_of
-returns-in_err-n c =
-    fault_told (λ x. x) (host_of c.args.version c.args.place (table_view c.args.table.now)) c.from_residual-in_err-n.result c.in_err-n.field-0.0 c.from_residual-in_err-n.ensures.1
-    (given _ _ _ (sym c.in_ok-only_listed.ensures)
-    ∙ given _ _ _ (sym c.in_ok-name.ensures)
-    ∙ given _ _ _ (sym c.in_ok-address.ensures)
-    ∙ given _ _ _ (sym c.in_ok-nonce.ensures)
-    ∙ given _ _ _ (sym c.in_ok-margin.ensures)
-    ∙ given _ _ _ (sym c.in_ok-retry.ensures)
-    ∙ given _ _ _ (sym c.in_ok-kind.ensures)
-    ∙ refused _ _ _ (sym c.in_err-n.ensures))
-
-pub returns-in_err-t : goal.returns-in_err-t
-unfolding host_of
-returns-in_err-t c =
-    fault_told (λ x. x) (host_of c.args.version c.args.place (table_view c.args.table.now)) c.from_residual-in_err-t.result c.in_err-t.field-0.0 c.from_residual-in_err-t.ensures.1
-    (given _ _ _ (sym c.in_ok-only_listed.ensures)
-    ∙ given _ _ _ (sym c.in_ok-name.ensures)
-    ∙ given _ _ _ (sym c.in_ok-address.ensures)
-    ∙ given _ _ _ (sym c.in_ok-nonce.ensures)
-    ∙ given _ _ _ (sym c.in_ok-margin.ensures)
-    ∙ given _ _ _ (sym c.in_ok-retry.ensures)
-    ∙ given _ _ _ (sym c.in_ok-kind.ensures)
-    ∙ given _ _ _ (sym c.in_ok-n.ensures)
-    ∙ refused _ _ _ (sym c.in_err-t.ensures))
-
-pub returns-in_err-grants : goal.returns-in_err-grants
-unfolding host_of
-returns-in_err-grants c =
-    fault_told (λ x. x) (host_of c.args.version c.args.place (table_view c.args.table.now)) c.from_residual-in_err-grants.result c.in_err-grants.field-0.0 c.from_residual-in_err-grants.ensures.1
-    (given _ _ _ (sym c.in_ok-only_listed.ensures)
-    ∙ given _ _ _ (sym c.in_ok-name.ensures)
-    ∙ given _ _ _ (sym c.in_ok-address.ensures)
-    ∙ given _ _ _ (sym c.in_ok-nonce.ensures)
-    ∙ given _ _ _ (sym c.in_ok-margin.ensures)
-    ∙ given _ _ _ (sym c.in_ok-retry.ensures)
-    ∙ given _ _ _ (sym c.in_ok-kind.ensures)
-    ∙ given _ _ _ (sym c.in_ok-n.ensures)
-    ∙ given _ _ _ (sym c.in_ok-t.ensures)
-    ∙ refused _ _ _ (sym c.in_err-grants.ensures))
-
-pub returns-in_err-deny : goal.returns-in_err-deny
-unfolding host_of
-returns-in_err-deny c =
-    error_told (λ x. x) (host_of c.args.version c.args.place (table_view c.args.table.now)) c.from_residual-in_err-deny.result _ (λ x. x) _ c.in_err-deny.field-0.0 c.from_residual-in_err-deny.ensures.1
-    (given _ _ _ (sym c.in_ok-only_listed.ensures)
-    ∙ given _ _ _ (sym c.in_ok-name.ensures)
-    ∙ given _ _ _ (sym c.in_ok-address.ensures)
-    ∙ given _ _ _ (sym c.in_ok-nonce.ensures)
-    ∙ given _ _ _ (sym c.in_ok-margin.ensures)
-    ∙ given _ _ _ (sym c.in_ok-retry.ensures)
-    ∙ given _ _ _ (sym c.in_ok-kind.ensures)
-    ∙ given _ _ _ (sym c.in_ok-n.ensures)
-    ∙ given _ _ _ (sym c.in_ok-t.ensures)
-    ∙ given _ _ _ (sym c.in_ok-grants.ensures))
-    c.in_err-deny.ensures
-
-pub returns-in_err-deny_tags : goal.returns-in_err-deny_tags
-unfolding host_of
-returns-in_err-deny_tags c =
-    error_told (λ x. x) (host_of c.args.version c.args.place (table_view c.args.table.now)) c.from_residual-in_err-deny_tags.result _ (λ x. x) _ c.in_err-deny_tags.field-0.0 c.from_residual-in_err-deny_tags.ensures.1
-    (given _ _ _ (sym c.in_ok-only_listed.ensures)
-    ∙ given _ _ _ (sym c.in_ok-name.ensures)
-    ∙ given _ _ _ (sym c.in_ok-address.ensures)
-    ∙ given _ _ _ (sym c.in_ok-nonce.ensures)
-    ∙ given _ _ _ (sym c.in_ok-margin.ensures)
-    ∙ given _ _ _ (sym c.in_ok-retry.ensures)
-    ∙ given _ _ _ (sym c.in_ok-kind.ensures)
-    ∙ given _ _ _ (sym c.in_ok-n.ensures)
-    ∙ given _ _ _ (sym c.in_ok-t.ensures)
-    ∙ given _ _ _ (sym c.in_ok-grants.ensures)
-    ∙ given _ _ _ c.in_ok-deny.ensures)
-    c.in_err-deny_tags.ensures
+    ∙ given _ _ _ (sym c.in_ok-retry.ensures))
+    c.in_err-policy.ensures
 
 pub returns : goal.returns
 unfolding host_of
@@ -151,9 +76,4 @@ returns c =
     ∙ given _ _ _ (sym c.in_ok-nonce.ensures)
     ∙ given _ _ _ (sym c.in_ok-margin.ensures)
     ∙ given _ _ _ (sym c.in_ok-retry.ensures)
-    ∙ given _ _ _ (sym c.in_ok-kind.ensures)
-    ∙ given _ _ _ (sym c.in_ok-n.ensures)
-    ∙ given _ _ _ (sym c.in_ok-t.ensures)
-    ∙ given _ _ _ (sym c.in_ok-grants.ensures)
-    ∙ given _ _ _ c.in_ok-deny.ensures
-    ∙ given _ _ _ c.in_ok-deny_tags.ensures
+    ∙ given _ _ _ c.in_ok-policy.ensures
