@@ -34,7 +34,7 @@ use Rattle.tva_node.specs.declared.role.Role.{Role}
 use Rattle.tva_node.specs.declared.turns.Turn.{Turn}
 use Rattle.tva_node.specs.States.{NodeState, RoleStands, IsBy, link_pair, role_plan, site_at, state_of}
 use Rattle.tva_node.specs.Steps.{StandsAt, Decides, started_by}
-use Rattle.tva_node.specs.Work.{IsRank, DecidesAt, IsStartable, all_taken, end_on, start_event, start_sending}
+use Rattle.tva_node.specs.Work.{IsRank, AwaitsAt, DecidesAt, IsStartable, all_taken, end_on, start_event, start_sending}
 use Rattle.tva_node.proofs.Finding.{find-at, link_valid}
 use Rattle.tva_node.proofs.Roles.{role_legal}
 use Rattle.tva_node.proofs.Works.{found, rested, started_one}
@@ -50,7 +50,7 @@ logs-own log now link class packet =
     filter_map-append (port_entry link) log (Started now link class packet ∷ [])
     ∙ ap (λ (more : List port.Entry). port_logs log link ++ more) (rw (eq-eqb link link refl) refl)
 
-module _ (p : Parts) (now place rank : ℕ) (log : List Entry) (d : Link) (ranked : IsRank rank place p.links.items) (st : StandsAt (state_of p) now rank (all_taken (state_of p) now) log) (within : place < length p.links.items) where
+module _ (p : Parts) (now place rank : ℕ) (log : List Entry) (d : Link) (ranked : IsRank rank place p.links.items) (st : StandsAt (state_of p) now rank (all_taken (state_of p) now) log) (waits : AwaitsAt (state_of p) now rank log) (within : place < length p.links.items) where
   abbrev v : NodeState
   v = state_of p
 
@@ -68,7 +68,7 @@ module _ (p : Parts) (now place rank : ℕ) (log : List Entry) (d : Link) (ranke
   ports = port_logs log here.number
 
   pub is_out : limits_out site here.number ≡ Some (here.number, limits)
-  is_out = found v now place rank log d ranked st within
+  is_out = found v now place rank log d ranked st waits within
 
   pub valid : AreLinkLimits limits
   valid = (link_valid site here.number (here.number, limits) st.site is_out).0
@@ -115,7 +115,7 @@ module _ (p : Parts) (now place rank : ℕ) (log : List Entry) (d : Link) (ranke
   busy free e h =
       let late : now < port.free_after limits ports = omega arith in
       at_site (Some free) p.role p.log.items p.outbox.items refl
-      (rested v now place rank log d ranked st within (Some free) p.role
+      (rested v now place rank log d ranked st waits within (Some free) p.role
       (starts_is log ∙ busy_starts_none limits ports now late)
       (ap Some e ∙ (sym (next_busy limits ports (now + 1) (omega arith) (omega arith)) ∙ sym (next_is log)))
       st.role refl st.past)
@@ -130,7 +130,7 @@ module _ (p : Parts) (now place rank : ℕ) (log : List Entry) (d : Link) (ranke
       → DecidesAt (state (next_by now decides) role p.log.items p.outbox.items) now (place + 1)
   rest decides role free h none e by =
       at_site (next_by now decides) role p.log.items p.outbox.items e
-      (rested v now place rank log d ranked st within (next_by now decides) role
+      (rested v now place rank log d ranked st waits within (next_by now decides) role
       (starts_is log ∙ (free_starts limits ports now free ∙ (ap start_of (sym h.0) ∙ no_start_none decides none)))
       (sym (next_rested limits ports now decides valid legal.0 legal.1 free h.0 none) ∙ sym (next_is log))
       (subst (RoleStands site role) (no_entry decides none) h.1) e by)
@@ -150,7 +150,7 @@ module _ (p : Parts) (now place rank : ℕ) (log : List Entry) (d : Link) (ranke
       let some : 1 ≤ packet_length packet * limits.ns_per_byte = (let a : 1 * limits.ns_per_byte ≤ packet_length packet * limits.ns_per_byte = mul-le-mul_right limits.ns_per_byte (let b : 1 ≤ packet_length packet = omega arith in b) in omega arith) in
       let later : now < port.free_after limits after = omega (arith, freed) in
       at_site (Some end) role (p.log.items ++ start_event p.number here now class packet ∷ []) (p.outbox.items ++ start_sending here now packet ∷ []) e
-      (started_one v now place rank log d ranked st within class packet (Some end) role (start_event p.number here now class packet) (start_sending here now packet)
+      (started_one v now place rank log d ranked st waits within class packet (Some end) role (start_event p.number here now class packet) (start_sending here now packet)
       (starts_is log ∙ (free_starts limits ports now free ∙ ap start_of (sym h.0)))
       (starts_is (log ++ entry ∷ []) ∙ busy_starts_none limits after now later)
       (ap Some (sym freed) ∙ (sym (next_busy limits after (now + 1) (omega arith) (omega arith)) ∙ sym (next_is (log ++ entry ∷ []))))
@@ -208,7 +208,7 @@ module _ (p : Parts) (now place : ℕ) (a : Link) (ea : a ≡ get_or p.links.ite
   stands' = d.3
 
   pub read_out : limits_out site' a.number ≡ Some (a.number, a.plan.limits)
-  read_out = subst (λ (x : Link). limits_out site' x.number ≡ Some (x.number, x.plan.limits)) (sym ea) (is_out p now place d.0 d.1 a d.2 d.3 within)
+  read_out = subst (λ (x : Link). limits_out site' x.number ≡ Some (x.number, x.plan.limits)) (sym ea) (is_out p now place d.0 d.1 a d.2 d.3 d.4 within)
 
   -- the node with that next decision of a link that was read
   abbrev pub state_at : Link → Option ℕ → Role → List Event → List Sending → NodeState
@@ -229,7 +229,7 @@ module _ (p : Parts) (now place : ℕ) (a : Link) (ea : a ≡ get_or p.links.ite
       → DecidesAt (state_at b (Some free) p.role p.log.items p.outbox.items) now (place + 1)
   read_busy free b eb e h =
       moved b (Some free) p.role p.log.items p.outbox.items eb
-      (busy p now place d.0 d.1 a d.2 d.3 within free (subst (λ (x : Link). free ≡ port.free_after x.plan.limits (port_logs log' x.number)) ea e) h)
+      (busy p now place d.0 d.1 a d.2 d.3 d.4 within free (subst (λ (x : Link). free ≡ port.free_after x.plan.limits (port_logs log' x.number)) ea e) h)
 
   pub read_rest : (decides : Decision) (next : Option ℕ) (role : Role) (b : Link) → b ≡ get_or p.links.items place b → next ≡ next_by now decides → port.free_after a.plan.limits (port_logs log' a.number) ≤ now
       → Decides site' log' a.number now a.plan.limits decides role → is_start decides ≡ false → role_plan role ≡ role_plan p.role → IsBy now role
@@ -237,7 +237,7 @@ module _ (p : Parts) (now place : ℕ) (a : Link) (ea : a ≡ get_or p.links.ite
   read_rest decides next role b eb n free h none e by =
       moved b next role p.log.items p.outbox.items eb
       (subst (λ (o : Option ℕ). DecidesAt (state_at (get_or p.links.items place a) o role p.log.items p.outbox.items) now (place + 1)) (sym n)
-      (rest p now place d.0 d.1 a d.2 d.3 within decides role
+      (rest p now place d.0 d.1 a d.2 d.3 d.4 within decides role
       (subst (λ (x : Link). port.free_after x.plan.limits (port_logs log' x.number) ≤ now) ea free)
       (subst (λ (x : Link). Decides site' log' x.number now x.plan.limits decides role) ea h) none e by))
 
@@ -246,14 +246,14 @@ module _ (p : Parts) (now place : ℕ) (a : Link) (ea : a ≡ get_or p.links.ite
       → DecidesAt (state_at (get_or p.links.items place a) (Some (end_on (get_or p.links.items place a) now packet)) role
       (p.log.items ++ start_event p.number (get_or p.links.items place a) now class packet ∷ []) (p.outbox.items ++ start_sending (get_or p.links.items place a) now packet ∷ [])) now (place + 1)
   read_start class packet role free h e by =
-      start p now place d.0 d.1 a d.2 d.3 within class packet role
+      start p now place d.0 d.1 a d.2 d.3 d.4 within class packet role
       (subst (λ (x : Link). port.free_after x.plan.limits (port_logs log' x.number) ≤ now) ea free)
       (subst (λ (x : Link). Decides site' log' x.number now x.plan.limits (Start class packet) role) ea h) e by
 
   -- its numbers fit their types
   pub read_fits : (x : Link) → IsStartable now (get_or p.links.items place x)
   read_fits x =
-      let limits = valid p now place d.0 d.1 x d.2 d.3 within in
+      let limits = valid p now place d.0 d.1 x d.2 d.3 d.4 within in
       let pairs : All (IsLinkOut site'.number) (map link_pair p.links.items) = subst (All (IsLinkOut site'.number)) stands'.out stands'.site.links in
       let out : IsLinkOut site'.number (link_pair (get_or p.links.items place x)) =
       subst (IsLinkOut site'.number) (get_or-map link_pair p.links.items place x (link_pair x) within) (All-get_or (IsLinkOut site'.number) (map link_pair p.links.items) place (link_pair x) (rw (length-map p.links.items link_pair) within) pairs) in

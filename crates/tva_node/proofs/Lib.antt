@@ -2,6 +2,7 @@ pub mod Steps
 pub mod Finding
 pub mod Roles
 pub mod Left
+pub mod Waits
 pub mod Works
 pub mod Decides
 pub mod Zips

@@ -5,7 +5,7 @@ use Rattle.std.specs.Option.{option_map, option_and_then}
 use Rattle.std.specs.List.{AllByRecursion, find, cons_option}
 use Rattle.std.proofs.lemmas.Bool.{cases_lt}
 use Rattle.std.proofs.lemmas.List.{map_push, drop_more, take-append-drop, set-get_or, get_or-map, map-set, take_more_set, take_more, drop-set-lt, set_split, take_all}
-use Rattle.std.proofs.lemmas.List.Elements.{All-nil, All-cons, All-head, All-tail, All-map, All-contains, All-from_recursion, All-weaker, All-append, All-take, All-get_or, filter_map-append}
+use Rattle.std.proofs.lemmas.List.Elements.{All-nil, All-cons, All-head, All-tail, All-map, All-contains, All-from_recursion, All-weaker, All-append, All-set, All-take, All-get_or, filter_map-append}
 use Rattle.tva_base.specs.declared.event.Event.{Event}
 use Rattle.tva_base.specs.declared.event.Happened.{Happened}
 use Rattle.tva_base.specs.declared.limits.LinkLimits.{LinkLimits}
@@ -20,11 +20,11 @@ use Rattle.tva_log.specs.declared.kinds.Sending.{Sending}
 use Rattle.tva_log.specs.Sites.{Site, limits_out, AreRising}
 use Rattle.tva_log.specs.Entries.{Entry, Took, Started, input_time, input_source}
 use Rattle.tva_log.specs.Parts.{port_logs}
-use Rattle.tva_log.specs.NodeLog.{IsNodeLog, in_turn, due, starts}
+use Rattle.tva_log.specs.NodeLog.{IsNodeLog, in_turn, due, starts, start_after}
 use Rattle.tva_log.specs.Told.{sendings, event_of, sending_of, at_time}
 use Rattle.tva_log.specs.Next.{next_decision, next_on, IsQuiet, AreLegal}
 use Rattle.tva_log.proofs.Logs.{logs-other}
-use Rattle.tva_log.proofs.Ports.{next_again}
+use Rattle.tva_log.proofs.Ports.{next_again, quiet_starts_none}
 use Rattle.tva_log.proofs.Quiet.{due_same, quiet_log, late_on}
 use Rattle.tva_node.specs.declared.parts.Link.{Link}
 use Rattle.tva_node.specs.declared.role.Role.{Role}
@@ -33,16 +33,14 @@ use Rattle.tva_node.specs.AtTime.{IsAt}
 use Rattle.tva_node.specs.Turns.{AreLeft, IsTurnOf}
 use Rattle.tva_node.specs.States.{NodeState, StandsFor, Stands, KnowsNext, Fits, RoleStands, IsBy, link_pair, role_plan}
 use Rattle.tva_node.specs.Steps.{StandsAt, Takes}
-use Rattle.tva_node.specs.Work.{IsNoneBefore, sooner, turn_next, least_next, work_time, is_due, TakesAt, IsRank, DecidesAt, all_taken}
+use Rattle.tva_node.specs.Work.{IsNoneBefore, sooner, turn_next, least_next, work_time, is_due, is_asked, queued_on, asked_by, Waits, AwaitsAt, TakesAt, IsRank, DecidesAt, all_taken}
 use Rattle.tva_node.proofs.Steps.{begins, takes, rests, starts_one, ends}
 use Rattle.tva_node.proofs.Finding.{find-none, find-some, find-at, link_valid}
 use Rattle.tva_node.proofs.Left.{left_late, left_turns_late, taken_due, turn_late, next_left, none_due, slice_read, slice_within}
 use Rattle.tva_node.proofs.Roles.{by-later, role_legal}
+use Rattle.tva_node.proofs.Waits.{all_wait, asked_all, asked_pairs, not_asked, some_is, unasked_knows, waits_on}
 
 -- ## where there is work
-
-some_is : (a b : ℕ) → Some a ≡ Some b → a ≡ b
-some_is a b e = cc
 
 none_left : (end : ℕ) (a b : Option ℕ) → IsNoneBefore end (sooner a b) → IsNoneBefore end a × IsNoneBefore end b
 none_left end None None h = (tt, tt)
@@ -157,6 +155,20 @@ module _ (v : NodeState) (log : List Entry) (h : StandsFor v log) where
   log_then : (end : ℕ) → v.worked_to ≤ end → IsNoneBefore end (work_time v.turns v.links) → IsNodeLog v.site (in_turn v.inbox) end log
   log_then end l n = quiet_log v.site (in_turn v.inbox) v.worked_to end log legal l (quiet end n) h.whole
 
+  -- up to the next time a link decides next when it did
+  again : (end k : ℕ) (next : Option ℕ) (o : Option (ℕ × LinkLimits)) → v.worked_to ≤ end → o ≡ limits_out v.site k → IsNoneBefore end next → next ≡ option_and_then (λ x. next_decision x.1 (port_logs log k) v.worked_to) o → next ≡ option_and_then (λ x. next_decision x.1 (port_logs log k) end) o
+  again end k next None l e a q = q
+  again end k next (Some x) l e a q =
+      let g = legal k x (sym e) in
+      q ∙ sym (next_again x.1 (port_logs log k) v.worked_to end (link_valid v.site k x h.site (sym e)).0 g.0 g.1 l (λ t f. subst (IsNoneBefore end) (q ∙ f) a))
+
+  knows : (end : ℕ) (ls : List Link) → v.worked_to ≤ end → All (λ (x : Link). IsNoneBefore end x.next) ls → All (KnowsNext v.site log v.worked_to) ls → All (KnowsNext v.site log end) ls
+  knows end [] l a b = All-nil (KnowsNext v.site log end)
+  knows end (x ∷ xs) l a b =
+      All-cons (KnowsNext v.site log end) x xs
+      (again end x.number x.next (limits_out v.site x.number) l refl (All-head (λ (y : Link). IsNoneBefore end y.next) x xs a) (All-head (KnowsNext v.site log v.worked_to) x xs b))
+      (knows end xs l (All-tail (λ (y : Link). IsNoneBefore end y.next) x xs a) (All-tail (KnowsNext v.site log v.worked_to) x xs b))
+
   -- a node goes to a time before which there is nothing to do
   pub rests_until : (end : ℕ) → end ≤ v.horizon + 1 → v.worked_to ≤ end → IsNoneBefore end (work_time v.turns v.links) → StandsFor (record v { worked_to = end }) log
   rests_until end b l n = record {
@@ -169,23 +181,10 @@ module _ (v : NodeState) (log : List Entry) (h : StandsFor v log) where
     sendings = h.sendings;
     role = h.role;
     past = by-later v.worked_to end v.role l h.past;
-    links = knows v.links (no_link end v.links (none_left end (turn_next v.turns) (least_next v.links) n).1) h.links;
+    links = knows end v.links l (no_link end v.links (none_left end (turn_next v.turns) (least_next v.links) n).1) h.links;
     fits = h.fits;
     left = subst (λ (taken : List Input). AreLeft v.inbox taken v.turns) (sym (due_then end l n)) h.left;
   }
-    where
-      again : (k : ℕ) (next : Option ℕ) (o : Option (ℕ × LinkLimits)) → o ≡ limits_out v.site k → IsNoneBefore end next → next ≡ option_and_then (λ x. next_decision x.1 (port_logs log k) v.worked_to) o → next ≡ option_and_then (λ x. next_decision x.1 (port_logs log k) end) o
-      again k next None e a q = q
-      again k next (Some x) e a q =
-          let g = legal k x (sym e) in
-          q ∙ sym (next_again x.1 (port_logs log k) v.worked_to end (link_valid v.site k x h.site (sym e)).0 g.0 g.1 l (λ t f. subst (IsNoneBefore end) (q ∙ f) a))
-
-      knows : (ls : List Link) → All (λ (x : Link). IsNoneBefore end x.next) ls → All (KnowsNext v.site log v.worked_to) ls → All (KnowsNext v.site log end) ls
-      knows [] a b = All-nil (KnowsNext v.site log end)
-      knows (x ∷ xs) a b =
-          All-cons (KnowsNext v.site log end) x xs
-          (again x.number x.next (limits_out v.site x.number) refl (All-head (λ (y : Link). IsNoneBefore end y.next) x xs a) (All-head (KnowsNext v.site log v.worked_to) x xs b))
-          (knows xs (All-tail (λ (y : Link). IsNoneBefore end y.next) x xs a) (All-tail (KnowsNext v.site log v.worked_to) x xs b))
 
   -- a time begins at which there is work
   pub begins_at : (now : ℕ) → now ≤ v.horizon → work_time v.turns v.links ≡ Some now → TakesAt v now
@@ -212,6 +211,7 @@ module _ (v : NodeState) (log : List Entry) (h : StandsFor v log) where
           late = left_turns_late v.inbox taken v.turns left now (none_left now (turn_next v.turns) (least_next v.links) n).0;
           left = left;
         },
+        all_wait v.site log now v.links (knows now v.links l (no_link now v.links (none_left now (turn_next v.turns) (least_next v.links) n).1) h.links),
       )
     where
       no_rank : (ls : List Link) → All (λ (x : Link). x.number < 0 → KnowsNext v.site log (now + 1) x) ls
@@ -223,7 +223,7 @@ module _ (v : NodeState) (log : List Entry) (h : StandsFor v log) where
 same_input : (a b : Input) (o : Option Input) → o ≡ Some a → o ≡ Some b → a ≡ b
 same_input a b o e f = let k : Some a ≡ Some b = sym e ∙ f in cc
 
-module _ (v : NodeState) (now : ℕ) (taken : List Input) (log : List Entry) (st : StandsAt v now 0 taken log) where
+module _ (v : NodeState) (now : ℕ) (taken : List Input) (log : List Entry) (st : StandsAt v now 0 taken log) (waits : AwaitsAt v now 0 log) where
   -- the next turn is that of an input
   pub input_next : (turn : Turn) (ts : List Turn) → v.turns ≡ turn ∷ ts → (input : Input) × (IsTurnOf v.inbox turn input × AreLeft v.inbox (taken ++ input ∷ []) ts)
   input_next turn ts e = next_left v.inbox taken turn ts (subst (AreLeft v.inbox taken) e st.left)
@@ -240,34 +240,36 @@ module _ (v : NodeState) (now : ℕ) (taken : List Input) (log : List Entry) (st
         next.1.0.place ∙ ap Some (sym same),
       )
 
-  -- it is taken
+  -- it is taken, and the link on which it queues a packet is asked
   pub took_one : (turn : Turn) (ts : List Turn) (input : Input) (told : Happened) (role : Role) → v.turns ≡ turn ∷ ts → turn.time ≡ now → slice_get v.inbox turn.place ≡ Some input
       → Takes v.site log input told role → role_plan role ≡ role_plan v.role → IsBy now role
-      → TakesAt (record v { turns = ts; role = role; events = v.events ++ record { time = at_time now; node = v.site.number; happened = told } ∷ [] }) now
+      → TakesAt (record v { links = map (asked_by (queued_on told) now) v.links; turns = ts; role = role; events = v.events ++ record { time = at_time now; node = v.site.number; happened = told } ∷ [] }) now
   took_one turn ts input told role e here at t plan by =
       let next = input_next turn ts e in
       let same : next.0 ≡ input = same_input next.0 input (slice_get v.inbox turn.place) next.1.0.place at in
       let time : input_time input ≡ now = ap input_time (sym same) ∙ (sym next.1.0.time ∙ here) in
       let made = t.0 in
-      let entry = Took input made in (
+      let entry = Took input made in
+      let asked = map (asked_by (queued_on told) now) v.links in (
         taken ++ input ∷ [],
         log ++ entry ∷ [],
         record {
           site = st.site;
           plan = st.plan ∙ sym plan;
-          out = st.out;
+          out = st.out ∙ sym (asked_pairs (queued_on told) now v.links);
           horizon = st.horizon;
           worked = takes v.site now taken log input made time t.1 st.worked;
           events = ap₂ (λ (es : List Event) (x : Event). es ++ x ∷ []) st.events (λ i. record { time = at_time (sym time i); node = v.site.number; happened = t.2 i }) ∙ sym (map_push (event_of v.site) log entry);
           sendings = st.sendings ∙ sym (filter_map-append (sending_of v.site) log (entry ∷ []) ∙ append-nil (sendings v.site log));
           role = t.3;
           past = by;
-          links = none_yet (log ++ entry ∷ []) v.links;
+          links = none_yet (log ++ entry ∷ []) asked;
           fits = st.fits;
           early = each-append (λ i. input_time i ≤ now) taken (input ∷ []) st.early (omega arith, tt);
           late = (subst (AllByRecursion (λ (x : Turn). now ≤ x.time)) e st.late).1;
           left = subst (λ (i : Input). AreLeft v.inbox (taken ++ i ∷ []) ts) same next.1.1;
         },
+        asked_all v.site log now input made (queued_on told) v.links (ap queued_on t.2) waits,
       )
     where
       none_yet : (log' : List Entry) (ls : List Link) → All (λ (x : Link). x.number < 0 → KnowsNext v.site log' (now + 1) x) ls
@@ -283,11 +285,11 @@ module _ (v : NodeState) (now : ℕ) (taken : List Input) (log : List Entry) (st
   all_in e =
       let n = none_due now v.turns e st.late in
       let due_is : due (now + 1) (in_turn v.inbox) ≡ taken = taken_due v.inbox taken v.turns st.left (now + 1) (each-weaker (λ i. input_time i ≤ now) (λ i. input_time i < now + 1) (λ i a. omega arith) taken st.early) n in
-      (0, log, record { before = All-nil (λ (l : Link). l.number < 0); behind = low v.links }, subst (λ (is : List Input). StandsAt v now 0 is log) (sym due_is) st)
+      (0, log, record { before = All-nil (λ (l : Link). l.number < 0); behind = low v.links }, subst (λ (is : List Input). StandsAt v now 0 is log) (sym due_is) st, waits)
 
 -- ## links
 
-module _ (v : NodeState) (now place rank : ℕ) (log : List Entry) (d : Link) (ranked : IsRank rank place v.links) (st : StandsAt v now rank (all_taken v now) log) (within : place < length v.links) where
+module _ (v : NodeState) (now place rank : ℕ) (log : List Entry) (d : Link) (ranked : IsRank rank place v.links) (st : StandsAt v now rank (all_taken v now) log) (waits : AwaitsAt v now rank log) (within : place < length v.links) where
   abbrev link : Link
   link = get_or v.links place d
 
@@ -365,6 +367,15 @@ module _ (v : NodeState) (now place rank : ℕ) (log : List Entry) (d : Link) (r
           (All-head (λ (x : Link). x.number < rank) x xs a, All-head (λ (x : Link). x.number < rank → KnowsNext v.site log (now + 1) x) x xs b)
           (both xs (All-tail (λ (x : Link). x.number < rank) x xs a) (All-tail (λ (x : Link). x.number < rank → KnowsNext v.site log (now + 1) x) x xs b))
 
+  -- the links behind wait as before
+  set_waits : (next : Option ℕ) (log' : List Entry) → ((x : Link) → link.number < x.number → Waits v.site log now x → Waits v.site log' now x)
+      → All (λ (x : Link). suc link.number ≤ x.number → Waits v.site log' now x) (set v.links place (put_next next))
+  set_waits next log' keep =
+      let P : Link → Type 0 = λ x. suc link.number ≤ x.number → Waits v.site log' now x in
+      let low = low_enough in
+      All-set P v.links place (put_next next) (λ a. absurd (omega arith))
+      (All-weaker (λ (x : Link). rank ≤ x.number → Waits v.site log now x) P (λ x w a. keep x (omega arith) (w (omega arith))) v.links waits)
+
   -- the link starts nothing
   pub rested : (next : Option ℕ) (role : Role) → starts v.site log link.number now ≡ None → next ≡ next_on v.site log (now + 1) link.number
       → RoleStands v.site role log → role_plan role ≡ role_plan v.role → IsBy now role
@@ -389,6 +400,7 @@ module _ (v : NodeState) (now place rank : ℕ) (log : List Entry) (d : Link) (r
       late = st.late;
       left = st.left;
     },
+    set_waits next log (λ x a w. w),
   )
     where
       quiet_to : (k : ℕ) → rank ≤ k → k < suc link.number → starts v.site log k now ≡ None
@@ -429,13 +441,35 @@ module _ (v : NodeState) (now place rank : ℕ) (log : List Entry) (d : Link) (r
           late = st.late;
           left = st.left;
         },
+        set_waits next (log ++ entry ∷ []) (λ x a w. waits_on v.site log (log ++ entry ∷ []) now x (logs-other log now link.number class packet x.number (λ e. omega arith)) w),
       )
+
+  -- a link that is not asked has nothing to do, and decides next when it did
+  pub passed : is_asked link.next now ≡ false → DecidesAt v now (place + 1)
+  passed e =
+      let limits = link.plan.limits in
+      let ports = port_logs log link.number in
+      let knows : KnowsNext v.site log now link = unasked_knows v.site log now link e waits_here in
+      let out : next_on v.site log now link.number ≡ next_decision limits ports now = ap (option_and_then (λ o. next_decision o.1 (port_logs log link.number) now)) found in
+      let late : (t : ℕ) → next_decision limits ports now ≡ Some t → now < t = (λ t f. not_asked link.next now t (knows ∙ (out ∙ f)) e) in
+      let legal = role_legal v.site v.role log now st.site st.plan st.role st.past link.number (link.number, limits) found in
+      let valid = (link_valid v.site link.number (link.number, limits) st.site found).0 in
+      let none : starts v.site log link.number now ≡ None =
+      ap (option_and_then (λ o. start_after o.1 (port_logs log link.number) now)) found ∙ quiet_starts_none limits ports now now legal.0 legal.1 (omega arith) late in
+      let again : next_decision limits ports (now + 1) ≡ next_decision limits ports now =
+      next_again limits ports now (now + 1) valid legal.0 legal.1 (omega arith) (λ t f. let k = late t f in omega arith) in
+      let next_there : next_on v.site log (now + 1) link.number ≡ next_decision limits ports (now + 1) = ap (option_and_then (λ o. next_decision o.1 (port_logs log link.number) (now + 1))) found in
+      subst (λ (ls : List Link). DecidesAt (record v { links = ls }) now (place + 1)) (set-get_or v.links place d)
+      (rested link.next v.role none (knows ∙ (out ∙ (sym again ∙ sym next_there))) st.role refl st.past)
+    where
+      waits_here : Waits v.site log now link
+      waits_here = All-get_or (λ (x : Link). rank ≤ x.number → Waits v.site log now x) v.links place d within waits low_enough
 
 -- ## after a time
 
 -- where all links have decided, the node is worked up to the next time
 pub worked_one : (v : NodeState) (now : ℕ) → DecidesAt v now (length v.links) → Stands (record v { worked_to = now + 1 })
-worked_one v now (rank, log, ranked, st) =
+worked_one v now (rank, log, ranked, st, waits) =
     let P : Link → Type 0 = λ x. x.number < rank in
     let low : All P v.links = subst (All P) (take_all (length v.links) v.links (omega arith)) ranked.before in (
       log,

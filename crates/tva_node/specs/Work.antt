@@ -1,19 +1,24 @@
 -- Kit: when there is work at a node, and how far it is within one time.
-use Rattle.std.specs.Prelude.{◌≡◌, ℕ, ◌+◌, ◌*◌, ◌≤◌, ◌<◌, ◌==◌, min, Bool, false, List, [], ◌∷◌, All, take, drop, set}
+use Rattle.std.specs.Prelude.{◌≡◌, ℕ, ◌+◌, ◌*◌, ◌≤◌, ◌<◌, ◌==◌, nat_le, min, if◌then◌else◌, ◌⊎◌, Bool, false, List, [], ◌∷◌, All, take, drop, set}
 use Rattle.std.specs.Prelude.{get_or, Option, Some, None, IfSome}
+use Rattle.std.specs.Option.{option_and_then}
 use Rattle.tva_base.specs.declared.event.Event.{Event}
+use Rattle.tva_base.specs.declared.event.Happened.{Happened}
 use Rattle.tva_base.specs.declared.event.Happened.TheVariants as happens
+use Rattle.tva_base.specs.declared.packet.Outcome.{Outcome}
+use Rattle.tva_base.specs.declared.packet.Outcome.TheVariants.{Queued, Dropped}
 use Rattle.tva_base.specs.declared.packet.Class.{Class}
 use Rattle.tva_shim.specs.Packets.{PacketData, packet_length}
 use Rattle.tva_log.specs.declared.kinds.Sending.{Sending}
 use Rattle.tva_log.specs.Told.{at_time}
 use Rattle.tva_log.specs.declared.kinds.Input.{Input}
 use Rattle.tva_log.specs.Entries.{Entry}
+use Rattle.tva_log.specs.Sites.{Site}
 use Rattle.tva_log.specs.NodeLog.{in_turn, due}
 use Rattle.tva_node.specs.declared.parts.Link.{Link}
 use Rattle.tva_node.specs.declared.parts.Parts.{Parts}
 use Rattle.tva_node.specs.declared.turns.Turn.{Turn}
-use Rattle.tva_node.specs.States.{NodeState}
+use Rattle.tva_node.specs.States.{NodeState, KnowsNext}
 use Rattle.tva_node.specs.Steps.{StandsAt}
 
 -- ## the next time
@@ -51,11 +56,47 @@ abbrev pub is_due : ℕ → List Turn → Bool
 is_due now [] = false
 is_due now (turn ∷ turns) = turn.time == now
 
+-- ## which links are asked
+
+-- a link decides by that time
+abbrev pub is_asked : Option ℕ → ℕ → Bool
+is_asked None now = false
+is_asked (Some time) now = nat_le time now
+
+-- the link on which a packet was queued
+abbrev pub link_of : Outcome → Option ℕ
+link_of (Queued link) = Some link
+link_of (Dropped cause) = None
+
+-- the link on which what happened queued one
+abbrev pub queued_on : Happened → Option ℕ
+queued_on (happens.Arrived id length from fate) = link_of fate.outcome
+queued_on (happens.Sent id length shape outcome) = link_of outcome
+queued_on (happens.Received id length from payload what back reply) =
+    option_and_then (λ line. link_of line.outcome) reply
+queued_on (happens.Started id length link class end) = None
+
+-- when a link decides next where that one is asked at that time
+abbrev pub next_asked : Option ℕ → ℕ → Link → Option ℕ
+next_asked None now link = link.next
+next_asked (Some number) now link = if number == link.number then Some now else link.next
+
+abbrev pub asked_by : Option ℕ → ℕ → Link → Link
+asked_by queued now link = record link { next = next_asked queued now link }
+
 -- ## within one time
+
+-- a link is asked at that time, or it knows when it decides next by itself, from that time on
+abbrev pub Waits : Site → List Entry → ℕ → Link → Type 0
+Waits site log now link = (link.next ≡ Some now) ⊎ KnowsNext site log now link
+
+-- so do all links from a number on, which have not decided yet
+abbrev pub AwaitsAt : NodeState → ℕ → ℕ → List Entry → Type 0
+AwaitsAt v now rank log = All (λ l. rank ≤ l.number → Waits v.site log now l) v.links
 
 -- its inputs are being taken
 abbrev pub TakesAt : NodeState → ℕ → Type 0
-TakesAt v now = (taken : List Input) × (log : List Entry) × StandsAt v now 0 taken log
+TakesAt v now = (taken : List Input) × (log : List Entry) × StandsAt v now 0 taken log × AwaitsAt v now 0 log
 
 -- all of them are taken
 abbrev pub all_taken : NodeState → ℕ → List Input
@@ -70,6 +111,7 @@ pub record IsRank (rank place : ℕ) (links : List Link) : Type 0 where
 abbrev pub DecidesAt : NodeState → ℕ → ℕ → Type 0
 DecidesAt v now place =
     (rank : ℕ) × (log : List Entry) × IsRank rank place v.links × StandsAt v now rank (all_taken v now) log
+    × AwaitsAt v now rank log
 
 -- ## what a link starts
 

@@ -1,21 +1,21 @@
 // What a node keeps, and its work.
-ghost use Rattle.std.specs.Prelude.{◌≡◌, ◌≤◌, ◌<◌, ◌+◌, ◌∷◌, [], ◌++◌, ℕ, min, max, List, Some, None, true, IfSome, OnOk, length, get_or};
+ghost use Rattle.std.specs.Prelude.{◌≡◌, ◌≤◌, ◌<◌, ◌+◌, ◌∷◌, [], ◌++◌, ℕ, min, max, map, List, Some, None, true, IfSome, OnOk, length, get_or};
 ghost use Rattle.tva_log.specs.Sites.{limits_out};
 ghost use Rattle.tva_node.specs.declared.parts.Link.{Link};
 ghost use Rattle.tva_node.specs.States.{BeginsWith, Keeps, Stands, state_of};
-ghost use Rattle.tva_node.specs.Work.{DecidesAt, IsNoneBefore, IsStartable, KnowsFirst, TakesAt, end_on, is_due, least_next, sooner, start_event, start_sending, turn_next, with_next, work_time};
+ghost use Rattle.tva_node.specs.Work.{DecidesAt, IsNoneBefore, IsStartable, KnowsFirst, TakesAt, asked_by, end_on, is_asked, is_due, least_next, link_of, next_asked, queued_on, sooner, start_event, start_sending, turn_next, with_next, work_time};
 
 use crate::role::Role;
 use crate::turns::Turns;
 use std::alloc::{AllocError, Global};
 use std::cmp;
-use tva_base::{Class, Event, Happened, LinkPlan, Time};
+use tva_base::{Class, Event, Happened, LinkPlan, Outcome, Time};
 use tva_log::{Input, Sending};
 use tva_port::Decision;
 use tva_shim::{Packet, length};
 
 /// A link out of the node: its number, its plan, and when it decides next by itself, in nanoseconds,
-/// if it does.
+/// if it does. While a time is worked, a link on which a packet was queued is to be asked at that time.
 #[derive(Clone, Copy, Debug)]
 pub struct Link {
     pub number: u16,
@@ -126,17 +126,27 @@ impl Parts {
         ensures keeps { Keeps (state_of self.old) (state_of self.new) }
         ensures first { KnowsFirst self.new }
     {
-        self.take_all(now)?;
-        self.decide_all(now)?;
+        let worked = self.work_each(now);
+        self.next = least_next(&self.links);
+        worked?;
         self.worked_to = now + 1;
         Ok(())
+    }
+
+    // Takes all inputs of a time, then lets the links decide.
+    fn work_each(&mut self, now: u64) -> Result<(), AllocError>
+        requires { TakesAt (state_of self.old) now }
+        ensures decided { OnOk result (DecidesAt (state_of self.new) now (length self.new.links.items)) }
+        ensures keeps { Keeps (state_of self.old) (state_of self.new) }
+    {
+        self.take_all(now)?;
+        self.decide_each(now)
     }
 
     // Takes all inputs of a time.
     fn take_all(&mut self, now: u64) -> Result<(), AllocError>
         requires { TakesAt (state_of self.old) now }
         ensures taken { OnOk result (DecidesAt (state_of self.new) now 0) }
-        ensures first { KnowsFirst self.old → KnowsFirst self.new }
         ensures keeps { Keeps (state_of self.old) (state_of self.new) }
     {
         while self.is_due(now) {
@@ -154,13 +164,12 @@ impl Parts {
         }
     }
 
-    // Takes the next input, which comes at that time.
+    // Takes the next input, which comes at that time. A link on which it queues a packet is asked then.
     fn take_one(&mut self, now: u64) -> Result<(), AllocError>
         requires stands { TakesAt (state_of self.old) now }
         requires next { is_due now self.old.turns ≡ true }
         ensures stands { OnOk result (TakesAt (state_of self.new) now) }
         ensures fewer { length self.new.turns < length self.old.turns }
-        ensures first { KnowsFirst self.old → KnowsFirst self.new }
         ensures keeps { Keeps (state_of self.old) (state_of self.new) }
     {
         let Some(turn) = self.turns.take() else {
@@ -169,24 +178,14 @@ impl Parts {
         let happened = self
             .role
             .take(self.alloc, self.number, &self.inbox[turn.place])?;
+        let queued = queued_on(&happened);
         self.log.push(Event {
             time: Time(now),
             node: self.number,
             happened,
         })?;
+        ask_queued(&mut self.links, queued, now);
         Ok(())
-    }
-
-    // Lets each link decide, and keeps when the first of them decides next by itself.
-    fn decide_all(&mut self, now: u64) -> Result<(), AllocError>
-        requires { DecidesAt (state_of self.old) now 0 }
-        ensures decided { OnOk result (DecidesAt (state_of self.new) now (length self.new.links.items)) }
-        ensures keeps { Keeps (state_of self.old) (state_of self.new) }
-        ensures first { KnowsFirst self.new }
-    {
-        let decided = self.decide_each(now);
-        self.next = least_next(&self.links);
-        decided
     }
 
     // Lets each link decide, in the order of their numbers.
@@ -201,8 +200,23 @@ impl Parts {
         Ok(())
     }
 
-    // Lets the link in that place decide, where it is free.
+    // Lets the link in that place decide, where it may have something to do.
     fn decide_at(&mut self, place: usize, now: u64) -> Result<(), AllocError>
+        requires stands { DecidesAt (state_of self.old) now place }
+        requires within { place < length self.old.links.items }
+        ensures stands { OnOk result (DecidesAt (state_of self.new) now (place + 1)) }
+        ensures count { length self.new.links.items ≡ length self.old.links.items }
+        ensures keeps { Keeps (state_of self.old) (state_of self.new) }
+    {
+        if is_asked(self.links[place].next, now) {
+            self.ask_at(place, now)
+        } else {
+            Ok(())
+        }
+    }
+
+    // Lets the link in that place decide, where it is free.
+    fn ask_at(&mut self, place: usize, now: u64) -> Result<(), AllocError>
         requires stands { DecidesAt (state_of self.old) now place }
         requires within { place < length self.old.links.items }
         ensures stands { OnOk result (DecidesAt (state_of self.new) now (place + 1)) }
@@ -269,6 +283,60 @@ impl Parts {
             packet,
         })?;
         Ok(())
+    }
+}
+
+// Whether a link is to be asked at a time: it decides by then.
+fn is_asked(next: Option<u64>, now: u64) -> bool
+    ensures { result ≡ is_asked next now }
+{
+    match next {
+        Some(time) => time <= now,
+        None => false,
+    }
+}
+
+// The link on which what happened queued a packet.
+fn queued_on(happened: &Happened) -> Option<u16>
+    ensures { result ≡ queued_on happened.now }
+{
+    match happened {
+        Happened::Arrived { fate, .. } => link_of(fate.outcome),
+        Happened::Sent { outcome, .. } => link_of(*outcome),
+        Happened::Received {
+            reply: Some(reply),
+            ..
+        } => link_of(reply.outcome),
+        Happened::Received { reply: None, .. } | Happened::Started { .. } => None,
+    }
+}
+
+// The link on which a packet was queued.
+fn link_of(outcome: Outcome) -> Option<u16>
+    ensures { result ≡ link_of outcome }
+{
+    match outcome {
+        Outcome::Queued(link) => Some(link),
+        Outcome::Dropped(_) => None,
+    }
+}
+
+// Has the link on which a packet was queued asked at that time.
+fn ask_queued(links: &mut [Link], queued: Option<u16>, now: u64)
+    ensures { links.new ≡ map (asked_by queued now) links.old }
+{
+    for link in links.iter_mut() {
+        link.next = next_asked(link, queued, now);
+    }
+}
+
+// When a link decides next where that one is asked at that time.
+fn next_asked(link: &Link, queued: Option<u16>, now: u64) -> Option<u64>
+    ensures { result ≡ next_asked queued now link.now }
+{
+    match queued {
+        Some(number) if number == link.number => Some(now),
+        _ => link.next,
     }
 }
 

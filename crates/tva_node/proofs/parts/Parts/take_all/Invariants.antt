@@ -1,12 +1,11 @@
 use Rattle.std.proofs.Common.{length}
 use Rattle.tva_node.specs.States.{Keeps, state_of}
-use Rattle.tva_node.specs.Work.{KnowsFirst, TakesAt}
+use Rattle.tva_node.specs.Work.{TakesAt}
 use Rattle.tva_node.proofs.parts.Parts.take_all.Given as goal
 
 abbrev pub invariant-loop-self : goal.invariant-loop-self
 invariant-loop-self l = record {
   stands : TakesAt (state_of l.self) l.now;
-  first : KnowsFirst l.initial.self → KnowsFirst l.self;
   keeps : Keeps (state_of l.initial.self) (state_of l.self);
 }
 
