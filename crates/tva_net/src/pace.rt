@@ -1,4 +1,4 @@
-// How the nodes are worked in a window: in halves at once, or one after another where little happens.
+// How the nodes are worked in a window: in parts at once, or one after another where little happens.
 ghost use Rattle.std.specs.Prelude.{◌≡◌, ◌≤◌, All, IfOk, OnOk, length};
 ghost use Rattle.std.specs.List.{AllByRecursion, AllZip};
 ghost use Rattle.tva_node.specs.States.{Keeps, Stands};
@@ -14,8 +14,8 @@ use tva_index::Lowest;
 use tva_node::{Node, advance_all};
 use tva_outside::Gate;
 
-// So many events take less time than the start of a thread.
-const HANDFUL: usize = 64;
+// So many events take about as long on one thread as on four, with the start of these.
+const HANDFUL: usize = 256;
 
 /// The pace after one more window: as many events as it held, and no less than half of what it was
 /// before; none stands for no window.
@@ -27,7 +27,7 @@ pub(crate) fn pace_after(pace: Option<usize>, events: usize) -> Option<usize> {
 }
 
 /// Works the nodes before a time, in nanoseconds, and gives the places of those to which something
-/// happened in it, and maybe more: in halves at once where there was no window or they held more than
+/// happened in it, and maybe more: in parts at once where there was no window or they held more than
 /// a handful of events, and else one after another, only those that have work.
 pub(crate) fn advance<R: Threads + Sync, G: Gate>(
     rt: &R,
@@ -64,7 +64,7 @@ fn tell_each<G: Gate>(gate: &G, count: usize)
     }
 }
 
-// Works all nodes in halves at once, and gives all their places.
+// Works all nodes in parts at once, and gives all their places.
 fn work_all<R: Threads + Sync, G: Gate>(
     rt: &R,
     alloc: Global,

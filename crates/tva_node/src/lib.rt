@@ -1,7 +1,7 @@
 //! Nodes at work. A node takes its inputs in their order and lets its links decide: at one time all
 //! inputs first, then each link that is free. Its contract promises that what it keeps is the node's
 //! log over its inputs up to the time up to which it is worked; that its next time is the first at
-//! which an input comes or a link decides; and that nodes that are worked in halves at once have the
+//! which an input comes or a link decides; and that nodes that are worked in parts at once have the
 //! logs that they have one after another. A node at which nothing is to be done costs no look at its
 //! links.
 #![tactic(auto)]

@@ -18,6 +18,9 @@ use tva_log::{Input, Sending};
 use tva_port::Port;
 use tva_router::Router;
 
+// An event at a router costs about as much as so many at a host.
+const ROUTER_EVENT: u64 = 3;
+
 /// A node: a router, or a host with the port of its link. It keeps each input that it was given, what
 /// happened there, and what its links sent. Contracts see these with the time up to which the node is
 /// worked, and speak of the log for which they stand.
@@ -86,6 +89,18 @@ impl Node {
         ensures { result.now ≡ self.now.events }
     {
         self.parts.log.as_slice()
+    }
+
+    /// What it may cost to work the node for a while, beside others: what happened at it so far, in events
+    /// of a host. No answer depends on it.
+    pub(crate) fn load(&self) -> u64 {
+        let each = match &self.parts.role {
+            Role::Router(_) => ROUTER_EVENT,
+            Role::Host(_) => 1,
+        };
+        (self.parts.log.len() as u64)
+            .saturating_mul(each)
+            .saturating_add(1)
     }
 
     /// What its links sent.
