@@ -1,4 +1,4 @@
-use Rattle.std.proofs.Common.{◌≡◌, ◌∙◌, ◌+◌, ◌<◌, ◌∷◌, length, get_or, drop, sym, ap, arith}
+use Rattle.std.proofs.Common.{◌∙◌, ◌+◌, ◌<◌, ◌∷◌, length, drop, sym, ap, arith}
 use Rattle.std.proofs.lemmas.List.{drop_more}
 use Rattle.std.specs.Vec.Iter.{into_iter_items}
 use Rattle.tva_config.specs.declared.config.NodePlan.TheVariants as node

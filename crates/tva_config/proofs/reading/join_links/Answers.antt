@@ -3,7 +3,7 @@ use Rattle.std.specs.HashMap.{get_by_text}
 use Rattle.tva_config.specs.declared.entries.OwnedRoute.{OwnedRoute}
 use Rattle.tva_config.specs.declared.links.NumberedLinks.{NumberedLinks}
 use Rattle.tva_config.specs.Nodes.{slots_of}
-use Rattle.tva_config.specs.Links.{link_between, links_of, uplinks_of, rings_of}
+use Rattle.tva_config.specs.Links.{link_between, links_of, uplinks_of}
 use Rattle.tva_config.specs.Routes.{routes_of}
 use Rattle.tva_config.specs.Read.{linked_of}
 use Rattle.tva_config.specs.Views.{link_at, seen_entries, seen_joined}
