@@ -3,7 +3,7 @@ use Rattle.std.proofs.Common.{◌≡◌, ℕ, ◌+◌, ◌*◌, ◌<◌, ◌≤�
 use Rattle.std.specs.Prelude.{OnOk}
 use Rattle.std.specs.Option.{option_map_or, option_and_then}
 use Rattle.std.proofs.lemmas.Bool.{eq-eqb}
-use Rattle.std.proofs.lemmas.List.{get_or-map, get_or_default, length-map, set-get_or, map-set}
+use Rattle.std.proofs.lemmas.List.{get_or-map, get_or_default, length-map, length-set, set-get_or, map-set}
 use Rattle.std.proofs.lemmas.List.Elements.{filter_map-append, All-get_or}
 use Rattle.std.proofs.Math.Nat.{mul-le-mul_right}
 use Rattle.tva_base.specs.declared.event.Event.{Event}
@@ -28,11 +28,12 @@ use Rattle.tva_log.specs.NodeLog.{starts, start_of, start_after}
 use Rattle.tva_log.specs.Told.{at_time}
 use Rattle.tva_log.specs.Next.{next_by, next_decision, next_on}
 use Rattle.tva_log.proofs.Ports.{busy_starts_none, free_starts, next_busy, next_rested}
-use Rattle.tva_node.specs.declared.parts.Link.{Link}
+use Rattle.tva_node.specs.declared.links.Link.{Link}
 use Rattle.tva_node.specs.declared.parts.Parts.{Parts}
 use Rattle.tva_node.specs.declared.role.Role.{Role}
 use Rattle.tva_node.specs.declared.turns.Turn.{Turn}
-use Rattle.tva_node.specs.States.{NodeState, RoleStands, IsBy, link_pair, role_plan, site_at, state_of}
+use Rattle.tva_node.specs.Links.{link_pair, with_next}
+use Rattle.tva_node.specs.States.{NodeState, RoleStands, IsBy, role_plan, site_at, state_of}
 use Rattle.tva_node.specs.Steps.{StandsAt, Decides, started_by}
 use Rattle.tva_node.specs.Work.{IsRank, AwaitsAt, DecidesAt, IsStartable, all_taken, end_on, start_event, start_sending}
 use Rattle.tva_node.proofs.Finding.{find-at, link_valid}
@@ -50,7 +51,7 @@ logs-own log now link class packet =
     filter_map-append (port_entry link) log (Started now link class packet ∷ [])
     ∙ ap (λ (more : List port.Entry). port_logs log link ++ more) (rw (eq-eqb link link refl) refl)
 
-module _ (p : Parts) (now place rank : ℕ) (log : List Entry) (d : Link) (ranked : IsRank rank place p.links.items) (st : StandsAt (state_of p) now rank (all_taken (state_of p) now) log) (waits : AwaitsAt (state_of p) now rank log) (within : place < length p.links.items) where
+module _ (p : Parts) (now place rank : ℕ) (log : List Entry) (d : Link) (ranked : IsRank rank place p.links) (st : StandsAt (state_of p) now rank (all_taken (state_of p) now) log) (waits : AwaitsAt (state_of p) now rank log) (within : place < length p.links) where
   abbrev v : NodeState
   v = state_of p
 
@@ -59,7 +60,7 @@ module _ (p : Parts) (now place rank : ℕ) (log : List Entry) (d : Link) (ranke
 
   -- the link in that place
   abbrev here : Link
-  here = get_or p.links.items place d
+  here = get_or p.links place d
 
   abbrev limits : LinkLimits
   limits = here.plan.limits
@@ -84,13 +85,13 @@ module _ (p : Parts) (now place rank : ℕ) (log : List Entry) (d : Link) (ranke
 
   -- the links with that next decision of this one
   abbrev pub put : Option ℕ → List Link
-  put next = set p.links.items place (record here { next = next })
+  put next = set p.links place (record here { next = next })
 
-  pub pairs_same : (next : Option ℕ) → map link_pair (put next) ≡ map link_pair p.links.items
+  pub pairs_same : (next : Option ℕ) → map link_pair (put next) ≡ map link_pair p.links
   pairs_same next =
-      let pairs = map link_pair p.links.items in
-      map-set link_pair p.links.items place (record here { next = next })
-      ∙ (ap (set pairs place) (sym (get_or-map link_pair p.links.items place d (link_pair d) within))
+      let pairs = map link_pair p.links in
+      map-set link_pair p.links place (record here { next = next })
+      ∙ (ap (set pairs place) (sym (get_or-map link_pair p.links place d (link_pair d) within))
       ∙ set-get_or pairs place (link_pair d))
 
   -- what the node is then
@@ -136,7 +137,7 @@ module _ (p : Parts) (now place rank : ℕ) (log : List Entry) (d : Link) (ranke
       (subst (RoleStands site role) (no_entry decides none) h.1) e by)
 
   link_is : link_out site here.number ≡ Some (link_pair here)
-  link_is = find-at p.links.items place d (subst (λ (os : List (ℕ × LinkPlan)). AreRising (links_of os)) st.out st.site.rising) within
+  link_is = find-at p.links place d (subst (λ (os : List (ℕ × LinkPlan)). AreRising (links_of os)) st.out st.site.rising) within
 
   -- it starts a packet
   pub start : (class : Class) (packet : PacketData) (role : Role) → port.free_after limits ports ≤ now → Decides site log here.number now limits (Start class packet) role → role_plan role ≡ role_plan p.role → IsBy now role
@@ -177,9 +178,15 @@ pairs_set ls place a b next ea eb h =
     ∙ (ap (set pairs place) (sym (get_or-map link_pair ls place b (link_pair b) h))
     ∙ set-get_or pairs place (link_pair b)))
 
+pub pairs_put : (ls links : List Link) (place : ℕ) (a : Link) (next : Option ℕ) → a ≡ get_or ls place a → place < length ls → links ≡ with_next place next ls a → map link_pair links ≡ map link_pair ls
+pairs_put ls links place a next ea h e = ap (map link_pair) e ∙ pairs_set ls place a (get_or ls place a) next ea (get_or_default ls place a (get_or ls place a) h) h
+
+pub count_put : (ls links : List Link) (place : ℕ) (a : Link) (next : Option ℕ) → links ≡ with_next place next ls a → length links ≡ length ls
+count_put ls links place a next e = ap length e ∙ length-set ls place (record (get_or ls place a) { next = next })
+
 -- what a node was that is now
 pub from_fields : (q : Parts) (number horizon worked : ℕ) (role : Role) (links : List Link) (inbox : List Input) (turns : List Turn) (es : List Event) (ss : List Sending)
-    → q.number ≡ number → q.horizon ≡ horizon → q.worked_to ≡ worked → q.role ≡ role → q.links.items ≡ links → q.inbox.items ≡ inbox → q.turns ≡ turns → q.log.items ≡ es → q.outbox.items ≡ ss
+    → q.number ≡ number → q.horizon ≡ horizon → q.worked_to ≡ worked → q.role ≡ role → q.links ≡ links → q.inbox.items ≡ inbox → q.turns ≡ turns → q.log.items ≡ es → q.outbox.items ≡ ss
     → record { site = site_of number (role_plan role) (map link_pair links); horizon = horizon; inbox = inbox; events = es; sendings = ss; worked_to = worked; role = role; links = links; turns = turns } ≡ state_of q
 from_fields q number horizon worked role links inbox turns es ss e1 e2 e3 e4 e5 e6 e7 e8 e9 = λ i. record {
   site = site_of (sym e1 i) (role_plan (sym e4 i)) (map link_pair (sym e5 i));
@@ -197,7 +204,7 @@ pub on_both : {T E : Type 0} (A B C : Type 0) (r : Result T E) → (A → B → 
 on_both A B C (Ok x) f a b = f a b
 on_both A B C (Err e) f a b = tt
 
-module _ (p : Parts) (now place : ℕ) (a : Link) (ea : a ≡ get_or p.links.items place a) (within : place < length p.links.items) (d : DecidesAt (state_of p) now place) where
+module _ (p : Parts) (now place : ℕ) (a : Link) (ea : a ≡ get_or p.links place a) (within : place < length p.links) (d : DecidesAt (state_of p) now place) where
   abbrev site' : Site
   site' = site_at p
 
@@ -213,50 +220,60 @@ module _ (p : Parts) (now place : ℕ) (a : Link) (ea : a ≡ get_or p.links.ite
   -- the node with that next decision of a link that was read
   abbrev pub state_at : Link → Option ℕ → Role → List Event → List Sending → NodeState
   state_at b next role es ss = record (state_of p) {
-    site = site_of p.number (role_plan role) (map link_pair (set p.links.items place (record b { next = next })));
-    links = set p.links.items place (record b { next = next });
+    site = site_of p.number (role_plan role) (map link_pair (set p.links place (record b { next = next })));
+    links = set p.links place (record b { next = next });
     role = role;
     events = es;
     sendings = ss;
   }
 
-  moved : (b : Link) (next : Option ℕ) (role : Role) (es : List Event) (ss : List Sending) → b ≡ get_or p.links.items place b
-      → DecidesAt (state_at (get_or p.links.items place a) next role es ss) now (place + 1) → DecidesAt (state_at b next role es ss) now (place + 1)
+  moved : (b : Link) (next : Option ℕ) (role : Role) (es : List Event) (ss : List Sending) → b ≡ get_or p.links place b
+      → DecidesAt (state_at (get_or p.links place a) next role es ss) now (place + 1) → DecidesAt (state_at b next role es ss) now (place + 1)
   moved b next role es ss eb h =
-      subst (λ (x : Link). DecidesAt (state_at x next role es ss) now (place + 1)) (get_or_default p.links.items place a b within ∙ sym eb) h
+      subst (λ (x : Link). DecidesAt (state_at x next role es ss) now (place + 1)) (get_or_default p.links place a b within ∙ sym eb) h
 
-  pub read_busy : (free : ℕ) (b : Link) → b ≡ get_or p.links.items place b → free ≡ port.free_after a.plan.limits (port_logs log' a.number) → now < free
+  pub here_is : get_or p.links place a ≡ get_or p.links place (get_or p.links place a)
+  here_is = get_or_default p.links place a (get_or p.links place a) within
+
+  -- the links are those in which it was noted
+  pub put_there : (links : List Link) (next : Option ℕ) (role : Role) → links ≡ with_next place next p.links a
+      → DecidesAt (state_at (get_or p.links place a) next role p.log.items p.outbox.items) now (place + 1)
+      → DecidesAt (record (state_of p) { site = site_of p.number (role_plan role) (map link_pair links); links = links; role = role }) now (place + 1)
+  put_there links next role e h =
+      subst (λ (ls : List Link). DecidesAt (record (state_of p) { site = site_of p.number (role_plan role) (map link_pair ls); links = ls; role = role }) now (place + 1)) (sym e) h
+
+  pub read_busy : (free : ℕ) (b : Link) → b ≡ get_or p.links place b → free ≡ port.free_after a.plan.limits (port_logs log' a.number) → now < free
       → DecidesAt (state_at b (Some free) p.role p.log.items p.outbox.items) now (place + 1)
   read_busy free b eb e h =
       moved b (Some free) p.role p.log.items p.outbox.items eb
       (busy p now place d.0 d.1 a d.2 d.3 d.4 within free (subst (λ (x : Link). free ≡ port.free_after x.plan.limits (port_logs log' x.number)) ea e) h)
 
-  pub read_rest : (decides : Decision) (next : Option ℕ) (role : Role) (b : Link) → b ≡ get_or p.links.items place b → next ≡ next_by now decides → port.free_after a.plan.limits (port_logs log' a.number) ≤ now
+  pub read_rest : (decides : Decision) (next : Option ℕ) (role : Role) (b : Link) → b ≡ get_or p.links place b → next ≡ next_by now decides → port.free_after a.plan.limits (port_logs log' a.number) ≤ now
       → Decides site' log' a.number now a.plan.limits decides role → is_start decides ≡ false → role_plan role ≡ role_plan p.role → IsBy now role
       → DecidesAt (state_at b next role p.log.items p.outbox.items) now (place + 1)
   read_rest decides next role b eb n free h none e by =
       moved b next role p.log.items p.outbox.items eb
-      (subst (λ (o : Option ℕ). DecidesAt (state_at (get_or p.links.items place a) o role p.log.items p.outbox.items) now (place + 1)) (sym n)
+      (subst (λ (o : Option ℕ). DecidesAt (state_at (get_or p.links place a) o role p.log.items p.outbox.items) now (place + 1)) (sym n)
       (rest p now place d.0 d.1 a d.2 d.3 d.4 within decides role
       (subst (λ (x : Link). port.free_after x.plan.limits (port_logs log' x.number) ≤ now) ea free)
       (subst (λ (x : Link). Decides site' log' x.number now x.plan.limits decides role) ea h) none e by))
 
   pub read_start : (class : Class) (packet : PacketData) (role : Role) → port.free_after a.plan.limits (port_logs log' a.number) ≤ now
       → Decides site' log' a.number now a.plan.limits (Start class packet) role → role_plan role ≡ role_plan p.role → IsBy now role
-      → DecidesAt (state_at (get_or p.links.items place a) (Some (end_on (get_or p.links.items place a) now packet)) role
-      (p.log.items ++ start_event p.number (get_or p.links.items place a) now class packet ∷ []) (p.outbox.items ++ start_sending (get_or p.links.items place a) now packet ∷ [])) now (place + 1)
+      → DecidesAt (state_at (get_or p.links place a) (Some (end_on (get_or p.links place a) now packet)) role
+      (p.log.items ++ start_event p.number (get_or p.links place a) now class packet ∷ []) (p.outbox.items ++ start_sending (get_or p.links place a) now packet ∷ [])) now (place + 1)
   read_start class packet role free h e by =
       start p now place d.0 d.1 a d.2 d.3 d.4 within class packet role
       (subst (λ (x : Link). port.free_after x.plan.limits (port_logs log' x.number) ≤ now) ea free)
       (subst (λ (x : Link). Decides site' log' x.number now x.plan.limits (Start class packet) role) ea h) e by
 
   -- its numbers fit their types
-  pub read_fits : (x : Link) → IsStartable now (get_or p.links.items place x)
+  pub read_fits : (x : Link) → IsStartable now (get_or p.links place x)
   read_fits x =
       let limits = valid p now place d.0 d.1 x d.2 d.3 d.4 within in
-      let pairs : All (IsLinkOut site'.number) (map link_pair p.links.items) = subst (All (IsLinkOut site'.number)) stands'.out stands'.site.links in
-      let out : IsLinkOut site'.number (link_pair (get_or p.links.items place x)) =
-      subst (IsLinkOut site'.number) (get_or-map link_pair p.links.items place x (link_pair x) within) (All-get_or (IsLinkOut site'.number) (map link_pair p.links.items) place (link_pair x) (rw (length-map p.links.items link_pair) within) pairs) in
+      let pairs : All (IsLinkOut site'.number) (map link_pair p.links) = subst (All (IsLinkOut site'.number)) stands'.out stands'.site.links in
+      let out : IsLinkOut site'.number (link_pair (get_or p.links place x)) =
+      subst (IsLinkOut site'.number) (get_or-map link_pair p.links place x (link_pair x) within) (All-get_or (IsLinkOut site'.number) (map link_pair p.links) place (link_pair x) (rw (length-map p.links link_pair) within) pairs) in
       record {
         time = (let h = stands'.horizon in omega (arith, h.0, h.1));
         rate = limits.ns_per_byte.1;

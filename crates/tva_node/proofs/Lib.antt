@@ -4,6 +4,7 @@ pub mod Roles
 pub mod Left
 pub mod Waits
 pub mod Works
+pub mod Asked
 pub mod Decides
 pub mod Zips
 pub mod Posts

@@ -23,13 +23,13 @@ use Rattle.tva_log.specs.Entries.{Entry, input_source, input_time}
 use Rattle.tva_log.specs.NodeLog.{in_turn, due}
 use Rattle.tva_log.specs.Next.{next_by, next_decision, IsWorkAt}
 use Rattle.tva_log.proofs.Logs.{IsNodeLog-same}
-use Rattle.tva_node.specs.declared.parts.Link.{Link}
+use Rattle.tva_node.specs.declared.links.Link.{Link}
 use Rattle.tva_node.specs.declared.role.Role.{Role}
 use Rattle.tva_node.specs.declared.turns.Turn.{Turn}
+use Rattle.tva_node.specs.Links.{first_link, least_next, link_pair}
 use Rattle.tva_node.specs.Turns.{AreLeft, IsTurnOf, turn_source, turn_time}
-use Rattle.tva_node.specs.States.{NodeState, Fits, IsBy, IsFirstWork, KnowsNext, RoleStands, Stands, StandsFor, link_pair, role_plan}
-use Rattle.tva_node.specs.Steps.{first_link}
-use Rattle.tva_node.specs.Work.{IsNoneBefore, turn_next, least_next, work_time}
+use Rattle.tva_node.specs.States.{NodeState, Fits, IsBy, IsFirstWork, KnowsNext, RoleStands, Stands, StandsFor, role_plan}
+use Rattle.tva_node.specs.Work.{IsNoneBefore, turn_next, work_time}
 use Rattle.tva_node.proofs.Works.{any_link, either, none_sooner, quiet, work_late}
 
 -- what holds anyway holds after an error
@@ -139,11 +139,6 @@ next_nothing (Some x) = sym (nothing_next x.1)
 pub pairs_first : (links : List (ℕ × LinkPlan)) → map link_pair (map first_link links) ≡ links
 pairs_first [] = refl
 pairs_first (o ∷ os) = ap (λ (xs : List (ℕ × LinkPlan)). o ∷ xs) (pairs_first os)
-
--- none of its links decides by itself yet
-pub none_first : (links : List (ℕ × LinkPlan)) → least_next (map first_link links) ≡ None
-none_first [] = refl
-none_first (o ∷ os) = none_first os
 
 -- a node to which nothing happened
 pub built : (number horizon : ℕ) (role : Role) (links : List (ℕ × LinkPlan)) (ls : List Link) → horizon ≤ 1000000000000000 → ls ≡ map first_link links → IsSite (site_of number (role_plan role) links) → RoleStands (site_of number (role_plan role) links) role [] → IsBy 0 role

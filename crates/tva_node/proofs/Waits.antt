@@ -19,9 +19,10 @@ use Rattle.tva_log.specs.Entries.{Content, Arrived, Sent, Received, Entry, Took,
 use Rattle.tva_log.specs.Parts.{queued_at, reply_at, content_at, port_entry, port_logs}
 use Rattle.tva_log.specs.Told.{content_told, reply_told}
 use Rattle.tva_log.specs.Next.{next_decision}
-use Rattle.tva_node.specs.declared.parts.Link.{Link}
-use Rattle.tva_node.specs.States.{KnowsNext, link_pair}
-use Rattle.tva_node.specs.Work.{is_asked, link_of, queued_on, asked_by, Waits}
+use Rattle.tva_node.specs.declared.links.Link.{Link}
+use Rattle.tva_node.specs.Links.{asked_by, is_asked, link_pair}
+use Rattle.tva_node.specs.States.{KnowsNext}
+use Rattle.tva_node.specs.Work.{link_of, queued_on, Waits}
 
 pub some_is : (a b : ℕ) → Some a ≡ Some b → a ≡ b
 some_is a b e = cc

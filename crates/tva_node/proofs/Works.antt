@@ -4,7 +4,7 @@ use Rattle.std.specs.Prelude.{◌==◌, Contains, slice_get}
 use Rattle.std.specs.Option.{option_map, option_and_then}
 use Rattle.std.specs.List.{AllByRecursion, find, cons_option}
 use Rattle.std.proofs.lemmas.Bool.{cases_lt}
-use Rattle.std.proofs.lemmas.List.{map_push, drop_more, take-append-drop, set-get_or, get_or-map, map-set, take_more_set, take_more, drop-set-lt, set_split, take_all}
+use Rattle.std.proofs.lemmas.List.{map_push, drop_more, take-append-drop, set-get_or, get_or-map, map-set, take_more_set, drop-set-lt, set_split, take_all}
 use Rattle.std.proofs.lemmas.List.Elements.{All-nil, All-cons, All-head, All-tail, All-map, All-contains, All-from_recursion, All-weaker, All-append, All-set, All-take, All-get_or, filter_map-append}
 use Rattle.tva_base.specs.declared.event.Event.{Event}
 use Rattle.tva_base.specs.declared.event.Happened.{Happened}
@@ -26,14 +26,15 @@ use Rattle.tva_log.specs.Next.{next_decision, next_on, IsQuiet, AreLegal}
 use Rattle.tva_log.proofs.Logs.{logs-other}
 use Rattle.tva_log.proofs.Ports.{next_again, quiet_starts_none}
 use Rattle.tva_log.proofs.Quiet.{due_same, quiet_log, late_on}
-use Rattle.tva_node.specs.declared.parts.Link.{Link}
+use Rattle.tva_node.specs.declared.links.Link.{Link}
 use Rattle.tva_node.specs.declared.role.Role.{Role}
 use Rattle.tva_node.specs.declared.turns.Turn.{Turn}
+use Rattle.tva_node.specs.Links.{asked_by, is_asked, least_next, link_pair, sooner}
 use Rattle.tva_node.specs.AtTime.{IsAt}
 use Rattle.tva_node.specs.Turns.{AreLeft, IsTurnOf}
-use Rattle.tva_node.specs.States.{NodeState, StandsFor, Stands, KnowsNext, Fits, RoleStands, IsBy, link_pair, role_plan}
+use Rattle.tva_node.specs.States.{NodeState, StandsFor, Stands, KnowsNext, Fits, RoleStands, IsBy, role_plan}
 use Rattle.tva_node.specs.Steps.{StandsAt, Takes}
-use Rattle.tva_node.specs.Work.{IsNoneBefore, sooner, turn_next, least_next, work_time, is_due, is_asked, queued_on, asked_by, Waits, AwaitsAt, TakesAt, IsRank, DecidesAt, all_taken}
+use Rattle.tva_node.specs.Work.{IsNoneBefore, turn_next, work_time, is_due, queued_on, Waits, AwaitsAt, TakesAt, IsRank, DecidesAt, all_taken}
 use Rattle.tva_node.proofs.Steps.{begins, takes, rests, starts_one, ends}
 use Rattle.tva_node.proofs.Finding.{find-none, find-some, find-at, link_valid}
 use Rattle.tva_node.proofs.Left.{left_late, left_turns_late, taken_due, turn_late, next_left, none_due, slice_read, slice_within}
@@ -500,24 +501,6 @@ worked_one v now (rank, log, ranked, st, waits) =
         (all_know xs (All-tail (λ (y : Link). y.number < rank) x xs a) (All-tail (λ (y : Link). y.number < rank → KnowsNext v.site log (now + 1) y) x xs b))
 
 -- ## going on
-
-least-push : (ls : List Link) (l : Link) → least_next (ls ++ l ∷ []) ≡ sooner (least_next ls) l.next
-least-push [] l = sooner-nothing l.next
-  where
-    sooner-nothing : (o : Option ℕ) → sooner o None ≡ o
-    sooner-nothing None = refl
-    sooner-nothing (Some a) = refl
-least-push (x ∷ xs) l = ap (sooner x.next) (least-push xs l) ∙ assoc x.next (least_next xs) l.next
-  where
-    assoc : (a b c : Option ℕ) → sooner a (sooner b c) ≡ sooner (sooner a b) c
-    assoc None b c = refl
-    assoc (Some a) None c = refl
-    assoc (Some a) (Some b) None = refl
-    assoc (Some a) (Some b) (Some c) = ap Some (let e : min a (min b c) ≡ min (min a b) c = omega arith in e)
-
--- the next decision of one more link
-pub least_more : (ls : List Link) (i : ℕ) (d : Link) (next more : Option ℕ) → i < length ls → next ≡ least_next (take i ls) → more ≡ sooner next (get_or ls i d).next → more ≡ least_next (take (i + 1) ls)
-least_more ls i d next more h e f = f ∙ (ap (λ o. sooner o (get_or ls i d).next) e ∙ (sym (least-push (take i ls) (get_or ls i d)) ∙ ap least_next (sym (take_more ls i d h))))
 
 -- a node goes to a time, or stays where it is
 pub goes_to : (v : NodeState) (end to : ℕ) → Stands v → end ≤ v.horizon + 1 → IsNoneBefore end (work_time v.turns v.links) → ((v.worked_to ≤ end) × (to ≡ end)) ⊎ ((end ≤ v.worked_to) × (to ≡ v.worked_to)) → Stands (record v { worked_to = to })

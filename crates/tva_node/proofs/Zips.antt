@@ -1,7 +1,8 @@
 -- Relations that hold place by place, over lists in parts.
-use Rattle.std.proofs.Common.{◌≡◌, ℕ, zero, suc, ◌+◌, ◌<◌, List, [], ◌∷◌, ◌++◌, length, get_or, take, drop, set, refl, sym, subst, ◌∙◌, ap, arith, append-nil}
+use Rattle.std.proofs.Common.{◌≡◌, ℕ, zero, suc, ◌+◌, ◌<◌, List, [], ◌∷◌, ◌++◌, length, get_or, take, drop, set, refl, sym, subst, ◌∙◌, ap, arith, append-nil, append_assoc}
 use Rattle.std.specs.List.{AllByRecursion, AllZip}
 use Rattle.std.proofs.lemmas.List.{drop_more, take_more, take_more_set, take-append-drop, drop-set-lt}
+use Rattle.tva_base.specs.declared.event.Event.{Event}
 use Rattle.tva_node.specs.States.{NodeState, Keeps}
 
 pub AllZip-append : {X Y : Type 0} (R : X → Y → Type 0) (xs zs : List X) (ys ws : List Y) → AllZip R xs ys → AllZip R zs ws → AllZip R (xs ++ zs) (ys ++ ws)
@@ -26,6 +27,15 @@ each_at P (x ∷ xs) (suc i) d a h = each_at P xs i d a.1 (omega arith)
 -- a node that nothing was done to keeps all
 pub keeps_same : (v : NodeState) → Keeps v v
 keeps_same v = record { site = refl; horizon = refl; inbox = refl; events = ([], sym (append-nil v.events)) }
+
+-- what two calls one after the other leave
+pub keeps_on : (a b c : NodeState) → Keeps a b → Keeps b c → Keeps a c
+keeps_on a b c h k = record {
+  site = k.site ∙ h.site;
+  horizon = k.horizon ∙ h.horizon;
+  inbox = k.inbox ∙ h.inbox;
+  events = (h.events.0 ++ k.events.0, k.events.1 ∙ (ap (λ (es : List Event). es ++ k.events.0) h.events.1 ∙ append_assoc a.events h.events.0 k.events.0));
+}
 
 -- ## a list that is gone through
 

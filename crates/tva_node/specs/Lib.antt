@@ -1,4 +1,5 @@
 pub mod Turns
+pub mod Links
 pub mod States
 pub mod AtTime
 pub mod Steps

@@ -2,7 +2,6 @@
 use Rattle.std.specs.Prelude.{◌≡◌, ℕ, ◌+◌, ◌<◌, ◌≤◌, min, max, List, ◌++◌, All, map, Option, Some, None}
 use Rattle.tva_base.specs.declared.event.Event.{Event}
 use Rattle.tva_base.specs.declared.packet.Time.{Time}
-use Rattle.tva_base.specs.declared.plan.LinkPlan.{LinkPlan}
 use Rattle.tva_base.specs.Ordinals.{ordinal_behind}
 use Rattle.tva_shim.specs.Packets.{IsCarried}
 use Rattle.tva_port.specs.Stands as port
@@ -25,9 +24,10 @@ use Rattle.tva_node.specs.declared.role.Role.{Role}
 use Rattle.tva_node.specs.declared.role.Role.TheVariants as roles
 use Rattle.tva_node.specs.declared.role.Routed.{Routed}
 use Rattle.tva_node.specs.declared.role.Hosted.{Hosted}
-use Rattle.tva_node.specs.declared.parts.Link.{Link}
+use Rattle.tva_node.specs.declared.links.Link.{Link}
 use Rattle.tva_node.specs.declared.parts.Parts.{Parts}
 use Rattle.tva_node.specs.declared.turns.Turn.{Turn}
+use Rattle.tva_node.specs.Links.{link_pair}
 use Rattle.tva_node.specs.Turns.{AreLeft}
 
 -- ## what a node is
@@ -85,11 +85,8 @@ pub record NodeState : Type 0 where
   pub links : List Link
   pub turns : List Turn
 
-abbrev pub link_pair : Link → ℕ × LinkPlan
-link_pair link = (link.number, link.plan)
-
 abbrev pub site_at : Parts → Site
-site_at p = site_of p.number (role_plan p.role) (map link_pair p.links.items)
+site_at p = site_of p.number (role_plan p.role) (map link_pair p.links)
 
 abbrev pub state_of : Parts → NodeState
 state_of p = record {
@@ -100,7 +97,7 @@ state_of p = record {
   sendings = p.outbox.items;
   worked_to = p.worked_to;
   role = p.role;
-  links = p.links.items;
+  links = p.links;
   turns = p.turns;
 }
 

@@ -1,11 +1,10 @@
 -- Kit: what each step of a node's work owes.
-use Rattle.std.specs.Prelude.{◌≡◌, ℕ, ◌+◌, ◌<◌, ◌≤◌, List, [], ◌∷◌, ◌++◌, All, map, Option, Some, None}
+use Rattle.std.specs.Prelude.{◌≡◌, ℕ, ◌+◌, ◌<◌, ◌≤◌, List, [], ◌∷◌, ◌++◌, All, map, Option, Some}
 use Rattle.std.specs.Option.{option_map}
 use Rattle.std.specs.List.{AllByRecursion}
 use Rattle.tva_base.specs.declared.event.Happened.{Happened}
 use Rattle.tva_base.specs.declared.limits.LinkLimits.{LinkLimits}
 use Rattle.tva_base.specs.declared.packet.Outcome.{Outcome}
-use Rattle.tva_base.specs.declared.plan.LinkPlan.{LinkPlan}
 use Rattle.tva_base.specs.declared.plan.RouterPlan.{RouterPlan}
 use Rattle.tva_base.specs.declared.plan.HostPlan.{HostPlan}
 use Rattle.tva_shim.specs.Packets.{PacketData, class_by_shim}
@@ -26,15 +25,11 @@ use Rattle.tva_node.specs.declared.role.Role.{Role}
 use Rattle.tva_node.specs.declared.role.Role.TheVariants as roles
 use Rattle.tva_node.specs.declared.role.Routed.{Routed}
 use Rattle.tva_node.specs.declared.role.Hosted.{Hosted}
-use Rattle.tva_node.specs.declared.parts.Link.{Link}
+use Rattle.tva_node.specs.Links.{link_pair}
 use Rattle.tva_node.specs.AtTime.{IsAt}
 use Rattle.tva_node.specs.Turns.{AreLeft}
 use Rattle.tva_node.specs.States.{role_plan, StandsAsRouter, StandsAsHost, RoleStands, IsBy}
-use Rattle.tva_node.specs.States.{Fits, NodeState, link_pair, KnowsNext}
-
--- a link out that decides nothing by itself yet
-abbrev pub first_link : ℕ × LinkPlan → Link
-first_link o = record { number = o.0; plan = o.1; next = None }
+use Rattle.tva_node.specs.States.{Fits, NodeState, KnowsNext}
 
 -- when a link out is free
 abbrev pub role_free : Role → ℕ → ℕ

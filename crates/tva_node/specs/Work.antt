@@ -1,6 +1,6 @@
 -- Kit: when there is work at a node, and how far it is within one time.
-use Rattle.std.specs.Prelude.{◌≡◌, ℕ, ◌+◌, ◌*◌, ◌≤◌, ◌<◌, ◌==◌, nat_le, min, if◌then◌else◌, ◌⊎◌, Bool, false, List, [], ◌∷◌, All, take, drop, set}
-use Rattle.std.specs.Prelude.{get_or, Option, Some, None, IfSome}
+use Rattle.std.specs.Prelude.{◌≡◌, ℕ, ◌+◌, ◌*◌, ◌≤◌, ◌<◌, ◌==◌, ◌⊎◌, Bool, false, List, [], ◌∷◌, All, take, drop}
+use Rattle.std.specs.Prelude.{Option, Some, None, IfSome}
 use Rattle.std.specs.Option.{option_and_then}
 use Rattle.tva_base.specs.declared.event.Event.{Event}
 use Rattle.tva_base.specs.declared.event.Happened.{Happened}
@@ -15,37 +15,22 @@ use Rattle.tva_log.specs.declared.kinds.Input.{Input}
 use Rattle.tva_log.specs.Entries.{Entry}
 use Rattle.tva_log.specs.Sites.{Site}
 use Rattle.tva_log.specs.NodeLog.{in_turn, due}
-use Rattle.tva_node.specs.declared.parts.Link.{Link}
-use Rattle.tva_node.specs.declared.parts.Parts.{Parts}
+use Rattle.tva_node.specs.declared.links.Link.{Link}
 use Rattle.tva_node.specs.declared.turns.Turn.{Turn}
+use Rattle.tva_node.specs.Links.{least_next, sooner}
 use Rattle.tva_node.specs.States.{NodeState, KnowsNext}
 use Rattle.tva_node.specs.Steps.{StandsAt}
 
 -- ## the next time
-
--- the sooner of two times
-abbrev pub sooner : Option ℕ → Option ℕ → Option ℕ
-sooner None other = other
-sooner (Some a) None = Some a
-sooner (Some a) (Some b) = Some (min a b)
 
 -- the time of the next input that is not taken
 abbrev pub turn_next : List Turn → Option ℕ
 turn_next [] = None
 turn_next (turn ∷ turns) = Some turn.time
 
--- the next time at which one of the links decides by itself
-abbrev pub least_next : List Link → Option ℕ
-least_next [] = None
-least_next (link ∷ links) = sooner link.next (least_next links)
-
 -- the next time at which there is work
 abbrev pub work_time : List Turn → List Link → Option ℕ
 work_time turns links = sooner (turn_next turns) (least_next links)
-
--- a node knows the next time at which one of its links decides by itself
-abbrev pub KnowsFirst : Parts → Type 0
-KnowsFirst p = p.next ≡ least_next p.links.items
 
 -- none is before that time
 abbrev pub IsNoneBefore : ℕ → Option ℕ → Type 0
@@ -56,12 +41,7 @@ abbrev pub is_due : ℕ → List Turn → Bool
 is_due now [] = false
 is_due now (turn ∷ turns) = turn.time == now
 
--- ## which links are asked
-
--- a link decides by that time
-abbrev pub is_asked : Option ℕ → ℕ → Bool
-is_asked None now = false
-is_asked (Some time) now = nat_le time now
+-- ## which link is asked
 
 -- the link on which a packet was queued
 abbrev pub link_of : Outcome → Option ℕ
@@ -75,14 +55,6 @@ queued_on (happens.Sent id length shape outcome) = link_of outcome
 queued_on (happens.Received id length from payload what back reply) =
     option_and_then (λ line. link_of line.outcome) reply
 queued_on (happens.Started id length link class end) = None
-
--- when a link decides next where that one is asked at that time
-abbrev pub next_asked : Option ℕ → ℕ → Link → Option ℕ
-next_asked None now link = link.next
-next_asked (Some number) now link = if number == link.number then Some now else link.next
-
-abbrev pub asked_by : Option ℕ → ℕ → Link → Link
-asked_by queued now link = record link { next = next_asked queued now link }
 
 -- ## within one time
 
@@ -131,10 +103,6 @@ start_event node link now class packet = record {
 abbrev pub start_sending : Link → ℕ → PacketData → Sending
 start_sending link now packet =
     record { link = link.number; arrive = at_time (end_on link now packet + link.plan.delay); packet = packet }
-
--- the links with a next decision of the one in that place
-abbrev pub with_next : ℕ → Option ℕ → List Link → Link → List Link
-with_next place next links d = set links place (record (get_or links place d) { next = next })
 
 -- numbers of a start on a link fit their types
 pub record IsStartable (now : ℕ) (link : Link) : Type 0 where

@@ -3,10 +3,11 @@
 //! log over its inputs up to the time up to which it is worked; that its next time is the first at
 //! which an input comes or a link decides; and that nodes that are worked in parts at once have the
 //! logs that they have one after another. A node at which nothing is to be done costs no look at its
-//! links.
+//! links, and one with many links looks at those alone that have something to do.
 #![tactic(auto)]
 
 mod halves;
+mod links;
 mod node;
 mod parts;
 mod role;

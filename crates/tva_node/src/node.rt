@@ -1,12 +1,12 @@
 // A node of a network.
-ghost use Rattle.std.specs.Prelude.{◌≡◌, ◌≤◌, ◌+◌, ◌∷◌, [], ◌++◌, min, max, map, List, IfOk, OnErr, OnOk};
+ghost use Rattle.std.specs.Prelude.{◌≡◌, ◌≤◌, ◌+◌, ◌∷◌, [], ◌++◌, min, max, List, IfOk, OnErr, OnOk};
 ghost use Rattle.tva_log.specs.Entries.{Entry, input_source, input_time};
 ghost use Rattle.tva_log.specs.NodeLog.{in_turn};
 ghost use Rattle.tva_log.specs.Sites.{IsSite, site_of};
 ghost use Rattle.tva_node.specs.States.{Fits, IsBy, IsFirstWork, Keeps, RoleStands, Stands, StandsFor, role_plan};
-ghost use Rattle.tva_node.specs.Steps.{first_link};
 
-use crate::parts::{Link, Parts};
+use crate::links::Links;
+use crate::parts::Parts;
 use crate::role::{Hosted, Role, Routed};
 use crate::turns::{Turn, Turns};
 use std::alloc::{AllocError, Global};
@@ -34,11 +34,7 @@ impl Model for Node {
 
     ghost Value = { NodeState };
 
-    ghost use Rattle.tva_node.specs.Work.{KnowsFirst};
-
     ghost view = { λ n. state_of n.parts };
-
-    ghost invariant = { λ n. KnowsFirst n.parts };
 }
 
 impl Node {
@@ -66,8 +62,7 @@ impl Node {
                 horizon: horizon.0,
                 alloc,
                 role,
-                links: links_out(alloc, links)?,
-                next: None,
+                links: Links::of(alloc, links)?,
                 inbox: Vec::new(alloc),
                 turns: Turns::new(alloc),
                 log: Vec::new(alloc),
@@ -177,21 +172,6 @@ fn turn_of(input: &Input, place: usize) -> Turn
             place,
         },
     }
-}
-
-// The links out, none of which decides by itself yet.
-fn links_out(alloc: Global, links: &[(u16, LinkPlan)]) -> Result<Vec<Link>, AllocError>
-    ensures { IfOk result (λ v. v.items ≡ map first_link links.now) }
-{
-    let mut out = Vec::with_capacity(alloc, links.len())?;
-    for (number, plan) in links {
-        out.push(Link {
-            number: *number,
-            plan: *plan,
-            next: None,
-        })?;
-    }
-    Ok(out)
 }
 
 // A router or a host, to which nothing happened yet.

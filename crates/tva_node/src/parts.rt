@@ -1,10 +1,11 @@
 // What a node keeps, and its work.
-ghost use Rattle.std.specs.Prelude.{◌≡◌, ◌≤◌, ◌<◌, ◌+◌, ◌∷◌, [], ◌++◌, ℕ, min, max, map, List, Some, None, true, IfSome, OnOk, length, get_or};
-ghost use Rattle.tva_log.specs.Sites.{limits_out};
-ghost use Rattle.tva_node.specs.declared.parts.Link.{Link};
+ghost use Rattle.std.specs.Prelude.{◌≡◌, ◌≤◌, ◌<◌, ◌+◌, ◌∷◌, [], ◌++◌, min, max, Some, None, true, IfSome, OnOk, length, get_or};
+ghost use Rattle.tva_node.specs.declared.links.Link.{Link};
+ghost use Rattle.tva_node.specs.Links.{sooner, with_next};
 ghost use Rattle.tva_node.specs.States.{BeginsWith, Keeps, Stands, state_of};
-ghost use Rattle.tva_node.specs.Work.{DecidesAt, IsNoneBefore, IsStartable, KnowsFirst, TakesAt, asked_by, end_on, is_asked, is_due, least_next, link_of, next_asked, queued_on, sooner, start_event, start_sending, turn_next, with_next, work_time};
+ghost use Rattle.tva_node.specs.Work.{DecidesAt, IsNoneBefore, IsStartable, TakesAt, end_on, is_due, link_of, queued_on, start_event, start_sending, turn_next, work_time};
 
+use crate::links::Links;
 use crate::role::Role;
 use crate::turns::Turns;
 use std::alloc::{AllocError, Global};
@@ -14,30 +15,19 @@ use tva_log::{Input, Sending};
 use tva_port::Decision;
 use tva_shim::{Packet, length};
 
-/// A link out of the node: its number, its plan, and when it decides next by itself, in nanoseconds,
-/// if it does. While a time is worked, a link on which a packet was queued is to be asked at that time.
-#[derive(Clone, Copy, Debug)]
-pub struct Link {
-    pub number: u16,
-    pub plan: LinkPlan,
-    pub next: Option<u64>,
-}
-
-/// A node's number, the horizon and the time up to which it is worked, in nanoseconds; when the first of
-/// its links decides next by itself, in nanoseconds, if one does; the turns of its inputs that are not
-/// taken yet, its events and its sendings; all its inputs, its links out by their numbers, its memory, and
-/// what it is. What each window looks at stands in front.
+/// A node's number, the horizon and the time up to which it is worked, in nanoseconds; its links out by
+/// their numbers, the turns of its inputs that are not taken yet, its events and its sendings; all its
+/// inputs, its memory, and what it is. What each window looks at stands in front.
 #[derive(Drop)]
 pub(crate) struct Parts {
     pub number: u16,
     pub horizon: u64,
     pub worked_to: u64,
-    pub next: Option<u64>,
+    pub links: Links,
     pub turns: Turns,
     pub log: Vec<Event>,
     pub outbox: Vec<Sending>,
     pub inbox: Vec<Input>,
-    pub links: Vec<Link>,
     pub alloc: Global,
     pub role: Role,
 }
@@ -46,11 +36,9 @@ impl Parts {
     /// Works what is to be done before a time and up to the horizon.
     pub fn advance(&mut self, until: u64) -> Result<(), AllocError>
         requires stands { Stands (state_of self.old) }
-        requires first { KnowsFirst self.old }
         ensures stands { OnOk result (Stands (state_of self.new)) }
         ensures upto { OnOk result (self.new.worked_to ≡ max self.old.worked_to (min until (self.old.horizon + 1))) }
         ensures keeps { Keeps (state_of self.old) (state_of self.new) }
-        ensures first { KnowsFirst self.new }
     {
         let end = cmp::min(until, self.horizon + 1);
         while let Some(now) = self.work_before(end) {
@@ -60,19 +48,17 @@ impl Parts {
         Ok(())
     }
 
-    // The next time at which there is work. An idle link costs nothing here.
+    // The next time at which there is work.
     fn work_time(&self) -> Option<u64>
-        requires { KnowsFirst self.now }
-        ensures { result ≡ work_time self.now.turns self.now.links.items }
+        ensures { result ≡ work_time self.now.turns self.now.links }
     {
-        sooner(self.turn_time(), self.next)
+        sooner(self.turn_time(), self.links.first())
     }
 
     /// The next time at which there is work, where it is no later than the horizon.
     pub fn work_within(&self) -> Option<u64>
-        requires { KnowsFirst self.now }
-        ensures some { IfSome result (λ now. (work_time self.now.turns self.now.links.items ≡ Some now) × (now ≤ self.now.horizon)) }
-        ensures none { result ≡ None → IsNoneBefore (self.now.horizon + 1) (work_time self.now.turns self.now.links.items) }
+        ensures some { IfSome result (λ now. (work_time self.now.turns self.now.links ≡ Some now) × (now ≤ self.now.horizon)) }
+        ensures none { result ≡ None → IsNoneBefore (self.now.horizon + 1) (work_time self.now.turns self.now.links) }
     {
         match self.work_time() {
             Some(now) if now <= self.horizon => Some(now),
@@ -82,9 +68,8 @@ impl Parts {
 
     // The next time at which there is work, where it is before the end.
     fn work_before(&self, end: u64) -> Option<u64>
-        requires { KnowsFirst self.now }
-        ensures some { IfSome result (λ now. (work_time self.now.turns self.now.links.items ≡ Some now) × (now < end)) }
-        ensures none { result ≡ None → IsNoneBefore end (work_time self.now.turns self.now.links.items) }
+        ensures some { IfSome result (λ now. (work_time self.now.turns self.now.links ≡ Some now) × (now < end)) }
+        ensures none { result ≡ None → IsNoneBefore end (work_time self.now.turns self.now.links) }
     {
         match self.work_time() {
             Some(now) if now < end => Some(now),
@@ -105,11 +90,10 @@ impl Parts {
     fn rest_until(&mut self, end: u64)
         requires stands { Stands (state_of self.old) }
         requires end { end ≤ self.old.horizon + 1 }
-        requires none { IsNoneBefore end (work_time self.old.turns self.old.links.items) }
+        requires none { IsNoneBefore end (work_time self.old.turns self.old.links) }
         ensures stands { Stands (state_of self.new) }
         ensures upto { self.new.worked_to ≡ max self.old.worked_to end }
         ensures keeps { Keeps (state_of self.old) (state_of self.new) }
-        ensures first { KnowsFirst self.old → KnowsFirst self.new }
     {
         self.worked_to = cmp::max(self.worked_to, end);
     }
@@ -118,17 +102,13 @@ impl Parts {
     fn work_at(&mut self, now: u64) -> Result<(), AllocError>
         requires stands { Stands (state_of self.old) }
         requires horizon { now ≤ self.old.horizon }
-        requires next { work_time self.old.turns self.old.links.items ≡ Some now }
-        requires first { KnowsFirst self.old }
+        requires next { work_time self.old.turns self.old.links ≡ Some now }
         ensures stands { OnOk result (Stands (state_of self.new)) }
         ensures upto { OnOk result (self.new.worked_to ≡ now + 1) }
         ensures on { OnOk result (self.old.worked_to < self.new.worked_to) }
         ensures keeps { Keeps (state_of self.old) (state_of self.new) }
-        ensures first { KnowsFirst self.new }
     {
-        let worked = self.work_each(now);
-        self.next = least_next(&self.links);
-        worked?;
+        self.work_each(now)?;
         self.worked_to = now + 1;
         Ok(())
     }
@@ -136,7 +116,7 @@ impl Parts {
     // Takes all inputs of a time, then lets the links decide.
     fn work_each(&mut self, now: u64) -> Result<(), AllocError>
         requires { TakesAt (state_of self.old) now }
-        ensures decided { OnOk result (DecidesAt (state_of self.new) now (length self.new.links.items)) }
+        ensures decided { OnOk result (DecidesAt (state_of self.new) now (length self.new.links)) }
         ensures keeps { Keeps (state_of self.old) (state_of self.new) }
     {
         self.take_all(now)?;
@@ -184,59 +164,48 @@ impl Parts {
             node: self.number,
             happened,
         })?;
-        ask_queued(&mut self.links, queued, now);
+        self.links.ask(queued, now);
         Ok(())
     }
 
-    // Lets each link decide, in the order of their numbers.
+    // Lets each link decide that may have something to do, in the order of their numbers. Each decides
+    // once at most.
     fn decide_each(&mut self, now: u64) -> Result<(), AllocError>
         requires { DecidesAt (state_of self.old) now 0 }
-        ensures decided { OnOk result (DecidesAt (state_of self.new) now (length self.new.links.items)) }
+        ensures decided { OnOk result (DecidesAt (state_of self.new) now (length self.new.links)) }
         ensures keeps { Keeps (state_of self.old) (state_of self.new) }
     {
-        for place in 0..self.links.len() {
-            self.decide_at(place, now)?;
+        for _ in 0..self.links.count() {
+            let Some(place) = self.links.due(now) else {
+                return Ok(());
+            };
+            self.ask_at(place, now)?;
         }
         Ok(())
-    }
-
-    // Lets the link in that place decide, where it may have something to do.
-    fn decide_at(&mut self, place: usize, now: u64) -> Result<(), AllocError>
-        requires stands { DecidesAt (state_of self.old) now place }
-        requires within { place < length self.old.links.items }
-        ensures stands { OnOk result (DecidesAt (state_of self.new) now (place + 1)) }
-        ensures count { length self.new.links.items ≡ length self.old.links.items }
-        ensures keeps { Keeps (state_of self.old) (state_of self.new) }
-    {
-        if is_asked(self.links[place].next, now) {
-            self.ask_at(place, now)
-        } else {
-            Ok(())
-        }
     }
 
     // Lets the link in that place decide, where it is free.
     fn ask_at(&mut self, place: usize, now: u64) -> Result<(), AllocError>
         requires stands { DecidesAt (state_of self.old) now place }
-        requires within { place < length self.old.links.items }
+        requires within { place < length self.old.links }
         ensures stands { OnOk result (DecidesAt (state_of self.new) now (place + 1)) }
-        ensures count { length self.new.links.items ≡ length self.old.links.items }
+        ensures count { length self.new.links ≡ length self.old.links }
         ensures keeps { Keeps (state_of self.old) (state_of self.new) }
     {
-        let number = self.links[place].number;
+        let number = self.links.at(place).number;
         let free = self.role.free_at(number);
         if free.0 > now {
-            self.links[place].next = Some(free.0);
+            self.links.put(place, Some(free.0));
             return Ok(());
         }
         match self.role.decide(Time(now), number) {
             Decision::Start(class, packet) => self.note_start(place, now, class, packet),
             Decision::WaitUntil(time) => {
-                self.links[place].next = Some(time.0);
+                self.links.put(place, Some(time.0));
                 Ok(())
             }
             Decision::Idle => {
-                self.links[place].next = None;
+                self.links.put(place, None);
                 Ok(())
             }
         }
@@ -250,22 +219,22 @@ impl Parts {
         class: Class,
         packet: Packet,
     ) -> Result<(), AllocError>
-        requires within { place < length self.old.links.items }
-        requires fits { (d : Link) → IsStartable now (get_or self.old.links.items place d) }
-        ensures links { (d : Link) → self.new.links.items
-            ≡ with_next place (Some (end_on (get_or self.old.links.items place d) now packet)) self.old.links.items d }
+        requires within { place < length self.old.links }
+        requires fits { (d : Link) → IsStartable now (get_or self.old.links place d) }
+        ensures links { (d : Link) → self.new.links
+            ≡ with_next place (Some (end_on (get_or self.old.links place d) now packet)) self.old.links d }
         ensures log { (d : Link) → OnOk result (self.new.log.items
-            ≡ self.old.log.items ++ start_event self.old.number (get_or self.old.links.items place d) now class packet ∷ []) }
+            ≡ self.old.log.items ++ start_event self.old.number (get_or self.old.links place d) now class packet ∷ []) }
         ensures outbox { (d : Link) → OnOk result (self.new.outbox.items
-            ≡ self.old.outbox.items ++ start_sending (get_or self.old.links.items place d) now packet ∷ []) }
+            ≡ self.old.outbox.items ++ start_sending (get_or self.old.links place d) now packet ∷ []) }
         ensures more { BeginsWith self.old.log.items self.new.log.items }
         ensures same { (self.new.role ≡ self.old.role) × (self.new.inbox ≡ self.old.inbox) × (self.new.turns ≡ self.old.turns)
             × (self.new.number ≡ self.old.number) × (self.new.horizon ≡ self.old.horizon) × (self.new.worked_to ≡ self.old.worked_to) }
     {
-        let link = self.links[place];
+        let link = self.links.at(place);
         let bytes = length(&packet);
         let end = now + u64::from(bytes) * link.plan.limits.ns_per_byte;
-        self.links[place].next = Some(end);
+        self.links.put(place, Some(end));
         self.log.push(Event {
             time: Time(now),
             node: self.number,
@@ -283,16 +252,6 @@ impl Parts {
             packet,
         })?;
         Ok(())
-    }
-}
-
-// Whether a link is to be asked at a time: it decides by then.
-fn is_asked(next: Option<u64>, now: u64) -> bool
-    ensures { result ≡ is_asked next now }
-{
-    match next {
-        Some(time) => time <= now,
-        None => false,
     }
 }
 
@@ -321,25 +280,6 @@ fn link_of(outcome: Outcome) -> Option<u16>
     }
 }
 
-// Has the link on which a packet was queued asked at that time.
-fn ask_queued(links: &mut [Link], queued: Option<u16>, now: u64)
-    ensures { links.new ≡ map (asked_by queued now) links.old }
-{
-    for link in links.iter_mut() {
-        link.next = next_asked(link, queued, now);
-    }
-}
-
-// When a link decides next where that one is asked at that time.
-fn next_asked(link: &Link, queued: Option<u16>, now: u64) -> Option<u64>
-    ensures { result ≡ next_asked queued now link.now }
-{
-    match queued {
-        Some(number) if number == link.number => Some(now),
-        _ => link.next,
-    }
-}
-
 // The sooner of two times.
 fn sooner(one: Option<u64>, other: Option<u64>) -> Option<u64>
     ensures { result ≡ sooner one other }
@@ -349,15 +289,4 @@ fn sooner(one: Option<u64>, other: Option<u64>) -> Option<u64>
         (Some(a), None) => Some(a),
         (None, b) => b,
     }
-}
-
-// The next time at which one of the links decides by itself.
-fn least_next(links: &[Link]) -> Option<u64>
-    ensures { result ≡ least_next links.now }
-{
-    let mut next = None;
-    for link in links {
-        next = sooner(next, link.next);
-    }
-    next
 }

@@ -1,27 +1,24 @@
 use Rattle.std.proofs.Common.{[], map, sym, subst, ◌∙◌, ap}
 use Rattle.tva_config.specs.declared.config.NodePlan.{NodePlan}
 use Rattle.tva_log.specs.Sites.{IsSite, site_of}
-use Rattle.tva_node.specs.States.{RoleStands, Stands, link_pair, role_plan}
-use Rattle.tva_node.specs.Work.{least_next}
-use Rattle.tva_node.proofs.Posts.{built, none_first, pairs_first}
+use Rattle.tva_node.specs.Links.{link_pair}
+use Rattle.tva_node.specs.States.{RoleStands, Stands, role_plan}
+use Rattle.tva_node.proofs.Posts.{built, pairs_first}
 use Rattle.tva_node.proofs.node.Node.build.Goals as goal
-
-pub invariant_of-result : goal.invariant_of-result
-invariant_of-result c = sym (ap least_next c.in_ok-links_out.ensures ∙ none_first c.args.links.now)
 
 pub returns-clause-site : goal.returns-clause-site
 returns-clause-site c =
-    let links = ap (map link_pair) c.in_ok-links_out.ensures ∙ pairs_first c.args.links.now in
+    let links = ap (map link_pair) c.in_ok-of.ensures ∙ pairs_first c.args.links.now in
     λ i. record { number = c.args.number; plan = c.in_ok-role.ensures.plan i; links = links i }
 
 pub returns-clause-stands : goal.returns-clause-stands
 returns-clause-stands c =
     let role = c.in_ok-role.role in
     let links = c.args.links.now in
-    let ls = c.in_ok-links_out.field-0.items in
+    let ls = c.in_ok-of.field-0 in
     let site = subst (λ (p : NodePlan). IsSite (site_of c.args.number p links)) (sym c.in_ok-role.ensures.plan) c.requires.site in
     let stands = subst (λ (p : NodePlan). RoleStands (site_of c.args.number p links) role []) (sym c.in_ok-role.ensures.plan) c.in_ok-role.ensures.stands in
-    let first = built c.args.number c.args.horizon.0 role links ls c.requires.horizon c.in_ok-links_out.ensures site stands c.in_ok-role.ensures.last in
+    let first = built c.args.number c.args.horizon.0 role links ls c.requires.horizon c.in_ok-of.ensures site stands c.in_ok-role.ensures.last in
     subst Stands (λ i. record {
       site = site_of c.args.number (role_plan role) (map link_pair ls);
       horizon = c.args.horizon.0;

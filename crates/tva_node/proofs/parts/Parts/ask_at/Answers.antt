@@ -1,31 +1,38 @@
 use Rattle.std.proofs.Common.{◌≡◌, ◌+◌, ◌∷◌, [], ◌++◌, Some, None, get_or, map, refl, sym, subst, ◌∙◌, ap, arith, append-nil}
 use Rattle.std.proofs.lemmas.List.{get_or_default}
 use Rattle.tva_port.specs.declared.decision.Decision.TheVariants.{WaitUntil, Idle}
-use Rattle.tva_node.specs.States.{NodeState, link_pair, role_plan, site_at, state_of}
+use Rattle.tva_node.specs.Links.{link_pair}
+use Rattle.tva_node.specs.States.{NodeState, role_plan, site_at, state_of}
 use Rattle.tva_node.specs.Work.{DecidesAt, end_on, start_event, start_sending}
-use Rattle.tva_node.proofs.Decides.{from_fields, on_both, pairs_set, read_busy, read_fits, read_out, read_rest, read_start}
+use Rattle.tva_node.proofs.Decides.{count_put, from_fields, here_is, on_both, pairs_put, pairs_set, put_there, read_busy, read_fits, read_out, read_rest, read_start}
 use Rattle.tva_node.proofs.parts.Parts.ask_at.Goals as goal
 
 pub free_at-free-requires : goal.free_at-free-requires
 free_at-free-requires c =
     let p = c.args.self.now in
     let st = c.requires.stands.3 in
-    (site_at p, c.index.result.now.plan.limits, st.site, st.plan, read_out p c.args.now c.args.place c.index.result.now c.index.ensures c.requires.within c.requires.stands)
+    (site_at p, c.at-number.result.plan.limits, st.site, st.plan, read_out p c.args.now c.args.place c.at-number.result c.at-number.ensures c.requires.within c.requires.stands)
 
 pub returns-then-free-now-clause-stands : goal.returns-then-free-now-clause-stands
 returns-then-free-now-clause-stands c =
     let p = c.args.self.now in
     let st = c.requires.stands.3 in
-    let a = c.index.result.now in
-    let out = read_out p c.args.now c.args.place a c.index.ensures c.requires.within c.requires.stands in
-    read_busy p c.args.now c.args.place a c.index.ensures c.requires.within c.requires.stands c.free_at-free.result.0 c.index_mut.result.now c.index_mut.ensures.value
-    (c.free_at-free.ensures.free (site_at p) c.requires.stands.1 a.plan.limits st.site st.plan out st.role) c.if-free-now.true
+    let a = c.at-number.result in
+    let out = read_out p c.args.now c.args.place a c.at-number.ensures c.requires.within c.requires.stands in
+    put_there p c.args.now c.args.place a c.at-number.ensures c.requires.within c.requires.stands c.put.new.self (Some c.free_at-free.result.0) p.role (c.put.ensures a)
+    (read_busy p c.args.now c.args.place a c.at-number.ensures c.requires.within c.requires.stands c.free_at-free.result.0 (get_or p.links c.args.place a)
+    (here_is p c.args.now c.args.place a c.at-number.ensures c.requires.within c.requires.stands)
+    (c.free_at-free.ensures.free (site_at p) c.requires.stands.1 a.plan.limits st.site st.plan out st.role) c.if-free-now.true)
+
+pub returns-then-free-now-clause-count : goal.returns-then-free-now-clause-count
+returns-then-free-now-clause-count c = count_put c.args.self.now.links c.put.new.self c.args.place c.at-number.result (Some c.free_at-free.result.0) (c.put.ensures c.at-number.result)
 
 pub returns-then-free-now-clause-keeps : goal.returns-then-free-now-clause-keeps
 returns-then-free-now-clause-keeps c =
     let p = c.args.self.now in
+    let a = c.at-number.result in
     record {
-      site = λ i. record { number = p.number; plan = role_plan p.role; links = pairs_set p.links.items c.args.place c.index.result.now c.index_mut.result.now (Some c.free_at-free.result.0) c.index.ensures c.index_mut.ensures.value c.requires.within i };
+      site = λ i. record { number = p.number; plan = role_plan p.role; links = pairs_put p.links c.put.new.self c.args.place a (Some c.free_at-free.result.0) c.at-number.ensures c.requires.within (c.put.ensures a) i };
       horizon = refl;
       inbox = refl;
       events = ([], sym (append-nil p.log.items));
@@ -35,44 +42,50 @@ pub decide-requires-clause-out : goal.decide-requires-clause-out
 decide-requires-clause-out c =
     let p = c.args.self.now in
     let st = c.requires.stands.3 in
-    (site_at p, c.index.result.now.plan.limits, st.site, st.plan, read_out p c.args.now c.args.place c.index.result.now c.index.ensures c.requires.within c.requires.stands)
+    (site_at p, c.at-number.result.plan.limits, st.site, st.plan, read_out p c.args.now c.args.place c.at-number.result c.at-number.ensures c.requires.within c.requires.stands)
 
 pub note_start-requires-clause-fits : goal.note_start-requires-clause-fits
 note_start-requires-clause-fits c = λ x.
-    read_fits c.args.self.now c.args.now c.args.place c.index.result.now c.index.ensures c.requires.within c.requires.stands x
+    read_fits c.args.self.now c.args.now c.args.place c.at-number.result c.at-number.ensures c.requires.within c.requires.stands x
 
 pub returns-in-Start-clause-stands : goal.returns-in-Start-clause-stands
 returns-in-Start-clause-stands c =
     let p = c.args.self.now in
     let st = c.requires.stands.3 in
-    let a = c.index.result.now in
-    let here = get_or p.links.items c.args.place a in
+    let a = c.at-number.result in
+    let here = get_or p.links c.args.place a in
     let q = c.note_start.new.self in
     let same = c.note_start.ensures.same in
-    let out = read_out p c.args.now c.args.place a c.index.ensures c.requires.within c.requires.stands in
+    let out = read_out p c.args.now c.args.place a c.at-number.ensures c.requires.within c.requires.stands in
     let free = c.free_at-free.ensures.free (site_at p) c.requires.stands.1 a.plan.limits st.site st.plan out st.role in
     let decided = c.in-Start.ensures.decides (site_at p) c.requires.stands.1 a.plan.limits st.site st.plan out st.role in
     let events = p.log.items ++ start_event p.number here c.args.now c.in-Start.class c.in-Start.packet ∷ [] in
     let sendings = p.outbox.items ++ start_sending here c.args.now c.in-Start.packet ∷ [] in
-    let stands = read_start p c.args.now c.args.place a c.index.ensures c.requires.within c.requires.stands c.in-Start.class c.in-Start.packet c.decide.new.self
+    let stands = read_start p c.args.now c.args.place a c.at-number.ensures c.requires.within c.requires.stands c.in-Start.class c.in-Start.packet c.decide.new.self
     (omega (arith, free, c.if-free-now.false)) decided c.in-Start.ensures.plan c.in-Start.ensures.last in
     on_both (q.log.items ≡ events) (q.outbox.items ≡ sendings) (DecidesAt (state_of q) c.args.now (c.args.place + 1)) c.note_start.result
     (λ told sent. subst (λ (v : NodeState). DecidesAt v c.args.now (c.args.place + 1))
     (from_fields q p.number p.horizon p.worked_to c.decide.new.self _ p.inbox.items p.turns events sendings same.3 same.4 same.5 same.0 (c.note_start.ensures.links a) (ap (λ v. v.items) same.1) same.2 told sent) stands)
     (c.note_start.ensures.log a) (c.note_start.ensures.outbox a)
 
+pub returns-in-Start-clause-count : goal.returns-in-Start-clause-count
+returns-in-Start-clause-count c =
+    let p = c.args.self.now in
+    let a = c.at-number.result in
+    count_put p.links c.note_start.new.self.links c.args.place a (Some (end_on (get_or p.links c.args.place a) c.args.now c.in-Start.packet)) (c.note_start.ensures.links a)
+
 pub returns-in-Start-clause-keeps : goal.returns-in-Start-clause-keeps
 returns-in-Start-clause-keeps c =
     let p = c.args.self.now in
-    let a = c.index.result.now in
-    let here = get_or p.links.items c.args.place a in
+    let a = c.at-number.result in
+    let here = get_or p.links c.args.place a in
     let same = c.note_start.ensures.same in
-    let e = get_or_default p.links.items c.args.place a here c.requires.within in
+    let e = get_or_default p.links c.args.place a here c.requires.within in
     record {
       site = λ i. record {
         number = same.3 i;
         plan = (ap role_plan same.0 ∙ c.in-Start.ensures.plan) i;
-        links = (ap (map link_pair) (c.note_start.ensures.links a) ∙ pairs_set p.links.items c.args.place a here (Some (end_on here c.args.now c.in-Start.packet)) c.index.ensures e c.requires.within) i;
+        links = (ap (map link_pair) (c.note_start.ensures.links a) ∙ pairs_set p.links c.args.place a here (Some (end_on here c.args.now c.in-Start.packet)) c.at-number.ensures e c.requires.within) i;
       };
       horizon = same.4;
       inbox = ap (λ v. v.items) same.1;
@@ -83,18 +96,24 @@ pub returns-in-WaitUntil-clause-stands : goal.returns-in-WaitUntil-clause-stands
 returns-in-WaitUntil-clause-stands c =
     let p = c.args.self.now in
     let st = c.requires.stands.3 in
-    let a = c.index.result.now in
-    let out = read_out p c.args.now c.args.place a c.index.ensures c.requires.within c.requires.stands in
+    let a = c.at-number.result in
+    let out = read_out p c.args.now c.args.place a c.at-number.ensures c.requires.within c.requires.stands in
     let free = c.free_at-free.ensures.free (site_at p) c.requires.stands.1 a.plan.limits st.site st.plan out st.role in
-    read_rest p c.args.now c.args.place a c.index.ensures c.requires.within c.requires.stands (WaitUntil c.in-WaitUntil.time) (Some c.in-WaitUntil.time.0) c.decide.new.self c.index_mut-in-WaitUntil.result.now c.index_mut-in-WaitUntil.ensures.value refl
+    put_there p c.args.now c.args.place a c.at-number.ensures c.requires.within c.requires.stands c.put-in-WaitUntil.new.self (Some c.in-WaitUntil.time.0) c.decide.new.self (c.put-in-WaitUntil.ensures a)
+    (read_rest p c.args.now c.args.place a c.at-number.ensures c.requires.within c.requires.stands (WaitUntil c.in-WaitUntil.time) (Some c.in-WaitUntil.time.0) c.decide.new.self (get_or p.links c.args.place a)
+    (here_is p c.args.now c.args.place a c.at-number.ensures c.requires.within c.requires.stands) refl
     (omega (arith, free, c.if-free-now.false))
-    (c.in-WaitUntil.ensures.decides (site_at p) c.requires.stands.1 a.plan.limits st.site st.plan out st.role) refl c.in-WaitUntil.ensures.plan c.in-WaitUntil.ensures.last
+    (c.in-WaitUntil.ensures.decides (site_at p) c.requires.stands.1 a.plan.limits st.site st.plan out st.role) refl c.in-WaitUntil.ensures.plan c.in-WaitUntil.ensures.last)
+
+pub returns-in-WaitUntil-clause-count : goal.returns-in-WaitUntil-clause-count
+returns-in-WaitUntil-clause-count c = count_put c.args.self.now.links c.put-in-WaitUntil.new.self c.args.place c.at-number.result (Some c.in-WaitUntil.time.0) (c.put-in-WaitUntil.ensures c.at-number.result)
 
 pub returns-in-WaitUntil-clause-keeps : goal.returns-in-WaitUntil-clause-keeps
 returns-in-WaitUntil-clause-keeps c =
     let p = c.args.self.now in
+    let a = c.at-number.result in
     record {
-      site = λ i. record { number = p.number; plan = c.in-WaitUntil.ensures.plan i; links = pairs_set p.links.items c.args.place c.index.result.now c.index_mut-in-WaitUntil.result.now (Some c.in-WaitUntil.time.0) c.index.ensures c.index_mut-in-WaitUntil.ensures.value c.requires.within i };
+      site = λ i. record { number = p.number; plan = c.in-WaitUntil.ensures.plan i; links = pairs_put p.links c.put-in-WaitUntil.new.self c.args.place a (Some c.in-WaitUntil.time.0) c.at-number.ensures c.requires.within (c.put-in-WaitUntil.ensures a) i };
       horizon = refl;
       inbox = refl;
       events = ([], sym (append-nil p.log.items));
@@ -104,18 +123,24 @@ pub returns-in-Idle-clause-stands : goal.returns-in-Idle-clause-stands
 returns-in-Idle-clause-stands c =
     let p = c.args.self.now in
     let st = c.requires.stands.3 in
-    let a = c.index.result.now in
-    let out = read_out p c.args.now c.args.place a c.index.ensures c.requires.within c.requires.stands in
+    let a = c.at-number.result in
+    let out = read_out p c.args.now c.args.place a c.at-number.ensures c.requires.within c.requires.stands in
     let free = c.free_at-free.ensures.free (site_at p) c.requires.stands.1 a.plan.limits st.site st.plan out st.role in
-    read_rest p c.args.now c.args.place a c.index.ensures c.requires.within c.requires.stands Idle None c.decide.new.self c.index_mut-in-Idle.result.now c.index_mut-in-Idle.ensures.value refl
+    put_there p c.args.now c.args.place a c.at-number.ensures c.requires.within c.requires.stands c.put-in-Idle.new.self None c.decide.new.self (c.put-in-Idle.ensures a)
+    (read_rest p c.args.now c.args.place a c.at-number.ensures c.requires.within c.requires.stands Idle None c.decide.new.self (get_or p.links c.args.place a)
+    (here_is p c.args.now c.args.place a c.at-number.ensures c.requires.within c.requires.stands) refl
     (omega (arith, free, c.if-free-now.false))
-    (c.in-Idle.ensures.decides (site_at p) c.requires.stands.1 a.plan.limits st.site st.plan out st.role) refl c.in-Idle.ensures.plan c.in-Idle.ensures.last
+    (c.in-Idle.ensures.decides (site_at p) c.requires.stands.1 a.plan.limits st.site st.plan out st.role) refl c.in-Idle.ensures.plan c.in-Idle.ensures.last)
+
+pub returns-in-Idle-clause-count : goal.returns-in-Idle-clause-count
+returns-in-Idle-clause-count c = count_put c.args.self.now.links c.put-in-Idle.new.self c.args.place c.at-number.result None (c.put-in-Idle.ensures c.at-number.result)
 
 pub returns-in-Idle-clause-keeps : goal.returns-in-Idle-clause-keeps
 returns-in-Idle-clause-keeps c =
     let p = c.args.self.now in
+    let a = c.at-number.result in
     record {
-      site = λ i. record { number = p.number; plan = c.in-Idle.ensures.plan i; links = pairs_set p.links.items c.args.place c.index.result.now c.index_mut-in-Idle.result.now None c.index.ensures c.index_mut-in-Idle.ensures.value c.requires.within i };
+      site = λ i. record { number = p.number; plan = c.in-Idle.ensures.plan i; links = pairs_put p.links c.put-in-Idle.new.self c.args.place a None c.at-number.ensures c.requires.within (c.put-in-Idle.ensures a) i };
       horizon = refl;
       inbox = refl;
       events = ([], sym (append-nil p.log.items));

@@ -1,0 +1,10 @@
+use Rattle.std.proofs.Common.{◌≡◌, ◌<◌, All, map, take}
+use Rattle.tva_node.specs.declared.links.Link.{Link}
+use Rattle.tva_node.specs.Links.{first_link}
+use Rattle.tva_node.proofs.links.first_links.Given as goal
+
+abbrev pub invariant-loop-number : goal.invariant-loop-number
+invariant-loop-number l = record {
+  links : l.out.items ≡ map first_link (take l.number-index l.links);
+  small : All (λ (l : Link). l.number < 65536) l.out.items;
+}

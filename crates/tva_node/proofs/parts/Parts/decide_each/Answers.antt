@@ -1,0 +1,28 @@
+use Rattle.std.proofs.Common.{◌+◌, arith, subst, ◌∙◌}
+use Rattle.tva_node.specs.Links.{IsFirstAsked}
+use Rattle.tva_node.specs.States.{state_of}
+use Rattle.tva_node.proofs.Asked.{goes_on, goes_through}
+use Rattle.tva_node.proofs.Zips.{keeps_on}
+use Rattle.tva_node.proofs.parts.Parts.decide_each.Goals as goal
+
+pub returns-in_default-clause-decided : goal.returns-in_default-clause-decided
+returns-in_default-clause-decided c =
+    let st = c.loop.invariant.stands in
+    goes_through (state_of c.loop.self) c.args.now st.0 st.3 st.2 (subst (IsFirstAsked c.args.now c.loop.self.links) c.in_default.is c.due.ensures)
+
+pub ask_at-requires-clause-stands : goal.ask_at-requires-clause-stands
+ask_at-requires-clause-stands c =
+    let st = c.loop.invariant.stands in
+    (goes_on (state_of c.loop.self) c.args.now st.0 st.3 c.in-Some.place c.in-Some.ensures).1
+
+pub loop-preserved : goal.loop-preserved
+loop-preserved c =
+    let st = c.loop.invariant.stands in
+    let behind = (goes_on (state_of c.loop.self) c.args.now st.0 st.3 c.in-Some.place c.in-Some.ensures).0 in
+    let within = c.in-Some.ensures.0 in
+    let count = c.ask_at.ensures.count in
+    record {
+      stands = (c.in-Some.place + 1, (let k = st.1 in omega (arith, k, behind)), omega (arith, within, count), c.in_ok-ask_at.ensures.stands);
+      count = count ∙ c.loop.invariant.count;
+      keeps = keeps_on (state_of c.args.self.now) (state_of c.loop.self) (state_of c.ask_at.new.self) c.loop.invariant.keeps c.ask_at.ensures.keeps;
+    }
