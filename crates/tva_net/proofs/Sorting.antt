@@ -1,6 +1,7 @@
 -- The order that a stable sort by time leaves.
-use Rattle.std.proofs.Common.{◌≡◌, ℕ, zero, suc, ◌≤◌, Bool, true, false, cond, List, [], ◌∷◌, refl, sym, ◌∙◌, arith, inl, inr}
+use Rattle.std.proofs.Common.{◌≡◌, ℕ, zero, suc, ◌≤◌, Bool, true, false, cond, List, [], ◌∷◌, filter, map, refl, sym, ◌∙◌, ap, arith, inl, inr}
 use Rattle.std.specs.Prelude.{◌==◌, ◌&&◌, nat_lt, not}
+use Rattle.std.specs.Borrow.{Bor}
 use Rattle.std.specs.declared.cmp.Ordering.TheVariants.{Less, Equal, Greater}
 use Rattle.std.specs.Ordering.{is_lt, nat_cmp}
 use Rattle.std.specs.List.Sorted.{IsNonDecreasingBy, IsStableByKey, ties}
@@ -10,10 +11,12 @@ use Rattle.tva_base.specs.declared.event.Event.{Event}
 use Rattle.tva_base.specs.declared.event.Happened.TheVariants as happens
 use Rattle.tva_base.specs.declared.event.ShapeKind.TheVariants as shape
 use Rattle.tva_base.specs.declared.packet.Outcome.TheVariants as outcome
-use Rattle.tva_joins.specs.Joins.{NeverFalls, from_source}
+use Rattle.tva_joins.specs.Joins.{NeverFalls}
 use Rattle.tva_log.specs.Told.{at_time}
 use Rattle.tva_run.specs.Report.{event_time}
+use Rattle.tva_run.proofs.Reports.{filter-map}
 use Rattle.tva_net.specs.News.{IsByTime}
+use Rattle.tva_net.proofs.Lists.{each_map}
 
 falls_from : {X : Type 0} (time : X → ℕ) (xs : List X) → IsNonDecreasingBy time xs → NeverFalls time xs
 falls_from time [] h = tt
@@ -44,15 +47,28 @@ tie_is : (a b : ℕ) → (not (is_lt (nat_cmp a b)) && not (is_lt (nat_cmp b a))
 tie_is a b = rw (less_is a b, less_is b a) (neither_is a b)
 
 -- some event at a time
-abbrev event_at : ℕ → Event
-event_at t = record { time = at_time t; node = 0; happened = happens.Sent (record { node = 0; ordinal = 0 }) 0 shape.Trace (outcome.Queued 0) }
+abbrev event_at : ℕ → Bor Event
+event_at t = record { ref_ptr = (0, 0); now = record { time = at_time t; node = 0; happened = happens.Sent (record { node = 0; ordinal = 0 }) 0 shape.Trace (outcome.Queued 0) } }
 
-ties_from : (told ordered : List Event) → IsStableByKey event_time nat_cmp told ordered → (t : ℕ) → from_source event_time t ordered ≡ from_source event_time t told
+abbrev pub time_of : Bor Event → ℕ
+time_of event = event_time event.now
+
+ties_from : (told ordered : List (Bor Event)) → IsStableByKey time_of nat_cmp told ordered → (t : ℕ) → filter (λ y. time_of y == t) ordered ≡ filter (λ y. time_of y == t) told
 ties_from told ordered h t =
-    let tied : Event → Bool = ties (λ (x y : Event). is_lt (nat_cmp (event_time x) (event_time y))) (event_at t) in
-    let agree : (y : Event) → (event_time y == t) ≡ tied y = λ y. sym (tie_is t (event_time y)) in
-    filter_agree (λ y. event_time y == t) tied agree ordered
-    ∙ (h (event_at t) ∙ sym (filter_agree (λ y. event_time y == t) tied agree told))
+    let tied : Bor Event → Bool = ties (λ (x y : Bor Event). is_lt (nat_cmp (time_of x) (time_of y))) (event_at t) in
+    let agree : (y : Bor Event) → (time_of y == t) ≡ tied y = λ y. sym (tie_is t (time_of y)) in
+    filter_agree (λ y. time_of y == t) tied agree ordered
+    ∙ (h (event_at t) ∙ sym (filter_agree (λ y. time_of y == t) tied agree told))
 
-pub by_time : (told ordered : List Event) → IsNonDecreasingBy event_time ordered → IsStableByKey event_time nat_cmp told ordered → IsByTime told ordered
-by_time told ordered sorted stable = record { times = falls_from event_time ordered sorted; ties = ties_from told ordered stable }
+falls_behind : (events : List (Bor Event)) → NeverFalls time_of events → NeverFalls event_time (map (λ event. event.now) events)
+falls_behind [] h = tt
+falls_behind (x ∷ xs) h = (each_map (λ event. event.now) (λ e. event_time x.now ≤ event_time e) xs h.0, falls_behind xs h.1)
+
+-- of references to events
+pub by_time : (told ordered : List (Bor Event)) → IsNonDecreasingBy time_of ordered → IsStableByKey time_of nat_cmp told ordered → IsByTime (map (λ event. event.now) told) (map (λ event. event.now) ordered)
+by_time told ordered sorted stable = record {
+  times = falls_behind ordered (falls_from time_of ordered sorted);
+  ties = λ t.
+      filter-map (λ event. event.now) (λ e. event_time e == t) ordered
+      ∙ (ap (map (λ event. event.now)) (ties_from told ordered stable t) ∙ sym (filter-map (λ event. event.now) (λ e. event_time e == t) told));
+}

@@ -8,6 +8,7 @@ ghost use Rattle.tva_net.specs.News.{IsByTime, told_since};
 ghost use Rattle.tva_net.specs.Places.{AreKnownElsewhere, ArePlaces, picked};
 
 use std::alloc::{AllocError, Global};
+use std::slice;
 use tva_base::Event;
 use tva_node::Node;
 
@@ -28,14 +29,13 @@ pub(crate) fn gather(
     ensures join { IfOk result (λ events. IsJoin event_time event_node (told_since nodes.now given.old) events.items) }
     ensures given { OnOk result (given.new ≡ map (λ v. length v.events) nodes.now) }
 {
-    let mut events = news_of(alloc, nodes, places, given)?;
-    put_in_order(&mut events)?;
+    let events = told_in_order(alloc, nodes, places, given)?;
     note_given(nodes, places, given);
     Ok(events)
 }
 
-// The events, one node after another.
-fn news_of(
+// The events, by their times. References to them are sorted, so that each is copied only once.
+fn told_in_order(
     alloc: Global,
     nodes: &[Node],
     places: &[usize],
@@ -43,31 +43,60 @@ fn news_of(
 ) -> Result<Vec<Event>, AllocError>
     requires known { AllZip (λ v n. n ≤ length v.events) nodes.now given.now }
     requires within { All (λ place. place < length nodes.now) places.now }
-    ensures { IfOk result (λ events. events.items ≡ picked (λ v. v.events) nodes.now given.now places.now) }
+    ensures { IfOk result (λ events. IsByTime (picked (λ v. v.events) nodes.now given.now places.now) events.items) }
 {
-    let mut events = Vec::new(alloc);
+    let mut news = news_of(alloc, nodes, places, given)?;
+    put_in_order(&mut news)?;
+    copies_of(alloc, news.as_slice())
+}
+
+// References to the events, one node after another.
+fn news_of<'a>(
+    alloc: Global,
+    nodes: &'a [Node],
+    places: &[usize],
+    given: &[usize],
+) -> Result<Vec<&'a Event>, AllocError>
+    requires known { AllZip (λ v n. n ≤ length v.events) nodes.now given.now }
+    requires within { All (λ place. place < length nodes.now) places.now }
+    ensures { IfOk result (λ news. map (λ event. event.now) news.items ≡ picked (λ v. v.events) nodes.now given.now places.now) }
+{
+    let mut news = Vec::new(alloc);
     for place in places {
-        push_news(&mut events, &nodes[*place], given[*place])?;
+        push_news(&mut news, &nodes[*place], given[*place])?;
     }
-    Ok(events)
+    Ok(news)
 }
 
 // Puts behind them what a node told behind its first so many.
-fn push_news(events: &mut Vec<Event>, node: &Node, given: usize) -> Result<(), AllocError>
+fn push_news<'a>(news: &mut Vec<&'a Event>, node: &'a Node, given: usize) -> Result<(), AllocError>
     requires { given ≤ length node.now.events }
-    ensures { OnOk result (events.new.items ≡ events.old.items ++ drop given node.now.events) }
+    ensures { OnOk result (map (λ event. event.now) news.new.items ≡ map (λ event. event.now) news.old.items ++ drop given node.now.events) }
 {
-    let news = &node.log()[given..];
-    events.extend_from_slice(news)?;
+    let told = &node.log()[given..];
+    for event in told {
+        news.push(event)?;
+    }
     Ok(())
 }
 
 // Puts events in the order of their times; those at one time stay in their order.
-fn put_in_order(events: &mut Vec<Event>) -> Result<(), AllocError>
-    ensures { OnOk result (IsByTime events.old.items events.new.items) }
+fn put_in_order(news: &mut Vec<&Event>) -> Result<(), AllocError>
+    ensures { OnOk result (IsByTime (map (λ event. event.now) news.old.items) (map (λ event. event.now) news.new.items)) }
 {
-    events.sort_by_key(|event| event.time.0)?;
+    news.sort_by_key(|event| event.time.0)?;
     Ok(())
+}
+
+// Copies of the events, each straight from its node's log.
+fn copies_of(alloc: Global, news: &[&Event]) -> Result<Vec<Event>, AllocError>
+    ensures { IfOk result (λ events. events.items ≡ map (λ event. event.now) news.now) }
+{
+    let mut events = Vec::with_capacity(alloc, news.len())?;
+    for event in news {
+        events.extend_from_slice(slice::from_ref(*event))?;
+    }
+    Ok(events)
 }
 
 // All events of the nodes are given.

@@ -1,4 +1,4 @@
-use Rattle.std.proofs.Common.{◌≤◌, length, get_or, sym, subst, arith}
+use Rattle.std.proofs.Common.{◌≤◌, length, get_or, map, sym, subst, arith}
 use Rattle.tva_node.specs.States.{NodeState}
 use Rattle.tva_net.specs.Places.{picked}
 use Rattle.tva_net.proofs.News.{zip_at, zip_length}
@@ -20,6 +20,6 @@ push_news-requires c =
 
 pub loop-place-preserved : goal.loop-place-preserved
 loop-place-preserved c =
-    picked_step (λ v. v.events) c.args.nodes.now c.args.given.now c.args.places.now c.loop-place.place-index c.index-nodes-place.result c.loop-place.events.items c.push_news.new.events.items
+    picked_step (λ v. v.events) c.args.nodes.now c.args.given.now c.args.places.now c.loop-place.place-index c.index-nodes-place.result (map (λ event. event.now) c.loop-place.news.items) (map (λ event. event.now) c.push_news.new.news.items)
     (picked (λ v. v.events) c.args.nodes.now c.args.given.now c.args.places.now) c.loop-place-test.true (c.requires.within c.loop-place.place-index 0 c.loop-place-test.true)
     c.index-nodes-place.is c.in_ok-push_news.ensures c.loop-place.invariant
