@@ -1,8 +1,10 @@
 -- Lists, by what stands at each place, and what a list in order has from a time on.
-use Rattle.std.proofs.Common.{◌≡◌, ℕ, zero, suc, ◌<◌, ◌≤◌, List, [], ◌∷◌, ◌++◌, length, get_or, drop, map, filter, Bool, Some, refl, sym, ◌∙◌, ap, ap₂, arith, inl, inr}
-use Rattle.std.specs.Prelude.{◌==◌, nat_lt, Contains}
+use Rattle.std.proofs.Common.{◌≡◌, ℕ, zero, suc, ◌+◌, ◌<◌, ◌≤◌, List, [], ◌∷◌, ◌++◌, length, get_or, drop, map, filter, Bool, Some, refl, sym, ◌∙◌, ap, ap₂, arith, inl, inr}
+use Rattle.std.specs.Prelude.{◌==◌, nat_lt, slice_range, Contains}
 use Rattle.std.specs.List.{AllByRecursion, AllZip}
 use Rattle.std.proofs.lemmas.Bool.{lt-ltb, eq-eqb, cases_Bool, cases_lt}
+use Rattle.std.proofs.lemmas.List.{append_cancel_right, drop_more}
+use Rattle.std.proofs.lemmas.List.Folds.{drop_split}
 use Rattle.tva_joins.specs.Joins.{IsInOrder, NeverFalls, cut, from_source}
 use Rattle.tva_joins.proofs.Joins.{filter-true, filter-false, cut-late, each-filter, each_later}
 use Rattle.tva_run.proofs.Next.{contains_cases, contains_first, contains_more}
@@ -13,6 +15,12 @@ some_same x y e = cc
 pub nothing_in : {X : Type 0} (xs : List X) → length xs ≡ 0 → xs ≡ []
 nothing_in [] e = refl
 nothing_in (x ∷ xs) e = absurd (omega (arith, e))
+
+-- one element alone
+pub range_one : {X : Type 0} (xs : List X) (i : ℕ) (x : X) → i < length xs → x ≡ get_or xs i x → slice_range xs i (i + 1) ≡ x ∷ []
+range_one xs i x l is =
+    append_cancel_right (slice_range xs i (i + 1)) (x ∷ []) (drop (i + 1) xs)
+    (sym (drop_split xs i (i + 1) (omega arith)) ∙ (drop_more xs i x l ∙ ap (λ y. y ∷ drop (i + 1) xs) (sym is)))
 
 -- ## by places
 

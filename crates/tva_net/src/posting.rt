@@ -1,5 +1,5 @@
 // What nodes sent is posted to the nodes at the other ends of their links.
-ghost use Rattle.std.specs.Prelude.{◌≡◌, ◌<◌, ◌≤◌, ◌∷◌, [], All, OnOk, IfOk, drop, length, map};
+ghost use Rattle.std.specs.Prelude.{◌≡◌, ◌+◌, ◌<◌, ◌≤◌, ◌∷◌, [], All, OnOk, drop, length, map, slice_range};
 ghost use Rattle.std.specs.List.{AllZip};
 ghost use Rattle.tva_net.specs.Mail.{CanDeliver, GotMails, IsPostable, KeepsWork, IsSameBut, mail_at, mail_to};
 ghost use Rattle.tva_net.specs.News.{sent_by, since};
@@ -10,7 +10,7 @@ use crate::times::note;
 use std::alloc::AllocError;
 use tva_base::{LinkPlan, Time};
 use tva_index::Lowest;
-use tva_log::{Input, Sending};
+use tva_log::Input;
 use tva_node::Node;
 
 /// Posts what the nodes sent behind their first so many sendings, where it arrives by the horizon,
@@ -85,55 +85,43 @@ fn post_from(
 {
     let count = nodes[from].outbox().len();
     for place in posted..count {
-        let sending = copied(&nodes[from].outbox()[place]);
-        post_one(nodes, times, horizon, links, sending)?;
+        post_one(nodes, times, horizon, links, from, place)?;
     }
     Ok(())
 }
 
-// Posts a packet, where it arrives by the horizon, and notes when the node there has work next.
+// Posts one packet that a node sent, where it arrives by the horizon, and notes when the node there
+// has work next. One that arrives later is never copied.
 fn post_one(
     nodes: &mut [Node],
     times: &mut Lowest,
     horizon: Time,
     links: &[LinkPlan],
-    sending: Sending,
+    from: usize,
+    place: usize,
 ) -> Result<(), AllocError>
     requires few { length nodes.old ≤ 1024 }
-    requires postable { IsPostable horizon.0 links.now nodes.old sending }
+    requires node { from < length nodes.old }
+    requires place { place < length (sent_by nodes.old from) }
+    requires postable { All (IsPostable horizon.0 links.now nodes.old) (slice_range (sent_by nodes.old from) place (place + 1)) }
     requires noted { AreNoted times.old nodes.old }
-    ensures got { OnOk result (GotMails (mail_to horizon.0 links.now (sending ∷ [])) nodes.old nodes.new) }
+    ensures got { OnOk result (GotMails (mail_to horizon.0 links.now (slice_range (sent_by nodes.old from) place (place + 1))) nodes.old nodes.new) }
     ensures noted { OnOk result (AreNoted times.new nodes.new) }
     ensures keeps { AllZip KeepsWork nodes.old nodes.new }
 {
-    let Sending {
-        link,
-        arrive,
-        packet,
-    } = sending;
-    if arrive.0 > horizon.0 {
+    let sending = &nodes[from].outbox()[place];
+    if sending.arrive.0 > horizon.0 {
         return Ok(());
     }
-    let to = usize::from(links[usize::from(link)].to);
+    let to = usize::from(links[usize::from(sending.link)].to);
     let input = Input::Arrival {
-        time: arrive,
-        link,
-        packet,
+        time: sending.arrive,
+        link: sending.link,
+        packet: sending.packet.copied(),
     };
     deliver(nodes, to, input)?;
     note(times, nodes, to);
     Ok(())
-}
-
-// The same sending once more.
-fn copied(sending: &Sending) -> Sending
-    ensures { result ≡ sending.now }
-{
-    Sending {
-        link: sending.link,
-        arrive: sending.arrive,
-        packet: sending.packet.copied(),
-    }
 }
 
 /// Gives an input to the node in that place. The error is want of memory.
