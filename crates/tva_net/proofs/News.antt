@@ -1,9 +1,9 @@
 -- What nodes tell, one node after another.
-use Rattle.std.proofs.Common.{◌≡◌, ℕ, zero, suc, ◌+◌, ◌<◌, ◌≤◌, List, [], ◌∷◌, ◌++◌, length, get_or, take, drop, set, map, All, refl, sym, subst, ◌∙◌, ap, ap₂, arith, inl, inr, true, false}
+use Rattle.std.proofs.Common.{◌≡◌, ℕ, zero, suc, ◌+◌, ◌<◌, ◌≤◌, List, [], ◌∷◌, ◌++◌, length, get_or, drop, All, refl, sym, subst, ◌∙◌, ap, ap₂, arith, inl, inr, true, false}
 use Rattle.std.specs.Prelude.{◌==◌}
 use Rattle.std.specs.List.{AllByRecursion, AllZip}
 use Rattle.std.proofs.lemmas.Bool.{eq-eqb, ne_eqb}
-use Rattle.std.proofs.lemmas.List.{append-nil, append_assoc, drop_more, take_all, take_more_set, map_more}
+use Rattle.std.proofs.lemmas.List.{append-nil}
 use Rattle.std.proofs.lemmas.List.Elements.{All-head, All-tail, filter-append}
 use Rattle.tva_base.specs.declared.event.Event.{Event}
 use Rattle.tva_joins.specs.Joins.{IsInOrder, IsJoin, MayPrecede, NeverFalls, from_source}
@@ -29,28 +29,6 @@ zip_length R [] [] z = refl
 zip_length R [] (y ∷ ys) z = absurd z
 zip_length R (x ∷ xs) [] z = absurd z
 zip_length R (x ∷ xs) (y ∷ ys) z = ap suc (zip_length R xs ys z.1)
-
--- a count is noted for each node
-pub counts_more : (has : NodeState → ℕ) (nodes : List NodeState) (counts : List ℕ) (i : ℕ) (d : NodeState) → i < length nodes → i < length counts → take i counts ≡ map has (take i nodes) → take (i + 1) (set counts i (has (get_or nodes i d))) ≡ map has (take (i + 1) nodes)
-counts_more has nodes counts i d l m h =
-    take_more_set counts i (has (get_or nodes i d)) m
-    ∙ (ap (λ (ns : List ℕ). ns ++ has (get_or nodes i d) ∷ []) h ∙ sym (map_more has nodes i d l))
-
-pub counts_last : (has : NodeState → ℕ) (nodes : List NodeState) (counts : List ℕ) (i : ℕ) → length nodes ≤ i → length counts ≡ length nodes → take i counts ≡ map has (take i nodes) → counts ≡ map has nodes
-counts_last has nodes counts i l e h =
-    let m : length counts ≤ i = omega (arith, e) in
-    sym (take_all i counts m) ∙ (h ∙ ap (map has) (take_all i nodes l))
-
--- the news of one node more are put behind
-pub told_more : (nodes : List NodeState) (known : List ℕ) (k : ℕ) (v : NodeState) (old new whole : List Event) → k < length nodes → k < length known → v ≡ get_or nodes k v → new ≡ old ++ drop (get_or known k 0) v.events
-    → old ++ since (λ v. v.events) (drop k nodes) (drop k known) ≡ whole → new ++ since (λ v. v.events) (drop (k + 1) nodes) (drop (k + 1) known) ≡ whole
-told_more nodes known k v old new whole l m is e h =
-    let rest : List Event = since (λ v. v.events) (drop (k + 1) nodes) (drop (k + 1) known) in
-    let here : List Event = drop (get_or known k 0) v.events in
-    let next : since (λ v. v.events) (drop k nodes) (drop k known) ≡ here ++ rest =
-    ap₂ (λ (us : List NodeState) (ns : List ℕ). since (λ v. v.events) us ns) (drop_more nodes k v l) (drop_more known k 0 m)
-    ∙ ap (λ (u : NodeState). drop (get_or known k 0) u.events ++ rest) (sym is) in
-    ap (λ (es : List Event). es ++ rest) e ∙ (append_assoc old here rest ∙ (ap (λ (es : List Event). old ++ es) (sym next) ∙ h))
 
 -- ## what a node tells
 

@@ -11,7 +11,8 @@ use Rattle.tva_index.specs.Lowest.{IsLeastPlace}
 use Rattle.tva_log.specs.Sites.{AreRising, limits_out}
 use Rattle.tva_log.proofs.Quiet.{late_on}
 use Rattle.tva_node.specs.declared.links.Link.{Link}
-use Rattle.tva_node.specs.Links.{AreKeys, AreNoKeys, IsFirstAsked, IsKey, IsRankOf, asked_by, first_link, is_asked, least_next, link_pair, sooner, with_next}
+use Rattle.tva_node.specs.Links.{AreKeys, AreNoKeys, IsFirstAsked, IsKey, IsRankOf, asked_by, first_link, is_asked, least_next, sooner, with_next}
+use Rattle.tva_node.specs.Pairs.{link_pair}
 use Rattle.tva_node.specs.States.{NodeState, KnowsNext}
 use Rattle.tva_node.specs.Work.{DecidesAt}
 use Rattle.tva_node.proofs.Works.{passed}
@@ -35,6 +36,11 @@ by_key p q k l (Some s) (Some t) f g few h = let i = f.1 in let j = g.1 in omega
 in_front : (p q k l s : ℕ) (b : Option ℕ) → IsKey p (Some s) k → IsKey q b l → q < p → k ≤ l → IfSome b (λ t. s < t)
 in_front p q k l s None f g before h = tt
 in_front p q k l s (Some t) f g before h = let i = f.1 in let j = g.1 in omega (arith, i, j, before, h)
+
+-- one that decides at all decides no sooner
+no_sooner : (s : ℕ) (b : Option ℕ) → NoLater (Some s) b → IfSome b (λ t. s ≤ t)
+no_sooner s None h = tt
+no_sooner s (Some t) h = h
 
 no_later_both : (a b c : Option ℕ) → NoLater a b → NoLater a c → NoLater a (sooner b c)
 no_later_both a None c h k = k
@@ -106,6 +112,7 @@ module _ (keys : List ℕ) (ls : List Link) (p : ℕ) (x : Link) (h : AreKeys ke
               (subst (λ (o : Option ℕ). IsKey p o (get_or keys p 0)) (ap (λ (o : Link). o.next) (sym is) ∙ t.1) (h.each p x here))
               (h.each q d (let w = here in omega (arith, m, w))) m
               (least.1 q (let c = h.count in let w = here in omega (arith, m, c, w))),
+          λ q m. no_sooner t.0 (get_or ls q d).next (subst (λ (o : Option ℕ). NoLater o (get_or ls q d).next) t.1 (later q d m)),
         ),
       )
 

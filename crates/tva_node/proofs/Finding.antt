@@ -10,7 +10,7 @@ use Rattle.tva_base.specs.declared.plan.LinkPlan.{LinkPlan}
 use Rattle.tva_base.specs.Plan.{AreLinkLimits, links_of}
 use Rattle.tva_log.specs.Sites.{AreRising, Site, IsSite, IsLinkOut, limits_out}
 use Rattle.tva_node.specs.declared.links.Link.{Link}
-use Rattle.tva_node.specs.Links.{link_pair}
+use Rattle.tva_node.specs.Pairs.{link_pair}
 
 abbrev number_is : ℕ → ℕ × LinkPlan → Bool
 number_is k o = o.0 == k

@@ -26,7 +26,8 @@ use Rattle.tva_log.proofs.Logs.{IsNodeLog-same}
 use Rattle.tva_node.specs.declared.links.Link.{Link}
 use Rattle.tva_node.specs.declared.role.Role.{Role}
 use Rattle.tva_node.specs.declared.turns.Turn.{Turn}
-use Rattle.tva_node.specs.Links.{first_link, least_next, link_pair}
+use Rattle.tva_node.specs.Links.{first_link, least_next}
+use Rattle.tva_node.specs.Pairs.{link_pair}
 use Rattle.tva_node.specs.Turns.{AreLeft, IsTurnOf, turn_source, turn_time}
 use Rattle.tva_node.specs.States.{NodeState, Fits, IsBy, IsFirstWork, KnowsNext, RoleStands, Stands, StandsFor, role_plan}
 use Rattle.tva_node.specs.Work.{IsNoneBefore, turn_next, work_time}

@@ -20,7 +20,8 @@ use Rattle.tva_log.specs.Parts.{queued_at, reply_at, content_at, port_entry, por
 use Rattle.tva_log.specs.Told.{content_told, reply_told}
 use Rattle.tva_log.specs.Next.{next_decision}
 use Rattle.tva_node.specs.declared.links.Link.{Link}
-use Rattle.tva_node.specs.Links.{asked_by, is_asked, link_pair}
+use Rattle.tva_node.specs.Links.{asked_by, is_asked}
+use Rattle.tva_node.specs.Pairs.{link_pair}
 use Rattle.tva_node.specs.States.{KnowsNext}
 use Rattle.tva_node.specs.Work.{link_of, queued_on, Waits}
 

@@ -29,7 +29,8 @@ use Rattle.tva_log.proofs.Quiet.{due_same, quiet_log, late_on}
 use Rattle.tva_node.specs.declared.links.Link.{Link}
 use Rattle.tva_node.specs.declared.role.Role.{Role}
 use Rattle.tva_node.specs.declared.turns.Turn.{Turn}
-use Rattle.tva_node.specs.Links.{asked_by, is_asked, least_next, link_pair, sooner}
+use Rattle.tva_node.specs.Links.{asked_by, is_asked, least_next, sooner}
+use Rattle.tva_node.specs.Pairs.{link_pair}
 use Rattle.tva_node.specs.AtTime.{IsAt}
 use Rattle.tva_node.specs.Turns.{AreLeft, IsTurnOf}
 use Rattle.tva_node.specs.States.{NodeState, StandsFor, Stands, KnowsNext, Fits, RoleStands, IsBy, role_plan}

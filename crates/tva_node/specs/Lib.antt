@@ -1,4 +1,5 @@
 pub mod Turns
+pub mod Pairs
 pub mod Links
 pub mod States
 pub mod AtTime

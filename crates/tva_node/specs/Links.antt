@@ -5,10 +5,6 @@ use Rattle.tva_node.specs.declared.links.Link.{Link}
 
 -- ## links
 
--- a link's number and plan
-abbrev pub link_pair : Link → ℕ × LinkPlan
-link_pair link = (link.number, link.plan)
-
 -- a link out that decides nothing by itself yet
 abbrev pub first_link : ℕ × LinkPlan → Link
 first_link o = record { number = o.0; plan = o.1; next = None }
@@ -51,7 +47,8 @@ IsFirstAsked now links None = All (λ l. is_asked l.next now ≡ false) links
 IsFirstAsked now links (Some place) =
     (place < length links)
     × ((d : Link) → (time : ℕ) × ((get_or links place d).next ≡ Some time) × (time ≤ now)
-    × ((other : ℕ) → other < place → IfSome (get_or links other d).next (λ t. time < t)))
+    × ((other : ℕ) → other < place → IfSome (get_or links other d).next (λ t. time < t))
+    × ((other : ℕ) → other < length links → IfSome (get_or links other d).next (λ t. time ≤ t)))
 
 -- the key of a link in that place by when it decides next, past all others where it doesn't
 abbrev pub IsKey : ℕ → Option ℕ → ℕ → Type 0

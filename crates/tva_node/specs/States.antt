@@ -27,7 +27,7 @@ use Rattle.tva_node.specs.declared.role.Hosted.{Hosted}
 use Rattle.tva_node.specs.declared.links.Link.{Link}
 use Rattle.tva_node.specs.declared.parts.Parts.{Parts}
 use Rattle.tva_node.specs.declared.turns.Turn.{Turn}
-use Rattle.tva_node.specs.Links.{link_pair}
+use Rattle.tva_node.specs.Pairs.{link_pair}
 use Rattle.tva_node.specs.Turns.{AreLeft}
 
 -- ## what a node is

@@ -25,7 +25,7 @@ use Rattle.tva_node.specs.declared.role.Role.{Role}
 use Rattle.tva_node.specs.declared.role.Role.TheVariants as roles
 use Rattle.tva_node.specs.declared.role.Routed.{Routed}
 use Rattle.tva_node.specs.declared.role.Hosted.{Hosted}
-use Rattle.tva_node.specs.Links.{link_pair}
+use Rattle.tva_node.specs.Pairs.{link_pair}
 use Rattle.tva_node.specs.AtTime.{IsAt}
 use Rattle.tva_node.specs.Turns.{AreLeft}
 use Rattle.tva_node.specs.States.{role_plan, StandsAsRouter, StandsAsHost, RoleStands, IsBy}

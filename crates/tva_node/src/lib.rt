@@ -2,8 +2,9 @@
 //! inputs first, then each link that is free. Its contract promises that what it keeps is the node's
 //! log over its inputs up to the time up to which it is worked; that its next time is the first at
 //! which an input comes or a link decides; and that nodes that are worked in parts at once have the
-//! logs that they have one after another. A node at which nothing is to be done costs no look at its
-//! links, and one with many links looks at those alone that have something to do.
+//! logs that they have one after another. A node finds the link that decides first by a tree of
+//! keys: where nothing is to be done it looks at that link alone, and of many links only at those
+//! that have something to do.
 #![tactic(auto)]
 
 mod halves;

@@ -1,7 +1,7 @@
 use Rattle.std.proofs.Common.{◌≡◌, ◌+◌, ◌∷◌, [], ◌++◌, Some, None, get_or, map, refl, sym, subst, ◌∙◌, ap, arith, append-nil}
 use Rattle.std.proofs.lemmas.List.{get_or_default}
 use Rattle.tva_port.specs.declared.decision.Decision.TheVariants.{WaitUntil, Idle}
-use Rattle.tva_node.specs.Links.{link_pair}
+use Rattle.tva_node.specs.Pairs.{link_pair}
 use Rattle.tva_node.specs.States.{NodeState, role_plan, site_at, state_of}
 use Rattle.tva_node.specs.Work.{DecidesAt, end_on, start_event, start_sending}
 use Rattle.tva_node.proofs.Decides.{count_put, from_fields, here_is, on_both, pairs_put, pairs_set, put_there, read_busy, read_fits, read_out, read_rest, read_start}

@@ -3,7 +3,8 @@ use Rattle.tva_base.specs.declared.plan.LinkPlan.{LinkPlan}
 use Rattle.tva_base.specs.Plan.{links_of}
 use Rattle.tva_log.specs.Sites.{AreRising, site_of}
 use Rattle.tva_node.specs.declared.turns.Turn.{Turn}
-use Rattle.tva_node.specs.Links.{asked_by, link_pair}
+use Rattle.tva_node.specs.Links.{asked_by}
+use Rattle.tva_node.specs.Pairs.{link_pair}
 use Rattle.tva_node.specs.States.{NodeState, IsBy, role_plan, site_at, state_of}
 use Rattle.tva_node.specs.Work.{TakesAt, is_due, queued_on}
 use Rattle.tva_node.proofs.Left.{slice_within, some_due}
