@@ -2,8 +2,10 @@
 use crate::status::{Status, status_text};
 use crate::top::run;
 use arrayvec::ArrayString;
+use std::process::Abort;
 use std::sync::atomic::{AtomicU64, Ordering};
 use std::test::Fail;
+use std::thread::Threads;
 use tva_outside::{Gate, MemoryShelf, MemorySink, OpenGate, Shelf};
 
 mod damage;
@@ -22,6 +24,17 @@ fn words(rt: &impl AllocGlobal, line: &str) -> Result<Vec<String>, Fail> {
     Ok(words)
 }
 
+// How a command of these words ends.
+pub fn ended<R: Threads + Sync + AllocGlobal, G: Gate>(
+    rt: &R,
+    words: &[String],
+    shelf: &mut MemoryShelf,
+    out: &mut MemorySink,
+    gate: &G,
+) -> Status {
+    run(rt, rt.alloc(), words, shelf, out, gate)
+}
+
 fn shelf(rt: &impl AllocGlobal) -> Result<MemoryShelf, Fail> {
     let mut shelf = MemoryShelf::new(rt.alloc());
     for (name, text) in files() {
@@ -37,24 +50,36 @@ fn text_of(status: &Status) -> ArrayString<128> {
     text
 }
 
-// Each line of words with the number of its status, and what is shown: what is written where the
-// status is done, and else its text.
+// A line of words ends with the status of that number, and shows this: what is written where the status
+// is done, and else its text.
+fn end_as<R: Threads + Sync + AllocGlobal + Abort>(
+    rt: &R,
+    shelf: &mut MemoryShelf,
+    line: &str,
+    number: u8,
+    shown: &str,
+) -> Result<(), Fail> {
+    let mut out = MemorySink::new(rt.alloc(), 4096);
+    let status = ended(rt, &words(rt, line)?, shelf, &mut out, &OpenGate);
+    let text = text_of(&status);
+    let (said, written) = if number == 0 {
+        ("", shown)
+    } else {
+        (shown, "")
+    };
+    assert_eq!(rt;
+        (status.number(), text.as_bytes(), out.bytes()),
+        (number, said.as_bytes(), written.as_bytes()),
+        "{line}"
+    );
+    Ok(())
+}
+
 #[test]
 fn commands_end_as_they_are_to(rt: HostRuntime) -> Result<(), Fail> {
     let mut shelf = shelf(&rt)?;
     for (line, number, shown) in runs() {
-        let line = *line;
-        let number = *number;
-        let shown = *shown;
-        let mut out = MemorySink::new(rt.alloc(), 4096);
-        let words = words(&rt, line)?;
-        let status = run(&rt, rt.alloc(), &words, &mut shelf, &mut out, &OpenGate);
-        let text = text_of(&status);
-        let written = if number == 0 { shown } else { "" };
-        let said = if number == 0 { "" } else { shown };
-        assert_eq!(rt; status.number(), number, "{line}");
-        assert_eq!(rt; text.as_bytes(), said.as_bytes(), "{line}");
-        assert_eq!(rt; out.bytes(), written.as_bytes(), "{line}");
+        end_as(&rt, &mut shelf, line, *number, shown)?;
     }
     Ok(())
 }
@@ -82,7 +107,7 @@ fn files_are_taken_up_to_their_limits(rt: HostRuntime) -> Result<(), Fail> {
         shelf.put("lines", vec![in rt.alloc(); b'\n'; size]?.as_slice())?;
         let mut out = MemorySink::new(rt.alloc(), 4096);
         let words = words(&rt, line)?;
-        let status = run(&rt, rt.alloc(), &words, &mut shelf, &mut out, &OpenGate);
+        let status = ended(&rt, &words, &mut shelf, &mut out, &OpenGate);
         assert_eq!(rt; text_of(&status).as_str(), said, "{line} {size}");
     }
     Ok(())
@@ -94,6 +119,16 @@ struct Starts {
     first: AtomicU64,
     second: AtomicU64,
     others: AtomicU64,
+}
+
+impl Starts {
+    fn counts(&self) -> [u64; 3] {
+        [
+            self.first.load(Ordering::SeqCst),
+            self.second.load(Ordering::SeqCst),
+            self.others.load(Ordering::SeqCst),
+        ]
+    }
 }
 
 impl Gate for Starts {
@@ -126,11 +161,67 @@ fn each_node_is_told_to_the_gate(rt: HostRuntime) -> Result<(), Fail> {
         };
         let mut out = MemorySink::new(rt.alloc(), 4096);
         let words = words(&rt, line)?;
-        let _ = run(&rt, rt.alloc(), &words, &mut shelf(&rt)?, &mut out, &gate);
-        assert_eq!(rt; gate.first.load(Ordering::SeqCst), first, "{line}");
-        assert_eq!(rt; gate.second.load(Ordering::SeqCst), second, "{line}");
-        assert_eq!(rt; gate.others.load(Ordering::SeqCst), 0, "{line}");
+        let _ = ended(&rt, &words, &mut shelf(&rt)?, &mut out, &gate);
+        assert_eq!(rt; gate.counts(), [first, second, 0], "{line}");
     }
+    Ok(())
+}
+
+// A load that fails ends the run with its status, and nothing is written.
+fn fail_a_load<R: Threads + Sync + AllocGlobal + Abort>(
+    rt: &R,
+    replay: &[String],
+    call: u32,
+) -> Result<(), Fail> {
+    let mut shelf = shelf(rt)?;
+    shelf.fail_at(call)?;
+    let mut out = MemorySink::new(rt.alloc(), 4096);
+    let status = ended(rt, replay, &mut shelf, &mut out, &OpenGate);
+    assert_eq!(rt;
+        (
+            status.number(),
+            text_of(&status).as_str(),
+            out.bytes().len()
+        ),
+        (3, "read fault", 0)
+    );
+    Ok(())
+}
+
+// A write that fails ends it behind what was written before.
+fn fail_a_write<R: Threads + Sync + AllocGlobal + Abort>(
+    rt: &R,
+    replay: &[String],
+    call: u32,
+    written: usize,
+) -> Result<(), Fail> {
+    let mut out = MemorySink::new(rt.alloc(), 4096);
+    out.fail_at(call)?;
+    let status = ended(rt, replay, &mut shelf(rt)?, &mut out, &OpenGate);
+    assert_eq!(rt;
+        (
+            status.number(),
+            text_of(&status).as_str(),
+            out.bytes().len()
+        ),
+        (4, "write fault", written)
+    );
+    assert!(rt; report().as_bytes().starts_with(out.bytes()));
+    Ok(())
+}
+
+// Words that are no command load nothing.
+fn load_nothing<R: Threads + Sync + AllocGlobal + Abort>(rt: &R) -> Result<(), Fail> {
+    let mut untouched = shelf(rt)?;
+    untouched.fail_at(1)?;
+    let mut out = MemorySink::new(rt.alloc(), 1);
+    let words = words(rt, "replay edge")?;
+    let status = ended(rt, &words, &mut untouched, &mut out, &OpenGate);
+    assert_eq!(rt; status.number(), 2);
+    assert!(rt;
+        is_failed(&untouched.load(rt.alloc(), "edge", 1 << 20)),
+        "no load was made before"
+    );
     Ok(())
 }
 
@@ -139,60 +230,17 @@ fn each_node_is_told_to_the_gate(rt: HostRuntime) -> Result<(), Fail> {
 fn faults_outside_end_a_run(rt: HostRuntime) -> Result<(), Fail> {
     let replay = words(&rt, "replay edge trace")?;
     for call in 1..3 {
-        let mut shelf = shelf(&rt)?;
-        shelf.fail_at(call)?;
-        let mut out = MemorySink::new(rt.alloc(), 4096);
-        let status = run(&rt, rt.alloc(), &replay, &mut shelf, &mut out, &OpenGate);
-        assert_eq!(rt; status.number(), 3);
-        assert_eq!(rt; text_of(&status).as_str(), "read fault");
-        assert_eq!(rt; out.bytes().len(), 0);
+        fail_a_load(&rt, &replay, call)?;
     }
-    let report = report();
-    let lines = report.len().saturating_sub(86);
+    let lines = report().len().saturating_sub(86);
     for (call, written) in [(1, 0), (2, lines)] {
-        let mut out = MemorySink::new(rt.alloc(), 4096);
-        out.fail_at(call)?;
-        let status = run(
-            &rt,
-            rt.alloc(),
-            &replay,
-            &mut shelf(&rt)?,
-            &mut out,
-            &OpenGate,
-        );
-        assert_eq!(rt; status.number(), 4);
-        assert_eq!(rt; text_of(&status).as_str(), "write fault");
-        assert_eq!(rt; out.bytes().len(), written);
-        assert!(rt; report.as_bytes().starts_with(out.bytes()));
+        fail_a_write(&rt, &replay, call, written)?;
     }
     let none = Vec::new(rt.alloc());
     let mut out = MemorySink::new(rt.alloc(), 1);
-    let status = run(
-        &rt,
-        rt.alloc(),
-        &none,
-        &mut shelf(&rt)?,
-        &mut out,
-        &OpenGate,
-    );
+    let status = ended(&rt, &none, &mut shelf(&rt)?, &mut out, &OpenGate);
     assert_eq!(rt; status.number(), 2);
-    let mut untouched = shelf(&rt)?;
-    untouched.fail_at(1)?;
-    let mut out = MemorySink::new(rt.alloc(), 1);
-    let status = run(
-        &rt,
-        rt.alloc(),
-        &words(&rt, "replay edge")?,
-        &mut untouched,
-        &mut out,
-        &OpenGate,
-    );
-    assert_eq!(rt; status.number(), 2);
-    assert!(rt;
-        is_failed(&untouched.load(rt.alloc(), "edge", 1 << 20)),
-        "no load was made before"
-    );
-    Ok(())
+    load_nothing(&rt)
 }
 
 fn is_failed(loaded: &tva_outside::Loaded) -> bool {

@@ -1,8 +1,9 @@
 // What is answered and written where files are cut, loads and writes fail, and memory is wanting: the
 // worked walk, over files and a sink in memory.
+use crate::tests::ended;
 use crate::tests::rows::{configs, walks};
-use crate::top::run;
 use std::alloc::AllocError;
+use std::process::Abort;
 use std::test::Fail;
 use std::thread::Threads;
 use tva_outside::{MemoryShelf, MemorySink, OpenGate};
@@ -61,7 +62,7 @@ fn replay<R: Threads + Sync + AllocGlobal>(
     for word in ["replay", "config", "trace"] {
         words.push(String::from_str(rt.alloc(), word)?)?;
     }
-    let status = run(rt, rt.alloc(), &words, &mut shelf, out, &OpenGate);
+    let status = ended(rt, &words, &mut shelf, out, &OpenGate);
     Ok(status.number())
 }
 
@@ -143,27 +144,33 @@ fn nothing_is_written_behind_a_failed_write(rt: HostRuntime) -> Result<(), Fail>
     Ok(())
 }
 
+// A replay whose sink takes one byte at a write, and fails at the write with that number (0: at none),
+// ends with the status of that number, behind these bytes.
+fn end_behind<R: Threads + Sync + AllocGlobal + Abort>(
+    rt: &R,
+    call: u32,
+    number: u8,
+    written: &[u8],
+) -> Result<(), Fail> {
+    let mut out = MemorySink::new(rt.alloc(), 1);
+    out.fail_at(call)?;
+    let status = replay(rt, config(), walk().0, 0, &mut out)?;
+    assert_eq!(rt; status, number, "write {call}");
+    assert!(rt; out.bytes() == written, "write {call}");
+    Ok(())
+}
+
 // A sink that takes one byte at a write takes the same report, and just the bytes before the one at which
 // it fails.
 #[test]
 fn bytes_are_written_one_by_one(rt: HostRuntime) -> Result<(), Fail> {
-    let (trace, report) = walk();
+    let report = walk().1.as_bytes();
     let mut call = 0u32;
     for length in 0..report.len() {
         call = call.saturating_add(1);
-        let mut out = MemorySink::new(rt.alloc(), 1);
-        out.fail_at(call)?;
-        assert_eq!(rt;
-            replay(&rt, config(), trace, 0, &mut out)?,
-            4,
-            "write {call}"
-        );
-        assert!(rt; out.bytes() == &report.as_bytes()[..length], "write {call}");
+        end_behind(&rt, call, 4, &report[..length])?;
     }
-    let mut out = MemorySink::new(rt.alloc(), 1);
-    assert_eq!(rt; replay(&rt, config(), trace, 0, &mut out)?, 0);
-    assert_eq!(rt; out.bytes(), report.as_bytes());
-    Ok(())
+    end_behind(&rt, 0, 0, report)
 }
 
 // A load that fails ends a replay with nothing written. There is no third.

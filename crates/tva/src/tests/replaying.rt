@@ -1,8 +1,8 @@
 // Whole replays, each compared with what must be written.
 use crate::status::Status;
 use crate::tests::rows::{configs, edges, walks};
-use crate::tests::words;
-use crate::top::run;
+use crate::tests::{ended, words};
+use std::process::Abort;
 use std::sync::atomic::{AtomicU64, Ordering};
 use std::test::Fail;
 use std::thread::Threads;
@@ -29,7 +29,7 @@ fn replay<R: Threads + Sync + AllocGlobal, G: Gate>(
     }
     shelf.put("trace", trace)?;
     let words = words(rt, "replay config trace")?;
-    Ok(run(rt, rt.alloc(), &words, &mut shelf, out, gate))
+    Ok(ended(rt, &words, &mut shelf, out, gate))
 }
 
 // Where there is memory a replay ends with its report, and not with want of memory.
@@ -58,23 +58,36 @@ fn the_second_write_fails(rt: HostRuntime) -> Result<(), Fail> {
     Ok(())
 }
 
-// Ten thousand generated rows are replayed to the end, with the same text each time.
-#[test]
-fn generated_rows_replay_alike(rt: HostRuntime) -> Result<(), Fail> {
+// Ten thousand generated rows.
+fn long_trace<R: Threads + Sync + AllocGlobal + Abort>(rt: &R) -> Result<MemorySink, Fail> {
     let mut shelf = MemoryShelf::new(rt.alloc());
     for (name, text) in configs() {
         shelf.put(*name, text.as_bytes())?;
     }
     let mut trace = MemorySink::new(rt.alloc(), 1 << 20);
-    let words = words(&rt, "gen 7 10000 long")?;
-    let status = run(&rt, rt.alloc(), &words, &mut shelf, &mut trace, &OpenGate);
+    let words = words(rt, "gen 7 10000 long")?;
+    let status = ended(rt, &words, &mut shelf, &mut trace, &OpenGate);
     assert_eq!(rt; status.number(), 0);
-    let mut first = MemorySink::new(rt.alloc(), 1 << 20);
-    let status = replay(&rt, "long", trace.bytes(), &mut first, &OpenGate)?;
+    Ok(trace)
+}
+
+// The report of their replay, which comes to its end.
+fn long_report<R: Threads + Sync + AllocGlobal + Abort>(
+    rt: &R,
+    trace: &[u8],
+) -> Result<MemorySink, Fail> {
+    let mut out = MemorySink::new(rt.alloc(), 1 << 20);
+    let status = replay(rt, "long", trace, &mut out, &OpenGate)?;
     assert_eq!(rt; status.number(), 0);
-    let mut second = MemorySink::new(rt.alloc(), 1 << 20);
-    let status = replay(&rt, "long", trace.bytes(), &mut second, &OpenGate)?;
-    assert_eq!(rt; status.number(), 0);
+    Ok(out)
+}
+
+// They are replayed to the end, with the same text each time.
+#[test]
+fn generated_rows_replay_alike(rt: HostRuntime) -> Result<(), Fail> {
+    let trace = long_trace(&rt)?;
+    let first = long_report(&rt, trace.bytes())?;
+    let second = long_report(&rt, trace.bytes())?;
     assert!(rt; first.bytes() == second.bytes());
     Ok(())
 }
@@ -151,6 +164,16 @@ impl Meeting {
         }
         self.late.fetch_add(1, Ordering::SeqCst);
     }
+
+    // How often halves did not meet, and how often each node was started.
+    fn counts(&self) -> [u64; 4] {
+        [
+            self.late.load(Ordering::SeqCst),
+            self.first.load(Ordering::SeqCst),
+            self.second.load(Ordering::SeqCst),
+            self.third.load(Ordering::SeqCst),
+        ]
+    }
 }
 
 impl Gate for Meeting {
@@ -178,9 +201,6 @@ fn halves_run_at_once(rt: HostRuntime) -> Result<(), Fail> {
     let mut out = MemorySink::new(rt.alloc(), 4096);
     let status = replay(&rt, "walk", WALK.as_bytes(), &mut out, &gate)?;
     assert_eq!(rt; status.number(), 0);
-    assert_eq!(rt; gate.late.load(Ordering::SeqCst), 0);
-    assert_eq!(rt; gate.first.load(Ordering::SeqCst), 10);
-    assert_eq!(rt; gate.second.load(Ordering::SeqCst), 10);
-    assert_eq!(rt; gate.third.load(Ordering::SeqCst), 10);
+    assert_eq!(rt; gate.counts(), [0, 10, 10, 10]);
     Ok(())
 }
