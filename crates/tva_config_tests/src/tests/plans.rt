@@ -1,7 +1,8 @@
 // Whole plans, by the tables of keys and their defaults.
-use super::{EDGE, WALK, add_fields, is_told};
-use std::alloc::{AllocError, Global};
+use super::{EDGE, WALK, add, copied, is_told};
+use std::alloc::Global;
 use std::fmt::Write;
+use std::process::Abort;
 use tva_base::{
     Address, DrrLimits, HostPlan, LinkLimits, LinkPlan, PolicyKind, PolicyPlan, Route, RouterPlan,
 };
@@ -185,194 +186,184 @@ link 1 to 0 delay 4 tag 0 rate 3 share 20 burst 8192
 #[test]
 fn plans_are_whole(rt: HostRuntime) {
     let alloc = rt.alloc();
-    is_told(&rt, told(alloc, EDGE), EDGE_PLAN, "edge");
-    is_told(&rt, told(alloc, WALK), WALK_PLAN, "walk");
-    is_told(&rt, told(alloc, FULL), FULL_PLAN, "full");
-    is_told(&rt, told(alloc, PAIR), PAIR_PLAN, "pair");
+    is_planned(&rt, alloc, EDGE, EDGE_PLAN, "edge");
+    is_planned(&rt, alloc, WALK, WALK_PLAN, "walk");
+    is_planned(&rt, alloc, FULL, FULL_PLAN, "full");
+    is_planned(&rt, alloc, PAIR, PAIR_PLAN, "pair");
 }
 
-fn told(alloc: Global, text: &str) -> Result<String, AllocError> {
+fn is_planned(rt: &impl Abort, alloc: Global, text: &str, want: &str, name: &str) {
+    is_told(rt, told(rt, alloc, text).as_str(), want, name);
+}
+
+fn told(rt: &impl Abort, alloc: Global, text: &str) -> String {
     match read_config(alloc, text.as_bytes()) {
-        Ok(config) => plan(alloc, &config),
-        Err(_) => String::from_str(alloc, "no plan"),
+        Ok(config) => plan(rt, alloc, &config),
+        Err(_) => copied(rt, alloc, "no plan"),
     }
 }
 
-fn plan(alloc: Global, config: &Config) -> Result<String, AllocError> {
+fn plan(rt: &impl Abort, alloc: Global, config: &Config) -> String {
     let mut text = String::new(alloc);
-    add_top(&mut text, config)?;
-    add_nodes(&mut text, config.nodes.as_slice())?;
-    add_links(&mut text, config.links.as_slice())?;
-    Ok(text)
+    add_top(rt, &mut text, config);
+    add_nodes(rt, &mut text, config.nodes.as_slice());
+    add_links(rt, &mut text, config.links.as_slice());
+    text
 }
 
-fn add_top(text: &mut String, config: &Config) -> Result<(), AllocError> {
-    let end = if has_host_or_link(config) {
-        " joined\n"
+fn add_top(rt: &impl Abort, text: &mut String, config: &Config) {
+    let line = if has_host_or_link(config) {
+        "horizon # events # joined\n"
     } else {
-        " alone\n"
+        "horizon # events # alone\n"
     };
-    let fields = [
-        ("horizon ", config.horizon.0 as u128),
-        (" events ", config.max_events as u128),
-    ];
-    add_fields(text, &fields, end)
+    let numbers = [config.horizon.0 as u128, config.max_events as u128];
+    add(rt, text, line, &numbers);
 }
 
-fn add_nodes(text: &mut String, nodes: &[NodePlan]) -> Result<(), AllocError> {
+fn add_nodes(rt: &impl Abort, text: &mut String, nodes: &[NodePlan]) {
     for node in nodes {
         match node {
-            NodePlan::Router(plan) => add_router(text, plan)?,
-            NodePlan::Host(plan) => add_host(text, plan)?,
+            NodePlan::Router(plan) => add_router(rt, text, plan),
+            NodePlan::Host(plan) => add_host(rt, text, plan),
         }
     }
-    Ok(())
 }
 
-fn add_links(text: &mut String, links: &[LinkPlan]) -> Result<(), AllocError> {
+fn add_links(rt: &impl Abort, text: &mut String, links: &[LinkPlan]) {
     for link in links {
-        add_link(text, link)?;
+        add_link(rt, text, link);
     }
-    Ok(())
 }
 
-fn add_router(text: &mut String, plan: &RouterPlan) -> Result<(), AllocError> {
-    add_name(text, "router ", plan.name.as_str())?;
-    add_master(text, &plan.master)?;
-    let fields = [
-        (" offset ", plan.clock_offset as u128),
-        (" slots ", plan.slots as u128),
-        (" edge ", plan.edge_tag as u128),
+fn add_router(rt: &impl Abort, text: &mut String, plan: &RouterPlan) {
+    add_name(rt, text, "router ", plan.name.as_str());
+    add_master(rt, text, &plan.master);
+    let numbers = [
+        plan.clock_offset as u128,
+        plan.slots as u128,
+        plan.edge_tag as u128,
     ];
-    add_fields(text, &fields, "\n")?;
-    add_incoming(text, plan.incoming.as_slice())?;
-    add_outgoing(text, plan.outgoing.as_slice())?;
-    add_routes(text, plan.routes.as_slice())
+    add(rt, text, " offset # slots # edge #\n", &numbers);
+    add_incoming(rt, text, plan.incoming.as_slice());
+    add_outgoing(rt, text, plan.outgoing.as_slice());
+    add_routes(rt, text, plan.routes.as_slice());
 }
 
-fn add_name(text: &mut String, word: &str, name: &str) -> Result<(), AllocError> {
-    text.push_str(word)?;
-    text.push_str(name)?;
-    text.push_str(" ")
+fn add_name(rt: &impl Abort, text: &mut String, word: &str, name: &str) {
+    text.push_str(word).expect(rt, "memory");
+    text.push_str(name).expect(rt, "memory");
+    text.push_str(" ").expect(rt, "memory");
 }
 
-fn add_master(text: &mut String, master: &[u8]) -> Result<(), AllocError> {
+fn add_master(rt: &impl Abort, text: &mut String, master: &[u8]) {
     for byte in master {
-        write!(text, "{:02x}", *byte)?;
+        write!(text, "{:02x}", *byte).expect(rt, "memory");
     }
-    Ok(())
 }
 
-fn add_incoming(text: &mut String, incoming: &[(u16, u16)]) -> Result<(), AllocError> {
+fn add_incoming(rt: &impl Abort, text: &mut String, incoming: &[(u16, u16)]) {
     for (link, tag) in incoming {
-        let fields = [(" in ", *link as u128), (" tag ", *tag as u128)];
-        add_fields(text, &fields, "\n")?;
+        add(rt, text, " in # tag #\n", &[*link as u128, *tag as u128]);
     }
-    Ok(())
 }
 
-fn add_outgoing(text: &mut String, outgoing: &[(u16, LinkLimits)]) -> Result<(), AllocError> {
+fn add_outgoing(rt: &impl Abort, text: &mut String, outgoing: &[(u16, LinkLimits)]) {
     for (link, limits) in outgoing {
-        add_fields(text, &[(" out ", *link as u128)], "")?;
-        add_limits(text, limits)?;
+        add(rt, text, " out #", &[*link as u128]);
+        add_limits(rt, text, limits);
     }
-    Ok(())
 }
 
-fn add_routes(text: &mut String, routes: &[Route]) -> Result<(), AllocError> {
+fn add_routes(rt: &impl Abort, text: &mut String, routes: &[Route]) {
     for route in routes {
-        let fields = [
-            (" route ", route.prefix.address.0 as u128),
-            ("/", route.prefix.bits as u128),
-            (" by ", route.link as u128),
+        let numbers = [
+            route.prefix.address.0 as u128,
+            route.prefix.bits as u128,
+            route.link as u128,
         ];
-        add_fields(text, &fields, "\n")?;
+        add(rt, text, " route #/# by #\n", &numbers);
     }
-    Ok(())
 }
 
-fn add_host(text: &mut String, plan: &HostPlan) -> Result<(), AllocError> {
-    add_name(text, "host ", plan.name.as_str())?;
-    let fields = [
-        ("", plan.address.0 as u128),
-        (" nonce ", plan.nonce as u128),
-        (" margin ", plan.margin as u128),
-        (" retry ", plan.retry as u128),
-        (" version ", plan.version as u128),
-        (" uplink ", plan.uplink as u128),
+fn add_host(rt: &impl Abort, text: &mut String, plan: &HostPlan) {
+    add_name(rt, text, "host ", plan.name.as_str());
+    let numbers = [
+        plan.address.0 as u128,
+        plan.nonce as u128,
+        plan.margin as u128,
+        plan.retry as u128,
+        plan.version as u128,
+        plan.uplink as u128,
     ];
-    add_fields(text, &fields, "\n")?;
-    add_policy(text, &plan.policy)
+    let line = "# nonce # margin # retry # version # uplink #\n";
+    add(rt, text, line, &numbers);
+    add_policy(rt, text, &plan.policy);
 }
 
-fn add_policy(text: &mut String, policy: &PolicyPlan) -> Result<(), AllocError> {
-    let kind = match policy.kind {
-        PolicyKind::DenyAll => " deny ",
-        PolicyKind::Client => " client ",
-        PolicyKind::Server => " server ",
+fn add_policy(rt: &impl Abort, text: &mut String, policy: &PolicyPlan) {
+    let line = match policy.kind {
+        PolicyKind::DenyAll => " deny # # grants #\n",
+        PolicyKind::Client => " client # # grants #\n",
+        PolicyKind::Server => " server # # grants #\n",
     };
-    let fields = [
-        (kind, policy.rights.n as u128),
-        (" ", policy.rights.t as u128),
-        (" grants ", policy.grants as u128),
+    let numbers = [
+        policy.rights.n as u128,
+        policy.rights.t as u128,
+        policy.grants as u128,
     ];
-    add_fields(text, &fields, "\n")?;
-    add_denied(text, policy.deny.as_slice())?;
-    add_denied_tags(text, policy.deny_tags.as_slice())
+    add(rt, text, line, &numbers);
+    add_denied(rt, text, policy.deny.as_slice());
+    add_denied_tags(rt, text, policy.deny_tags.as_slice());
 }
 
-fn add_denied(text: &mut String, addresses: &[Address]) -> Result<(), AllocError> {
+fn add_denied(rt: &impl Abort, text: &mut String, addresses: &[Address]) {
     for address in addresses {
-        add_fields(text, &[(" deny ", address.0 as u128)], "\n")?;
+        add(rt, text, " deny #\n", &[address.0 as u128]);
     }
-    Ok(())
 }
 
-fn add_denied_tags(text: &mut String, tags: &[u16]) -> Result<(), AllocError> {
+fn add_denied_tags(rt: &impl Abort, text: &mut String, tags: &[u16]) {
     for tag in tags {
-        add_fields(text, &[(" deny tag ", *tag as u128)], "\n")?;
+        add(rt, text, " deny tag #\n", &[*tag as u128]);
     }
-    Ok(())
 }
 
-fn add_link(text: &mut String, plan: &LinkPlan) -> Result<(), AllocError> {
-    let fields = [
-        ("link ", plan.from as u128),
-        (" to ", plan.to as u128),
-        (" delay ", plan.delay as u128),
-        (" tag ", plan.tag as u128),
+fn add_link(rt: &impl Abort, text: &mut String, plan: &LinkPlan) {
+    let numbers = [
+        plan.from as u128,
+        plan.to as u128,
+        plan.delay as u128,
+        plan.tag as u128,
     ];
-    add_fields(text, &fields, "")?;
-    add_limits(text, &plan.limits)
+    add(rt, text, "link # to # delay # tag #", &numbers);
+    add_limits(rt, text, &plan.limits);
 }
 
-fn add_limits(text: &mut String, limits: &LinkLimits) -> Result<(), AllocError> {
-    let fields = [
-        (" rate ", limits.ns_per_byte as u128),
-        (" share ", limits.share as u128),
-        (" burst ", limits.burst as u128),
+fn add_limits(rt: &impl Abort, text: &mut String, limits: &LinkLimits) {
+    let numbers = [
+        limits.ns_per_byte as u128,
+        limits.share as u128,
+        limits.burst as u128,
     ];
-    add_fields(text, &fields, "\n")?;
-    add_class(text, "  request ", &limits.request)?;
+    add(rt, text, " rate # share # burst #\n", &numbers);
+    add_class(rt, text, "  request # # # # # #\n", &limits.request);
     if let Some(inner) = limits.request_inner {
-        add_fields(text, &[("  inner ", inner as u128)], "\n")?;
+        add(rt, text, "  inner #\n", &[inner as u128]);
     }
-    add_class(text, "  regular ", &limits.regular)?;
-    let fields = [
-        ("  legacy ", limits.legacy_ring as u128),
-        (" ", limits.legacy_bytes as u128),
-    ];
-    add_fields(text, &fields, "\n")
+    add_class(rt, text, "  regular # # # # # #\n", &limits.regular);
+    let numbers = [limits.legacy_ring as u128, limits.legacy_bytes as u128];
+    add(rt, text, "  legacy # #\n", &numbers);
 }
 
-fn add_class(text: &mut String, class: &str, limits: &DrrLimits) -> Result<(), AllocError> {
-    let fields = [
-        (class, limits.queues as u128),
-        (" ", limits.ring as u128),
-        (" ", limits.queue_bytes as u128),
-        (" ", limits.class_bytes as u128),
-        (" ", limits.quantum as u128),
-        (" ", limits.max as u128),
+fn add_class(rt: &impl Abort, text: &mut String, line: &str, limits: &DrrLimits) {
+    let numbers = [
+        limits.queues as u128,
+        limits.ring as u128,
+        limits.queue_bytes as u128,
+        limits.class_bytes as u128,
+        limits.quantum as u128,
+        limits.max as u128,
     ];
-    add_fields(text, &fields, "\n")
+    add(rt, text, line, &numbers);
 }
