@@ -5,7 +5,7 @@ use Rattle.tva_base.specs.declared.limits.LinkLimits.{LinkLimits}
 use Rattle.tva_base.specs.declared.addresses.Prefix.{Prefix}
 use Rattle.tva_base.specs.declared.plan.Route.{Route}
 use Rattle.tva_base.specs.declared.plan.RouterPlan.{RouterPlan}
-use Rattle.tva_router_tests.proofs.tests.linked.Goals as goal
+use Rattle.tva_router_tests.proofs.tests.lines.linked.Goals as goal
 
 module _ {X : Type 0} where
   absent_at : (x y : X) (ys : List X) → (y ≡ x → ⊥) → (Contains ys x → ⊥) → (k : ℕ) → k < length (y ∷ ys) → get_or (y ∷ ys) k x ≡ x → ⊥
@@ -96,7 +96,7 @@ four_is a b c d p q r s e f g h = cc
 
 pub returns : goal.returns
 returns c =
-    plan_is _ c.args.limits c.edge-edge.ensures.clock_offset c.edge-edge.ensures.slots c.requires
+    plan_is _ c.args.limits c.edge-clock_offset.ensures.clock_offset c.edge-clock_offset.ensures.slots c.requires
     (c.new-2.ensures ∙ c.in_ok-vec.ensures.items)
     (c.new-3.ensures ∙ c.in_ok-vec-2.ensures.items)
     (c.new-4.ensures ∙ c.in_ok-vec-3.ensures.items ∙ four_is _ _ _ _ _ _ _ _ c.route.ensures c.route-2.ensures c.route-3.ensures c.route-4.ensures)
