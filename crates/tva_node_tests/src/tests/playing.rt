@@ -71,15 +71,19 @@ pub struct Case {
 /// Plays a case, and holds what happens to what must happen.
 pub fn play<R: Abort>(rt: &R, alloc: Global, case: &Case) -> Result<(), AllocError> {
     match &case.host {
-        None => {
-            let mut node = router(alloc)?;
-            play_node(rt, &mut node, false, case)
-        }
-        Some(at) => {
-            let mut node = host(alloc, at.number, at.address, at.kind, at.uplink)?;
-            play_node(rt, &mut node, true, case)
-        }
+        None => play_router(rt, alloc, case),
+        Some(at) => play_host(rt, alloc, at, case),
     }
+}
+
+fn play_router<R: Abort>(rt: &R, alloc: Global, case: &Case) -> Result<(), AllocError> {
+    let mut node = router(alloc)?;
+    play_node(rt, &mut node, false, case)
+}
+
+fn play_host<R: Abort>(rt: &R, alloc: Global, at: &HostAt, case: &Case) -> Result<(), AllocError> {
+    let mut node = host(alloc, at.number, at.address, at.kind, at.uplink)?;
+    play_node(rt, &mut node, true, case)
 }
 
 fn play_node<R: Abort>(rt: &R, node: &mut Node, sends: bool, case: &Case) -> Result<(), AllocError>
