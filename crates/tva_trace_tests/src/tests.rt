@@ -8,6 +8,7 @@ mod shims;
 mod traces;
 
 use std::alloc::{AllocError, Global};
+use std::process::Abort;
 use tva_base::{
     Address, DrrLimits, HostPlan, LinkLimits, LinkPlan, Listed, Name, PolicyKind, PolicyPlan,
     Rights, RouterPlan, Time,
@@ -81,35 +82,45 @@ fn link(from: u16, to: u16, tag: u16) -> LinkPlan {
     }
 }
 
-// One router without links.
-fn edge(alloc: Global) -> Result<Config, AllocError> {
-    let mut nodes = Vec::new(alloc);
-    nodes.push(router(alloc))?;
-    Ok(Config {
-        horizon: Time(1_000_000_000_000),
+fn network(horizon: u64, nodes: Vec<NodePlan>, links: Vec<LinkPlan>) -> Config {
+    Config {
+        horizon: Time(horizon),
         max_events: 1000,
         nodes: Listed::new(nodes),
-        links: Listed::new(Vec::new(alloc)),
-    })
+        links: Listed::new(links),
+    }
+}
+
+// One router without links.
+fn edge(alloc: Global) -> Result<Config, AllocError> {
+    let nodes = vec![in alloc; router(alloc)]?;
+    Ok(network(1_000_000_000_000, nodes, Vec::new(alloc)))
+}
+
+fn walk_nodes(alloc: Global) -> Result<Vec<NodePlan>, AllocError> {
+    let nodes = vec![in alloc;
+        router(alloc),
+        host(alloc, "A", 0x0a00_0001, 0),
+        host(alloc, "B", 0x0a00_0101, 3),
+    ]?;
+    Ok(nodes)
+}
+
+fn walk_links(alloc: Global) -> Result<Vec<LinkPlan>, AllocError> {
+    let links = vec![in alloc; link(1, 0, 1), link(0, 1, 0), link(0, 2, 0), link(2, 0, 2)]?;
+    Ok(links)
 }
 
 // The router between the hosts A and B.
 fn walk(alloc: Global) -> Result<Config, AllocError> {
-    let mut nodes = Vec::new(alloc);
-    nodes.push(router(alloc))?;
-    nodes.push(host(alloc, "A", 0x0a00_0001, 0))?;
-    nodes.push(host(alloc, "B", 0x0a00_0101, 3))?;
-    let mut links = Vec::new(alloc);
-    links.push(link(1, 0, 1))?;
-    links.push(link(0, 1, 0))?;
-    links.push(link(0, 2, 0))?;
-    links.push(link(2, 0, 2))?;
-    Ok(Config {
-        horizon: Time(1_000_000_000),
-        max_events: 1000,
-        nodes: Listed::new(nodes),
-        links: Listed::new(links),
-    })
+    let nodes = walk_nodes(alloc)?;
+    let links = walk_links(alloc)?;
+    Ok(network(1_000_000_000, nodes, links))
+}
+
+// The texts of a case are the same.
+fn expect_same(rt: &impl Abort, given: &str, want: &str, case: &str) {
+    assert_eq!(rt; given, want, "{case}");
 }
 
 fn crosses<T: Send + Sync>() {}

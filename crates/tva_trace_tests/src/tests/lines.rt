@@ -1,6 +1,80 @@
 // Events and sums with their lines.
 ghost use Rattle.std.specs.Prelude.{◌≤◌, IsTrue};
-ghost use Rattle.tva_trace.specs.Lines.{HasHappened, HasLink, HasNode, HasOutcome, HasReply, HasSource, LinksJoinNodes};
+ghost use Rattle.tva_trace.specs.Lines.{HasEvent, HasHappened, HasLink, HasNode, HasOutcome, HasReply, HasSource, LinksJoinNodes};
+
+macro_rules! id {
+    ($node:expr, $ordinal:expr) => {
+        PacketId {
+            node: $node,
+            ordinal: $ordinal,
+        }
+    };
+}
+
+macro_rules! arrived {
+    ($id:expr, $length:expr, $from:expr, $class:expr, $cause:expr, $outcome:expr $(,)?) => {
+        Happened::Arrived {
+            id: $id,
+            length: $length,
+            from: $from,
+            fate: Fate {
+                class: $class,
+                cause: $cause,
+                charge: None,
+                outcome: $outcome,
+            },
+        }
+    };
+}
+
+macro_rules! sent {
+    ($id:expr, $length:expr, $shape:expr, $outcome:expr $(,)?) => {
+        Happened::Sent {
+            id: $id,
+            length: $length,
+            shape: $shape,
+            outcome: $outcome,
+        }
+    };
+}
+
+macro_rules! received {
+    ($id:expr, $length:expr, $from:expr, $what:expr, $back:expr, $reply:expr $(,)?) => {
+        Happened::Received {
+            id: $id,
+            length: $length,
+            from: $from,
+            payload: 0,
+            what: $what,
+            back: $back,
+            reply: $reply,
+        }
+    };
+}
+
+macro_rules! reply {
+    ($id:expr, $length:expr, $shape:expr, $back:expr, $outcome:expr $(,)?) => {
+        Some(ReplyLine {
+            id: $id,
+            length: $length,
+            shape: $shape,
+            back: $back,
+            outcome: $outcome,
+        })
+    };
+}
+
+macro_rules! started {
+    ($id:expr, $length:expr, $link:expr, $class:expr, $end:expr $(,)?) => {
+        Happened::Started {
+            id: $id,
+            length: $length,
+            link: $link,
+            class: $class,
+            end: Time($end),
+        }
+    };
+}
 
 mod grants;
 mod notices;
@@ -16,86 +90,6 @@ use tva_base::{
 };
 use tva_config::Config;
 use tva_trace::{line_text, summary_text};
-
-fn id(node: u16, ordinal: u64) -> PacketId {
-    PacketId { node, ordinal }
-}
-
-fn arrived(
-    id: PacketId,
-    length: u32,
-    from: Option<u16>,
-    class: Class,
-    cause: Option<Cause>,
-    outcome: Outcome,
-) -> Happened {
-    let fate = Fate {
-        class,
-        cause,
-        charge: None,
-        outcome,
-    };
-    Happened::Arrived {
-        id,
-        length,
-        from,
-        fate,
-    }
-}
-
-fn sent(id: PacketId, length: u32, shape: ShapeKind, outcome: Outcome) -> Happened {
-    Happened::Sent {
-        id,
-        length,
-        shape,
-        outcome,
-    }
-}
-
-fn received(
-    id: PacketId,
-    length: u32,
-    from: u16,
-    what: WhatKind,
-    back: BackKind,
-    reply: Option<ReplyLine>,
-) -> Happened {
-    Happened::Received {
-        id,
-        length,
-        from,
-        payload: 0,
-        what,
-        back,
-        reply,
-    }
-}
-
-fn reply(
-    id: PacketId,
-    length: u32,
-    shape: ShapeKind,
-    back: BackKind,
-    outcome: Outcome,
-) -> Option<ReplyLine> {
-    Some(ReplyLine {
-        id,
-        length,
-        shape,
-        back,
-        outcome,
-    })
-}
-
-fn started(id: PacketId, length: u32, link: u16, class: Class, end: u64) -> Happened {
-    Happened::Started {
-        id,
-        length,
-        link,
-        class,
-        end: Time(end),
-    }
-}
 
 // Whether the nodes and links that are named are there.
 fn has_node(config: &Config, node: u16) -> bool
@@ -169,6 +163,86 @@ fn joins_nodes(config: &Config) -> bool
         && usize::from(link.to) < count)
 }
 
+// At a time, at a node: what happened, and its line.
+const OTHER_WORDS: [(u64, u16, Happened, &str); 6] = [
+    (
+        0,
+        0,
+        arrived!(
+            id!(0, 1),
+            24,
+            None,
+            Class::Legacy,
+            Some(Cause::Malformed),
+            Outcome::Dropped(DropCause::NoRoute),
+        ),
+        "0 R1 in R1#1 24 trace legacy malformed dropped:no-route",
+    ),
+    (
+        5,
+        0,
+        arrived!(
+            id!(0, 2),
+            183,
+            Some(0),
+            Class::Legacy,
+            Some(Cause::PathFull),
+            Outcome::Dropped(DropCause::HopLimit),
+        ),
+        "5 R1 in R1#2 183 A legacy path-full dropped:hop-limit",
+    ),
+    (
+        5,
+        0,
+        arrived!(
+            id!(0, 3),
+            40,
+            Some(3),
+            Class::Regular,
+            None,
+            Outcome::Dropped(DropCause::NoQueue),
+        ),
+        "5 R1 in R1#3 40 B regular - dropped:no-queue",
+    ),
+    (
+        6,
+        1,
+        sent!(
+            id!(1, 7),
+            20,
+            ShapeKind::Legacy,
+            Outcome::Dropped(DropCause::QueueFull),
+        ),
+        "6 A send A#7 20 legacy dropped:queue-full",
+    ),
+    (
+        7,
+        2,
+        received!(id!(1, 7), 20, 2, WhatKind::Stray, BackKind::Nothing, None),
+        "7 B recv A#7 20 R1 stray - -",
+    ),
+    (
+        8,
+        1,
+        received!(id!(2, 9), 45, 1, WhatKind::Legacy, BackKind::Ignored, None),
+        "8 A recv B#9 45 R1 legacy ignored -",
+    ),
+];
+
+fn expect_line(rt: &impl Abort, line: &str, want: &str) {
+    assert!(rt; line.ends_with('\n'), "{want}");
+    assert_eq!(rt; line.trim_end(), want);
+}
+
+fn expect_event(rt: &impl Abort, config: &Config, event: &Event, want: &str)
+    requires ends { LinksJoinNodes config.now }
+    requires known { HasEvent config.now event.now }
+{
+    let mut line = ArrayString::<256>::new();
+    line_text(config, event, &mut line);
+    expect_line(rt, line.as_str(), want);
+}
+
 // What happened at a node has that line.
 fn expect(rt: &impl Abort, config: &Config, time: u64, node: u16, happened: Happened, want: &str) {
     assert!(rt; joins_nodes(config));
@@ -179,99 +253,24 @@ fn expect(rt: &impl Abort, config: &Config, time: u64, node: u16, happened: Happ
         node,
         happened,
     };
-    let mut line = ArrayString::<256>::new();
-    line_text(config, &event, &mut line);
-    let text = line.as_str();
-    assert!(rt; text.ends_with('\n'), "{want}");
-    assert_eq!(rt; text.trim_end(), want);
+    expect_event(rt, config, &event, want);
 }
 
-fn other_words(rt: &impl Abort, config: &Config) {
-    expect(
-        rt,
-        config,
-        0,
-        0,
-        arrived(
-            id(0, 1),
-            24,
-            None,
-            Class::Legacy,
-            Some(Cause::Malformed),
-            Outcome::Dropped(DropCause::NoRoute),
-        ),
-        "0 R1 in R1#1 24 trace legacy malformed dropped:no-route",
-    );
-    expect(
-        rt,
-        config,
-        5,
-        0,
-        arrived(
-            id(0, 2),
-            183,
-            Some(0),
-            Class::Legacy,
-            Some(Cause::PathFull),
-            Outcome::Dropped(DropCause::HopLimit),
-        ),
-        "5 R1 in R1#2 183 A legacy path-full dropped:hop-limit",
-    );
-    expect(
-        rt,
-        config,
-        5,
-        0,
-        arrived(
-            id(0, 3),
-            40,
-            Some(3),
-            Class::Regular,
-            None,
-            Outcome::Dropped(DropCause::NoQueue),
-        ),
-        "5 R1 in R1#3 40 B regular - dropped:no-queue",
-    );
-    expect(
-        rt,
-        config,
-        6,
-        1,
-        sent(
-            id(1, 7),
-            20,
-            ShapeKind::Legacy,
-            Outcome::Dropped(DropCause::QueueFull),
-        ),
-        "6 A send A#7 20 legacy dropped:queue-full",
-    );
-    expect(
-        rt,
-        config,
-        7,
-        2,
-        received(id(1, 7), 20, 2, WhatKind::Stray, BackKind::Nothing, None),
-        "7 B recv A#7 20 R1 stray - -",
-    );
-    expect(
-        rt,
-        config,
-        8,
-        1,
-        received(id(2, 9), 45, 1, WhatKind::Legacy, BackKind::Ignored, None),
-        "8 A recv B#9 45 R1 legacy ignored -",
-    );
+fn expect_all(rt: &impl Abort, config: &Config, story: &[(u64, u16, Happened, &str)]) {
+    for (time, node, happened, want) in story {
+        expect(rt, config, *time, *node, *happened, want);
+    }
 }
 
 #[test]
 fn lines_of_events(rt: HostRuntime) -> Result<(), Fail> {
     let config = walk(rt.alloc())?;
-    grants::a_request_is_granted(&rt, &config);
-    grants::packets_show_the_grant(&rt, &config);
-    renewals::a_grant_is_renewed(&rt, &config);
-    renewals::a_packet_shows_the_new_grant(&rt, &config);
-    notices::a_demotion_is_told(&rt, &config);
-    other_words(&rt, &config);
+    expect_all(&rt, &config, &grants::A_REQUEST_IS_GRANTED);
+    expect_all(&rt, &config, &grants::PACKETS_SHOW_THE_GRANT);
+    expect_all(&rt, &config, &renewals::A_GRANT_IS_RENEWED);
+    expect_all(&rt, &config, &renewals::A_PACKET_SHOWS_THE_NEW_GRANT);
+    expect_all(&rt, &config, &notices::A_DEMOTION_IS_TOLD);
+    expect_all(&rt, &config, &OTHER_WORDS);
     Ok(())
 }
 
@@ -298,32 +297,39 @@ const SUMS: [([u64; 8], &str); 5] = [
     ),
 ];
 
+fn totals_of(sums: [u64; 8]) -> Totals {
+    let [
+        events,
+        routed,
+        authorised,
+        demoted,
+        dropped,
+        started,
+        received,
+        bytes,
+    ] = sums;
+    Totals {
+        events,
+        routed,
+        authorised,
+        demoted,
+        dropped,
+        started,
+        received,
+        bytes,
+    }
+}
+
+fn expect_sums(rt: &impl Abort, sums: [u64; 8], want: &str) {
+    let mut line = ArrayString::<256>::new();
+    line.push_str("what stood before");
+    summary_text(&totals_of(sums), &mut line);
+    assert_eq!(rt; line.as_str().trim_end(), want);
+}
+
 #[test]
 fn lines_of_sums(rt: HostRuntime) {
-    for (sums, want) in SUMS {
-        let [
-            events,
-            routed,
-            authorised,
-            demoted,
-            dropped,
-            started,
-            received,
-            bytes,
-        ] = sums;
-        let totals = Totals {
-            events,
-            routed,
-            authorised,
-            demoted,
-            dropped,
-            started,
-            received,
-            bytes,
-        };
-        let mut line = ArrayString::<256>::new();
-        line.push_str("what stood before");
-        summary_text(&totals, &mut line);
-        assert_eq!(rt; line.as_str().trim_end(), want);
+    for (sums, want) in &SUMS {
+        expect_sums(&rt, *sums, want);
     }
 }

@@ -2,12 +2,13 @@
 ghost use Rattle.std.specs.Prelude.{◌≤◌, length};
 
 use super::traces::HEADER;
-use super::{edge, walk};
+use super::{edge, expect_same, walk};
 use std::alloc::{AllocError, Global};
 use std::process::Abort;
 use std::test::Fail;
+use tva_base::{Flow, Rights};
 use tva_config::Config;
-use tva_shim::{Carried, Kind, ReturnInfo, Shim, Shown};
+use tva_shim::{Carried, Entry, Kind, ReturnInfo, Shim, Shown};
 use tva_trace::{Row, RowWhat, read_trace};
 
 // At a router: time, node, source and destination, payload, and what the packet carries.
@@ -106,60 +107,96 @@ const AT_HOSTS: [(&str, &str); 3] = [
 // A row in words.
 fn told(alloc: Global, row: &Row) -> Result<String, AllocError> {
     let mut text = format!(in alloc; "{} {} ", row.time.0, row.node)?;
-    match &row.what {
+    put_what(alloc, &mut text, &row.what)?;
+    Ok(text)
+}
+
+// Puts what was made behind a text.
+fn put(text: &mut String, made: Result<String, AllocError>) -> Result<(), AllocError> {
+    text.push_str(made?.as_str())
+}
+
+fn put_what(alloc: Global, text: &mut String, what: &RowWhat) -> Result<(), AllocError> {
+    match what {
         RowWhat::Send { dst, payload } => {
-            text.push_str(format!(in alloc; "send {:08x} {payload}", dst.0)?.as_str())?;
+            put(text, format!(in alloc; "send {:08x} {payload}", dst.0))
         }
         RowWhat::Inject {
             flow,
             payload,
             carried,
         } => {
-            let (src, dst) = (flow.src.0, flow.dst.0);
-            text.push_str(format!(in alloc; "{src:08x}>{dst:08x} {payload}")?.as_str())?;
-            put_carried(alloc, &mut text, carried)?;
+            put_flow(alloc, text, *flow, *payload)?;
+            put_carried(alloc, text, carried)
         }
     }
-    Ok(text)
+}
+
+fn put_flow(alloc: Global, text: &mut String, flow: Flow, payload: u16) -> Result<(), AllocError> {
+    let (src, dst) = (flow.src.0, flow.dst.0);
+    put(text, format!(in alloc; "{src:08x}>{dst:08x} {payload}"))
 }
 
 fn put_carried(alloc: Global, text: &mut String, carried: &Carried) -> Result<(), AllocError> {
     match carried {
         Carried::Nothing => text.push_str(" nothing"),
-        Carried::Malformed(bytes) => {
-            text.push_str(format!(in alloc; " malformed {bytes}")?.as_str())
-        }
+        Carried::Malformed(bytes) => put(text, format!(in alloc; " malformed {bytes}")),
         Carried::Shim(shim) => put_shim(alloc, text, shim),
     }
 }
 
 fn put_shim(alloc: Global, text: &mut String, shim: &Shim) -> Result<(), AllocError> {
+    put_head(alloc, text, shim)?;
+    put_kind(alloc, text, &shim.kind)?;
+    put_return(alloc, text, &shim.back)
+}
+
+fn put_head(alloc: Global, text: &mut String, shim: &Shim) -> Result<(), AllocError> {
     let (demoted, protocol) = (shim.demoted, shim.protocol);
-    text.push_str(format!(in alloc; " demoted={demoted} protocol={protocol}")?.as_str())?;
-    if shim.version != 1 {
-        text.push_str(format!(in alloc; " version={}", shim.version)?.as_str())?;
+    put(
+        text,
+        format!(in alloc; " demoted={demoted} protocol={protocol}"),
+    )?;
+    if shim.version == 1 {
+        return Ok(());
     }
-    match &shim.kind {
+    put(text, format!(in alloc; " version={}", shim.version))
+}
+
+fn put_kind(alloc: Global, text: &mut String, kind: &Kind) -> Result<(), AllocError> {
+    match kind {
         Kind::Request(entries) => {
             text.push_str(" request")?;
-            for entry in entries.as_slice() {
-                let (tag, precap) = (entry.tag, entry.precap);
-                text.push_str(format!(in alloc; " {tag:04x}:{precap:016x}")?.as_str())?;
-            }
+            put_entries(alloc, text, entries.as_slice())
         }
-        Kind::List(shown) => put_shown(alloc, text, " list", shown)?,
-        Kind::Nonce(nonce) => text.push_str(format!(in alloc; " nonce={nonce}")?.as_str())?,
-        Kind::Renewal(shown) => put_shown(alloc, text, " renewal", shown)?,
+        Kind::List(shown) => put_shown(alloc, text, " list", shown),
+        Kind::Nonce(nonce) => put(text, format!(in alloc; " nonce={nonce}")),
+        Kind::Renewal(shown) => put_shown(alloc, text, " renewal", shown),
     }
-    match &shim.back {
+}
+
+fn put_entries(alloc: Global, text: &mut String, entries: &[Entry]) -> Result<(), AllocError> {
+    for entry in entries {
+        let (tag, precap) = (entry.tag, entry.precap);
+        put(text, format!(in alloc; " {tag:04x}:{precap:016x}"))?;
+    }
+    Ok(())
+}
+
+fn put_return(alloc: Global, text: &mut String, back: &ReturnInfo) -> Result<(), AllocError> {
+    match back {
         ReturnInfo::Nothing => Ok(()),
         ReturnInfo::Notice => text.push_str(" notice"),
         ReturnInfo::Grant { rights, caps } => {
-            let (n, t) = (rights.n, rights.t);
-            text.push_str(format!(in alloc; " grant n={n} t={t}")?.as_str())?;
+            put_grant(alloc, text, *rights)?;
             put_caps(alloc, text, caps.as_slice())
         }
     }
+}
+
+fn put_grant(alloc: Global, text: &mut String, rights: Rights) -> Result<(), AllocError> {
+    let (n, t) = (rights.n, rights.t);
+    put(text, format!(in alloc; " grant n={n} t={t}"))
 }
 
 fn put_shown(
@@ -170,21 +207,82 @@ fn put_shown(
 ) -> Result<(), AllocError> {
     let (nonce, pointer) = (shown.nonce, shown.pointer);
     let (n, t) = (shown.rights.n, shown.rights.t);
-    text.push_str(format!(in alloc;
-        "{word} nonce={nonce} pointer={pointer} n={n} t={t}"
-    )?.as_str())?;
+    put(
+        text,
+        format!(in alloc; "{word} nonce={nonce} pointer={pointer} n={n} t={t}"),
+    )?;
     put_caps(alloc, text, shown.caps.as_slice())
 }
 
 fn put_caps(alloc: Global, text: &mut String, caps: &[u64]) -> Result<(), AllocError> {
     for cap in caps {
         let cap = *cap;
-        text.push_str(format!(in alloc; " {cap:016x}")?.as_str())?;
+        put(text, format!(in alloc; " {cap:016x}"))?;
     }
     Ok(())
 }
 
-// Each line behind the header gives one row, which asks that.
+// The rows of a text.
+fn rows_of(alloc: Global, config: &Config, text: &[u8]) -> Result<Vec<Row>, Fail>
+    requires { length config.now.nodes ≤ 65536 }
+{
+    match read_trace(alloc, text, config) {
+        Ok(rows) => Ok(rows),
+        Err(_) => Err(Fail::from("the line is no row")),
+    }
+}
+
+// The rows of a line behind the header.
+fn rows_of_line(alloc: Global, config: &Config, line: &str) -> Result<Vec<Row>, Fail>
+    requires { length config.now.nodes ≤ 65536 }
+{
+    let text = format!(in alloc; "{HEADER}{line}\n")?;
+    rows_of(alloc, config, text.as_bytes())
+}
+
+fn expect_told(
+    rt: &impl Abort,
+    alloc: Global,
+    row: &Row,
+    line: &str,
+    want: &str,
+) -> Result<(), AllocError> {
+    let given = told(alloc, row)?;
+    expect_same(rt, given.as_str(), want, line);
+    Ok(())
+}
+
+// There is one row, which asks that.
+fn expect_one(
+    rt: &impl Abort,
+    alloc: Global,
+    rows: &[Row],
+    line: &str,
+    want: &str,
+) -> Result<(), AllocError> {
+    assert_eq!(rt; rows.len(), 1, "{line}");
+    for row in rows {
+        expect_told(rt, alloc, row, line, want)?;
+    }
+    Ok(())
+}
+
+// A line behind the header gives one row, which asks that.
+fn expect_row(
+    rt: &impl Abort,
+    alloc: Global,
+    config: &Config,
+    line: &str,
+    want: &str,
+) -> Result<(), Fail>
+    requires { length config.now.nodes ≤ 65536 }
+{
+    let rows = rows_of_line(alloc, config, line)?;
+    expect_one(rt, alloc, rows.as_slice(), line, want)?;
+    Ok(())
+}
+
+// Each line has its row.
 fn expect_rows(
     rt: &impl Abort,
     alloc: Global,
@@ -193,21 +291,24 @@ fn expect_rows(
 ) -> Result<(), Fail> {
     assert!(rt; config.nodes.len() <= 1024);
     for (line, want) in table {
-        let text = format!(in alloc; "{HEADER}{line}\n")?;
-        let Ok(rows) = read_trace(alloc, text.as_bytes(), config) else {
-            return Err(Fail::from("the line is no row"));
-        };
-        assert_eq!(rt; rows.len(), 1, "{line}");
-        for row in &rows {
-            assert_eq!(rt; told(alloc, row)?.as_str(), *want, "{line}");
-        }
+        expect_row(rt, alloc, config, line, want)?;
     }
     Ok(())
+}
+
+fn rows_at_routers(rt: &impl Abort, alloc: Global) -> Result<(), Fail> {
+    let config = edge(alloc)?;
+    expect_rows(rt, alloc, &config, &AT_ROUTERS)
+}
+
+fn rows_at_hosts(rt: &impl Abort, alloc: Global) -> Result<(), Fail> {
+    let config = walk(alloc)?;
+    expect_rows(rt, alloc, &config, &AT_HOSTS)
 }
 
 #[test]
 fn rows_ask_what_they_say(rt: HostRuntime) -> Result<(), Fail> {
     let alloc = rt.alloc();
-    expect_rows(&rt, alloc, &edge(alloc)?, &AT_ROUTERS)?;
-    expect_rows(&rt, alloc, &walk(alloc)?, &AT_HOSTS)
+    rows_at_routers(&rt, alloc)?;
+    rows_at_hosts(&rt, alloc)
 }

@@ -1,4 +1,9 @@
 // Shims with their texts.
+ghost use Rattle.std.specs.Prelude.{◌≤◌, length};
+
+use super::expect_same;
+use std::alloc::{AllocError, Global};
+use std::process::Abort;
 use std::test::Fail;
 use tva_trace::shim_text;
 
@@ -147,14 +152,48 @@ const SHIMS: [(&str, &str); 54] = [
     ),
 ];
 
+fn bytes_of(alloc: Global, digits: &str) -> Result<Vec<u8>, Fail> {
+    match hex::decode(alloc, digits) {
+        Ok(bytes) => Ok(bytes),
+        Err(_) => Err(Fail::from("no digits")),
+    }
+}
+
+fn expect_digits(rt: &impl Abort, alloc: Global, digits: &str, want: &str) -> Result<(), Fail> {
+    let bytes = bytes_of(alloc, digits)?;
+    let given = shim_text(alloc, &bytes)?;
+    expect_same(rt, given.as_str(), want, digits);
+    Ok(())
+}
+
+fn expect_all(rt: &impl Abort, alloc: Global, table: &[(&str, &str)]) -> Result<(), Fail> {
+    for (digits, want) in table {
+        expect_digits(rt, alloc, digits, want)?;
+    }
+    Ok(())
+}
+
 #[test]
 fn texts_of_shims(rt: HostRuntime) -> Result<(), Fail> {
-    let alloc = rt.alloc();
-    for (digits, want) in SHIMS {
-        let Ok(bytes) = hex::decode(alloc, digits) else {
-            return Err(Fail::from("no digits"));
-        };
-        assert_eq!(rt; shim_text(alloc, &bytes)?.as_str(), want, "{digits}");
+    expect_all(&rt, rt.alloc(), &SHIMS)
+}
+
+fn expect_malformed(
+    rt: &impl Abort,
+    alloc: Global,
+    bytes: &[u8],
+    count: usize,
+) -> Result<(), AllocError>
+    requires { count ≤ length bytes.now }
+{
+    let given = shim_text(alloc, &bytes[..count])?;
+    assert_eq!(rt; given.as_str(), "malformed", "{count}");
+    Ok(())
+}
+
+fn expect_prefixes(rt: &impl Abort, alloc: Global, bytes: &[u8]) -> Result<(), AllocError> {
+    for count in 0..bytes.len() {
+        expect_malformed(rt, alloc, bytes, count)?;
     }
     Ok(())
 }
@@ -163,15 +202,7 @@ fn texts_of_shims(rt: HostRuntime) -> Result<(), Fail> {
 #[test]
 fn prefixes_are_malformed(rt: HostRuntime) -> Result<(), Fail> {
     let alloc = rt.alloc();
-    let Ok(bytes) = hex::decode(alloc, "110600000000000a0100080a0500112233445566") else {
-        return Err(Fail::from("no digits"));
-    };
-    for count in 0..bytes.len() {
-        assert_eq!(rt;
-            shim_text(alloc, &bytes[..count])?.as_str(),
-            "malformed",
-            "{count}"
-        );
-    }
+    let bytes = bytes_of(alloc, "110600000000000a0100080a0500112233445566")?;
+    expect_prefixes(&rt, alloc, &bytes)?;
     Ok(())
 }

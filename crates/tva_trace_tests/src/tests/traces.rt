@@ -1,7 +1,7 @@
 // Traces with their number of rows or their fault.
 ghost use Rattle.std.specs.Prelude.{◌≤◌, length};
 
-use super::{edge, walk};
+use super::{edge, expect_same, walk};
 use std::alloc::{AllocError, Global};
 use std::process::Abort;
 use std::test::Fail;
@@ -340,6 +340,36 @@ pub fn answer(alloc: Global, config: &Config, text: &[u8]) -> Result<String, All
     }
 }
 
+// A text has its answer.
+pub fn expect_answer(
+    rt: &impl Abort,
+    alloc: Global,
+    config: &Config,
+    text: &[u8],
+    want: &str,
+) -> Result<(), AllocError> {
+    assert!(rt; config.nodes.len() <= 1024);
+    let given = answer(alloc, config, text)?;
+    assert_eq!(rt; given.as_str(), want);
+    Ok(())
+}
+
+fn expect_behind(
+    rt: &impl Abort,
+    alloc: Global,
+    config: &Config,
+    front: &str,
+    body: &str,
+    want: &str,
+) -> Result<(), AllocError>
+    requires { length config.now.nodes ≤ 65536 }
+{
+    let text = format!(in alloc; "{front}{body}")?;
+    let given = answer(alloc, config, text.as_bytes())?;
+    expect_same(rt, given.as_str(), want, text.as_str());
+    Ok(())
+}
+
 // Each text, behind a front, has its answer.
 fn expect_all(
     rt: &impl Abort,
@@ -350,10 +380,15 @@ fn expect_all(
 ) -> Result<(), AllocError> {
     assert!(rt; config.nodes.len() <= 1024);
     for (body, want) in table {
-        let text = format!(in alloc; "{front}{body}")?;
-        let given = answer(alloc, config, text.as_bytes())?;
-        assert_eq!(rt; given.as_str(), *want, "{text}");
+        expect_behind(rt, alloc, config, front, body, want)?;
     }
+    Ok(())
+}
+
+fn expect_records(rt: &impl Abort, alloc: Global, config: &Config) -> Result<(), Fail> {
+    expect_all(rt, alloc, config, "", &HEADERS)?;
+    expect_all(rt, alloc, config, HEADER, &RECORDS)?;
+    expect_all(rt, alloc, config, HEADER, &TIMES)?;
     Ok(())
 }
 
@@ -361,9 +396,12 @@ fn expect_all(
 fn records_and_times(rt: HostRuntime) -> Result<(), Fail> {
     let alloc = rt.alloc();
     let config = edge(alloc)?;
-    expect_all(&rt, alloc, &config, "", &HEADERS)?;
-    expect_all(&rt, alloc, &config, HEADER, &RECORDS)?;
-    expect_all(&rt, alloc, &config, HEADER, &TIMES)?;
+    expect_records(&rt, alloc, &config)
+}
+
+fn expect_shims(rt: &impl Abort, alloc: Global, config: &Config) -> Result<(), Fail> {
+    expect_all(rt, alloc, config, HEADER, &RAW)?;
+    expect_all(rt, alloc, config, HEADER, &SHOWN)?;
     Ok(())
 }
 
@@ -371,9 +409,7 @@ fn records_and_times(rt: HostRuntime) -> Result<(), Fail> {
 fn shims_of_rows(rt: HostRuntime) -> Result<(), Fail> {
     let alloc = rt.alloc();
     let config = edge(alloc)?;
-    expect_all(&rt, alloc, &config, HEADER, &RAW)?;
-    expect_all(&rt, alloc, &config, HEADER, &SHOWN)?;
-    Ok(())
+    expect_shims(&rt, alloc, &config)
 }
 
 #[test]
@@ -384,6 +420,14 @@ fn rows_at_hosts(rt: HostRuntime) -> Result<(), Fail> {
     Ok(())
 }
 
+fn with_zeros(alloc: Global, digits: usize) -> Result<String, AllocError> {
+    let mut text = format!(in alloc; "{HEADER}0,R1,raw,10.0.0.1,10.0.1.1,0,")?;
+    for _ in 0..digits {
+        text.push_str("0")?;
+    }
+    Ok(text)
+}
+
 // A raw shim of so many zeros has its answer.
 fn expect_digits(
     rt: &impl Abort,
@@ -392,12 +436,14 @@ fn expect_digits(
     digits: usize,
     want: &str,
 ) -> Result<(), AllocError> {
-    assert!(rt; config.nodes.len() <= 1024);
-    let mut text = format!(in alloc; "{HEADER}0,R1,raw,10.0.0.1,10.0.1.1,0,")?;
-    for _ in 0..digits {
-        text.push_str("0")?;
-    }
-    assert_eq!(rt; answer(alloc, config, text.as_bytes())?.as_str(), want);
+    let text = with_zeros(alloc, digits)?;
+    expect_answer(rt, alloc, config, text.as_bytes(), want)
+}
+
+fn expect_lengths(rt: &impl Abort, alloc: Global, config: &Config) -> Result<(), Fail> {
+    expect_digits(rt, alloc, config, 800, "ok 1")?;
+    expect_digits(rt, alloc, config, 801, "record 2: shim")?;
+    expect_digits(rt, alloc, config, 802, "record 2: shim")?;
     Ok(())
 }
 
@@ -405,8 +451,5 @@ fn expect_digits(
 fn lengths_of_raw_shims(rt: HostRuntime) -> Result<(), Fail> {
     let alloc = rt.alloc();
     let config = edge(alloc)?;
-    expect_digits(&rt, alloc, &config, 800, "ok 1")?;
-    expect_digits(&rt, alloc, &config, 801, "record 2: shim")?;
-    expect_digits(&rt, alloc, &config, 802, "record 2: shim")?;
-    Ok(())
+    expect_lengths(&rt, alloc, &config)
 }
