@@ -2,6 +2,7 @@
 ghost use Rattle.std.specs.Prelude.{◌≤◌, IsTrue};
 ghost use Rattle.tva_trace.specs.Lines.{HasEvent, HasHappened, HasLink, HasNode, HasOutcome, HasReply, HasSource, LinksJoinNodes};
 
+// What happened, and its parts, as the tables of events name them.
 macro_rules! id {
     ($node:expr, $ordinal:expr) => {
         PacketId {
