@@ -34,7 +34,7 @@ pub fn send_lines<W: Sink>(
 }
 
 // Leaves the lines of the events in `text`, and nothing else.
-fn put_lines(config: &Config, events: &[Event], text: &mut Vec<u8>) -> Result<(), AllocError>
+pub fn put_lines(config: &Config, events: &[Event], text: &mut Vec<u8>) -> Result<(), AllocError>
     requires ends { LinksJoinNodes config.now }
     requires known { All (HasEvent config.now) events.now }
     ensures { OnOk result (text.new.items ≡ lines_of config.now events.now) }

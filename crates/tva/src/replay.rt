@@ -5,9 +5,10 @@ ghost use Rattle.tva_config.specs.Valid.{IsConfig};
 ghost use Rattle.tva_trace.specs.Valid.{AreTraceRows};
 ghost use Rattle.tva.specs.Parts.{IsReplayed};
 
-use crate::lines::{send_lines, send_total};
+use crate::lines::{put_lines, send_total};
+use crate::parts::send;
 use crate::status::Status;
-use std::alloc::Global;
+use std::alloc::{AllocError, Global};
 use std::thread::Threads;
 use tva_config::Config;
 use tva_net::{Net, NetError, Window};
@@ -35,14 +36,21 @@ pub fn replay_rows<R: Threads + Sync, W: Sink, G: Gate>(
         Err(_) => return Status::OutOfMemory,
     };
     let mut text = Vec::new(alloc);
+    let mut events = Vec::new(alloc);
     loop {
-        match net.step_window(rt, alloc, gate) {
-            Ok(Window::Events(events)) => {
-                match send_lines(plan, events.as_slice(), &mut text, out) {
-                    Status::Done => {}
-                    status => return status,
-                }
+        let (step, put) = net.step_beside(rt, alloc, gate, &mut || -> Result<(), AllocError>
+            { put_lines(plan, events.as_slice(), &mut text) });
+        if put.is_err() {
+            return Status::OutOfMemory;
+        }
+        if !events.is_empty() {
+            match send(out, text.as_slice()) {
+                Status::Done => {}
+                status => return status,
             }
+        }
+        match step {
+            Ok(Window::Events(next)) => events = next,
             Ok(Window::Ended) => return send_total(&net.totals(), out),
             Err(NetError::EventLimit(most)) => return Status::EventLimit(most),
             Err(NetError::OutOfMemory) => return Status::OutOfMemory,

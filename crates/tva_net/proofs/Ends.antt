@@ -1,6 +1,7 @@
 -- What the steps of a window ask and leave.
-use Rattle.std.proofs.Common.{◌≡◌, ℕ, ◌+◌, ◌<◌, ◌≤◌, min, List, [], ◌∷◌, ◌++◌, length, get_or, Some, None, All, refl, sym, subst, ◌∙◌, ap, arith}
+use Rattle.std.proofs.Common.{Vec, Global, Result, Ok, Err, IfOk, Option, ◌≡◌, ℕ, ◌+◌, ◌<◌, ◌≤◌, min, List, [], ◌∷◌, ◌++◌, length, get_or, Some, None, All, refl, sym, subst, ◌∙◌, ap, arith}
 use Rattle.std.specs.List.{AllByRecursion, AllZip}
+use Rattle.std.specs.Option.{option_map}
 use Rattle.std.proofs.lemmas.List.{append-nil, append_assoc, get_or-map}
 use Rattle.std.proofs.lemmas.List.Elements.{recursion_from_All}
 use Rattle.tva_base.specs.declared.event.Event.{Event}
@@ -166,6 +167,42 @@ module _ (config : Config) (rows : List Row) (windows : List Window) (told : Lis
         works = subst (λ (ws : List Window). WorksFor config rows ws (told ++ list) new) same b.works;
         given = ap (given (told ++ list)) (sym same) ∙ (b.given ∙ ap (λ (xss : List (List Event)). xss ++ if_some list) a.given);
       }
+
+  -- further windows behind such in which nothing happens
+  windows_then : (mid new : WorkState) (list : List Event) (a : AddsNothing config rows windows told mid) → AddsWindows config rows (windows ++ a.more) told list new → AddsWindows config rows windows told list new
+  windows_then mid new list a b =
+      let same : (windows ++ a.more) ++ b.more ≡ windows ++ (a.more ++ b.more) = append_assoc windows a.more b.more in
+      record {
+        more = a.more ++ b.more;
+        works = subst (λ (ws : List Window). WorksFor config rows ws (told ++ list) new) same b.works;
+        given = ap (given (told ++ list)) (sym same) ∙ (b.given ∙ ap (λ (xss : List (List Event)). xss ++ if_some list) a.given);
+      }
+
+  end_then : (mid new : WorkState) (a : AddsNothing config rows windows told mid) (b : AddsNothing config rows (windows ++ a.more) told new) → IsWholeRun config rows ((windows ++ a.more) ++ b.more) told new.nodes
+      → (passed : AddsNothing config rows windows told new) × IsWholeRun config rows (windows ++ passed.more) told new.nodes
+  end_then mid new a b whole =
+      let same : (windows ++ a.more) ++ b.more ≡ windows ++ (a.more ++ b.more) = append_assoc windows a.more b.more in (
+        record {
+          more = a.more ++ b.more;
+          works = subst (λ (ws : List Window). WorksFor config rows ws told new) same b.works;
+          given = ap (given told) (sym same) ∙ (b.given ∙ a.given);
+        },
+        subst (λ (ws : List Window). IsWholeRun config rows ws told new.nodes) same whole,
+      )
+
+-- the windows before, in which nothing happens, and those that are worked then
+nothing_first : (old mid new : WorkState) (some : Option (List Event)) → OfEachRun (λ config rows windows told. AddsNothing config rows windows told mid) old → WorksUpTo mid some new → WorksUpTo old some new
+nothing_first old mid new None a b = λ config rows windows told h.
+    let n = a config rows windows told h in
+    let m = b config rows (windows ++ n.more) told n.works in
+    end_then config rows windows told mid new n m.0 m.1
+nothing_first old mid new (Some list) a b = (b.0, λ config rows windows told h. let n = a config rows windows told h in
+    windows_then config rows windows told mid new list n (b.1 config rows (windows ++ n.more) told n.works))
+
+pub first_then : {E : Type 0} (old mid new : WorkState) (r : Result (Option (Vec Event Global)) E) → OfEachRun (λ config rows windows told. AddsNothing config rows windows told mid) old
+    → IfOk r (λ some. WorksUpTo mid (option_map (λ events. events.items) some) new) → IfOk r (λ some. WorksUpTo old (option_map (λ events. events.items) some) new)
+first_then old mid new (Ok some) a b = nothing_first old mid new (option_map (λ events. events.items) some) a b
+first_then old mid new (Err e) a b = tt
 
 pub passes_none : (w : WorkState) → OfEachRun (λ config rows windows told. AddsNothing config rows windows told w) w
 passes_none w config rows windows told h = nothing_at config rows windows told w h

@@ -73,7 +73,31 @@ impl Net {
             → StandsFor config rows windows told self.old → Refuses config rows windows told error self.old self.new) }
         ensures kept { AllZip BeginsWith (told_by self.old.work.nodes) (told_by self.new.work.nodes) }
     {
-        self.parts.step(rt, alloc, gate)
+        let (window, ()) = self.parts.step(rt, alloc, gate, &mut || -> () {});
+        window
+    }
+
+    /// The same, and something else, which is done at once with it where that helps.
+    pub fn step_beside<R: Threads + Sync, G: Gate, F: FnMut() -> A + Send, A: Send>(
+        &mut self,
+        rt: &R,
+        alloc: Global,
+        gate: &G,
+        other: &mut F,
+    ) -> (Result<Window, NetError>, A)
+        requires sound { IsSound self.old }
+        requires other { F.pre other.old }
+        ensures sound { IsSound self.new }
+        ensures again { IfSome self.old.failed (λ error. (result.0 ≡ Err error) × (self.new ≡ self.old)) }
+        ensures failed { IfErr result.0 (λ error. self.new.failed ≡ Some error) }
+        ensures gives { IfOk result.0 (λ window. (config : Config) (rows : List Row) (windows : List Span) (told : List Event)
+            → StandsFor config rows windows told self.old → Gives config rows windows told window self.new) }
+        ensures refuses { IfErr result.0 (λ error. (config : Config) (rows : List Row) (windows : List Span) (told : List Event)
+            → StandsFor config rows windows told self.old → Refuses config rows windows told error self.old self.new) }
+        ensures kept { AllZip BeginsWith (told_by self.old.work.nodes) (told_by self.new.work.nodes) }
+        ensures other { F.step other.old result.1 other.new }
+    {
+        self.parts.step(rt, alloc, gate, other)
     }
 
     /// The sums of all that was given so far.

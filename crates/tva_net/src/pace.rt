@@ -15,7 +15,7 @@ use tva_node::{Node, advance_all};
 use tva_outside::Gate;
 
 // So many events take about as long on one thread as on four, with the start of these.
-const HANDFUL: usize = 256;
+pub(crate) const HANDFUL: usize = 256;
 
 /// The pace after one more window: as many events as it held, and no less than half of what it was
 /// before; none stands for no window.

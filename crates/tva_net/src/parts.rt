@@ -59,37 +59,41 @@ impl Parts {
         })
     }
 
-    /// Works the next window in which something happens, and gives that.
-    pub fn step<R: Threads + Sync, G: Gate>(
+    /// Works the next window in which something happens, and gives that; and does something else.
+    pub fn step<R: Threads + Sync, G: Gate, F: FnMut() -> A + Send, A: Send>(
         &mut self,
         rt: &R,
         alloc: Global,
         gate: &G,
-    ) -> Result<Window, NetError>
+        other: &mut F,
+    ) -> (Result<Window, NetError>, A)
         requires sound { IsSound (state_of self.old) }
         requires times { KnowsTimes self.old }
+        requires other { F.pre other.old }
         ensures sound { IsSound (state_of self.new) }
-        ensures again { IfSome self.old.failed (λ error. (result ≡ Err error) × (self.new ≡ self.old)) }
-        ensures failed { IfErr result (λ error. self.new.failed ≡ Some error) }
-        ensures gives { IfOk result (λ window. (config : Config) (rows : List Row) (windows : List Span) (told : List Event)
+        ensures again { IfSome self.old.failed (λ error. (result.0 ≡ Err error) × (self.new ≡ self.old)) }
+        ensures failed { IfErr result.0 (λ error. self.new.failed ≡ Some error) }
+        ensures gives { IfOk result.0 (λ window. (config : Config) (rows : List Row) (windows : List Span) (told : List Event)
             → StandsFor config rows windows told (state_of self.old) → Gives config rows windows told window (state_of self.new)) }
-        ensures refuses { IfErr result (λ error. (config : Config) (rows : List Row) (windows : List Span) (told : List Event)
+        ensures refuses { IfErr result.0 (λ error. (config : Config) (rows : List Row) (windows : List Span) (told : List Event)
             → StandsFor config rows windows told (state_of self.old)
             → Refuses config rows windows told error (state_of self.old) (state_of self.new)) }
         ensures times { KnowsTimes self.new }
         ensures kept { AllZip BeginsWith (told_by self.old.works.nodes.items) (told_by self.new.works.nodes.items) }
+        ensures other { F.step other.old result.1 other.new }
     {
         if let Some(error) = self.failed {
-            return Err(error);
+            return (Err(error), other());
         }
         self.failed = Some(NetError::OutOfMemory);
-        match self.works.next_events(rt, alloc, gate) {
-            Ok(Some(events)) => self.give(events),
+        let (events, done) = self.works.next_events(rt, alloc, gate, other);
+        match events {
+            Ok(Some(events)) => (self.give(events), done),
             Ok(None) => {
                 self.failed = None;
-                Ok(Window::Ended)
+                (Ok(Window::Ended), done)
             }
-            Err(AllocError) => Err(NetError::OutOfMemory),
+            Err(AllocError) => (Err(NetError::OutOfMemory), done),
         }
     }
 

@@ -8,6 +8,7 @@ ghost use Rattle.tva_net.specs.Times.{AreNoted};
 
 use crate::times::note;
 use std::alloc::AllocError;
+use std::thread::{Threads, join_mut};
 use tva_base::{LinkPlan, Time};
 use tva_index::Lowest;
 use tva_log::Input;
@@ -39,6 +40,54 @@ pub(crate) fn post_all(
     post_each(nodes, times, horizon, links, places, posted)?;
     note_posted(nodes, places, posted);
     Ok(())
+}
+
+/// The same, and something else: at once with it where there is much to be posted.
+pub(crate) fn post_beside<R: Threads + Sync, F: FnMut() -> A + Send, A: Send>(
+    rt: &R,
+    nodes: &mut [Node],
+    times: &mut Lowest,
+    horizon: Time,
+    links: &[LinkPlan],
+    places: &[usize],
+    posted: &mut [usize],
+    is_much: bool,
+    other: &mut F,
+) -> (Result<(), AllocError>, A)
+    requires few { length nodes.old ≤ 1024 }
+    requires known { AllZip (λ v n. n ≤ length v.sendings) nodes.old posted.old }
+    requires places { ArePlaces (length nodes.old) places.now }
+    requires others { AreKnownElsewhere (λ v. v.sendings) nodes.old posted.old places.now }
+    requires noted { AreNoted times.old nodes.old }
+    requires postable { All (IsPostable horizon.0 links.now nodes.old) (since (λ v. v.sendings) nodes.old posted.old) }
+    requires other { F.pre other.old }
+    ensures got { OnOk result.0 (GotMails (mail_to horizon.0 links.now (since (λ v. v.sendings) nodes.old posted.old)) nodes.old nodes.new) }
+    ensures posted { OnOk result.0 (posted.new ≡ map (λ v. length v.sendings) nodes.old) }
+    ensures noted { OnOk result.0 (AreNoted times.new nodes.new) }
+    ensures keeps { AllZip KeepsWork nodes.old nodes.new }
+    ensures other { F.step other.old result.1 other.new }
+{
+    if !is_much {
+        let done = other();
+        return (post_all(nodes, times, horizon, links, places, posted), done);
+    }
+    let (done, result) = join_mut(
+        rt,
+        other,
+        &mut || -> Result<(), AllocError>
+            requires few { length nodes.now ≤ 1024 }
+            requires known { AllZip (λ v n. n ≤ length v.sendings) nodes.now posted.now }
+            requires places { ArePlaces (length nodes.now) places.now }
+            requires others { AreKnownElsewhere (λ v. v.sendings) nodes.now posted.now places.now }
+            requires noted { AreNoted times.now nodes.now }
+            requires postable { All (IsPostable horizon.0 links.now nodes.now) (since (λ v. v.sendings) nodes.now posted.now) }
+            ensures got { OnOk result (GotMails (mail_to horizon.0 links.entry.now (since (λ v. v.sendings) nodes.entry.now posted.entry.now)) nodes.entry.now nodes.exit.now) }
+            ensures posted { OnOk result (posted.exit.now ≡ map (λ v. length v.sendings) nodes.entry.now) }
+            ensures noted { OnOk result (AreNoted times.exit.now nodes.exit.now) }
+            ensures keeps { AllZip KeepsWork nodes.entry.now nodes.exit.now }
+        { post_all(nodes, times, horizon, links, places, posted) },
+    );
+    (result, done)
 }
 
 // The same of the nodes in these places, without noting that it is posted.

@@ -11,8 +11,8 @@ ghost use Rattle.tva_net.specs.Work.{AreWorked, CanBeWorked, CanWork, WorksOn, W
 
 use crate::building::first_nodes;
 use crate::gathering::gather;
-use crate::pace::{advance, pace_after};
-use crate::posting::post_all;
+use crate::pace::{HANDFUL, advance, pace_after};
+use crate::posting::post_beside;
 use crate::times::{first_time, times_of};
 use crate::timing::window_length;
 use std::alloc::{AllocError, Global};
@@ -67,8 +67,38 @@ impl Works {
         })
     }
 
-    /// Works windows up to one in which something happens, and gives that, or all that are left.
-    pub fn next_events<R: Threads + Sync, G: Gate>(
+    /// Works windows up to one in which something happens, and gives that, or all that are left; and
+    /// does something else, at once with what can be done at once with it.
+    pub fn next_events<R: Threads + Sync, G: Gate, F: FnMut() -> A + Send, A: Send>(
+        &mut self,
+        rt: &R,
+        alloc: Global,
+        gate: &G,
+        other: &mut F,
+    ) -> (Result<Option<Vec<Event>>, AllocError>, A)
+        requires works { CanWork (work_of self.old) }
+        requires noted { AreNoted self.old.times self.old.nodes.items }
+        requires other { F.pre other.old }
+        ensures works { IfOk result.0 (λ some. WorksUpTo (work_of self.old) (option_map (λ events. events.items) some) (work_of self.new)) }
+        ensures noted { OnOk result.0 (AreNoted self.new.times self.new.nodes.items) }
+        ensures kept { AllZip BeginsWith (told_by self.old.nodes.items) (told_by self.new.nodes.items) }
+        ensures other { F.step other.old result.1 other.new }
+    {
+        let (first, done) = self.work_next(rt, alloc, gate, other);
+        match first {
+            Ok(Some(events)) => {
+                if events.is_empty() {
+                    return (self.later_events(rt, alloc, gate), done);
+                }
+                (Ok(Some(events)), done)
+            }
+            Ok(None) => (Ok(None), done),
+            Err(error) => (Err(error), done),
+        }
+    }
+
+    // The same of further windows, with nothing else to be done.
+    fn later_events<R: Threads + Sync, G: Gate>(
         &mut self,
         rt: &R,
         alloc: Global,
@@ -80,7 +110,7 @@ impl Works {
         ensures noted { OnOk result (AreNoted self.new.times self.new.nodes.items) }
         ensures kept { AllZip BeginsWith (told_by self.old.nodes.items) (told_by self.new.nodes.items) }
     {
-        while let Some(events) = self.work_next(rt, alloc, gate)? {
+        while let Some(events) = self.work_alone(rt, alloc, gate)? {
             if !events.is_empty() {
                 return Ok(Some(events));
             }
@@ -89,7 +119,7 @@ impl Works {
     }
 
     // Works the next window, if there is one, and gives what happens in it.
-    fn work_next<R: Threads + Sync, G: Gate>(
+    fn work_alone<R: Threads + Sync, G: Gate>(
         &mut self,
         rt: &R,
         alloc: Global,
@@ -101,11 +131,31 @@ impl Works {
         ensures noted { OnOk result (AreNoted self.new.times self.new.nodes.items) }
         ensures kept { AllZip BeginsWith (told_by self.old.nodes.items) (told_by self.new.nodes.items) }
     {
+        let (events, ()) = self.work_next(rt, alloc, gate, &mut || -> () {});
+        events
+    }
+
+    // The same, and something else.
+    fn work_next<R: Threads + Sync, G: Gate, F: FnMut() -> A + Send, A: Send>(
+        &mut self,
+        rt: &R,
+        alloc: Global,
+        gate: &G,
+        other: &mut F,
+    ) -> (Result<Option<Vec<Event>>, AllocError>, A)
+        requires works { CanWork (work_of self.old) }
+        requires noted { AreNoted self.old.times self.old.nodes.items }
+        requires other { F.pre other.old }
+        ensures works { IfOk result.0 (λ some. WorksOn (work_of self.old) (option_map (λ events. events.items) some) (work_of self.new)) }
+        ensures noted { OnOk result.0 (AreNoted self.new.times self.new.nodes.items) }
+        ensures kept { AllZip BeginsWith (told_by self.old.nodes.items) (told_by self.new.nodes.items) }
+        ensures other { F.step other.old result.1 other.new }
+    {
         let Some(start) = first_time(&self.times, self.nodes.as_slice()) else {
-            return Ok(None);
+            return (Ok(None), other());
         };
         let until = cmp::min(start.0 + self.span, self.horizon.0 + 1);
-        let events = work_nodes(
+        let (worked, done) = work_nodes(
             rt,
             alloc,
             gate,
@@ -117,15 +167,22 @@ impl Works {
             self.posted.as_mut_slice(),
             self.shown.as_mut_slice(),
             self.nodes.as_mut_slice(),
-        )?;
-        self.pace = pace_after(self.pace, events.len());
-        self.worked_to = until;
-        Ok(Some(events))
+            other,
+        );
+        match worked {
+            Ok(events) => {
+                self.pace = pace_after(self.pace, events.len());
+                self.worked_to = until;
+                (Ok(Some(events)), done)
+            }
+            Err(error) => (Err(error), done),
+        }
     }
 }
 
-// Works the nodes up to the end of a window, gives what they tell, and posts what they sent.
-fn work_nodes<R: Threads + Sync, G: Gate>(
+// Works the nodes up to the end of a window, gives what they tell, and posts what they sent; and does
+// something else, at once with the posting.
+fn work_nodes<R: Threads + Sync, G: Gate, F: FnMut() -> A + Send, A: Send>(
     rt: &R,
     alloc: Global,
     gate: &G,
@@ -137,15 +194,28 @@ fn work_nodes<R: Threads + Sync, G: Gate>(
     posted: &mut [usize],
     shown: &mut [usize],
     nodes: &mut [Node],
-) -> Result<Vec<Event>, AllocError>
+    other: &mut F,
+) -> (Result<Vec<Event>, AllocError>, A)
     requires works { CanBeWorked until.0 horizon.0 links.now posted.old shown.old nodes.old }
     requires noted { AreNoted times.old nodes.old }
-    ensures worked { IfOk result (λ list. AreWorked until.0 horizon.0 links.now posted.old shown.old nodes.old list.items posted.new shown.new nodes.new) }
-    ensures noted { OnOk result (AreNoted times.new nodes.new) }
+    requires other { F.pre other.old }
+    ensures worked { IfOk result.0 (λ list. AreWorked until.0 horizon.0 links.now posted.old shown.old nodes.old list.items posted.new shown.new nodes.new) }
+    ensures noted { OnOk result.0 (AreNoted times.new nodes.new) }
     ensures kept { AllZip BeginsWith (told_by nodes.old) (told_by nodes.new) }
+    ensures other { F.step other.old result.1 other.new }
 {
-    let places = advance(rt, alloc, gate, pace, times, until, nodes)?;
-    let events = gather(alloc, nodes, places.as_slice(), shown)?;
-    post_all(nodes, times, horizon, links, places.as_slice(), posted)?;
-    Ok(events)
+    let places = match advance(rt, alloc, gate, pace, times, until, nodes) {
+        Ok(places) => places,
+        Err(error) => return (Err(error), other()),
+    };
+    let events = match gather(alloc, nodes, places.as_slice(), shown) {
+        Ok(events) => events,
+        Err(error) => return (Err(error), other()),
+    };
+    let is_much = events.len() > HANDFUL;
+    let (result, done) = post_beside(rt, nodes, times, horizon, links, places.as_slice(), posted, is_much, other);
+    match result {
+        Ok(()) => (Ok(events), done),
+        Err(error) => (Err(error), done),
+    }
 }

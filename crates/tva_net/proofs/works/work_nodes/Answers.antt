@@ -14,66 +14,66 @@ pub advance-requires-clause-reach : goal.advance-requires-clause-reach
 advance-requires-clause-reach g c κs within = reach _ c.args.until.0 c.requires.works.2
 
 pub gather-requires-clause-known : goal.gather-requires-clause-known
-gather-requires-clause-known g c = shown_known _ c.args.until.0 c.requires.works.2 c.advance.new.nodes c.in_ok-places.ensures.through.each c.in_ok-places.ensures.kept
+gather-requires-clause-known g c = shown_known _ c.args.until.0 c.requires.works.2 c.advance.new.nodes c.in-Ok.ensures.through.each c.in-Ok.ensures.kept
 
 pub gather-requires-clause-places : goal.gather-requires-clause-places
 gather-requires-clause-places g c =
-    subst (λ (ps : List ℕ). ArePlaces (length c.advance.new.nodes) ps) (sym c.as_slice.ensures.value) c.in_ok-places.ensures.through.placed
+    subst (λ (ps : List ℕ). ArePlaces (length c.advance.new.nodes) ps) (sym c.as_slice.ensures.value) c.in-Ok.ensures.through.placed
 
 pub gather-requires-clause-others : goal.gather-requires-clause-others
 gather-requires-clause-others g c =
     subst (λ (ps : List ℕ). AreKnownElsewhere (λ v. v.events) c.advance.new.nodes c.args.shown.now ps) (sym c.as_slice.ensures.value)
-    (shown_elsewhere _ c.args.until.0 c.requires.works.2 c.advance.new.nodes c.in_ok-places.ensures.through.each c.in_ok-places.ensures.kept _ c.in_ok-places.ensures.through.others)
+    (shown_elsewhere _ c.args.until.0 c.requires.works.2 c.advance.new.nodes c.in-Ok.ensures.through.each c.in-Ok.ensures.kept _ c.in-Ok.ensures.through.others)
 
 pub gather-requires-clause-stand : goal.gather-requires-clause-stand
-gather-requires-clause-stand g c = mids_stand _ c.args.until.0 c.requires.works.2 c.advance.new.nodes c.in_ok-places.ensures.through.each c.in_ok-places.ensures.kept
+gather-requires-clause-stand g c = mids_stand _ c.args.until.0 c.requires.works.2 c.advance.new.nodes c.in-Ok.ensures.through.each c.in-Ok.ensures.kept
 
 pub gather-requires-clause-numbers : goal.gather-requires-clause-numbers
-gather-requires-clause-numbers g c = mids_numbered _ c.args.until.0 c.requires.works.2 c.advance.new.nodes c.in_ok-places.ensures.through.each c.in_ok-places.ensures.kept
+gather-requires-clause-numbers g c = mids_numbered _ c.args.until.0 c.requires.works.2 c.advance.new.nodes c.in-Ok.ensures.through.each c.in-Ok.ensures.kept
 
-pub post_all-requires-clause-few : goal.post_all-requires-clause-few
-post_all-requires-clause-few g c = mids_few _ c.args.until.0 c.requires.works.2 c.advance.new.nodes c.in_ok-places.ensures.through.each c.in_ok-places.ensures.kept
+pub post_beside-result-requires-clause-few : goal.post_beside-result-requires-clause-few
+post_beside-result-requires-clause-few g c κs within = mids_few _ c.args.until.0 c.requires.works.2 c.advance.new.nodes c.in-Ok.ensures.through.each c.in-Ok.ensures.kept
 
-pub post_all-requires-clause-known : goal.post_all-requires-clause-known
-post_all-requires-clause-known g c = posted_known _ c.args.until.0 c.requires.works.2 c.advance.new.nodes c.in_ok-places.ensures.through.each c.in_ok-places.ensures.kept
+pub post_beside-result-requires-clause-known : goal.post_beside-result-requires-clause-known
+post_beside-result-requires-clause-known g c κs within = posted_known _ c.args.until.0 c.requires.works.2 c.advance.new.nodes c.in-Ok.ensures.through.each c.in-Ok.ensures.kept
 
-pub post_all-requires-clause-places : goal.post_all-requires-clause-places
-post_all-requires-clause-places g c =
-    subst (λ (ps : List ℕ). ArePlaces (length c.advance.new.nodes) ps) (sym c.as_slice-2.ensures.value) c.in_ok-places.ensures.through.placed
+pub post_beside-result-requires-clause-places : goal.post_beside-result-requires-clause-places
+post_beside-result-requires-clause-places g c κs within =
+    subst (λ (ps : List ℕ). ArePlaces (length c.advance.new.nodes) ps) (sym c.as_slice-2.ensures.value) c.in-Ok.ensures.through.placed
 
-pub post_all-requires-clause-others : goal.post_all-requires-clause-others
-post_all-requires-clause-others g c =
+pub post_beside-result-requires-clause-others : goal.post_beside-result-requires-clause-others
+post_beside-result-requires-clause-others g c κs within =
     subst (λ (ps : List ℕ). AreKnownElsewhere (λ v. v.sendings) c.advance.new.nodes c.args.posted.now ps) (sym c.as_slice-2.ensures.value)
-    (posted_elsewhere _ c.args.until.0 c.requires.works.2 c.advance.new.nodes c.in_ok-places.ensures.through.each c.in_ok-places.ensures.kept _ c.in_ok-places.ensures.through.others)
+    (posted_elsewhere _ c.args.until.0 c.requires.works.2 c.advance.new.nodes c.in-Ok.ensures.through.each c.in-Ok.ensures.kept _ c.in-Ok.ensures.through.others)
 
-pub post_all-requires-clause-postable : goal.post_all-requires-clause-postable
-post_all-requires-clause-postable g c = postable _ c.args.until.0 c.requires.works.2 c.advance.new.nodes c.in_ok-places.ensures.through.each c.in_ok-places.ensures.kept
+pub post_beside-result-requires-clause-postable : goal.post_beside-result-requires-clause-postable
+post_beside-result-requires-clause-postable g c κs within = postable _ c.args.until.0 c.requires.works.2 c.advance.new.nodes c.in-Ok.ensures.through.each c.in-Ok.ensures.kept
 
-pub returns-in_err-places-clause-kept : goal.returns-in_err-places-clause-kept
-returns-in_err-places-clause-kept g c = told_kept c.args.nodes.now c.advance.new.nodes c.in_err-places.ensures.kept
+pub returns-in-Err-clause-kept : goal.returns-in-Err-clause-kept
+returns-in-Err-clause-kept g c = told_kept c.args.nodes.now c.advance.new.nodes c.in-Err.ensures.kept
 
-pub returns-in_err-events-clause-kept : goal.returns-in_err-events-clause-kept
-returns-in_err-events-clause-kept g c = told_kept c.args.nodes.now c.advance.new.nodes c.in_ok-places.ensures.kept
-
-pub returns-in_err-post_all-clause-kept : goal.returns-in_err-post_all-clause-kept
-returns-in_err-post_all-clause-kept g c =
-    told_more (told_by c.args.nodes.now) (told_by c.advance.new.nodes) (told_by c.post_all.new.nodes)
-    (told_kept c.args.nodes.now c.advance.new.nodes c.in_ok-places.ensures.kept)
-    (told_posted c.advance.new.nodes c.post_all.new.nodes c.in_err-post_all.ensures.keeps)
+pub returns-in-Err-gather-clause-kept : goal.returns-in-Err-gather-clause-kept
+returns-in-Err-gather-clause-kept g c = told_kept c.args.nodes.now c.advance.new.nodes c.in-Ok.ensures.kept
 
 pub returns-clause-kept : goal.returns-clause-kept
 returns-clause-kept g c =
-    told_more (told_by c.args.nodes.now) (told_by c.advance.new.nodes) (told_by c.post_all.new.nodes)
-    (told_kept c.args.nodes.now c.advance.new.nodes c.in_ok-places.ensures.kept)
-    (told_posted c.advance.new.nodes c.post_all.new.nodes c.in_ok-post_all.ensures.keeps)
+    told_more (told_by c.args.nodes.now) (told_by c.advance.new.nodes) (told_by c.post_beside-result.new.nodes)
+    (told_kept c.args.nodes.now c.advance.new.nodes c.in-Ok.ensures.kept)
+    (told_posted c.advance.new.nodes c.post_beside-result.new.nodes c.post_beside-result.ensures.keeps)
 
-pub returns-clause-worked : goal.returns-clause-worked
-returns-clause-worked g c = record {
+pub returns-in-Ok-result-clause-kept : goal.returns-in-Ok-result-clause-kept
+returns-in-Ok-result-clause-kept g c =
+    told_more (told_by c.args.nodes.now) (told_by c.advance.new.nodes) (told_by c.post_beside-result.new.nodes)
+    (told_kept c.args.nodes.now c.advance.new.nodes c.in-Ok.ensures.kept)
+    (told_posted c.advance.new.nodes c.post_beside-result.new.nodes c.post_beside-result.ensures.keeps)
+
+pub returns-in-Ok-result-clause-worked : goal.returns-in-Ok-result-clause-worked
+returns-in-Ok-result-clause-worked g c = record {
   mids = c.advance.new.nodes;
-  through = c.in_ok-places.ensures.through.each;
-  kept = c.in_ok-places.ensures.kept;
-  told = c.in_ok-events.ensures.join;
-  mail = c.in_ok-post_all.ensures.got;
-  posting = c.in_ok-post_all.ensures.posted;
-  showing = c.in_ok-events.ensures.given;
+  through = c.in-Ok.ensures.through.each;
+  kept = c.in-Ok.ensures.kept;
+  told = c.in-Ok-gather.ensures.join;
+  mail = rw c.in-Ok-result.is at c.post_beside-result.ensures.got;
+  posting = rw c.in-Ok-result.is at c.post_beside-result.ensures.posted;
+  showing = c.in-Ok-gather.ensures.given;
 }

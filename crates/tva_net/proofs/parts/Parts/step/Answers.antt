@@ -15,29 +15,29 @@ give-requires-clause-room g c = (has_room (state_of c.args.self.now) c.requires.
 pub returns-in-Ok-Some-clause-sound : goal.returns-in-Ok-Some-clause-sound
 returns-in-Ok-Some-clause-sound g c =
     let events = c.in-Ok-Some.events in
-    let works = subst (λ (w : Works). WorksUpTo (work_of c.args.self.now.works) (Some events.items) (work_of w)) (sym c.give.ensures.works) (rw c.in-Ok-Some.field-0-is at c.in-Ok-Some.ensures.works) in
+    let works = subst (λ (w : Works). WorksUpTo (work_of c.args.self.now.works) (Some events.items) (work_of w)) (sym c.give.ensures.works) (rw c.in-Ok-Some.field-0-is at (rw c.in-Ok-Some.is at c.next_events-events.ensures.works)) in
     answer_sound (state_of c.args.self.now) (state_of c.give.new.self) events works c.give.ensures.limit c.give.result c.requires.sound c.in_default.is c.give.ensures.gives c.give.ensures.refuses
 
 pub returns-in-Ok-Some-clause-gives : goal.returns-in-Ok-Some-clause-gives
 returns-in-Ok-Some-clause-gives g c =
     let events = c.in-Ok-Some.events in
-    let works = subst (λ (w : Works). WorksUpTo (work_of c.args.self.now.works) (Some events.items) (work_of w)) (sym c.give.ensures.works) (rw c.in-Ok-Some.field-0-is at c.in-Ok-Some.ensures.works) in
+    let works = subst (λ (w : Works). WorksUpTo (work_of c.args.self.now.works) (Some events.items) (work_of w)) (sym c.give.ensures.works) (rw c.in-Ok-Some.field-0-is at (rw c.in-Ok-Some.is at c.next_events-events.ensures.works)) in
     answer_gives (state_of c.args.self.now) (state_of c.give.new.self) events works c.give.ensures.limit c.give.result c.give.ensures.gives
 
 pub returns-in-Ok-Some-clause-refuses : goal.returns-in-Ok-Some-clause-refuses
 returns-in-Ok-Some-clause-refuses g c =
     let events = c.in-Ok-Some.events in
-    let works = subst (λ (w : Works). WorksUpTo (work_of c.args.self.now.works) (Some events.items) (work_of w)) (sym c.give.ensures.works) (rw c.in-Ok-Some.field-0-is at c.in-Ok-Some.ensures.works) in
+    let works = subst (λ (w : Works). WorksUpTo (work_of c.args.self.now.works) (Some events.items) (work_of w)) (sym c.give.ensures.works) (rw c.in-Ok-Some.field-0-is at (rw c.in-Ok-Some.is at c.next_events-events.ensures.works)) in
     answer_refuses (state_of c.args.self.now) (state_of c.give.new.self) events works c.give.ensures.limit c.give.result c.give.ensures.refuses
 
 pub returns-in-Ok-None-clause-sound : goal.returns-in-Ok-None-clause-sound
 returns-in-Ok-None-clause-sound g c =
-    let works = rw c.in-Ok-None.field-0-is at c.in-Ok-None.ensures.works in
-    ended_sound (state_of c.args.self.now) (state_of (record { works = c.next_events.new.self; limit = c.args.self.now.limit; totals = c.args.self.now.totals; failed = None }))
+    let works = rw c.in-Ok-None.field-0-is at (rw c.in-Ok-None.is at c.next_events-events.ensures.works) in
+    ended_sound (state_of c.args.self.now) (state_of (record { works = c.next_events-events.new.self; limit = c.args.self.now.limit; totals = c.args.self.now.totals; failed = None }))
     c.requires.sound c.in_default.is works refl refl refl
 
 pub returns-in-Ok-None-clause-gives : goal.returns-in-Ok-None-clause-gives
 returns-in-Ok-None-clause-gives g c = λ config rows windows told h.
-    let works = rw c.in-Ok-None.field-0-is at c.in-Ok-None.ensures.works in
-    has_ended config rows windows told (state_of c.args.self.now) (state_of (record { works = c.next_events.new.self; limit = c.args.self.now.limit; totals = c.args.self.now.totals; failed = None }))
+    let works = rw c.in-Ok-None.field-0-is at (rw c.in-Ok-None.is at c.next_events-events.ensures.works) in
+    has_ended config rows windows told (state_of c.args.self.now) (state_of (record { works = c.next_events-events.new.self; limit = c.args.self.now.limit; totals = c.args.self.now.totals; failed = None }))
     h works refl refl refl

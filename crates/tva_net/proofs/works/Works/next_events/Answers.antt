@@ -1,45 +1,37 @@
-use Rattle.std.proofs.Common.{rules, ◌≡◌, ◌<◌, List, [], length, arith}
+use Rattle.std.proofs.Common.{rules, ◌≡◌, ◌<◌, List, length, arith}
 use Rattle.tva_base.specs.declared.event.Event.{Event}
 use Rattle.tva_net.specs.Nets.{told_by, work_of}
 use Rattle.tva_net.proofs.Lists.{nothing_in}
-use Rattle.tva_net.proofs.Ends.{can_still, passes_none, passes_one, passes_to_none, passes_to_some, told_more, told_same}
+use Rattle.tva_net.proofs.Ends.{can_still, first_then, passes_none, passes_one, passes_to_none, passes_to_some, told_more}
 use Rattle.tva_net.proofs.works.Works.next_events.Goals as goal
 
-pub loop-events-init : goal.loop-events-init
-loop-events-init g c = record { can = c.requires.works; noted = c.requires.noted; passes = passes_none (work_of c.args.self.now); kept = told_same c.args.self.now.nodes.items }
+pub later_events-requires-clause-works : goal.later_events-requires-clause-works
+later_events-requires-clause-works g c κs within =
+    can_still (work_of c.args.self.now) (work_of c.work_next-first.new.self) c.in-Ok-Some.events.items c.requires.works
+    (rw c.in-Ok-Some.field-0-is at (rw c.in-Ok-Some.is at c.work_next-first.ensures.works))
 
-pub returns-in_err-events-clause-kept : goal.returns-in_err-events-clause-kept
-returns-in_err-events-clause-kept g c =
-    told_more (told_by c.args.self.now.nodes.items) (told_by c.loop-events.self.nodes.items) (told_by c.work_next.new.self.nodes.items)
-    c.loop-events.invariant.kept c.in_err-events.ensures.kept
+pub returns-then-is_empty-clause-works : goal.returns-then-is_empty-clause-works
+returns-then-is_empty-clause-works g c =
+    let w = work_of c.args.self.now in
+    let list : List Event = c.in-Ok-Some.events.items in
+    let zero : length list ≡ 0 = grind (arith, rules, c.is_empty.ensures, c.if-is_empty.true) in
+    first_then w (work_of c.work_next-first.new.self) (work_of c.later_events.new.self) c.later_events.result
+    (passes_one w w (work_of c.work_next-first.new.self) list (nothing_in list zero) (passes_none w) (rw c.in-Ok-Some.field-0-is at (rw c.in-Ok-Some.is at c.work_next-first.ensures.works)))
+    c.later_events.ensures.works
 
-pub returns-then-not-is_empty-clause-works : goal.returns-then-not-is_empty-clause-works
-returns-then-not-is_empty-clause-works g c =
-    let list : List Event = c.in-Some.events.items in
-    let some : 0 < length list = grind (arith, rules, c.is_empty.ensures, c.if-not-is_empty.true) in
-    passes_to_some (work_of c.args.self.now) (work_of c.loop-events.self) (work_of c.work_next.new.self) list some c.loop-events.invariant.passes
-    (rw c.in-Some.is at c.in_ok-events.ensures.works)
+pub returns-then-is_empty-clause-kept : goal.returns-then-is_empty-clause-kept
+returns-then-is_empty-clause-kept g c =
+    told_more (told_by c.args.self.now.nodes.items) (told_by c.work_next-first.new.self.nodes.items) (told_by c.later_events.new.self.nodes.items)
+    c.work_next-first.ensures.kept c.later_events.ensures.kept
 
-pub returns-then-not-is_empty-clause-kept : goal.returns-then-not-is_empty-clause-kept
-returns-then-not-is_empty-clause-kept g c =
-    told_more (told_by c.args.self.now.nodes.items) (told_by c.loop-events.self.nodes.items) (told_by c.work_next.new.self.nodes.items)
-    c.loop-events.invariant.kept c.in_ok-events.ensures.kept
+pub returns-else-is_empty-clause-works : goal.returns-else-is_empty-clause-works
+returns-else-is_empty-clause-works g c =
+    let w = work_of c.args.self.now in
+    let list : List Event = c.in-Ok-Some.events.items in
+    let some : 0 < length list = grind (arith, rules, c.is_empty.ensures, c.if-is_empty.false) in
+    passes_to_some w w (work_of c.work_next-first.new.self) list some (passes_none w) (rw c.in-Ok-Some.field-0-is at (rw c.in-Ok-Some.is at c.work_next-first.ensures.works))
 
-pub loop-events-preserved : goal.loop-events-preserved
-loop-events-preserved g c =
-    let list : List Event = c.in-Some.events.items in
-    let zero : length list ≡ 0 = grind (arith, rules, c.is_empty.ensures, c.if-not-is_empty.false) in
-    let empty : list ≡ [] = nothing_in list zero in
-    let on = rw c.in-Some.is at c.in_ok-events.ensures.works in
-    record {
-      noted = c.in_ok-events.ensures.noted;
-      can = can_still (work_of c.loop-events.self) (work_of c.work_next.new.self) list c.loop-events.invariant.can on;
-      passes = passes_one (work_of c.args.self.now) (work_of c.loop-events.self) (work_of c.work_next.new.self) list empty c.loop-events.invariant.passes on;
-      kept = told_more (told_by c.args.self.now.nodes.items) (told_by c.loop-events.self.nodes.items) (told_by c.work_next.new.self.nodes.items)
-          c.loop-events.invariant.kept c.in_ok-events.ensures.kept;
-    }
-
-pub returns-clause-works : goal.returns-clause-works
-returns-clause-works g c =
-    passes_to_none (work_of c.args.self.now) (work_of c.loop-events.self) (work_of c.work_next.new.self) c.loop-events.invariant.passes
-    (rw c.in_default.is at c.in_ok-events.ensures.works)
+pub returns-in-Ok-None-clause-works : goal.returns-in-Ok-None-clause-works
+returns-in-Ok-None-clause-works g c =
+    let w = work_of c.args.self.now in
+    passes_to_none w w (work_of c.work_next-first.new.self) (passes_none w) (rw c.in-Ok-None.field-0-is at (rw c.in-Ok-None.is at c.work_next-first.ensures.works))

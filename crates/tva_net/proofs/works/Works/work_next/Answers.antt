@@ -25,8 +25,8 @@ overflow_add-start g c =
     let room = room_in_time (work_of c.args.self.now) c.in-Some.start c.requires.works first in
     omega (arith, room)
 
-pub work_nodes-requires-clause-works : goal.work_nodes-requires-clause-works
-work_nodes-requires-clause-works g c κs within =
+pub work_nodes-worked-requires-clause-works : goal.work_nodes-worked-requires-clause-works
+work_nodes-worked-requires-clause-works g c κs within =
     let w = work_of c.args.self.now in
     let first : IsFirstTime c.args.self.now.nodes.items (Some c.in-Some.start) =
     subst (λ (vs : List NodeState). IsFirstTime vs (Some c.in-Some.start)) c.as_slice.ensures.value (subst (λ (o : Option Time). IsFirstTime c.as_slice.result.now o) c.in-Some.is c.first_time.ensures) in
@@ -34,17 +34,17 @@ work_nodes-requires-clause-works g c κs within =
     rw (c.as_slice-2.ensures.value, c.as_mut_slice.ensures.value, c.as_mut_slice-2.ensures.value, c.as_mut_slice-3.ensures.value)
     (w.span, w.worked_to, ends_window w c.in-Some.start c.min-until.result c.requires.works first ends)
 
-pub returns-clause-works : goal.returns-clause-works
-returns-clause-works g c =
+pub returns-in-Ok-clause-works : goal.returns-in-Ok-clause-works
+returns-in-Ok-clause-works g c =
     let first : IsFirstTime c.args.self.now.nodes.items (Some c.in-Some.start) =
     subst (λ (vs : List NodeState). IsFirstTime vs (Some c.in-Some.start)) c.as_slice.ensures.value (subst (λ (o : Option Time). IsFirstTime c.as_slice.result.now o) c.in-Some.is c.first_time.ensures) in
     let ends : c.min-until.result ≡ min (c.in-Some.start.0 + c.args.self.now.span) (c.args.self.now.horizon.0 + 1) = grind (arith, rules, c.min-until.ensures) in
-    let worked = rw (c.as_slice-2.ensures.value, c.as_mut_slice.ensures.value, c.as_mut_slice-2.ensures.value, c.as_mut_slice-3.ensures.value) at c.in_ok-events.ensures.worked in
-    window_works_as (work_of c.args.self.now) c.in-Some.start c.min-until.result c.in_ok-events.events.items c.work_nodes.new.posted c.work_nodes.new.shown
-    _ _ c.work_nodes.new.nodes _ c.requires.works first ends worked
-    (with_items_is c.args.self.now.posted c.work_nodes.new.posted (c.work_nodes.auto.posted ∙ c.as_mut_slice.ensures.len))
-    (with_items_is c.args.self.now.shown c.work_nodes.new.shown (c.work_nodes.auto.shown ∙ c.as_mut_slice-2.ensures.len))
-    (with_items_is c.args.self.now.nodes c.work_nodes.new.nodes (c.work_nodes.auto.nodes ∙ c.as_mut_slice-3.ensures.len))
+    let worked = rw (c.as_slice-2.ensures.value, c.as_mut_slice.ensures.value, c.as_mut_slice-2.ensures.value, c.as_mut_slice-3.ensures.value) at (rw c.in-Ok.is at c.work_nodes-worked.ensures.worked) in
+    window_works_as (work_of c.args.self.now) c.in-Some.start c.min-until.result c.in-Ok.events.items c.work_nodes-worked.new.posted c.work_nodes-worked.new.shown
+    _ _ c.work_nodes-worked.new.nodes _ c.requires.works first ends worked
+    (with_items_is c.args.self.now.posted c.work_nodes-worked.new.posted (c.work_nodes-worked.auto.posted ∙ c.as_mut_slice.ensures.len))
+    (with_items_is c.args.self.now.shown c.work_nodes-worked.new.shown (c.work_nodes-worked.auto.shown ∙ c.as_mut_slice-2.ensures.len))
+    (with_items_is c.args.self.now.nodes c.work_nodes-worked.new.nodes (c.work_nodes-worked.auto.nodes ∙ c.as_mut_slice-3.ensures.len))
 
 pub first_time-requires-clause-noted : goal.first_time-requires-clause-noted
 first_time-requires-clause-noted g c = subst (AreNoted c.args.self.now.times) (sym c.as_slice.ensures.value) c.requires.noted

@@ -4,7 +4,7 @@ use Rattle.tva_node.specs.States.{BeginsWith}
 use Rattle.tva_net.specs.Nets.{told_by, work_of}
 use Rattle.tva_net.specs.Times.{AreNoted}
 use Rattle.tva_net.specs.Work.{AddsNothing, CanWork, OfEachRun}
-use Rattle.tva_net.proofs.works.Works.next_events.Given as goal
+use Rattle.tva_net.proofs.works.Works.later_events.Given as goal
 
 abbrev pub invariant-loop-events : goal.invariant-loop-events
 invariant-loop-events g l = record {
