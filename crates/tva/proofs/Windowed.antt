@@ -18,8 +18,10 @@ use Rattle.tva_run.specs.Report.{AreEventsTo, IsReport, lines_of, report_of, tot
 use Rattle.tva_run.specs.Windows.{Window, given}
 use Rattle.tva_run.proofs.Names.{events_named}
 use Rattle.tva_net.specs.Nets.{NetState, StandsFor}
-use Rattle.tva_net.specs.Steps.{GoesOn, HasEnded, PassesLimit}
-use Rattle.tva.specs.Parts.{IsReplayed, IsWritten, WroteCutShort}
+use Rattle.tva_net.specs.declared.kinds.NetError.{NetError}
+use Rattle.tva_net.specs.declared.kinds.NetError.TheVariants as error
+use Rattle.tva_net.specs.Steps.{GoesOn, HasEnded, PassesLimit, Refuses}
+use Rattle.tva.specs.Parts.{IsReplayed, IsWritten, WroteCutShort, ended_by}
 use Rattle.tva.specs.Replayed.{AreLines, HasReport, IsBegun, IsCutShort, all_of}
 use Rattle.tva.specs.declared.status.Status as status
 use Rattle.tva.specs.declared.status.Status.TheVariants.{Done, Usage, ReadFault, WriteFault, TooLarge, BadConfig, BadTrace, EventLimit, OutOfMemory}
@@ -44,9 +46,6 @@ module _ (plan : Config) (rows : List Row) where
     pub stands : StandsFor plan rows windows told net
     pub written : now ≡ append_known old (lines_of plan told)
 
-  pub shows_nothing : (old : Option (List ℕ)) (net : NetState) → StandsFor plan rows [] [] net → IsShown old old net
-  shows_nothing old net s = record { windows = []; told = []; stands = s; written = sym (append_known-nil old) }
-
   -- what the network gave is the run's
   events_to : (windows : List Window) (told : List Event) (net : NetState) → StandsFor plan rows windows told net → AreEventsTo plan rows net.work.worked_to told
   events_to windows told net s = record { logs = s.work.logs; run = s.work.run; events = s.work.events }
@@ -54,23 +53,38 @@ module _ (plan : Config) (rows : List Row) where
   lines_more : (told list : List Event) → lines_of plan (told ++ list) ≡ lines_of plan told ++ lines_of plan list
   lines_more told list = flat_map-append (line_of plan) told list
 
-  -- the nodes and links of a window's events are the configuration's
-  pub window_named : (windows : List Window) (told list : List Event) (net : NetState) → GoesOn plan rows windows told list net → All (HasEvent plan) list
-  window_named windows told list net g =
-      All-right (HasEvent plan) told list
-      (events_named plan rows net.work.worked_to (told ++ list) g.stands.work.valid (events_to (windows ++ g.more) (told ++ list) net g.stands))
+  -- the network stands for the run, and the lines of what it gave are written but for these events, the last ones
+  pub record IsBehind (old now : Option (List ℕ)) (list : List Event) (net : NetState) : Type 0 where
+    pub windows : List Window
+    pub told : List Event
+    pub stands : StandsFor plan rows windows (told ++ list) net
+    pub written : now ≡ append_known old (lines_of plan told)
 
-  -- a window is written whole
-  pub shows_more : (old mid after : Option (List ℕ)) (before net : NetState) (list : List Event) (shown : IsShown old mid before)
-      → GoesOn plan rows shown.windows shown.told list net → after ≡ append_known mid (lines_of plan list) → IsShown old after net
-  shows_more old mid after before net list shown g w = record {
-    windows = shown.windows ++ g.more;
-    told = shown.told ++ list;
-    stands = g.stands;
+  pub behind_nothing : (old : Option (List ℕ)) (net : NetState) → StandsFor plan rows [] [] net → IsBehind old old [] net
+  behind_nothing old net s = record { windows = []; told = []; stands = s; written = sym (append_known-nil old) }
+
+  -- a window more is given
+  pub behind_more : (old now : Option (List ℕ)) (before net : NetState) (list : List Event) (shown : IsShown old now before)
+      → GoesOn plan rows shown.windows shown.told list net → IsBehind old now list net
+  behind_more old now before net list shown g = record { windows = shown.windows ++ g.more; told = shown.told; stands = g.stands; written = shown.written }
+
+  -- the nodes and links of its events are the configuration's
+  pub behind_named : (old now : Option (List ℕ)) (list : List Event) (net : NetState) → IsBehind old now list net → All (HasEvent plan) list
+  behind_named old now list net b =
+      All-right (HasEvent plan) b.told list
+      (events_named plan rows net.work.worked_to (b.told ++ list) b.stands.work.valid (events_to b.windows (b.told ++ list) net b.stands))
+
+  -- its lines are written whole
+  pub shows_more : (old mid after : Option (List ℕ)) (list : List Event) (net : NetState) (b : IsBehind old mid list net)
+      → after ≡ append_known mid (lines_of plan list) → IsShown old after net
+  shows_more old mid after list net b w = record {
+    windows = b.windows;
+    told = b.told ++ list;
+    stands = b.stands;
     written =
-        w ∙ ap (λ (known : Option (List ℕ)). append_known known (lines_of plan list)) shown.written
-        ∙ append_known-append_known old (lines_of plan shown.told) (lines_of plan list)
-        ∙ ap (append_known old) (sym (lines_more shown.told list));
+        w ∙ ap (λ (known : Option (List ℕ)). append_known known (lines_of plan list)) b.written
+        ∙ append_known-append_known old (lines_of plan b.told) (lines_of plan list)
+        ∙ ap (append_known old) (sym (lines_more b.told list));
   }
 
   -- how writing the first bytes of what is begun ends a replay
@@ -87,17 +101,16 @@ module _ (plan : Config) (rows : List Row) where
   begun_ends old now rose text (EventLimit m) b done w = absurd w
 
   -- a window isn't written whole
-  pub stops_in_window : (old mid after : Option (List ℕ)) (first between now : ℕ) (before net : NetState) (list : List Event) (s : status.Status) (shown : IsShown old mid before)
-      → GoesOn plan rows shown.windows shown.told list net → first ≤ between → (s ≡ Done → ⊥) → IsWritten mid after (Rose between now) (lines_of plan list) s
-      → IsReplayed plan rows old after (Rose first now) s
-  stops_in_window old mid after first between now before net list s shown g later not_done w =
-      let both = written_both old mid after first between now (lines_of plan shown.told) (lines_of plan list) s shown.written later w in
-      let text : List ℕ = lines_of plan shown.told ++ lines_of plan list in
+  pub stops_in_window : (old mid after : Option (List ℕ)) (first between now : ℕ) (list : List Event) (net : NetState) (s : status.Status) (b : IsBehind old mid list net)
+      → first ≤ between → (s ≡ Done → ⊥) → IsWritten mid after (Rose between now) (lines_of plan list) s → IsReplayed plan rows old after (Rose first now) s
+  stops_in_window old mid after first between now list net s b later not_done w =
+      let both = written_both old mid after first between now (lines_of plan b.told) (lines_of plan list) s b.written later w in
+      let text : List ℕ = lines_of plan b.told ++ lines_of plan list in
       let begun : AreLines plan rows text = record {
         until = net.work.worked_to;
-        told = shown.told ++ list;
-        events = events_to (shown.windows ++ g.more) (shown.told ++ list) net g.stands;
-        lines = sym (lines_more shown.told list);
+        told = b.told ++ list;
+        events = events_to b.windows (b.told ++ list) net b.stands;
+        lines = sym (lines_more b.told list);
       } in
       begun_ends old after (Rose first now) text s (inr begun) (λ e. absurd (not_done e)) both
 
@@ -121,7 +134,7 @@ module _ (plan : Config) (rows : List Row) where
       both
 
   -- memory is wanting between windows
-  pub ends_between : (old mid : Option (List ℕ)) (before : NetState) (rose : Type 0) → IsShown old mid before → IsReplayed plan rows old mid rose OutOfMemory
+  ends_between : (old mid : Option (List ℕ)) (before : NetState) (rose : Type 0) → IsShown old mid before → IsReplayed plan rows old mid rose OutOfMemory
   ends_between old mid before rose shown =
       let text : List ℕ = lines_of plan shown.told in
       let lines : AreLines plan rows text =
@@ -129,7 +142,7 @@ module _ (plan : Config) (rows : List Row) where
       inr (text, inr lines, (length text, shown.written ∙ ap (append_known old) (sym (take-length text))))
 
   -- a window passes the number of events
-  pub ends_at_limit : (old mid : Option (List ℕ)) (before net : NetState) (most : ℕ) (shown : IsShown old mid before) → most ≡ plan.max_events
+  ends_at_limit : (old mid : Option (List ℕ)) (before net : NetState) (most : ℕ) (shown : IsShown old mid before) → most ≡ plan.max_events
       → PassesLimit plan rows shown.windows shown.told net → WroteCutShort plan rows most old mid
   ends_at_limit old mid before net most shown same p =
       let told = shown.told in
@@ -150,6 +163,12 @@ module _ (plan : Config) (rows : List Row) where
         lines = refl;
       } in
       (same, (text, short, shown.written ∙ ap (λ (es : List Event). append_known old (lines_of plan es)) held))
+
+  -- the network comes to an error
+  pub ends_refused : (old mid : Option (List ℕ)) (before net : NetState) (rose : Type 0) (e : NetError) (shown : IsShown old mid before)
+      → Refuses plan rows shown.windows shown.told e before net → IsReplayed plan rows old mid rose (ended_by e)
+  ends_refused old mid before net rose (error.EventLimit most) shown r = ends_at_limit old mid before net most shown r.0 r.2
+  ends_refused old mid before net rose error.OutOfMemory shown r = ends_between old mid before rose shown
 
   -- each window that is given leaves room for fewer events
   pub fewer_left : (windows : List Window) (told list : List Event) (before net : NetState) → StandsFor plan rows windows told before

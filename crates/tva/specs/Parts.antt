@@ -6,6 +6,8 @@ use Rattle.tva_outside.specs.Held.{Held}
 use Rattle.tva_config.specs.declared.config.Config.{Config}
 use Rattle.tva_trace.specs.declared.rows.Row.{Row}
 use Rattle.tva_trace.specs.Meaning.{AreRows}
+use Rattle.tva_net.specs.declared.kinds.NetError.{NetError}
+use Rattle.tva_net.specs.declared.kinds.NetError.TheVariants as error
 use Rattle.tva.specs.Expected.{Found, lacks, exceeds, misconfigured, mistraced}
 use Rattle.tva.specs.Replayed.{HasReport, IsBegun, IsCutShort}
 use Rattle.tva.specs.declared.status.Status as status
@@ -56,3 +58,8 @@ IsReplayed plan rows old new rose WriteFault = rose × WroteBegun plan rows old 
 IsReplayed plan rows old new rose (EventLimit most) = WroteCutShort plan rows most old new
 IsReplayed plan rows old new rose OutOfMemory = (new ≡ old) ⊎ WroteBegun plan rows old new
 IsReplayed plan rows old new rose _ = ⊥
+
+-- how it ends where the network comes to an error
+abbrev pub ended_by : NetError → status.Status
+ended_by (error.EventLimit most) = EventLimit most
+ended_by error.OutOfMemory = OutOfMemory

@@ -1,5 +1,5 @@
 // The lines of a report.
-ghost use Rattle.std.specs.Prelude.{◌≡◌, ◌≤◌, All, OnOk};
+ghost use Rattle.std.specs.Prelude.{◌≡◌, ◌≤◌, ℕ, List, All, OnOk};
 ghost use Rattle.tva_outside.specs.Faults.{Rose};
 ghost use Rattle.tva_trace.specs.Lines.{HasEvent, LinksJoinNodes, summary_of};
 ghost use Rattle.tva_run.specs.Report.{lines_of};
@@ -14,26 +14,7 @@ use tva_config::Config;
 use tva_outside::Sink;
 use tva_trace::{line_text, summary_text};
 
-/// Writes the lines of the events, which are gathered in `text` first.
-pub fn send_lines<W: Sink>(
-    config: &Config,
-    events: &[Event],
-    text: &mut Vec<u8>,
-    out: &mut W,
-) -> Status
-    requires ends { LinksJoinNodes config.now }
-    requires known { All (HasEvent config.now) events.now }
-    ensures never_falls { W.faults out.old ≤ W.faults out.new }
-    ensures answer { IsWritten (W.written out.old) (W.written out.new) (Rose (W.faults out.old) (W.faults out.new))
-        (lines_of config.now events.now) result }
-{
-    match put_lines(config, events, text) {
-        Ok(()) => send(out, text.as_slice()),
-        Err(_) => Status::OutOfMemory,
-    }
-}
-
-// Leaves the lines of the events in `text`, and nothing else.
+/// Leaves the lines of the events in `text`, and nothing else.
 pub fn put_lines(config: &Config, events: &[Event], text: &mut Vec<u8>) -> Result<(), AllocError>
     requires ends { LinksJoinNodes config.now }
     requires known { All (HasEvent config.now) events.now }
@@ -46,6 +27,19 @@ pub fn put_lines(config: &Config, events: &[Event], text: &mut Vec<u8>) -> Resul
         text.extend_from_slice(line.as_bytes())?;
     }
     Ok(())
+}
+
+/// Writes the lines in `text`, where there was memory to put them there.
+#[tactic(auto, using(crate::proofs::Replays::cut_of_nothing))]
+pub fn send_lines<W: Sink>(put: Result<(), AllocError>, text: &[u8], out: &mut W) -> Status
+    ensures never_falls { W.faults out.old ≤ W.faults out.new }
+    ensures answer { (lines : List ℕ) → OnOk put (text.now ≡ lines)
+        → IsWritten (W.written out.old) (W.written out.new) (Rose (W.faults out.old) (W.faults out.new)) lines result }
+{
+    match put {
+        Ok(()) => send(out, text),
+        Err(_) => Status::OutOfMemory,
+    }
 }
 
 /// Writes the total line.

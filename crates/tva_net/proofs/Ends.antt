@@ -196,8 +196,11 @@ nothing_first old mid new None a b = λ config rows windows told h.
     let n = a config rows windows told h in
     let m = b config rows (windows ++ n.more) told n.works in
     end_then config rows windows told mid new n m.0 m.1
-nothing_first old mid new (Some list) a b = (b.0, λ config rows windows told h. let n = a config rows windows told h in
-    windows_then config rows windows told mid new list n (b.1 config rows (windows ++ n.more) told n.works))
+nothing_first old mid new (Some list) a b = (
+  b.0,
+  λ config rows windows told h. let n = a config rows windows told h in
+      windows_then config rows windows told mid new list n (b.1 config rows (windows ++ n.more) told n.works),
+)
 
 pub first_then : {E : Type 0} (old mid new : WorkState) (r : Result (Option (Vec Event Global)) E) → OfEachRun (λ config rows windows told. AddsNothing config rows windows told mid) old
     → IfOk r (λ some. WorksUpTo mid (option_map (λ events. events.items) some) new) → IfOk r (λ some. WorksUpTo old (option_map (λ events. events.items) some) new)

@@ -213,7 +213,17 @@ fn work_nodes<R: Threads + Sync, G: Gate, F: FnMut() -> A + Send, A: Send>(
         Err(error) => return (Err(error), other()),
     };
     let is_much = events.len() > HANDFUL;
-    let (result, done) = post_beside(rt, nodes, times, horizon, links, places.as_slice(), posted, is_much, other);
+    let (result, done) = post_beside(
+        rt,
+        nodes,
+        times,
+        horizon,
+        links,
+        places.as_slice(),
+        posted,
+        is_much,
+        other,
+    );
     match result {
         Ok(()) => (Ok(events), done),
         Err(error) => (Err(error), done),
