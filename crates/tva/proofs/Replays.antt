@@ -6,8 +6,8 @@ use Rattle.std.specs.declared.option.Option.{Option}
 use Rattle.std.specs.Io.KnownBytes.{append_known}
 use Rattle.tva_outside.specs.Held.{Held}
 use Rattle.tva_base.specs.declared.event.Event.{Event}
-use Rattle.tva_config.specs.declared.config.Config.{Config}
-use Rattle.tva_config.specs.Valid.{IsConfig}
+use Rattle.tva_plan.specs.declared.config.Config.{Config}
+use Rattle.tva_plan.specs.Valid.{IsConfig}
 use Rattle.tva_trace.specs.declared.rows.Row.{Row}
 use Rattle.tva_trace.specs.Lines.{line_of, summary_of}
 use Rattle.tva_trace.specs.Meaning.{AreRows}

@@ -1,7 +1,7 @@
 -- The line of the command `check`.
 use Rattle.std.specs.Prelude.{ℕ, List, ◌++◌, codes, decimal}
-use Rattle.tva_config.specs.declared.config.Config.{Config}
-use Rattle.tva_config.specs.Counts.{node_count, link_count, route_count, slot_count}
+use Rattle.tva_plan.specs.declared.config.Config.{Config}
+use Rattle.tva_plan.specs.Counts.{node_count, link_count, route_count, slot_count}
 
 -- what a configuration holds: nodes, links, and the routes and slots of all routers together
 unfoldable pub check_line : Config → List ℕ

@@ -4,7 +4,7 @@ use Rattle.std.specs.Prelude.{Result, Ok, Err, None, Some, codes}
 use Rattle.std.specs.declared.option.Option.{Option}
 use Rattle.std.specs.Option.{option_map}
 use Rattle.tva_outside.specs.Held.{Held, bytes_at}
-use Rattle.tva_config.specs.declared.config.Config.{Config}
+use Rattle.tva_plan.specs.declared.config.Config.{Config}
 use Rattle.tva_config.specs.declared.fault.ConfigFault.{ConfigFault}
 use Rattle.tva_config.specs.Read.{read_of}
 use Rattle.tva_trace.specs.declared.rows.Row.{Row}

@@ -1,11 +1,11 @@
 // The line of the command `check`.
 ghost use Rattle.std.specs.Prelude.{◌≡◌, ◌≤◌, ◌+◌, ◌++◌, decimal, length};
-ghost use Rattle.tva_config.specs.Valid.{IsConfig};
+ghost use Rattle.tva_plan.specs.Valid.{IsConfig};
 ghost use Rattle.tva.specs.Check.{check_line};
 
 use arrayvec::ArrayString;
 use itoa::Buffer;
-use tva_config::{Config, link_count, node_count, route_count, slot_count};
+use tva_plan::{Config, link_count, node_count, route_count, slot_count};
 
 /// Leaves what the configuration holds in `line`, with its line feed and nothing else.
 #[tactic(auto, unfolding(crate::specs::Check::check_line))]

@@ -10,8 +10,8 @@ use crate::status::Status;
 use arrayvec::ArrayString;
 use std::alloc::AllocError;
 use tva_base::{Event, Totals};
-use tva_config::Config;
 use tva_outside::Sink;
+use tva_plan::Config;
 use tva_trace::{line_text, summary_text};
 
 /// Leaves the lines of the events in `text`, and nothing else.

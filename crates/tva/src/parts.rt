@@ -2,7 +2,7 @@
 ghost use Rattle.std.specs.Prelude.{◌≡◌, ◌≤◌, ◌^◌, ◌++◌, IfOk, IfErr, length};
 ghost use Rattle.tva_outside.specs.Faults.{Rose};
 ghost use Rattle.std.specs.Option.{option_map};
-ghost use Rattle.tva_config.specs.Valid.{IsConfig};
+ghost use Rattle.tva_plan.specs.Valid.{IsConfig};
 ghost use Rattle.tva_trace.specs.Valid.{AreTraceRows};
 ghost use Rattle.tva.specs.Expected.{file_at, plan_at, trace_at};
 ghost use Rattle.tva.specs.Parts.{AreRowsOf, IsFound, IsNotFound, IsWritten};
@@ -10,8 +10,9 @@ ghost use Rattle.tva.specs.Parts.{AreRowsOf, IsFound, IsNotFound, IsWritten};
 use crate::status::Status;
 use crate::{CONFIG_MAX, TRACE_MAX};
 use std::alloc::Global;
-use tva_config::{Config, ConfigError, read_config};
+use tva_config::{ConfigError, read_config};
 use tva_outside::{Loaded, Sent, Shelf, Sink, write_all};
+use tva_plan::Config;
 use tva_trace::{Row, TraceError, read_trace};
 
 /// The bytes that are held under a name, at most `max` of them.

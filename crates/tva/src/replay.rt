@@ -2,8 +2,8 @@
 ghost use Rattle.std.specs.Prelude.{◌≡◌, ◌≤◌, List, All, IfErr, IfOk, OnOk};
 ghost use Rattle.tva_outside.specs.Faults.{Rose};
 ghost use Rattle.tva_base.specs.declared.event.Event.{Event};
-ghost use Rattle.tva_config.specs.declared.config.Config.{Config};
-ghost use Rattle.tva_config.specs.Valid.{IsConfig};
+ghost use Rattle.tva_plan.specs.declared.config.Config.{Config};
+ghost use Rattle.tva_plan.specs.Valid.{IsConfig};
 ghost use Rattle.tva_trace.specs.declared.rows.Row.{Row};
 ghost use Rattle.tva_trace.specs.Lines.{HasEvent, LinksJoinNodes};
 ghost use Rattle.tva_trace.specs.Valid.{AreTraceRows};
@@ -18,9 +18,9 @@ use crate::status::Status;
 use std::alloc::{AllocError, Global};
 use std::thread::Threads;
 use tva_base::Event;
-use tva_config::Config;
 use tva_net::{Net, NetError, Window};
 use tva_outside::{Gate, Sink};
+use tva_plan::Config;
 use tva_trace::Row;
 
 /// Writes the report of the rows under the plan: the lines of each window while the next is worked,

@@ -19,7 +19,8 @@ use Rattle.tva_config.specs.Keys.{only_listed, required, optional}
 use Rattle.tva_config.specs.Values as value
 use Rattle.tva_config.specs.Entries.{router_keys, router_of, host_keys, policy_plan_of, host_of, link_keys, row, class_limits, behind_a_tag, inner_of, limits_of, link_of, route_keys, route_of}
 use Rattle.tva_config.specs.Tables.{entry_step, entries_of}
-use Rattle.tva_config.specs.Valid.{IsName, IsRouterEntry, IsHostEntry, IsLinkEntry, IsRouteEntry}
+use Rattle.tva_config.proofs.Ranges.{IsRouterEntry, IsHostEntry, IsLinkEntry, IsRouteEntry}
+use Rattle.tva_plan.specs.Valid.{IsName}
 use Rattle.tva_config.proofs.KindsValid.{IsWithin, required_valid, optional_valid, number_valid, name_valid, prefix_kind_valid, nonce_valid}
 use Rattle.tva_config.proofs.Turns.{when_gave, gave_one, in_turn_keeps, all_push}
 

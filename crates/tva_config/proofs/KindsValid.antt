@@ -12,8 +12,9 @@ use Rattle.tva_base.specs.Addresses.{prefix_of}
 use Rattle.tva_base.specs.Plan.{IsPrefix}
 use Rattle.tva_config.specs.declared.place.Place.{Place}
 use Rattle.tva_config.specs.Keys.{value_or_fault, required_at, required, optional_at, optional}
-use Rattle.tva_config.specs.Values.{within, number, is_name_byte, name_of, name, prefix, decoded, number_of_bytes, nonce_of, nonce}
-use Rattle.tva_config.specs.Valid.{IsName}
+use Rattle.tva_config.specs.Values.{within, number, name_of, name, prefix, decoded, number_of_bytes, nonce_of, nonce}
+use Rattle.tva_plan.specs.Names.{is_name_byte}
+use Rattle.tva_plan.specs.Valid.{IsName}
 use Rattle.tva_config.proofs.Prefixes.{prefix_valid}
 
 -- what is known of each value of a kind is known of what a key gives

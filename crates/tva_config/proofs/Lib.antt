@@ -8,15 +8,14 @@ pub mod Items
 pub mod KindsValid
 pub mod Listed
 pub mod Longer
-pub mod Named
 pub mod Numbered
 pub mod PlanValid
 pub mod Positions
 pub mod Prefixes
+pub mod Ranges
 pub mod ReadValid
 pub mod Seen
 pub mod StepsKeep
 pub mod StepsLinks
 pub mod StepsRoutes
 pub mod Turns
-pub mod Wired

@@ -3,7 +3,7 @@ use Rattle.std.proofs.Common.{◌≡◌, ◌∙◌, ◌==◌, ◌<◌, ◌≤◌
 use Rattle.std.specs.List.{cons_option, filter_map}
 use Rattle.std.proofs.lemmas.Bool.Decides.{nat_tests}
 use Rattle.std.proofs.lemmas.List.{drop_more, drop_all}
-use Rattle.tva_config.specs.Links.{picked}
+use Rattle.tva_plan.specs.Wiring.{picked}
 
 -- one more element is found, and the rest is one shorter
 pub longer : {B : Type 0} (found now : List B) (y : B) (before rest all : List B)

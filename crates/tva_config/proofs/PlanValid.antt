@@ -11,9 +11,10 @@ use Rattle.tva_base.specs.Plan.{AreLinkLimits, AreDistinct, IsPrefix, IsRouterPl
 use Rattle.tva_config.specs.declared.entries.RouterEntry.{RouterEntry}
 use Rattle.tva_config.specs.declared.entries.HostEntry.{HostEntry}
 use Rattle.tva_config.specs.declared.entries.OwnedRoute.{OwnedRoute}
-use Rattle.tva_config.specs.Links.{picked}
-use Rattle.tva_config.specs.Read.{tagged_to, incoming_of, limited_from, outgoing_of, if_owned, routes_at, router_plan, host_plan}
-use Rattle.tva_config.specs.Valid.{IsRouterEntry, IsHostEntry, IsLinkPlan}
+use Rattle.tva_plan.specs.Wiring.{picked, tagged_to, incoming_of, limited_from, outgoing_of}
+use Rattle.tva_config.specs.Read.{if_owned, routes_at, router_plan, host_plan}
+use Rattle.tva_config.proofs.Ranges.{IsRouterEntry, IsHostEntry}
+use Rattle.tva_plan.specs.Valid.{IsLinkPlan}
 use Rattle.tva_config.proofs.Turns.{all_cons}
 use Rattle.tva_config.proofs.StepsRoutes.{contains_cons, IsOwned, key_of, AreRoutes}
 

@@ -4,7 +4,7 @@ use Rattle.std.proofs.lemmas.Bool.{ltb-false}
 use Rattle.toml.specs.Data.{Members}
 use Rattle.tva_base.specs.Plan.{AreDistinct}
 use Rattle.tva_base.specs.Versions.{IsVersion}
-use Rattle.tva_config.specs.declared.config.Config.{Config}
+use Rattle.tva_plan.specs.declared.config.Config.{Config}
 use Rattle.tva_config.specs.declared.fault.ConfigTable.TheVariants as table
 use Rattle.tva_config.specs.declared.fault.ConfigRule.TheVariants as rule
 use Rattle.tva_config.specs.declared.fault.ConfigError.{ConfigError}
@@ -17,7 +17,8 @@ use Rattle.tva_config.specs.Nodes.{node_names, node_of, names_of, addresses_of, 
 use Rattle.tva_config.specs.Links.{link_between, link_step, links_of, uplink_step, uplinks_of, rings_of}
 use Rattle.tva_config.specs.Routes.{route_step, routes_of}
 use Rattle.tva_config.specs.Read.{config_of, Joined, joined_of, linked_of, plan_of, members_read, document_of, document_read, read_of}
-use Rattle.tva_config.specs.Valid.{IsRouterEntry, IsHostEntry, IsLinkEntry, IsRouteEntry, IsConfig}
+use Rattle.tva_config.proofs.Ranges.{IsRouterEntry, IsHostEntry, IsLinkEntry, IsRouteEntry}
+use Rattle.tva_plan.specs.Valid.{IsConfig}
 use Rattle.tva_config.proofs.ConfigValid.{Passed, config_valid}
 use Rattle.tva_config.proofs.EntriesValid.{number_needed, number_or, router_valid, host_valid, link_valid, route_valid, entries_valid}
 use Rattle.tva_config.proofs.StepsKeep.{names_are, names_distinct, addresses_are, addresses_distinct, retries_late}

@@ -13,8 +13,10 @@ use Rattle.tva_config.specs.declared.entries.HostEntry.{HostEntry}
 use Rattle.tva_config.specs.declared.entries.LinkEntry.{LinkEntry}
 use Rattle.tva_config.specs.Faults.{at, fault_at, unless}
 use Rattle.tva_config.specs.Nodes.{node_of}
-use Rattle.tva_config.specs.Links.{found, joins, link_step, links_of, only, links_from, uplink_step, uplinks_of}
-use Rattle.tva_config.specs.Valid.{IsLinkEntry, IsLinkPlan, ends_of}
+use Rattle.tva_config.specs.Links.{found, joins, link_step, links_of, only, uplink_step, uplinks_of}
+use Rattle.tva_plan.specs.Wiring.{links_from}
+use Rattle.tva_config.proofs.Ranges.{IsLinkEntry}
+use Rattle.tva_plan.specs.Valid.{IsLinkPlan, ends_of}
 use Rattle.tva_config.proofs.Turns.{first_gave, unless_gave, found_gave, in_turn_keeps, in_turn_keeps_of, distinct_push, all_push}
 use Rattle.tva_config.proofs.StepsKeep.{not_in, any_of_map}
 

@@ -13,10 +13,10 @@ use Rattle.tva_config.specs.declared.fault.ConfigRule.TheVariants as rule
 use Rattle.tva_config.specs.declared.entries.RouteEntry.{RouteEntry}
 use Rattle.tva_config.specs.declared.entries.OwnedRoute.{OwnedRoute}
 use Rattle.tva_config.specs.Faults.{at, fault_at, unless}
-use Rattle.tva_config.specs.Links.{found, joins, link_between, picked}
+use Rattle.tva_config.specs.Links.{found, joins, link_between}
+use Rattle.tva_plan.specs.Wiring.{picked, limited_from, outgoing_of}
 use Rattle.tva_config.specs.Routes.{router_named, link_to, is_for, resolved, route_step, routes_of}
-use Rattle.tva_config.specs.Read.{limited_from, outgoing_of}
-use Rattle.tva_config.specs.Valid.{IsRouteEntry}
+use Rattle.tva_config.proofs.Ranges.{IsRouteEntry}
 use Rattle.tva_config.proofs.Turns.{first_gave, unless_gave, found_gave, in_turn_keeps_of, distinct_push, all_push}
 use Rattle.tva_config.proofs.StepsKeep.{not_in, any_of_map}
 

@@ -1,15 +1,11 @@
-pub mod Counts
 pub mod Entries
 pub mod Faults
 pub mod Keys
 pub mod Links
-pub mod Names
 pub mod Nodes
-pub mod Numbers
 pub mod Read
 pub mod Routes
 pub mod Tables
-pub mod Valid
 pub mod Values
 pub mod Words
 pub mod Views

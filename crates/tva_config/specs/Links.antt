@@ -1,7 +1,7 @@
 -- What links must be to the nodes and to one another.
-use Rattle.std.specs.Prelude.{ℕ, ◌+◌, ◌*◌, ◌==◌, ◌&&◌, Bool, List, [], ◌∷◌, length, nat_lt, sum_by}
-use Rattle.std.specs.Prelude.{if◌then◌else◌, Ok, Err, Option, Some, None, codes}
-use Rattle.std.specs.List.{list_any, position_from, cons_option}
+use Rattle.std.specs.Prelude.{ℕ, ◌+◌, ◌==◌, ◌&&◌, Bool, List, [], ◌∷◌, length, nat_lt}
+use Rattle.std.specs.Prelude.{Ok, Err, Option, Some, None, codes}
+use Rattle.std.specs.List.{list_any, position_from}
 use Rattle.tva_base.specs.declared.plan.LinkPlan.{LinkPlan}
 use Rattle.tva_config.specs.declared.fault.ConfigTable.TheVariants as table
 use Rattle.tva_config.specs.declared.fault.ConfigRule.TheVariants as rule
@@ -9,6 +9,7 @@ use Rattle.tva_config.specs.declared.fault.ConfigFault.{ConfigFault}
 use Rattle.tva_config.specs.declared.entries.HostEntry.{HostEntry}
 use Rattle.tva_config.specs.declared.entries.LinkEntry.{LinkEntry}
 use Rattle.tva_config.specs.Faults.{Read, ◌>>=◌, at, fault_at, unless, in_turn}
+use Rattle.tva_plan.specs.Wiring.{links_from, all_places}
 
 -- what was looked for, or a fault
 abbrev pub found : {A : Type 0} → Option A → ConfigFault → Read A
@@ -35,18 +36,6 @@ link_step node earlier link = do
 unfoldable pub links_of : (List ℕ → Option ℕ) → List LinkEntry → Read (List LinkPlan)
 links_of node links = in_turn (link_step node) [] links
 
--- what a choice takes of each element, which it sees with its number
-abbrev pub picked : {A B : Type 0} → (ℕ → A → Option B) → ℕ → List A → List B
-picked choice number [] = []
-picked choice number (x ∷ xs) = cons_option (choice number x) (picked choice (number + 1) xs)
-
--- the numbers of the links that begin at a node
-abbrev pub number_from : ℕ → ℕ → LinkPlan → Option ℕ
-number_from node number link = if link.from == node then Some number else None
-
-unfoldable pub links_from : ℕ → List LinkPlan → List ℕ
-links_from node links = picked (number_from node) 0 links
-
 -- the element of a list of one
 abbrev pub only : {A : Type 0} → List A → Option A
 only [] = None
@@ -64,21 +53,6 @@ uplink_step routers links earlier host = uplink_of routers links (length earlier
 unfoldable pub uplinks_of : ℕ → List LinkPlan → List HostEntry → Read (List ℕ)
 uplinks_of routers links hosts = in_turn (uplink_step routers links) [] hosts
 
--- the queues behind a tag, one on a link with one level
-abbrev pub queues_behind : Option ℕ → ℕ
-queues_behind None = 1
-queues_behind (Some inner) = inner
-
--- the places of a link's queues
-abbrev pub places : LinkPlan → ℕ
-places link =
-    link.limits.request.queues * queues_behind link.limits.request_inner * link.limits.request.ring
-    + link.limits.regular.queues * link.limits.regular.ring
-    + link.limits.legacy_ring
-
 -- all links together have at most 1,000,000 places
-abbrev pub all_places : List LinkPlan → ℕ
-all_places links = sum_by places links
-
 unfoldable pub rings_of : List LinkPlan → Read (Unit {0})
 rings_of links = unless (nat_lt 1000000 (all_places links)) (fault_at (at table.Link 0) rule.Rings (codes "-"))

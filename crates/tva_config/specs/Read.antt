@@ -5,14 +5,13 @@ use Rattle.std.specs.List.{filter_map}
 use Rattle.std.specs.Str.{is_utf8}
 use Rattle.toml.specs.Data.{Members}
 use Rattle.toml.specs.Parse.{parse_document}
-use Rattle.tva_base.specs.declared.limits.LinkLimits.{LinkLimits}
 use Rattle.tva_base.specs.declared.plan.LinkPlan.{LinkPlan}
 use Rattle.tva_base.specs.declared.plan.Route.{Route}
 use Rattle.tva_base.specs.declared.plan.RouterPlan.{RouterPlan}
 use Rattle.tva_base.specs.declared.plan.HostPlan.{HostPlan}
-use Rattle.tva_config.specs.declared.config.Config.{Config}
-use Rattle.tva_config.specs.declared.config.NodePlan as nodes
-use Rattle.tva_config.specs.declared.config.NodePlan.TheVariants as node
+use Rattle.tva_plan.specs.declared.config.Config.{Config}
+use Rattle.tva_plan.specs.declared.config.NodePlan as nodes
+use Rattle.tva_plan.specs.declared.config.NodePlan.TheVariants as node
 use Rattle.tva_config.specs.declared.fault.ConfigRule.TheVariants as rule
 use Rattle.tva_config.specs.declared.entries.RouterEntry.{RouterEntry}
 use Rattle.tva_config.specs.declared.entries.HostEntry.{HostEntry}
@@ -20,22 +19,9 @@ use Rattle.tva_config.specs.declared.entries.OwnedRoute.{OwnedRoute}
 use Rattle.tva_config.specs.Faults.{Read, ◌>>=◌, top, fault_at}
 use Rattle.tva_config.specs.Tables.{top_of, counts_of, Entries, all_entries_of}
 use Rattle.tva_config.specs.Nodes.{node_of, names_of, addresses_of, retries_of, slots_of}
-use Rattle.tva_config.specs.Links.{link_between, links_of, uplinks_of, rings_of, picked}
+use Rattle.tva_config.specs.Links.{link_between, links_of, uplinks_of, rings_of}
 use Rattle.tva_config.specs.Routes.{routes_of}
-
--- the links into a node, each with its tag
-abbrev pub tagged_to : ℕ → ℕ → LinkPlan → Option (ℕ × ℕ)
-tagged_to node number link = if link.to == node then Some (number, link.tag) else None
-
-unfoldable pub incoming_of : ℕ → List LinkPlan → List (ℕ × ℕ)
-incoming_of node links = picked (tagged_to node) 0 links
-
--- the links out of a node, each with its limits
-abbrev pub limited_from : ℕ → ℕ → LinkPlan → Option (ℕ × LinkLimits)
-limited_from node number link = if link.from == node then Some (number, link.limits) else None
-
-unfoldable pub outgoing_of : ℕ → List LinkPlan → List (ℕ × LinkLimits)
-outgoing_of node links = picked (limited_from node) 0 links
+use Rattle.tva_plan.specs.Wiring.{incoming_of, outgoing_of}
 
 -- the routes of a router
 abbrev pub if_owned : ℕ → OwnedRoute → Option Route

@@ -1,6 +1,6 @@
 -- The kinds of values of keys: what a value of the document is read as, or nothing where it isn't of
 -- the kind.
-use Rattle.std.specs.Prelude.{ℕ, ◌+◌, ◌*◌, ◌==◌, ◌&&◌, ◌||◌, pos, negsuc, ℤ, Bool, nat_le, if◌then◌else◌}
+use Rattle.std.specs.Prelude.{ℕ, ◌+◌, ◌*◌, ◌&&◌, pos, negsuc, ℤ, nat_le, if◌then◌else◌}
 use Rattle.std.specs.Prelude.{List, [], ◌∷◌, length, fold, codes, Result, Ok, Err, Option, Some, None, option_and_then}
 use Rattle.std.specs.Option.{option_map}
 use Rattle.std.specs.List.{list_all}
@@ -13,6 +13,7 @@ use Rattle.tva_base.specs.declared.addresses.Prefix.{Prefix}
 use Rattle.tva_base.specs.declared.plan.PolicyKind as policies
 use Rattle.tva_base.specs.declared.plan.PolicyKind.TheVariants as policy
 use Rattle.tva_base.specs.Addresses.{address_of, prefix_of}
+use Rattle.tva_plan.specs.Names.{is_name_byte}
 
 -- a number from low to high
 abbrev pub within : ℕ → ℕ → ℤ → Option ℕ
@@ -22,13 +23,7 @@ within low high (negsuc n) = None
 abbrev pub number : ℕ → ℕ → Data → Option ℕ
 number low high d = option_and_then (within low high) (as_integer d)
 
--- a letter, a digit, `_` or `-`
-abbrev pub is_name_byte : ℕ → Bool
-is_name_byte b =
-    (nat_le 65 b && nat_le b 90) || (nat_le 97 b && nat_le b 122) || (nat_le 48 b && nat_le b 57)
-    || (b == 95) || (b == 45)
-
--- a name: 1 to 16 of these
+-- a name: 1 to 16 letters, digits, `_` and `-`
 abbrev pub name_of : List ℕ → Option (List ℕ)
 name_of text =
     if nat_le 1 (length text) && nat_le (length text) 16 && list_all is_name_byte text then Some text else None

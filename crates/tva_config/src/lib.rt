@@ -3,13 +3,10 @@
 #![tactic(auto)]
 
 mod arrays;
-mod config;
-mod counts;
 mod entries;
 mod fault;
 mod keys;
 mod links;
-mod names;
 mod nodes;
 mod place;
 mod plans;
@@ -19,8 +16,6 @@ mod tables;
 mod top;
 mod values;
 
-pub use config::{Config, NodePlan};
-pub use counts::{has_host_or_link, link_count, node_count, route_count, slot_count};
 pub use fault::{ConfigError, ConfigFault, ConfigRule, ConfigTable};
-pub use names::{is_host, is_host_plan, name_at, node_numbers, number_of};
 pub use reading::read_config;
+pub use tva_plan::{Config, NodePlan};

@@ -4,7 +4,8 @@ ghost use Rattle.std.specs.List.{list_any};
 ghost use Rattle.std.specs.HashMap.{get_by_text};
 ghost use Rattle.tva_config.specs.Faults.{AnswersBy};
 ghost use Rattle.tva_config.specs.Views.{IsPairs, link_at};
-ghost use Rattle.tva_config.specs.Links.{joins, link_between, link_step, links_of, links_from, only, uplink_of, uplinks_of, queues_behind, places, all_places, rings_of};
+ghost use Rattle.tva_config.specs.Links.{joins, link_between, link_step, links_of, only, uplink_of, uplinks_of, rings_of};
+ghost use Rattle.tva_plan.specs.Wiring.{links_from, queues_behind, places, all_places};
 
 use crate::entries::{HostEntry, LinkEntry};
 use crate::fault::{ConfigError, ConfigFault, ConfigRule, ConfigTable};
@@ -126,7 +127,7 @@ fn uplink(routers: usize, links: &[LinkPlan], host: usize) -> Result<u16, Config
 }
 
 // The number of the link out of a node, where it has exactly one.
-#[tactic(auto, unfolding(crate::specs::Links::links_from))]
+#[tactic(auto, unfolding(tva_plan::specs::Wiring::links_from))]
 fn only_link(links: &[LinkPlan], node: u16) -> Option<u16>
     requires { length links.now ≤ 4096 }
     ensures { result ≡ only (links_from node links.now) }

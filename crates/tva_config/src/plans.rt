@@ -1,11 +1,12 @@
 // The plans of nodes, from what their entries, links and routes are read as.
 ghost use Rattle.std.specs.Prelude.{◌≡◌, ◌≤◌, ◌+◌, ◌++◌, IfOk, OnOk, length};
-ghost use Rattle.tva_config.specs.Read.{incoming_of, outgoing_of, routes_at, router_plan, host_plan, router_plans, host_plans};
+ghost use Rattle.tva_config.specs.Read.{routes_at, router_plan, host_plan, router_plans, host_plans};
+ghost use Rattle.tva_plan.specs.Wiring.{incoming_of, outgoing_of};
 
-use crate::config::NodePlan;
 use crate::entries::{HostEntry, OwnedRoute, RouterEntry};
 use std::alloc::{AllocError, Global};
 use tva_base::{HostPlan, LinkLimits, LinkPlan, Listed, Route, RouterPlan};
+use tva_plan::NodePlan;
 
 /// The plans of the routers.
 pub fn router_plans(
@@ -57,7 +58,7 @@ fn router_plan(
 }
 
 // The links into a node, each with its tag.
-#[tactic(auto, unfolding(crate::specs::Read::incoming_of))]
+#[tactic(auto, unfolding(tva_plan::specs::Wiring::incoming_of))]
 fn incoming(alloc: Global, node: u16, links: &[LinkPlan]) -> Result<Listed<(u16, u16)>, AllocError>
     requires { length links.now ≤ 4096 }
     ensures { IfOk result (λ found. found ≡ incoming_of node links.now) }
@@ -72,7 +73,7 @@ fn incoming(alloc: Global, node: u16, links: &[LinkPlan]) -> Result<Listed<(u16,
 }
 
 // The links out of a node, each with its limits.
-#[tactic(auto, unfolding(crate::specs::Read::outgoing_of))]
+#[tactic(auto, unfolding(tva_plan::specs::Wiring::outgoing_of))]
 fn outgoing(
     alloc: Global,
     node: u16,

@@ -4,14 +4,13 @@ ghost use Rattle.std.specs.HashMap.{get_by_text};
 ghost use Rattle.toml.specs.View.{table_view};
 ghost use Rattle.tva_config.specs.declared.fault.ConfigFault.{ConfigFault};
 ghost use Rattle.tva_config.specs.declared.fault.ConfigError.TheVariants.{Fault};
-ghost use Rattle.tva_config.specs.declared.config.Config.{Config};
+ghost use Rattle.tva_plan.specs.declared.config.Config.{Config};
 ghost use Rattle.tva_config.specs.Faults.{Answers, AnswersBy, IsOrLacksMemory};
-ghost use Rattle.tva_config.specs.Valid.{IsConfig};
+ghost use Rattle.tva_plan.specs.Valid.{IsConfig};
 ghost use Rattle.tva_config.specs.Tables.{all_entries_of};
 ghost use Rattle.tva_config.specs.Views.{seen_top, seen_entries, seen_joined};
 ghost use Rattle.tva_config.specs.Read.{config_of, linked_of, joined_of, plan_of, members_read, document_of, read_of};
 
-use crate::config::Config;
 use crate::entries::{EntryLists, HostEntry, JoinedLists, OwnedRoute, RouterEntry};
 use crate::fault::{ConfigError, ConfigRule, ConfigTable};
 use crate::keys::fault;
@@ -22,6 +21,7 @@ use std::alloc::{AllocError, Global};
 use std::collections::HashMap;
 use toml::Table;
 use tva_base::{LinkPlan, Listed, Time};
+use tva_plan::Config;
 
 /// Reads a configuration, a TOML text.
 ///

@@ -4,7 +4,8 @@ ghost use Rattle.std.specs.List.{list_all};
 ghost use Rattle.std.specs.declared.option.Option.{Option};
 ghost use Rattle.toml.specs.Data.{Data};
 ghost use Rattle.toml.specs.View.{view};
-ghost use Rattle.tva_config.specs.Values.{within, number, is_name_byte, name_of, name, address, prefix, hex_bytes_of, master, nonce_of, nonce, number_of_bytes, policy_of, policy_kind};
+ghost use Rattle.tva_config.specs.Values.{within, number, name_of, name, address, prefix, hex_bytes_of, master, nonce_of, nonce, number_of_bytes, policy_of, policy_kind};
+ghost use Rattle.tva_plan.specs.Names.{is_name_byte};
 
 use toml::Value;
 use tva_base::{Address, Name, PolicyKind, Prefix};

@@ -9,9 +9,8 @@ mod texts;
 use std::alloc::Global;
 use std::fmt::Write;
 use std::process::Abort;
-use tva_config::{
-    Config, ConfigError, ConfigFault, link_count, node_count, read_config, route_count, slot_count,
-};
+use tva_config::{ConfigError, ConfigFault, read_config};
+use tva_plan::{Config, link_count, node_count, route_count, slot_count};
 
 pub const EDGE: &str = "horizon_ns = 1000000000000\n\
 max_events = 1000\n\

@@ -14,8 +14,8 @@ use Rattle.tva_shim.specs.Packets.{PacketData, packet_length}
 use Rattle.tva_port.specs.Log as port
 use Rattle.tva_port.proofs.Legality.{occupies}
 use Rattle.tva_port.proofs.Logs.{free-started}
-use Rattle.tva_config.specs.declared.config.NodePlan.{NodePlan}
-use Rattle.tva_config.specs.declared.config.NodePlan.TheVariants.{Router, Host}
+use Rattle.tva_plan.specs.declared.config.NodePlan.{NodePlan}
+use Rattle.tva_plan.specs.declared.config.NodePlan.TheVariants.{Router, Host}
 use Rattle.tva_trace.specs.declared.rows.RowWhat.{RowWhat}
 use Rattle.tva_trace.specs.declared.rows.RowWhat.TheVariants.{Send, Inject}
 use Rattle.tva_joins.specs.Joins.{IsInOrder}

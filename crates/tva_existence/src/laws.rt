@@ -1,7 +1,7 @@
 // That there is a run.
 ghost use Rattle.std.specs.Prelude.{ℕ, ◌+◌, ◌≤◌, List};
-ghost use Rattle.tva_config.specs.declared.config.Config.{Config};
-ghost use Rattle.tva_config.specs.Valid.{IsConfig};
+ghost use Rattle.tva_plan.specs.declared.config.Config.{Config};
+ghost use Rattle.tva_plan.specs.Valid.{IsConfig};
 ghost use Rattle.tva_trace.specs.declared.rows.Row.{Row};
 ghost use Rattle.tva_trace.specs.Meaning.{AreRows};
 ghost use Rattle.tva_trace.specs.Valid.{AreTraceRows};

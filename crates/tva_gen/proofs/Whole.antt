@@ -3,7 +3,7 @@ use Rattle.std.proofs.Common.{◌≡◌, ◌∙◌, sym, ap, ℕ, ◌≤◌, Lis
 use Rattle.std.proofs.lemmas.List.{length-map}
 use Rattle.rand_pcg.specs.Lcg.{Lcg}
 use Rattle.tva_base.specs.declared.plan.HostPlan.{HostPlan}
-use Rattle.tva_config.specs.declared.config.Config.{Config}
+use Rattle.tva_plan.specs.declared.config.Config.{Config}
 use Rattle.tva_gen.specs.Hosts.{hosts_in}
 use Rattle.tva_gen.specs.Rows.{rows_from}
 use Rattle.tva_gen.specs.Text.{generated, generator_of, header}

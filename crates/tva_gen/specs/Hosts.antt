@@ -3,8 +3,8 @@ use Rattle.std.specs.Prelude.{ℕ, ◌/◌, ◌%◌, ◌^◌, List, [], ◌∷�
 use Rattle.std.specs.List.{join_with_byte}
 use Rattle.tva_base.specs.declared.addresses.Address.{Address}
 use Rattle.tva_base.specs.declared.plan.HostPlan.{HostPlan}
-use Rattle.tva_config.specs.declared.config.NodePlan as nodes
-use Rattle.tva_config.specs.declared.config.NodePlan.TheVariants as node
+use Rattle.tva_plan.specs.declared.config.NodePlan as nodes
+use Rattle.tva_plan.specs.declared.config.NodePlan.TheVariants as node
 
 -- the hosts, in the order of the nodes
 abbrev pub hosts_in : List nodes.NodePlan → List HostPlan

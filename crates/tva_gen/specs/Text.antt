@@ -3,7 +3,7 @@ use Rattle.std.specs.Prelude.{ℕ, List, [], ◌∷◌, ◌++◌, codes}
 use Rattle.rand_pcg.specs.Lcg.{Lcg, increment_of, started}
 use Rattle.rand_pcg.specs.Pcg.{multiplier_64}
 use Rattle.tva_base.specs.declared.plan.HostPlan.{HostPlan}
-use Rattle.tva_config.specs.declared.config.Config.{Config}
+use Rattle.tva_plan.specs.declared.config.Config.{Config}
 use Rattle.tva_gen.specs.Hosts.{hosts_in}
 use Rattle.tva_gen.specs.Rows.{joined, rows_from}
 

@@ -6,7 +6,7 @@ ghost use Rattle.tva_gen.specs.Hosts.{address_text, hosts_in};
 use itoa::Buffer;
 use std::alloc::{AllocError, Global};
 use tva_base::{Address, HostPlan};
-use tva_config::NodePlan;
+use tva_plan::NodePlan;
 
 /// The hosts of a plan, in the order of its nodes.
 pub fn hosts_in(alloc: Global, nodes: &[NodePlan]) -> Result<Vec<&HostPlan>, AllocError>

@@ -5,7 +5,7 @@ use crate::generate;
 use std::alloc::{AllocError, Global};
 use std::test::Fail;
 use tva_base::{Address, HostPlan, Listed, Name, PolicyKind, PolicyPlan, Rights, RouterPlan, Time};
-use tva_config::{Config, NodePlan};
+use tva_plan::{Config, NodePlan};
 
 const HEADER: &str = "time,node,kind,src,dst,payload,shim\n";
 

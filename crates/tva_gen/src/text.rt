@@ -6,7 +6,7 @@ use crate::hosts::hosts_in;
 use crate::rows::put_rows;
 use rand_pcg::Lcg64Xsh32;
 use std::alloc::{AllocError, Global};
-use tva_config::Config;
+use tva_plan::Config;
 
 const HEADER: &[u8] = b"time,node,kind,src,dst,payload,shim\n";
 

@@ -2,7 +2,7 @@
 use Rattle.std.proofs.Common.{Vec, Global, Result, Ok, Err, IfOk, IfErr, ◌≡◌, ℕ, ◌+◌, ◌<◌, ◌≤◌, List, ◌++◌, length, Some, None, refl, sym, subst, ◌∙◌, ap, arith, length-append}
 use Rattle.tva_base.specs.declared.event.Event.{Event}
 use Rattle.tva_base.specs.declared.event.Totals.{Totals}
-use Rattle.tva_config.specs.declared.config.Config.{Config}
+use Rattle.tva_plan.specs.declared.config.Config.{Config}
 use Rattle.tva_trace.specs.declared.rows.Row.{Row}
 use Rattle.tva_run.specs.Report.{totals_of}
 use Rattle.tva_run.specs.Windows.{Window, given}

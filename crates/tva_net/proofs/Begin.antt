@@ -8,8 +8,8 @@ use Rattle.std.proofs.lemmas.List.{length-map}
 use Rattle.std.proofs.lemmas.List.Elements.{All-head, All-tail}
 use Rattle.tva_base.specs.declared.event.Totals.{Totals}
 use Rattle.tva_base.specs.declared.plan.LinkPlan.{LinkPlan}
-use Rattle.tva_config.specs.declared.config.Config.{Config}
-use Rattle.tva_config.specs.Valid.{IsConfig}
+use Rattle.tva_plan.specs.declared.config.Config.{Config}
+use Rattle.tva_plan.specs.Valid.{IsConfig}
 use Rattle.tva_trace.specs.declared.rows.Row.{Row}
 use Rattle.tva_trace.specs.Valid.{AreTraceRows, IsRow}
 use Rattle.tva_joins.specs.Joins.{from_source}

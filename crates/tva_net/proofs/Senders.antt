@@ -11,9 +11,9 @@ use Rattle.tva_base.specs.declared.limits.LinkLimits.{LinkLimits}
 use Rattle.tva_base.specs.declared.packet.Class.{Class}
 use Rattle.tva_base.specs.declared.plan.LinkPlan.{LinkPlan}
 use Rattle.tva_shim.specs.Packets.{PacketData, packet_length}
-use Rattle.tva_config.specs.declared.config.Config.{Config}
-use Rattle.tva_config.specs.declared.config.NodePlan.{NodePlan}
-use Rattle.tva_config.specs.Links.{picked}
+use Rattle.tva_plan.specs.declared.config.Config.{Config}
+use Rattle.tva_plan.specs.declared.config.NodePlan.{NodePlan}
+use Rattle.tva_plan.specs.Wiring.{picked}
 use Rattle.tva_joins.specs.Joins.{from_source}
 use Rattle.tva_joins.proofs.Joins.{filter-true, filter-false, filter-none, each-append}
 use Rattle.tva_log.specs.declared.kinds.Input.{Input}

@@ -7,10 +7,10 @@ use Rattle.std.proofs.lemmas.Option.{slice_get_cases, slice_get_within, get_or_f
 use Rattle.tva_base.specs.declared.event.Event.{Event}
 use Rattle.tva_base.specs.declared.packet.Time.{Time}
 use Rattle.tva_base.specs.declared.plan.LinkPlan.{LinkPlan}
-use Rattle.tva_config.specs.declared.config.Config.{Config}
-use Rattle.tva_config.specs.declared.config.NodePlan.{NodePlan}
-use Rattle.tva_config.specs.Valid.{IsLinkPlan}
-use Rattle.tva_config.proofs.Wired.{all_here}
+use Rattle.tva_plan.specs.declared.config.Config.{Config}
+use Rattle.tva_plan.specs.declared.config.NodePlan.{NodePlan}
+use Rattle.tva_plan.specs.Valid.{IsLinkPlan}
+use Rattle.tva_plan.proofs.Wired.{all_here}
 use Rattle.tva_trace.specs.declared.rows.Row.{Row}
 use Rattle.tva_log.specs.Sites.{Site, site_of}
 use Rattle.tva_log.specs.NodeLog.{in_turn}

@@ -1,7 +1,7 @@
 -- What a call of a network answers, and what it leaves.
 use Rattle.std.specs.Prelude.{◌≡◌, ◌<◌, List, ◌∷◌, [], ◌++◌, length}
 use Rattle.tva_base.specs.declared.event.Event.{Event}
-use Rattle.tva_config.specs.declared.config.Config.{Config}
+use Rattle.tva_plan.specs.declared.config.Config.{Config}
 use Rattle.tva_trace.specs.declared.rows.Row.{Row}
 use Rattle.tva_run.specs.Windows.{Window, given}
 use Rattle.tva_net.specs.declared.kinds.NetError.{NetError}

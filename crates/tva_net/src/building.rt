@@ -1,7 +1,7 @@
 // The nodes of a configuration, with their rows.
 ghost use Rattle.std.specs.Prelude.{◌≡◌, ◌<◌, ◌≤◌, [], All, IfOk, OnOk, length};
 ghost use Rattle.std.specs.List.{AllZip};
-ghost use Rattle.tva_config.specs.Valid.{IsConfig};
+ghost use Rattle.tva_plan.specs.Valid.{IsConfig};
 ghost use Rattle.tva_trace.specs.Valid.{AreTraceRows};
 ghost use Rattle.tva_log.specs.declared.kinds.Input.TheVariants.{FromTrace};
 ghost use Rattle.tva_run.specs.Reaching.{links_out, rows_at};
@@ -10,9 +10,9 @@ ghost use Rattle.tva_net.specs.Mail.{AreFirstNodes, CanDeliver, GotMails, IsFirs
 use crate::posting::deliver;
 use std::alloc::{AllocError, Global};
 use tva_base::LinkPlan;
-use tva_config::Config;
 use tva_log::Input;
 use tva_node::Node;
+use tva_plan::Config;
 use tva_trace::Row;
 
 /// The nodes of a configuration in their order, each with its rows of the trace, to which nothing

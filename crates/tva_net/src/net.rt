@@ -2,8 +2,8 @@
 ghost use Rattle.std.specs.Prelude.{◌≡◌, List, [], Err, IfErr, IfOk, IfSome, Some};
 ghost use Rattle.std.specs.List.{AllZip};
 ghost use Rattle.tva_base.specs.declared.event.Event.{Event};
-ghost use Rattle.tva_config.specs.declared.config.Config.{Config};
-ghost use Rattle.tva_config.specs.Valid.{IsConfig};
+ghost use Rattle.tva_plan.specs.declared.config.Config.{Config};
+ghost use Rattle.tva_plan.specs.Valid.{IsConfig};
 ghost use Rattle.tva_trace.specs.declared.rows.Row.{Row};
 ghost use Rattle.tva_trace.specs.Valid.{AreTraceRows};
 ghost use Rattle.tva_run.specs.Windows.{Window as Span};
@@ -17,9 +17,9 @@ use std::alloc::{AllocError, Global};
 use std::marker::Model;
 use std::thread::Threads;
 use tva_base::Totals;
-use tva_config::Config;
 use tva_node::Node;
 use tva_outside::Gate;
+use tva_plan::Config;
 use tva_trace::Row;
 
 /// A network: its nodes, worked up to a time. Contracts see what it keeps, and speak of the run of a

@@ -2,8 +2,8 @@
 ghost use Rattle.std.specs.Prelude.{◌≡◌, ◌+◌, ◌<◌, ◌≤◌, ◌++◌, List, [], Err, IfErr, IfOk, IfSome, None, Some, length};
 ghost use Rattle.std.specs.List.{AllZip};
 ghost use Rattle.tva_base.specs.declared.event.Event.{Event};
-ghost use Rattle.tva_config.specs.declared.config.Config.{Config};
-ghost use Rattle.tva_config.specs.Valid.{IsConfig};
+ghost use Rattle.tva_plan.specs.declared.config.Config.{Config};
+ghost use Rattle.tva_plan.specs.Valid.{IsConfig};
 ghost use Rattle.tva_trace.specs.declared.rows.Row.{Row};
 ghost use Rattle.tva_trace.specs.Valid.{AreTraceRows};
 ghost use Rattle.tva_run.specs.Report.{totals_of};
@@ -20,8 +20,8 @@ use crate::works::Works;
 use std::alloc::{AllocError, Global};
 use std::thread::Threads;
 use tva_base::{Event, Totals};
-use tva_config::Config;
 use tva_outside::Gate;
+use tva_plan::Config;
 use tva_trace::Row;
 
 /// The nodes at work, the greatest number of events, the sums of what was given, and the error that

@@ -2,7 +2,7 @@
 ghost use Rattle.std.specs.Prelude.{◌≡◌, ◌+◌, List, [], IfOk, MatchOption, OnOk};
 ghost use Rattle.std.specs.Option.{option_map};
 ghost use Rattle.std.specs.List.{AllZip};
-ghost use Rattle.tva_config.specs.Valid.{IsConfig};
+ghost use Rattle.tva_plan.specs.Valid.{IsConfig};
 ghost use Rattle.tva_trace.specs.Valid.{AreTraceRows};
 ghost use Rattle.tva_node.specs.States.{BeginsWith};
 ghost use Rattle.tva_net.specs.Nets.{WorksFor, told_by, work_of};
@@ -19,10 +19,10 @@ use std::alloc::{AllocError, Global};
 use std::cmp;
 use std::thread::Threads;
 use tva_base::{Event, LinkPlan, Time};
-use tva_config::Config;
 use tva_index::Lowest;
 use tva_node::Node;
 use tva_outside::Gate;
+use tva_plan::Config;
 use tva_trace::Row;
 
 /// The horizon, the links, the length of a window in nanoseconds, the nodes, when each of them has

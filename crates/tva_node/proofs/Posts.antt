@@ -10,7 +10,7 @@ use Rattle.std.proofs.lemmas.List.Elements.{All-nil, All-cons, All-head, All-pus
 use Rattle.tva_base.specs.declared.limits.LinkLimits.{LinkLimits}
 use Rattle.tva_base.specs.declared.plan.LinkPlan.{LinkPlan}
 use Rattle.tva_base.specs.Plan.{AreLinkLimits, links_of}
-use Rattle.tva_config.specs.declared.config.NodePlan.{NodePlan}
+use Rattle.tva_plan.specs.declared.config.NodePlan.{NodePlan}
 use Rattle.tva_port.specs.Waiting.{waiting_after, IsEmpty}
 use Rattle.tva_port.proofs.Idling.{empty_idles}
 use Rattle.tva_port.proofs.Levels.{none_first as no_request_first}

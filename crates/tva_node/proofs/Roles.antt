@@ -45,8 +45,8 @@ use Rattle.tva_router.specs.Stands as router
 use Rattle.tva_router.specs.Stands.{◌with◌, started_on}
 use Rattle.tva_router.proofs.Known.{known}
 use Rattle.tva_router.proofs.Fates.{charges_told, queued_told}
-use Rattle.tva_config.specs.declared.config.NodePlan.{NodePlan}
-use Rattle.tva_config.specs.declared.config.NodePlan.TheVariants as plans
+use Rattle.tva_plan.specs.declared.config.NodePlan.{NodePlan}
+use Rattle.tva_plan.specs.declared.config.NodePlan.TheVariants as plans
 use Rattle.tva_log.specs.declared.kinds.Input.{Input}
 use Rattle.tva_log.specs.declared.kinds.Input.TheVariants.{FromTrace, Arrival}
 use Rattle.tva_log.specs.Sites.{Site, IsSite, IsPlanned, limits_out}

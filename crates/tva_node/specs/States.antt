@@ -7,8 +7,8 @@ use Rattle.tva_shim.specs.Packets.{IsCarried}
 use Rattle.tva_port.specs.Stands as port
 use Rattle.tva_router.specs.Stands as router
 use Rattle.tva_host.specs.Stands as host
-use Rattle.tva_config.specs.declared.config.NodePlan.{NodePlan}
-use Rattle.tva_config.specs.declared.config.NodePlan.TheVariants as plans
+use Rattle.tva_plan.specs.declared.config.NodePlan.{NodePlan}
+use Rattle.tva_plan.specs.declared.config.NodePlan.TheVariants as plans
 use Rattle.tva_trace.specs.declared.rows.RowWhat.{RowWhat}
 use Rattle.tva_trace.specs.declared.rows.RowWhat.TheVariants as rows
 use Rattle.tva_log.specs.declared.kinds.Input.{Input}

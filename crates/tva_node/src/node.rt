@@ -12,9 +12,9 @@ use crate::turns::{Turn, Turns};
 use std::alloc::{AllocError, Global};
 use std::marker::Model;
 use tva_base::{Event, LinkPlan, Time};
-use tva_config::NodePlan;
 use tva_host::Host;
 use tva_log::{Input, Sending};
+use tva_plan::NodePlan;
 use tva_port::Port;
 use tva_router::Router;
 

@@ -12,7 +12,7 @@ ghost use Rattle.tva_router.specs.Handling.{Logs, entered_by, handle, outcome_of
 ghost use Rattle.tva_router.specs.Stands.{StandsFor as RouterStandsFor, ◌with◌};
 ghost use Rattle.tva_host.specs.Calls.{Call, history_of};
 ghost use Rattle.tva_host.specs.Stands.{StandsFor as HostStandsFor};
-ghost use Rattle.tva_config.specs.declared.config.NodePlan.TheVariants as plans;
+ghost use Rattle.tva_plan.specs.declared.config.NodePlan.TheVariants as plans;
 ghost use Rattle.tva_log.specs.Sites.{Site, IsSite, limits_out};
 ghost use Rattle.tva_log.specs.Entries.{Entry, input_time};
 ghost use Rattle.tva_log.specs.Parts.{call_of_row, port_logs, reply_at};

@@ -1,7 +1,7 @@
 -- Kit: nodes that are given their inputs.
 use Rattle.std.specs.Prelude.{◌≡◌}
-use Rattle.tva_config.specs.declared.config.NodePlan.{NodePlan}
-use Rattle.tva_config.specs.declared.config.NodePlan.TheVariants.{Router, Host}
+use Rattle.tva_plan.specs.declared.config.NodePlan.{NodePlan}
+use Rattle.tva_plan.specs.declared.config.NodePlan.TheVariants.{Router, Host}
 use Rattle.tva_node.specs.States.{NodeState}
 
 -- not worked yet, with a horizon of ten seconds

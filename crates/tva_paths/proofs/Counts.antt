@@ -19,10 +19,10 @@ use Rattle.tva_port.specs.Log as port
 use Rattle.tva_port.specs.Keeps.{start_times}
 use Rattle.tva_port.proofs.Legality.{starts_apart}
 use Rattle.tva_host.specs.declared.made.Made.{Made}
-use Rattle.tva_config.specs.declared.config.Config.{Config}
-use Rattle.tva_config.specs.declared.config.NodePlan.{NodePlan}
-use Rattle.tva_config.specs.Valid.{IsConfig, IsLinkPlan}
-use Rattle.tva_config.proofs.Wired.{all_here}
+use Rattle.tva_plan.specs.declared.config.Config.{Config}
+use Rattle.tva_plan.specs.declared.config.NodePlan.{NodePlan}
+use Rattle.tva_plan.specs.Valid.{IsConfig, IsLinkPlan}
+use Rattle.tva_plan.proofs.Wired.{all_here}
 use Rattle.tva_trace.specs.declared.rows.Row.{Row}
 use Rattle.tva_joins.specs.Joins.{from_source}
 use Rattle.tva_joins.proofs.Joins.{each-passes, each-weaker, filter_swap}

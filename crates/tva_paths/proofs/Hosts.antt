@@ -27,8 +27,8 @@ use Rattle.tva_host.specs.Sending.{intended, after_intending}
 use Rattle.tva_host.specs.Receiving as receiving
 use Rattle.tva_host.specs.Receiving.{answer_to, claim_in, reply_of, after_reply, before_reply, stray, receipt_of, after_receipt}
 use Rattle.tva_host.proofs.Calls.{history_of-push}
-use Rattle.tva_config.specs.declared.config.NodePlan.{NodePlan}
-use Rattle.tva_config.specs.declared.config.NodePlan.TheVariants as plans
+use Rattle.tva_plan.specs.declared.config.NodePlan.{NodePlan}
+use Rattle.tva_plan.specs.declared.config.NodePlan.TheVariants as plans
 use Rattle.tva_joins.proofs.Joins.{each-append, each-weaker}
 use Rattle.tva_trace.specs.declared.rows.RowWhat.{RowWhat}
 use Rattle.tva_trace.specs.declared.rows.RowWhat.TheVariants.{Send, Inject}

@@ -28,10 +28,10 @@ use Rattle.tva_host.specs.Calls.{history_of}
 use Rattle.tva_host.specs.Sending.{is_legacy, shim_of, carried_by, next_shape, intended}
 use Rattle.tva_host.specs.Receiving as receiving
 use Rattle.tva_host.specs.Receiving.{ClaimData, shows_grant, is_nothing, notice_for, granted, answer_to, claim_in, reply_of, before_reply, stray, receipt_of}
-use Rattle.tva_config.specs.declared.config.Config.{Config}
-use Rattle.tva_config.specs.declared.config.NodePlan.{NodePlan}
-use Rattle.tva_config.specs.declared.config.NodePlan.TheVariants as plans
-use Rattle.tva_config.specs.Valid.{IsConfig}
+use Rattle.tva_plan.specs.declared.config.Config.{Config}
+use Rattle.tva_plan.specs.declared.config.NodePlan.{NodePlan}
+use Rattle.tva_plan.specs.declared.config.NodePlan.TheVariants as plans
+use Rattle.tva_plan.specs.Valid.{IsConfig}
 use Rattle.tva_trace.specs.declared.rows.Row.{Row}
 use Rattle.tva_trace.specs.declared.rows.RowWhat.{RowWhat}
 use Rattle.tva_trace.specs.declared.rows.RowWhat.TheVariants.{Send, Inject}

@@ -28,10 +28,10 @@ use Rattle.tva_host.specs.Calls.{NeverFall}
 use Rattle.tva_host.proofs.Played as players
 use Rattle.tva_steady.specs.Miles.{Mile, contacts, charges_in, last_came}
 use Rattle.tva_steady.specs.Steady.{Way, ComesIn, IsPaid, IsSteady}
-use Rattle.tva_config.specs.declared.config.Config.{Config}
-use Rattle.tva_config.specs.declared.config.NodePlan.{NodePlan}
-use Rattle.tva_config.specs.declared.config.NodePlan.TheVariants as plans
-use Rattle.tva_config.specs.Valid.{IsConfig}
+use Rattle.tva_plan.specs.declared.config.Config.{Config}
+use Rattle.tva_plan.specs.declared.config.NodePlan.{NodePlan}
+use Rattle.tva_plan.specs.declared.config.NodePlan.TheVariants as plans
+use Rattle.tva_plan.specs.Valid.{IsConfig}
 use Rattle.tva_trace.specs.declared.rows.Row.{Row}
 use Rattle.tva_trace.specs.declared.rows.RowWhat.{RowWhat}
 use Rattle.tva_trace.specs.declared.rows.RowWhat.TheVariants.{Send, Inject}

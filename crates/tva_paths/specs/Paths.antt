@@ -21,8 +21,8 @@ use Rattle.tva_flow.specs.Charges.{Charge, lives, living_count}
 use Rattle.tva_port.specs.Keeps.{AreRising}
 use Rattle.tva_router.specs.Marks.{is_marked}
 use Rattle.tva_host.specs.Receiving.{shows_grant}
-use Rattle.tva_config.specs.declared.config.Config.{Config}
-use Rattle.tva_config.specs.declared.config.NodePlan.TheVariants.{Router, Host}
+use Rattle.tva_plan.specs.declared.config.Config.{Config}
+use Rattle.tva_plan.specs.declared.config.NodePlan.TheVariants.{Router, Host}
 use Rattle.tva_log.specs.declared.kinds.Input.{Input}
 use Rattle.tva_log.specs.Sites.{Site}
 use Rattle.tva_log.specs.Entries.{Entry, Arrived, Took}

@@ -20,7 +20,7 @@ use Rattle.tva_port.specs.Legal.{IsLegal}
 use Rattle.tva_host.specs.History.{History}
 use Rattle.tva_host.specs.Calls.{Call, history_of}
 use Rattle.tva_host.proofs.Calls.{history_of-push}
-use Rattle.tva_config.specs.declared.config.NodePlan.TheVariants as plans
+use Rattle.tva_plan.specs.declared.config.NodePlan.TheVariants as plans
 use Rattle.tva_trace.specs.declared.rows.RowWhat.{RowWhat}
 use Rattle.tva_trace.specs.declared.rows.RowWhat.TheVariants.{Send, Inject}
 use Rattle.tva_log.specs.declared.kinds.Input.{Input}

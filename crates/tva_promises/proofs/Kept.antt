@@ -21,7 +21,7 @@ use Rattle.tva_port.proofs.Limits.{stays_within}
 use Rattle.tva_port.proofs.Evenly.{even}
 use Rattle.tva_port.proofs.RequestBound.{requests_served}
 use Rattle.tva_port.proofs.RegularBound.{regulars_served}
-use Rattle.tva_config.specs.declared.config.NodePlan.TheVariants as plans
+use Rattle.tva_plan.specs.declared.config.NodePlan.TheVariants as plans
 use Rattle.tva_log.specs.declared.kinds.Input.{Input}
 use Rattle.tva_log.specs.Sites.{Site, IsSite, limits_out}
 use Rattle.tva_log.specs.Entries.{Content, Entry, Took, Started}

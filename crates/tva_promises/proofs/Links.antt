@@ -26,8 +26,8 @@ use Rattle.tva_port.proofs.Logs.{goes_on-push}
 use Rattle.tva_router.specs.Handling.{Logs, offered, outcome_of, sent, outgoing_link, link_or_none, way_to}
 use Rattle.tva_router.specs.Routes.{link_to}
 use Rattle.tva_host.specs.declared.made.Made.{Made}
-use Rattle.tva_config.specs.declared.config.NodePlan.{NodePlan}
-use Rattle.tva_config.specs.declared.config.NodePlan.TheVariants as plans
+use Rattle.tva_plan.specs.declared.config.NodePlan.{NodePlan}
+use Rattle.tva_plan.specs.declared.config.NodePlan.TheVariants as plans
 use Rattle.tva_log.specs.Sites.{Site, IsSite, IsPlanned, limits_out}
 use Rattle.tva_log.specs.Entries.{Content, Arrived, Entry, Took, Started, input_time, entry_time}
 use Rattle.tva_log.specs.Entries as entry

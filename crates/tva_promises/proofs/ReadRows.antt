@@ -7,9 +7,9 @@ use Rattle.tva_shim.specs.Packets.{IsCarried, CarriesFew}
 use Rattle.tva_shim.specs.declared.packets.Carried.{Carried}
 use Rattle.tva_shim.specs.declared.packets.Carried.TheVariants as carried
 use Rattle.tva_shim.proofs.Lengths.{has_few}
-use Rattle.tva_config.specs.declared.config.Config.{Config}
-use Rattle.tva_config.specs.declared.config.NodePlan.{NodePlan}
-use Rattle.tva_config.specs.Names.{node_named}
+use Rattle.tva_plan.specs.declared.config.Config.{Config}
+use Rattle.tva_plan.specs.declared.config.NodePlan.{NodePlan}
+use Rattle.tva_plan.specs.Names.{node_named}
 use Rattle.tva_trace.specs.declared.rows.Row.{Row}
 use Rattle.tva_trace.specs.declared.rows.RowKind as kinds
 use Rattle.tva_trace.specs.declared.rows.RowKind.TheVariants as kind

@@ -14,7 +14,7 @@ use Rattle.tva_base.specs.Versions.{version_for}
 use Rattle.tva_shim.specs.declared.kinds.Shown.{Shown}
 use Rattle.tva_shim.specs.declared.kinds.Kind.TheVariants as shims
 use Rattle.tva_shim.specs.Packets.{HasFew}
-use Rattle.tva_config.specs.declared.config.NodePlan.{NodePlan}
+use Rattle.tva_plan.specs.declared.config.NodePlan.{NodePlan}
 use Rattle.tva_trace.specs.declared.rows.RowKind as kinds
 use Rattle.tva_trace.specs.declared.rows.RowKind.TheVariants as kind
 use Rattle.tva_trace.specs.declared.said.SaidShim.{SaidShim}

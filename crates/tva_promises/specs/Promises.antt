@@ -12,7 +12,7 @@ use Rattle.tva_port.specs.Decide.{MissesNone}
 use Rattle.tva_port.specs.Legal.{IsLegal}
 use Rattle.tva_port.specs.Keeps.{IsWithinRate, StaysWithinLimits}
 use Rattle.tva_port.specs.Bounds.{AreRequestsServed, AreRegularsServed, AlwaysWaits, bytes_started}
-use Rattle.tva_config.specs.declared.config.NodePlan.TheVariants.{Router}
+use Rattle.tva_plan.specs.declared.config.NodePlan.TheVariants.{Router}
 use Rattle.tva_log.specs.declared.kinds.Input.{Input}
 use Rattle.tva_log.specs.Sites.{Site, limits_out}
 use Rattle.tva_log.specs.Entries.{Content, Arrived, Sent, Received, Entry, Took, input_time}

@@ -1,8 +1,8 @@
 // What every log of a node keeps, and so every run.
 ghost use Rattle.std.specs.Prelude.{◌≡◌, ℕ, ◌≤◌, List, Some};
 ghost use Rattle.std.specs.List.{AllByRecursion};
-ghost use Rattle.tva_config.specs.declared.config.Config.{Config};
-ghost use Rattle.tva_config.specs.Valid.{IsConfig};
+ghost use Rattle.tva_plan.specs.declared.config.Config.{Config};
+ghost use Rattle.tva_plan.specs.Valid.{IsConfig};
 ghost use Rattle.tva_trace.specs.declared.rows.Row.{Row};
 ghost use Rattle.tva_trace.specs.Meaning.{AreRows};
 ghost use Rattle.tva_trace.specs.Valid.{AreTraceRows};

@@ -16,7 +16,7 @@ use Rattle.tva_port.specs.Log as port
 use Rattle.tva_port.specs.Decide.{decision}
 use Rattle.tva_port.specs.declared.decision.Decision as decided
 use Rattle.tva_port.specs.declared.decision.Decision.TheVariants.{Start, WaitUntil, Idle}
-use Rattle.tva_config.specs.declared.config.Config.{Config}
+use Rattle.tva_plan.specs.declared.config.Config.{Config}
 use Rattle.tva_trace.specs.declared.rows.Row.{Row}
 use Rattle.tva_joins.specs.Joins.{IsInOrder, cut}
 use Rattle.tva_joins.proofs.Joins.{filter-true, filter-false, filter-all, filter-none, each-filter, each-append, each-weaker, cut-early, cut-late, times_from}

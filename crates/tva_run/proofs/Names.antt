@@ -36,11 +36,11 @@ use Rattle.tva_host.specs.History.{History}
 use Rattle.tva_host.specs.Sending.{intended}
 use Rattle.tva_host.specs.Receiving as receiving
 use Rattle.tva_host.specs.Receiving.{receipt_of, reply_of, stray, before_reply, answer_to, claim_in}
-use Rattle.tva_config.specs.declared.config.Config.{Config}
-use Rattle.tva_config.specs.declared.config.NodePlan.{NodePlan}
-use Rattle.tva_config.specs.declared.config.NodePlan.TheVariants as plans
-use Rattle.tva_config.specs.Links.{picked}
-use Rattle.tva_config.specs.Valid.{IsConfig}
+use Rattle.tva_plan.specs.declared.config.Config.{Config}
+use Rattle.tva_plan.specs.declared.config.NodePlan.{NodePlan}
+use Rattle.tva_plan.specs.declared.config.NodePlan.TheVariants as plans
+use Rattle.tva_plan.specs.Wiring.{picked}
+use Rattle.tva_plan.specs.Valid.{IsConfig}
 use Rattle.tva_trace.specs.declared.rows.Row.{Row}
 use Rattle.tva_trace.specs.declared.rows.RowWhat.{RowWhat}
 use Rattle.tva_trace.specs.declared.rows.RowWhat.TheVariants.{Send, Inject}

@@ -5,7 +5,7 @@ use Rattle.std.specs.Option.{option_map_or}
 use Rattle.std.proofs.lemmas.Bool.{lt-ltb, cases_Bool, cases_lt}
 use Rattle.tva_base.specs.declared.event.Event.{Event}
 use Rattle.tva_base.specs.declared.plan.LinkPlan.{LinkPlan}
-use Rattle.tva_config.specs.declared.config.Config.{Config}
+use Rattle.tva_plan.specs.declared.config.Config.{Config}
 use Rattle.tva_trace.specs.declared.rows.Row.{Row}
 use Rattle.tva_joins.specs.Joins.{IsInOrder, cut}
 use Rattle.tva_joins.proofs.Joins.{filter-true, filter-false, cut-late, each_later}

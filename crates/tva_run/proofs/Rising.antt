@@ -27,10 +27,10 @@ use Rattle.tva_log.specs.Parts.{queued_at, reply_at, content_at, port_entry, por
 use Rattle.tva_log.specs.NodeLog.{starts, start_after, due, GoesOn}
 use Rattle.tva_log.specs.Told.{at_time}
 use Rattle.tva_log.proofs.Ports.{busy_starts_none}
-use Rattle.tva_config.specs.declared.config.Config.{Config}
-use Rattle.tva_config.specs.declared.config.NodePlan.{NodePlan}
-use Rattle.tva_config.specs.Valid.{IsConfig, IsLinkPlan}
-use Rattle.tva_config.proofs.Wired.{all_here}
+use Rattle.tva_plan.specs.declared.config.Config.{Config}
+use Rattle.tva_plan.specs.declared.config.NodePlan.{NodePlan}
+use Rattle.tva_plan.specs.Valid.{IsConfig, IsLinkPlan}
+use Rattle.tva_plan.proofs.Wired.{all_here}
 use Rattle.tva_trace.specs.declared.rows.Row.{Row}
 use Rattle.std.proofs.lemmas.Option.{slice_get_cases}
 use Rattle.tva_run.specs.Reaching.{Logs, log_at, links_out, site_at, arrival_of, arrivals}

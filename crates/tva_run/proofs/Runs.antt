@@ -9,10 +9,10 @@ use Rattle.std.proofs.lemmas.List.{ext_get_or, get_or_past, length-map}
 use Rattle.std.proofs.lemmas.Option.{slice_get_cases}
 use Rattle.tva_base.specs.declared.plan.LinkPlan.{LinkPlan}
 use Rattle.tva_shim.specs.Packets.{PacketData, packet_length}
-use Rattle.tva_config.specs.declared.config.Config.{Config}
-use Rattle.tva_config.specs.declared.config.NodePlan.{NodePlan}
-use Rattle.tva_config.specs.Valid.{IsConfig, IsLinkPlan}
-use Rattle.tva_config.proofs.Wired.{all_here}
+use Rattle.tva_plan.specs.declared.config.Config.{Config}
+use Rattle.tva_plan.specs.declared.config.NodePlan.{NodePlan}
+use Rattle.tva_plan.specs.Valid.{IsConfig, IsLinkPlan}
+use Rattle.tva_plan.proofs.Wired.{all_here}
 use Rattle.tva_trace.specs.declared.rows.Row.{Row}
 use Rattle.tva_joins.specs.Joins.{from_source, IsJoin, cut}
 use Rattle.tva_joins.proofs.Joins.{filter-true, filter-false, filter_swap, in_order-filter, join_unique, cut-zero, cut-cut}

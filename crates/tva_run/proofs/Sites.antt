@@ -9,13 +9,12 @@ use Rattle.std.proofs.lemmas.Option.{slice_get_within}
 use Rattle.tva_base.specs.declared.limits.LinkLimits.{LinkLimits}
 use Rattle.tva_base.specs.declared.plan.LinkPlan.{LinkPlan}
 use Rattle.tva_base.specs.Plan.{links_of}
-use Rattle.tva_config.specs.declared.config.Config.{Config}
-use Rattle.tva_config.specs.declared.config.NodePlan.{NodePlan}
-use Rattle.tva_config.specs.declared.config.NodePlan.TheVariants as plans
-use Rattle.tva_config.specs.Links.{picked, number_from, links_from}
-use Rattle.tva_config.specs.Read.{limited_from, outgoing_of}
-use Rattle.tva_config.specs.Valid.{IsConfig, IsLinkPlan, IsWired, AreWired}
-use Rattle.tva_config.proofs.Wired.{router_at, host_at}
+use Rattle.tva_plan.specs.declared.config.Config.{Config}
+use Rattle.tva_plan.specs.declared.config.NodePlan.{NodePlan}
+use Rattle.tva_plan.specs.declared.config.NodePlan.TheVariants as plans
+use Rattle.tva_plan.specs.Wiring.{picked, number_from, links_from, limited_from, outgoing_of}
+use Rattle.tva_plan.specs.Valid.{IsConfig, IsLinkPlan, IsWired, AreWired}
+use Rattle.tva_plan.proofs.Wired.{router_at, host_at}
 use Rattle.tva_joins.proofs.Joins.{each-weaker}
 use Rattle.tva_base.specs.declared.packet.Class.{Class}
 use Rattle.tva_shim.specs.Packets.{PacketData, packet_length}

@@ -14,7 +14,7 @@ use Rattle.tva_base.specs.declared.event.ReplyLine.{ReplyLine}
 use Rattle.tva_base.specs.declared.event.WhatKind as whats
 use Rattle.tva_base.specs.declared.event.WhatKind.TheVariants as what
 use Rattle.tva_base.specs.declared.event.Totals.{Totals}
-use Rattle.tva_config.specs.declared.config.Config.{Config}
+use Rattle.tva_plan.specs.declared.config.Config.{Config}
 use Rattle.tva_trace.specs.declared.rows.Row.{Row}
 use Rattle.tva_trace.specs.Lines.{line_of, summary_of}
 use Rattle.tva_joins.specs.Joins.{IsJoin}

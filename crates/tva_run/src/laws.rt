@@ -3,8 +3,8 @@ ghost use Rattle.std.specs.Prelude.{◌≡◌, ℕ, ◌+◌, ◌≤◌, ◌==◌
 ghost use Rattle.std.specs.List.{flat_map};
 ghost use Rattle.tva_base.specs.declared.event.Event.{Event};
 ghost use Rattle.tva_base.specs.declared.plan.LinkPlan.{LinkPlan};
-ghost use Rattle.tva_config.specs.declared.config.Config.{Config};
-ghost use Rattle.tva_config.specs.Valid.{IsConfig};
+ghost use Rattle.tva_plan.specs.declared.config.Config.{Config};
+ghost use Rattle.tva_plan.specs.Valid.{IsConfig};
 ghost use Rattle.tva_trace.specs.declared.rows.Row.{Row};
 ghost use Rattle.tva_trace.specs.Lines.{HasEvent};
 ghost use Rattle.tva_joins.specs.Joins.{IsJoin, NeverFalls};

@@ -8,7 +8,7 @@ use Rattle.std.proofs.Common.{◌==◌}
 use Rattle.tva_base.specs.declared.packet.Flow.{Flow}
 use Rattle.tva_base.specs.declared.packet.Rights.{Rights}
 use Rattle.tva_base.specs.Options.{◌>>=◌}
-use Rattle.tva_config.specs.declared.config.NodePlan.{NodePlan}
+use Rattle.tva_plan.specs.declared.config.NodePlan.{NodePlan}
 use Rattle.tva_trace.specs.Items.{caps_of, each_of, few, item_of, items_in}
 
 -- capabilities behind those that were read

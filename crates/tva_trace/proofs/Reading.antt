@@ -13,7 +13,7 @@ use Rattle.csv.specs.declared.error.ErrorKind.TheVariants as why
 use Rattle.tva_trace.specs.Shortage.{IsShortage}
 use Rattle.csv.specs.declared.reader.Reader.{Reader}
 use Rattle.csv.specs.declared.reader.Trim.TheVariants as trim
-use Rattle.tva_config.specs.declared.config.Config.{Config}
+use Rattle.tva_plan.specs.declared.config.Config.{Config}
 use Rattle.std.proofs.lemmas.List.Elements.{All-push}
 use Rattle.tva_trace.specs.declared.rows.Row.{Row}
 use Rattle.tva_trace.specs.declared.rows.TraceRule.{TraceRule}
@@ -31,7 +31,7 @@ use Rattle.tva_trace.specs.declared.said.SaidShim.{SaidShim}
 use Rattle.tva_trace.specs.declared.said.SaidShim.TheVariants.{Bytes, Built}
 use Rattle.tva_trace.specs.declared.said.SaidWhat.{SaidWhat}
 use Rattle.tva_trace.specs.declared.said.SaidWhat.TheVariants as say
-use Rattle.tva_config.specs.Names.{is_host}
+use Rattle.tva_plan.specs.Names.{is_host}
 use Rattle.tva_trace.specs.Valid.{AreTraceRows, IsWithinWidths, IsRow, IsRowWhat, IsSaid, IsSaidShim, IsSaidWhat, NeverFall}
 use Rattle.tva_trace.proofs.RecordsLeft.{left_of, left-none, left-read}
 

@@ -17,7 +17,7 @@ use Rattle.tva_shim.specs.declared.kinds.Kind.TheVariants as shims
 use Rattle.tva_shim.specs.declared.kinds.ReturnInfo.TheVariants as backs
 use Rattle.tva_shim.specs.Shims.{ShimData}
 use Rattle.tva_caps.specs.Formula.{precap_of, capability_of}
-use Rattle.tva_config.specs.declared.config.NodePlan.{NodePlan}
+use Rattle.tva_plan.specs.declared.config.NodePlan.{NodePlan}
 use Rattle.tva_trace.specs.declared.rows.RowKind as kinds
 use Rattle.tva_trace.specs.declared.rows.RowKind.TheVariants as kind
 use Rattle.tva_trace.specs.declared.said.SaidShim as said

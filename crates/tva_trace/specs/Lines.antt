@@ -11,8 +11,8 @@ use Rattle.tva_base.specs.declared.event.Happened as happened
 use Rattle.tva_base.specs.declared.event.Happened.TheVariants.{Arrived, Sent, Received, Started}
 use Rattle.tva_base.specs.declared.event.ReplyLine.{ReplyLine}
 use Rattle.tva_base.specs.declared.event.Totals.{Totals}
-use Rattle.tva_config.specs.declared.config.Config.{Config}
-use Rattle.tva_config.specs.Names.{name_at}
+use Rattle.tva_plan.specs.declared.config.Config.{Config}
+use Rattle.tva_plan.specs.Names.{name_at}
 use Rattle.tva_trace.specs.Words.{class_word, cause_word, drop_word, shape_word, what_word, back_word}
 
 -- the name of the node with that number

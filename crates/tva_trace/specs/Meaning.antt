@@ -6,7 +6,7 @@ use Rattle.tva_shim.specs.declared.packets.Carried as carries
 use Rattle.tva_shim.specs.declared.packets.Carried.TheVariants as carried
 use Rattle.tva_shim.specs.Shims.{ShimData, IsShim}
 use Rattle.tva_shim.specs.Layout.{layout}
-use Rattle.tva_config.specs.declared.config.Config.{Config}
+use Rattle.tva_plan.specs.declared.config.Config.{Config}
 use Rattle.tva_trace.specs.declared.rows.Row.{Row}
 use Rattle.tva_trace.specs.declared.rows.RowWhat as whats
 use Rattle.tva_trace.specs.declared.rows.RowWhat.TheVariants as what

@@ -1,9 +1,9 @@
 -- The masters of routers, by their names.
 use Rattle.std.specs.Prelude.{List, ℕ, Option, Some, None, slice_get}
 use Rattle.std.specs.Option.{option_and_then}
-use Rattle.tva_config.specs.Names.{node_named}
-use Rattle.tva_config.specs.declared.config.NodePlan as node
-use Rattle.tva_config.specs.declared.config.NodePlan.TheVariants.{Router, Host}
+use Rattle.tva_plan.specs.Names.{node_named}
+use Rattle.tva_plan.specs.declared.config.NodePlan as node
+use Rattle.tva_plan.specs.declared.config.NodePlan.TheVariants.{Router, Host}
 
 abbrev pub master_in : node.NodePlan → Option (List ℕ)
 master_in (Router plan) = Some plan.master

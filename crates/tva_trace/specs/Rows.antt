@@ -8,8 +8,8 @@ use Rattle.tva_base.specs.declared.addresses.Address.{Address}
 use Rattle.tva_base.specs.declared.packet.Flow.{Flow}
 use Rattle.tva_base.specs.Decimal.{decimal_of}
 use Rattle.tva_base.specs.Addresses.{address_of}
-use Rattle.tva_config.specs.declared.config.Config.{Config}
-use Rattle.tva_config.specs.declared.config.NodePlan.{NodePlan}
+use Rattle.tva_plan.specs.declared.config.Config.{Config}
+use Rattle.tva_plan.specs.declared.config.NodePlan.{NodePlan}
 use Rattle.tva_trace.specs.declared.rows.RowKind as kinds
 use Rattle.tva_trace.specs.declared.rows.RowKind.TheVariants as kind
 use Rattle.tva_trace.specs.declared.rows.TraceRule as rules
@@ -18,7 +18,7 @@ use Rattle.tva_trace.specs.declared.rows.TraceFault.{TraceFault}
 use Rattle.tva_trace.specs.declared.said.SaidWhat as said
 use Rattle.tva_trace.specs.declared.said.SaidWhat.TheVariants as say
 use Rattle.tva_trace.specs.declared.said.SaidRow.{SaidRow}
-use Rattle.tva_config.specs.Names.{is_host, node_named}
+use Rattle.tva_plan.specs.Names.{is_host, node_named}
 use Rattle.tva_trace.specs.Items.{shim_of}
 
 -- a value, or the rule that is broken

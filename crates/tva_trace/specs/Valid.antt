@@ -3,7 +3,7 @@ use Rattle.std.specs.Prelude.{◌≡◌, ◌≤◌, ◌<◌, ℕ, Bool, true, Li
 use Rattle.tva_shim.specs.Shims.{IsShim}
 use Rattle.tva_shim.specs.declared.packets.Carried.{Carried}
 use Rattle.tva_shim.specs.declared.packets.Carried.TheVariants as carried
-use Rattle.tva_config.specs.declared.config.Config.{Config}
+use Rattle.tva_plan.specs.declared.config.Config.{Config}
 use Rattle.tva_trace.specs.declared.rows.Row.{Row}
 use Rattle.tva_trace.specs.declared.rows.RowWhat as whats
 use Rattle.tva_trace.specs.declared.rows.RowWhat.TheVariants as what
@@ -14,7 +14,7 @@ use Rattle.tva_trace.specs.declared.said.SaidShim.TheVariants.{Bytes, Built}
 use Rattle.tva_trace.specs.declared.said.SaidWhat as saids
 use Rattle.tva_trace.specs.declared.said.SaidWhat.TheVariants as say
 use Rattle.tva_trace.specs.declared.said.SaidRow.{SaidRow}
-use Rattle.tva_config.specs.Names.{is_host}
+use Rattle.tva_plan.specs.Names.{is_host}
 
 -- a shim has its widths, and a malformed one at most 400 bytes
 abbrev pub IsWithinWidths : Carried → Type 0

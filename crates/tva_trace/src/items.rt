@@ -8,7 +8,7 @@ ghost use Rattle.tva_base.specs.Versions.{AreSomeRights, IsVersion, seconds_max,
 ghost use Rattle.tva_shim.specs.Shims.{IsShown, IsKind};
 ghost use Rattle.tva_trace.specs.declared.said.SaidShim.TheVariants as says;
 ghost use Rattle.tva_trace.specs.Items.{caps_of, hex_number_of, item_of, minted_of, plain_shim, raw_of, rights_of, shim_of, shown_of};
-ghost use Rattle.tva_config.specs.Numbers.{Numbers};
+ghost use Rattle.tva_plan.specs.Numbers.{Numbers};
 ghost use Rattle.tva_trace.specs.Valid.{IsSaidShim};
 
 use crate::names::master_at;
@@ -19,7 +19,7 @@ use byteorder::{BigEndian, ByteOrder};
 use std::collections::HashMap;
 use tva_base::{Caps, Flow, Rights, decimal, seconds_max, units_max, version_for};
 use tva_caps::capability;
-use tva_config::{NodePlan, number_of};
+use tva_plan::{NodePlan, number_of};
 use tva_shim::{Kind, ReturnInfo, Shim, Shown};
 
 /// What stands before the first such byte, and what stands behind it.

@@ -1,9 +1,9 @@
 // What a record says, or the first rule that it breaks.
 ghost use Rattle.std.specs.Prelude.{◌≡◌, ◌<◌, ◌≤◌, Bool, true, IfOk, IfSome, OnOk, length};
 ghost use Rattle.csv.specs.Records.{fields_of};
-ghost use Rattle.tva_config.specs.Numbers.{Numbers};
+ghost use Rattle.tva_plan.specs.Numbers.{Numbers};
 ghost use Rattle.tva_trace.specs.Rows.{hold, injection_of, kind_at, row_of, sending_of, what_of};
-ghost use Rattle.tva_config.specs.Names.{is_host};
+ghost use Rattle.tva_plan.specs.Names.{is_host};
 ghost use Rattle.tva_trace.specs.Valid.{IsAllowed, IsSaid, IsSaidWhat};
 
 use crate::fields::{allowed, field, is_empty, kind_of};
@@ -14,7 +14,7 @@ use crate::secrets::KeptSecrets;
 use csv::ByteRecord;
 use std::collections::HashMap;
 use tva_base::{Flow, Time, address, decimal};
-use tva_config::{Config, NodePlan, is_host, number_of};
+use tva_plan::{Config, NodePlan, is_host, number_of};
 use tva_shim::PAYLOAD_MAX;
 
 /// A rule that a test meets.

@@ -1,6 +1,6 @@
 // What holds of every text of a trace.
 ghost use Rattle.std.specs.Prelude.{◌≡◌, ℕ, List};
-ghost use Rattle.tva_config.specs.declared.config.Config.{Config};
+ghost use Rattle.tva_plan.specs.declared.config.Config.{Config};
 ghost use Rattle.tva_trace.specs.declared.rows.Row.{Row};
 ghost use Rattle.tva_trace.specs.Meaning.{AreRows};
 

@@ -14,7 +14,7 @@ use tva_base::{
     BackKind, Class, Event, Fate, Happened, Outcome, PacketId, ReplyLine, ShapeKind, Time, Totals,
     WhatKind,
 };
-use tva_config::Config;
+use tva_plan::Config;
 
 /// Leaves the event's line in `line`, with its line feed and nothing else. No line is longer than
 /// 255 bytes: names have at most 16 bytes and numbers at most 20 digits, and the longest line, that

@@ -2,7 +2,7 @@
 ghost use Rattle.std.specs.Prelude.{◌≡◌, ◌<◌, length};
 ghost use Rattle.tva_trace.specs.Names.{master_at};
 
-use tva_config::NodePlan;
+use tva_plan::NodePlan;
 
 /// The master of the node of a number, if that is a router.
 pub fn master_at(plans: &[NodePlan], number: u16) -> Option<[u8; 32]>

@@ -8,7 +8,7 @@ use crate::words::{back_word, cause_word, drop_word, shape_word};
 use arrayvec::ArrayString;
 use itoa::Buffer;
 use tva_base::{Cause, Outcome, PacketId, ReplyLine};
-use tva_config::{Config, NodePlan};
+use tva_plan::{Config, NodePlan};
 
 /// A number, in at most 20 digits.
 pub fn put_number(line: &mut ArrayString<256>, number: u64)

@@ -4,7 +4,7 @@ ghost use Rattle.csv.specs.Records.{fields_of};
 ghost use Rattle.tva_trace.specs.declared.rows.Row.{Row};
 ghost use Rattle.tva_trace.specs.declared.rows.TraceError.TheVariants as error;
 ghost use Rattle.tva_trace.specs.Meaning.{Answers, AreRows, IsPut};
-ghost use Rattle.tva_config.specs.Numbers.{Numbers};
+ghost use Rattle.tva_plan.specs.Numbers.{Numbers};
 ghost use Rattle.tva_trace.specs.Rows.{said_by};
 ghost use Rattle.tva_trace.specs.Shortage.{IsShortage};
 ghost use Rattle.tva_trace.specs.Valid.{AreTraceRows, IsSaid};
@@ -18,7 +18,7 @@ use crate::secrets::KeptSecrets;
 use csv::{ByteRecord, ErrorKind, ReaderBuilder};
 use std::alloc::{AllocError, Global};
 use std::collections::HashMap;
-use tva_config::{Config, node_numbers};
+use tva_plan::{Config, node_numbers};
 
 /// The rows of a trace, or the first record that breaks a rule with the first rule that it breaks.
 /// The configuration has at most 65,536 nodes, as each that was read has. Rows stand in the order

@@ -13,7 +13,7 @@ use tva_base::{
     Address, DrrLimits, HostPlan, LinkLimits, LinkPlan, Listed, Name, PolicyKind, PolicyPlan,
     Rights, RouterPlan, Time,
 };
-use tva_config::{Config, NodePlan};
+use tva_plan::{Config, NodePlan};
 use tva_trace::Row;
 
 // The router R1, whose master is the bytes 0 to 31.

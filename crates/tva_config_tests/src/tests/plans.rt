@@ -6,7 +6,8 @@ use std::process::Abort;
 use tva_base::{
     Address, DrrLimits, HostPlan, LinkLimits, LinkPlan, PolicyKind, PolicyPlan, Route, RouterPlan,
 };
-use tva_config::{Config, NodePlan, has_host_or_link, read_config};
+use tva_config::read_config;
+use tva_plan::{Config, NodePlan, has_host_or_link};
 
 /// What Edge lays down.
 const EDGE_PLAN: &str = "horizon 1000000000000 events 1000 alone

@@ -8,9 +8,9 @@ use std::sync::atomic::{AtomicU64, Ordering};
 use std::test::Fail;
 use std::thread::Threads;
 use tva_base::{Listed, Name, RouterPlan, Time};
-use tva_config::NodePlan;
 use tva_node::{Node, advance_all};
 use tva_outside::Gate;
+use tva_plan::NodePlan;
 
 const LIMIT: u64 = 100_000_000;
 

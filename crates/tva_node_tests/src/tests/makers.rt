@@ -11,9 +11,9 @@ use tva_base::{
     Address, DrrLimits, Flow, HostPlan, LinkLimits, LinkPlan, Listed, Name, PacketId, PolicyKind,
     PolicyPlan, Prefix, Rights, Route, RouterPlan, Time,
 };
-use tva_config::NodePlan;
 use tva_log::Input;
 use tva_node::Node;
+use tva_plan::NodePlan;
 use tva_shim::{Carried, Packet, decode};
 use tva_trace::{Row, RowWhat};
 

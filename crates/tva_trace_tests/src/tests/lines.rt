@@ -89,7 +89,7 @@ use tva_base::{
     BackKind, Cause, Class, DropCause, Event, Fate, Happened, Outcome, PacketId, ReplyLine,
     ShapeKind, Time, Totals, WhatKind,
 };
-use tva_config::Config;
+use tva_plan::Config;
 use tva_trace::{line_text, summary_text};
 
 // Whether the nodes and links that are named are there.

@@ -4,7 +4,7 @@ use super::traces::{HEADER, expect_answer};
 use std::alloc::{AllocError, Global};
 use std::process::Abort;
 use std::test::Fail;
-use tva_config::Config;
+use tva_plan::Config;
 
 const ROW: &str = "0,R1,raw,1.1.1.1,1.1.1.1,0,\n";
 

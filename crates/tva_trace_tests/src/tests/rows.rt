@@ -7,7 +7,7 @@ use std::alloc::{AllocError, Global};
 use std::process::Abort;
 use std::test::Fail;
 use tva_base::{Flow, Rights};
-use tva_config::Config;
+use tva_plan::Config;
 use tva_shim::{Carried, Entry, Kind, ReturnInfo, Shim, Shown};
 use tva_trace::{Row, RowWhat, read_trace};
 

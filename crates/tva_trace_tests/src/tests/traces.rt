@@ -5,7 +5,7 @@ use super::{edge, expect_same, walk};
 use std::alloc::{AllocError, Global};
 use std::process::Abort;
 use std::test::Fail;
-use tva_config::Config;
+use tva_plan::Config;
 use tva_trace::{TraceError, read_trace};
 
 pub const HEADER: &str = "time,node,kind,src,dst,payload,shim\n";

@@ -1,7 +1,7 @@
 use Rattle.std.proofs.Common.{◌≡◌, ℕ, List, All, Result, OnOk, sym, subst, arith}
 use Rattle.tva_outside.specs.Faults.{Rose}
 use Rattle.tva_base.specs.declared.event.Event.{Event}
-use Rattle.tva_config.specs.declared.config.Config.{Config}
+use Rattle.tva_plan.specs.declared.config.Config.{Config}
 use Rattle.tva_trace.specs.Lines.{HasEvent}
 use Rattle.tva_run.specs.Report.{lines_of}
 use Rattle.tva_net.specs.declared.kinds.Window as answers

@@ -1,5 +1,5 @@
 use Rattle.std.proofs.Common.{◌≡◌, ◌≤◌, ◌*◌, ◌^◌, take}
-use Rattle.tva_config.specs.Links.{all_places}
+use Rattle.tva_plan.specs.Wiring.{all_places}
 use Rattle.tva_config.proofs.links.all_places.Given as goal
 
 abbrev pub invariant-loop-link : goal.invariant-loop-link

@@ -1,6 +1,5 @@
 use Rattle.std.proofs.Common.{◌≡◌, ◌++◌, drop}
-use Rattle.tva_config.specs.Links.{picked}
-use Rattle.tva_config.specs.Read.{tagged_to}
+use Rattle.tva_plan.specs.Wiring.{picked, tagged_to}
 use Rattle.tva_config.proofs.plans.incoming.Given as goal
 
 abbrev pub invariant-loop-i : goal.invariant-loop-i

@@ -1,5 +1,5 @@
 use Rattle.std.proofs.Common.{◌≡◌, List, get_or, ◌∙◌, ap}
-use Rattle.tva_config.specs.declared.config.NodePlan.{NodePlan}
+use Rattle.tva_plan.specs.declared.config.NodePlan.{NodePlan}
 use Rattle.tva_run.specs.Reaching.{links_out}
 use Rattle.tva_net.proofs.Firsts.{site_fits, site_there}
 use Rattle.tva_net.proofs.building.node_of.Goals as goal

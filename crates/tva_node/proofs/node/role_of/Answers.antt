@@ -1,7 +1,7 @@
 use Rattle.std.proofs.Common.{Some, sym, subst, ◌∙◌, ap}
 use Rattle.tva_base.specs.declared.limits.LinkLimits.{LinkLimits}
 use Rattle.tva_base.specs.declared.plan.HostPlan.{HostPlan}
-use Rattle.tva_config.specs.declared.config.NodePlan.{NodePlan}
+use Rattle.tva_plan.specs.declared.config.NodePlan.{NodePlan}
 use Rattle.tva_port.specs.Stands.{PortData}
 use Rattle.tva_log.specs.Sites.{IsPlanned}
 use Rattle.tva_node.proofs.Posts.{first_out, first_valid}

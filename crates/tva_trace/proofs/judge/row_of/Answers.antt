@@ -1,10 +1,10 @@
 use Rattle.std.proofs.Common.{◌≡◌, ◌≤◌, ◌<◌, ℕ, Bool, true, false, Ok, Option, Some, IfSome, List, length, refl, subst, arith}
 use Rattle.std.specs.Prelude.{nat_le}
 use Rattle.std.proofs.lemmas.Bool.Decides.{nat_tests}
-use Rattle.tva_config.specs.declared.config.NodePlan.{NodePlan}
+use Rattle.tva_plan.specs.declared.config.NodePlan.{NodePlan}
 use Rattle.tva_trace.specs.declared.rows.TraceRule as rules
 use Rattle.tva_trace.specs.declared.rows.TraceRule.TheVariants as rule
-use Rattle.tva_config.specs.Names.{is_host}
+use Rattle.tva_plan.specs.Names.{is_host}
 use Rattle.tva_trace.specs.Rows.{hold}
 use Rattle.tva_trace.specs.Valid.{IsAllowed}
 use Rattle.tva_trace.proofs.judge.row_of.Goals as goal

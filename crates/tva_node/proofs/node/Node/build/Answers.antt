@@ -1,5 +1,5 @@
 use Rattle.std.proofs.Common.{[], map, sym, subst, ◌∙◌, ap}
-use Rattle.tva_config.specs.declared.config.NodePlan.{NodePlan}
+use Rattle.tva_plan.specs.declared.config.NodePlan.{NodePlan}
 use Rattle.tva_log.specs.Sites.{IsSite, site_of}
 use Rattle.tva_node.specs.Pairs.{link_pair}
 use Rattle.tva_node.specs.States.{RoleStands, Stands, role_plan}

@@ -1,7 +1,7 @@
 use Rattle.std.proofs.Common.{ℕ, ◌≤◌}
 use Rattle.tva_base.specs.declared.addresses.Address.{Address}
-use Rattle.tva_config.specs.declared.config.NodePlan.{NodePlan}
-use Rattle.tva_config.specs.declared.config.NodePlan.TheVariants.{Router, Host}
+use Rattle.tva_plan.specs.declared.config.NodePlan.{NodePlan}
+use Rattle.tva_plan.specs.declared.config.NodePlan.TheVariants.{Router, Host}
 use Rattle.tva_trace.specs.declared.rows.RowWhat.TheVariants.{Send}
 use Rattle.tva_node.specs.States.{FitsRow}
 use Rattle.tva_node_tests.specs.Ready.{IsHost}

@@ -1,48 +1,20 @@
--- What every configuration keeps that is read.
-use Rattle.std.specs.Prelude.{◌≡◌, ◌<◌, ◌≤◌, ◌+◌, ◌^◌, ℕ, List, [], ◌∷◌, All, true, length, map}
+-- What every configuration keeps that a network can be built from.
+use Rattle.std.specs.Prelude.{◌≡◌, ◌<◌, ◌≤◌, ◌+◌, ℕ, List, [], ◌∷◌, All, true, length, map}
 use Rattle.std.specs.List.{list_all}
 use Rattle.tva_base.specs.declared.addresses.Address.{Address}
 use Rattle.tva_base.specs.declared.plan.LinkPlan.{LinkPlan}
-use Rattle.tva_base.specs.Plan.{AreLinkLimits, AreDistinct, IsPrefix, IsRouterPlan, IsHostPlan}
-use Rattle.tva_base.specs.Versions.{AreRights, IsVersion}
-use Rattle.tva_config.specs.declared.config.Config.{Config}
-use Rattle.tva_config.specs.declared.config.NodePlan as nodes
-use Rattle.tva_config.specs.declared.config.NodePlan.TheVariants as node
-use Rattle.tva_config.specs.declared.entries.RouterEntry.{RouterEntry}
-use Rattle.tva_config.specs.declared.entries.HostEntry.{HostEntry}
-use Rattle.tva_config.specs.declared.entries.LinkEntry.{LinkEntry}
-use Rattle.tva_config.specs.declared.entries.RouteEntry.{RouteEntry}
-use Rattle.tva_config.specs.Counts.{node_count, link_count, route_count, slot_count}
-use Rattle.tva_config.specs.Links.{links_from, all_places}
-use Rattle.tva_config.specs.Names.{name_at, is_host_plan}
-use Rattle.tva_config.specs.Read.{incoming_of, outgoing_of}
-use Rattle.tva_config.specs.Values.{is_name_byte}
+use Rattle.tva_base.specs.Plan.{AreLinkLimits, AreDistinct, IsRouterPlan, IsHostPlan}
+use Rattle.tva_plan.specs.declared.config.Config.{Config}
+use Rattle.tva_plan.specs.declared.config.NodePlan as nodes
+use Rattle.tva_plan.specs.declared.config.NodePlan.TheVariants as node
+use Rattle.tva_plan.specs.Counts.{node_count, link_count, route_count, slot_count}
+use Rattle.tva_plan.specs.Names.{is_name_byte, name_at, is_host_plan}
+use Rattle.tva_plan.specs.Wiring.{links_from, all_places, incoming_of, outgoing_of}
 
 -- a name: 1 to 16 letters, digits, `_` and `-`
 pub record IsName (text : List ℕ) : Type 0 where
   pub size : (1 ≤ length text) × (length text ≤ 16)
   pub bytes : list_all is_name_byte text ≡ true
-
--- the ranges of an entry's name and numbers
-pub record IsRouterEntry (r : RouterEntry) : Type 0 where
-  pub name : IsName r.name
-  pub slots : r.slots ≤ 1000000
-  pub clock_offset : r.clock_offset ≤ 1000000000000000
-
-pub record IsHostEntry (h : HostEntry) : Type 0 where
-  pub name : IsName h.name
-  pub nonce : h.nonce < 2 ^ 48
-  pub margin : h.margin ≤ 1000000000000
-  pub retry : h.retry ≤ 10000000000000
-  pub version : IsVersion h.version
-  pub rights : AreRights h.version h.policy.rights
-
-pub record IsLinkEntry (l : LinkEntry) : Type 0 where
-  pub delay : (1 ≤ l.delay) × (l.delay ≤ 1000000000000)
-  pub limits : AreLinkLimits l.limits
-
-abbrev pub IsRouteEntry : RouteEntry → Type 0
-IsRouteEntry r = IsPrefix r.prefix
 
 -- a plan that a router or a host can be built from
 abbrev pub IsNodePlan : nodes.NodePlan → Type 0

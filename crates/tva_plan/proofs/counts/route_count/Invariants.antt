@@ -1,6 +1,6 @@
 use Rattle.std.proofs.Common.{◌≡◌, ◌≤◌, ◌*◌, ◌^◌, take, sum_by}
-use Rattle.tva_config.specs.Counts.{routes_in}
-use Rattle.tva_config.proofs.counts.route_count.Given as goal
+use Rattle.tva_plan.specs.Counts.{routes_in}
+use Rattle.tva_plan.proofs.counts.route_count.Given as goal
 
 abbrev pub invariant-loop-node : goal.invariant-loop-node
 invariant-loop-node l = record { total : l.total ≡ sum_by routes_in (take l.node-index l.config.nodes); room : l.total ≤ l.node-index * 2 ^ 64 }

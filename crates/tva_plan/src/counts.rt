@@ -1,9 +1,8 @@
 // What a configuration holds.
 ghost use Rattle.std.specs.Prelude.{◌≡◌};
 ghost use Rattle.std.specs.List.{list_any};
-ghost use Rattle.tva_config.specs.Counts.{routes_in, slots_in};
-ghost use Rattle.tva_config.specs.Counts.{node_count, link_count, route_count, slot_count, has_some, has_host_or_link};
-ghost use Rattle.tva_config.specs.Names.{is_host_plan};
+ghost use Rattle.tva_plan.specs.Counts.{routes_in, slots_in, node_count, link_count, route_count, slot_count, has_some, has_host_or_link};
+ghost use Rattle.tva_plan.specs.Names.{is_host_plan};
 
 use crate::config::{Config, NodePlan};
 use crate::names::is_host_plan;

@@ -1,10 +1,16 @@
--- The names of nodes, which node has a name, and which are hosts.
-use Rattle.std.specs.Prelude.{ℕ, List, Option, Bool, true, false, slice_get}
+-- The names of nodes, of which bytes they are, which node has a name, and which are hosts.
+use Rattle.std.specs.Prelude.{ℕ, ◌==◌, ◌&&◌, ◌||◌, nat_le, List, Option, Bool, true, false, slice_get}
 use Rattle.std.specs.Option.{option_map_or}
 use Rattle.std.specs.List.{position_from}
 use Rattle.std.specs.Str.{bytes_eq}
-use Rattle.tva_config.specs.declared.config.NodePlan as nodes
-use Rattle.tva_config.specs.declared.config.NodePlan.TheVariants as node
+use Rattle.tva_plan.specs.declared.config.NodePlan as nodes
+use Rattle.tva_plan.specs.declared.config.NodePlan.TheVariants as node
+
+-- a letter, a digit, `_` or `-`
+abbrev pub is_name_byte : ℕ → Bool
+is_name_byte b =
+    (nat_le 65 b && nat_le b 90) || (nat_le 97 b && nat_le b 122) || (nat_le 48 b && nat_le b 57)
+    || (b == 95) || (b == 45)
 
 -- the name of a node, by its plan
 abbrev pub name_at : nodes.NodePlan → List ℕ

@@ -1,7 +1,7 @@
 use Rattle.std.proofs.Common.{◌∙◌, sym, subst, ◌<◌, length, ℕ, Option, IfSome, zero-add}
-use Rattle.tva_config.specs.Names.{node_named}
-use Rattle.tva_config.proofs.Named.{named_from-within}
-use Rattle.tva_config.proofs.names.number_of.Goals as goal
+use Rattle.tva_plan.specs.Names.{node_named}
+use Rattle.tva_plan.proofs.Named.{named_from-within}
+use Rattle.tva_plan.proofs.names.number_of.Goals as goal
 
 pub returns-clause-number : goal.returns-clause-number
 unfolding node_named

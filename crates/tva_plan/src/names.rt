@@ -1,7 +1,7 @@
 // The names of nodes, which node has a name, and which are hosts.
 ghost use Rattle.std.specs.Prelude.{◌≡◌, ◌≤◌, ◌<◌, IfOk, IfSome, length};
-ghost use Rattle.tva_config.specs.Names.{is_host, is_host_plan, name_at, node_named};
-ghost use Rattle.tva_config.specs.Numbers.{Numbers};
+ghost use Rattle.tva_plan.specs.Names.{is_host, is_host_plan, name_at, node_named};
+ghost use Rattle.tva_plan.specs.Numbers.{Numbers};
 
 use crate::config::NodePlan;
 use std::alloc::{AllocError, Global};

@@ -1,10 +1,10 @@
 -- What a configuration is said to hold.
 use Rattle.std.specs.Prelude.{ℕ, List, [], ◌∷◌, Bool, true, false, ◌||◌, length, sum_by}
 use Rattle.std.specs.List.{list_any}
-use Rattle.tva_config.specs.declared.config.Config.{Config}
-use Rattle.tva_config.specs.declared.config.NodePlan as nodes
-use Rattle.tva_config.specs.declared.config.NodePlan.TheVariants as node
-use Rattle.tva_config.specs.Names.{is_host_plan}
+use Rattle.tva_plan.specs.declared.config.Config.{Config}
+use Rattle.tva_plan.specs.declared.config.NodePlan as nodes
+use Rattle.tva_plan.specs.declared.config.NodePlan.TheVariants as node
+use Rattle.tva_plan.specs.Names.{is_host_plan}
 
 -- the routes of a node, and its slots
 abbrev pub routes_in : nodes.NodePlan → ℕ

@@ -5,8 +5,8 @@ use Rattle.std.specs.Str.{bytes_eq}
 use Rattle.std.specs.Borrow.{Bor}
 use Rattle.std.specs.declared.hash.FoldHasher.{FoldHasher}
 use Rattle.std.specs.declared.hash.BuildHasherDefault.{BuildHasherDefault}
-use Rattle.tva_config.specs.declared.config.NodePlan as nodes
-use Rattle.tva_config.specs.Names.{named_from}
+use Rattle.tva_plan.specs.declared.config.NodePlan as nodes
+use Rattle.tva_plan.specs.Names.{named_from}
 
 abbrev pub Names : Type 0
 Names = HashMap (Bor (List ℕ)) ℕ (BuildHasherDefault FoldHasher)

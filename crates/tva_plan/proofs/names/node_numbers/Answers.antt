@@ -1,7 +1,7 @@
 use Rattle.std.proofs.Common.{◌≡◌, arith}
 use Rattle.std.proofs.lemmas.Map.Text.{hash_map_updates_str}
-use Rattle.tva_config.proofs.Named.{named_from-before}
-use Rattle.tva_config.proofs.names.node_numbers.Goals as goal
+use Rattle.tva_plan.proofs.Named.{named_from-before}
+use Rattle.tva_plan.proofs.names.node_numbers.Goals as goal
 
 pub loop-number-preserved : goal.loop-number-preserved
 loop-number-preserved c = (

@@ -7,13 +7,12 @@ use Rattle.tva_base.specs.declared.plan.LinkPlan.{LinkPlan}
 use Rattle.tva_base.specs.declared.plan.RouterPlan.{RouterPlan}
 use Rattle.tva_base.specs.declared.plan.HostPlan.{HostPlan}
 use Rattle.tva_base.specs.Plan.{IsRouterPlan, IsHostPlan}
-use Rattle.tva_config.specs.declared.config.Config.{Config}
-use Rattle.tva_config.specs.declared.config.NodePlan as nodes
-use Rattle.tva_config.specs.declared.config.NodePlan.TheVariants as node
-use Rattle.tva_config.specs.Links.{picked, number_from, links_from}
-use Rattle.tva_config.specs.Names.{is_host_plan}
-use Rattle.tva_config.specs.Read.{incoming_of, outgoing_of}
-use Rattle.tva_config.specs.Valid.{IsNodePlan, IsLinkPlan, IsWired, AreWired, AreRoutersFirst, IsConfig}
+use Rattle.tva_plan.specs.declared.config.Config.{Config}
+use Rattle.tva_plan.specs.declared.config.NodePlan as nodes
+use Rattle.tva_plan.specs.declared.config.NodePlan.TheVariants as node
+use Rattle.tva_plan.specs.Wiring.{picked, number_from, links_from, incoming_of, outgoing_of}
+use Rattle.tva_plan.specs.Names.{is_host_plan}
+use Rattle.tva_plan.specs.Valid.{IsNodePlan, IsLinkPlan, IsWired, AreWired, AreRoutersFirst, IsConfig}
 
 -- what holds of all elements holds of the one at a place
 pub all_here : {A : Type 0} (P : A → Type 0) (xs : List A) (n : ℕ) (x : A) → All P xs → slice_get xs n ≡ Some x → P x

@@ -1,4 +1,0 @@
-use Rattle.tva_config.proofs.counts.node_count.Goals as goal
-
-pub returns : goal.returns
-returns c = c.len.ensures
