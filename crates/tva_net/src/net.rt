@@ -77,7 +77,7 @@ impl Net {
         window
     }
 
-    /// The same, and something else, which is done at once with it where that helps.
+    /// The same, and something else: beside the posting of what the nodes sent, where that is much.
     pub fn step_beside<R: Threads + Sync, G: Gate, F: FnMut() -> A + Send, A: Send>(
         &mut self,
         rt: &R,

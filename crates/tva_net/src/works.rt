@@ -68,7 +68,7 @@ impl Works {
     }
 
     /// Works windows up to one in which something happens, and gives that, or all that are left; and
-    /// does something else, at once with what can be done at once with it.
+    /// does something else, beside the posting of the first of them, where that is much.
     pub fn next_events<R: Threads + Sync, G: Gate, F: FnMut() -> A + Send, A: Send>(
         &mut self,
         rt: &R,
