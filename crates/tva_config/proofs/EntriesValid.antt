@@ -6,6 +6,7 @@ use Rattle.toml.specs.Data.{Members}
 use Rattle.tva_base.specs.declared.limits.LinkLimits.{LinkLimits}
 use Rattle.tva_base.specs.Plan.{AreClassLimits, AreLinkLimits, IsPrefix}
 use Rattle.tva_base.specs.Versions.{AreRights, IsVersion, seconds_max, units_max}
+use Rattle.tva_base.specs.declared.packet.Rights.{Rights}
 use Rattle.tva_base.specs.declared.plan.PolicyKind.TheVariants as policy
 use Rattle.tva_base.specs.declared.plan.PolicyPlan.{PolicyPlan}
 use Rattle.tva_config.specs.declared.place.Place.{Place}
@@ -17,7 +18,7 @@ use Rattle.tva_config.specs.declared.entries.RouteEntry.{RouteEntry}
 use Rattle.tva_config.specs.Faults.{Read}
 use Rattle.tva_config.specs.Keys.{only_listed, required, optional}
 use Rattle.tva_config.specs.Values as value
-use Rattle.tva_config.specs.Entries.{router_keys, router_of, host_keys, policy_plan_of, host_of, link_keys, row, class_limits, behind_a_tag, inner_of, limits_of, link_of, route_keys, route_of}
+use Rattle.tva_config.specs.Entries.{router_keys, router_of, host_keys, rights_of, policy_plan_of, host_of, link_keys, row, class_limits, behind_a_tag, inner_of, limits_of, link_of, route_keys, route_of}
 use Rattle.tva_config.specs.Tables.{entry_step, entries_of}
 use Rattle.tva_config.proofs.Ranges.{IsRouterEntry, IsHostEntry, IsLinkEntry, IsRouteEntry}
 use Rattle.tva_plan.specs.Valid.{IsName}
@@ -74,21 +75,27 @@ units_usual version = at_least 32 (eqb version 1) 1023 1048575 refl refl
 seconds_usual : (version : ℕ) → (nat_le 0 10 && nat_le 10 (seconds_max version)) ≡ true
 seconds_usual version = at_least 10 (eqb version 1) 63 127 refl refl
 
+rights_read : (version : ℕ) (p : Place) (ms : Members) (rights : Rights) → rights_of version p ms ≡ Ok rights → AreRights version rights
+rights_read version p ms rights gave =
+    when_gave (AreRights version) (optional p ms (codes "n") (value.number 0 (units_max version)) 32) _ rights gave (λ n k1 g1.
+    when_gave (AreRights version) (optional p ms (codes "t") (value.number 0 (seconds_max version)) 10) _ rights g1 (λ t k2 g2.
+    let made : Rights = record { n = n; t = t } in
+    let valid : AreRights version made = record {
+      units = (number_or 0 (units_max version) 32 p ms (codes "n") n (units_usual version) k1).1;
+      seconds = (number_or 0 (seconds_max version) 10 p ms (codes "t") t (seconds_usual version) k2).1;
+    } in
+    subst (AreRights version) (gave_one made rights g2) valid))
+
 rights_valid : (version : ℕ) (p : Place) (ms : Members) (plan : PolicyPlan) → policy_plan_of version p ms ≡ Ok plan → AreRights version plan.rights
 unfolding policy_plan_of
 rights_valid version p ms plan gave =
     when_gave (λ (q : PolicyPlan). AreRights version q.rights) (optional p ms (codes "policy") value.policy_kind policy.DenyAll) _ plan gave (λ kind k1 g1.
-    when_gave (λ (q : PolicyPlan). AreRights version q.rights) (optional p ms (codes "n") (value.number 0 (units_max version)) 32) _ plan g1 (λ n k2 g2.
-    when_gave (λ (q : PolicyPlan). AreRights version q.rights) (optional p ms (codes "t") (value.number 0 (seconds_max version)) 10) _ plan g2 (λ t k3 g3.
-    when_gave (λ (q : PolicyPlan). AreRights version q.rights) (optional p ms (codes "grants") (value.number 0 1000000) 1000) _ plan g3 (λ grants k4 g4.
-    when_gave (λ (q : PolicyPlan). AreRights version q.rights) (optional p ms (codes "deny") value.addresses []) _ plan g4 (λ deny k5 g5.
-    when_gave (λ (q : PolicyPlan). AreRights version q.rights) (optional p ms (codes "deny_tags") value.tags []) _ plan g5 (λ deny_tags k6 g6.
-    let made : PolicyPlan = record { kind = kind; rights = record { n = n; t = t }; grants = grants; deny = deny; deny_tags = deny_tags } in
-    let valid : AreRights version made.rights = record {
-      units = (number_or 0 (units_max version) 32 p ms (codes "n") n (units_usual version) k2).1;
-      seconds = (number_or 0 (seconds_max version) 10 p ms (codes "t") t (seconds_usual version) k3).1;
-    } in
-    subst (λ (q : PolicyPlan). AreRights version q.rights) (gave_one made plan g6) valid))))))
+    when_gave (λ (q : PolicyPlan). AreRights version q.rights) (rights_of version p ms) _ plan g1 (λ rights k2 g2.
+    when_gave (λ (q : PolicyPlan). AreRights version q.rights) (optional p ms (codes "grants") (value.number 0 1000000) 1000) _ plan g2 (λ grants k3 g3.
+    when_gave (λ (q : PolicyPlan). AreRights version q.rights) (optional p ms (codes "deny") value.addresses []) _ plan g3 (λ deny k4 g4.
+    when_gave (λ (q : PolicyPlan). AreRights version q.rights) (optional p ms (codes "deny_tags") value.tags []) _ plan g4 (λ deny_tags k5 g5.
+    let made : PolicyPlan = record { kind = kind; rights = rights; grants = grants; deny = deny; deny_tags = deny_tags } in
+    subst (λ (q : PolicyPlan). AreRights version q.rights) (gave_one made plan g5) (rights_read version p ms rights k2))))))
 
 pub host_valid : (version : ℕ) → IsVersion version → (p : Place) (ms : Members) (h : HostEntry) → host_of version p ms ≡ Ok h → IsHostEntry h
 unfolding host_of

@@ -16,6 +16,6 @@ pub names_listed : (listed : List (List ℕ)) (t : BTreeMap (String Global) Valu
 names_listed listed t = entries_listed listed t.entries
 
 -- looking through the keys behind references
-pub any_of_keys : (name : List ℕ) (listed : List (Bor (List ℕ))) → is_listed (map (λ key. key.now) listed) name ≡ list_any (λ key. bytes_eq name key.now) listed
+pub any_of_keys : (name : List ℕ) (listed : List (Bor (List ℕ))) → is_listed (map (λ key. key.now) listed) name ≡ list_any (λ key. bytes_eq key.now name) listed
 any_of_keys name [] = refl
-any_of_keys name (key ∷ rest) = ap (λ b. bytes_eq name key.now || b) (any_of_keys name rest)
+any_of_keys name (key ∷ rest) = ap (λ b. bytes_eq key.now name || b) (any_of_keys name rest)

@@ -3,6 +3,7 @@ use Rattle.std.specs.Prelude.{ℕ, ◌==◌, if◌then◌else◌, List, [], ◌�
 use Rattle.toml.specs.Data.{Members}
 use Rattle.tva_base.specs.declared.limits.DrrLimits.{DrrLimits}
 use Rattle.tva_base.specs.declared.limits.LinkLimits.{LinkLimits}
+use Rattle.tva_base.specs.declared.packet.Rights.{Rights}
 use Rattle.tva_base.specs.declared.plan.PolicyKind.TheVariants as policy
 use Rattle.tva_base.specs.declared.plan.PolicyPlan.{PolicyPlan}
 use Rattle.tva_base.specs.Versions.{seconds_max, units_max}
@@ -34,18 +35,24 @@ abbrev pub host_keys : List (List ℕ)
 host_keys = codes "name" ∷ codes "address" ∷ codes "nonce" ∷ codes "margin_ns" ∷ codes "retry_ns" ∷ codes "policy"
     ∷ codes "n" ∷ codes "t" ∷ codes "grants" ∷ codes "deny" ∷ codes "deny_tags" ∷ []
 
+-- the rights that a host grants, within the version of its shims
+abbrev pub rights_of : ℕ → Place → Members → Read Rights
+rights_of version p ms = do
+  n ← optional p ms (codes "n") (value.number 0 (units_max version)) 32
+  t ← optional p ms (codes "t") (value.number 0 (seconds_max version)) 10
+  Ok (record { n = n; t = t })
+
 -- the policy of a host whose shims have that version
 unfoldable pub policy_plan_of : ℕ → Place → Members → Read PolicyPlan
 policy_plan_of version p ms = do
   kind ← optional p ms (codes "policy") value.policy_kind policy.DenyAll
-  n ← optional p ms (codes "n") (value.number 0 (units_max version)) 32
-  t ← optional p ms (codes "t") (value.number 0 (seconds_max version)) 10
+  rights ← rights_of version p ms
   grants ← optional p ms (codes "grants") (value.number 0 1000000) 1000
   deny ← optional p ms (codes "deny") value.addresses []
   deny_tags ← optional p ms (codes "deny_tags") value.tags []
   Ok (record {
     kind = kind;
-    rights = record { n = n; t = t };
+    rights = rights;
     grants = grants;
     deny = deny;
     deny_tags = deny_tags;

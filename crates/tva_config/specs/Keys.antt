@@ -8,7 +8,7 @@ use Rattle.tva_config.specs.declared.place.Place.{Place}
 use Rattle.tva_config.specs.Faults.{Read, fault_at, unless}
 
 abbrev pub is_listed : List (List ℕ) → List ℕ → Bool
-is_listed keys name = list_any (bytes_eq name) keys
+is_listed keys name = list_any (λ key. bytes_eq key name) keys
 
 abbrev pub are_listed : List (List ℕ) → Members → Bool
 are_listed keys no_members = true

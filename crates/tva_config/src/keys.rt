@@ -1,7 +1,6 @@
 // What stands at the keys of an entry.
-ghost use Rattle.std.specs.Prelude.{◌≡◌, ◌≤◌, [], length, map, option_map, codes, string_bytes};
-ghost use Rattle.std.specs.List.{list_all, list_any};
-ghost use Rattle.std.specs.Str.{bytes_eq};
+ghost use Rattle.std.specs.Prelude.{◌≡◌, ◌≤◌, [], length, map, option_map, string_bytes};
+ghost use Rattle.std.specs.List.{list_all};
 ghost use Rattle.std.specs.BTreeMap.{keys};
 ghost use Rattle.toml.specs.Data.{get_member};
 ghost use Rattle.toml.specs.View.{table_view, view};
@@ -12,7 +11,7 @@ ghost use Rattle.tva_config.specs.Values as kind;
 
 use crate::fault::{ConfigError, ConfigFault, ConfigRule};
 use crate::place::Place;
-use crate::values::Kind;
+use crate::values::{Kind, Number};
 use crate::{arrays, values};
 use std::alloc::Global;
 use toml::{Table, Value};
@@ -64,13 +63,7 @@ fn have_all(table: &Table, listed: &[&str]) -> bool
 fn is_listed(listed: &[&str], name: &str) -> bool
     ensures { result ≡ is_listed (map (λ key. key.now) listed.now) name.now }
 {
-    is_one_of(listed, name)
-}
-
-fn is_one_of(listed: &[&str], name: &str) -> bool
-    ensures { result ≡ list_any (λ key. bytes_eq name.now key.now) listed.now }
-{
-    listed.iter().any(|key| name == *key)
+    listed.contains(&name)
 }
 
 /// The value of a key, where it is there.
@@ -138,101 +131,37 @@ pub fn few_items<T: Kind>(
 }
 
 /// A number that must be there, from `low` to `high`.
-pub fn number(
+pub fn number<T: Number>(
     place: Place,
     table: &Table,
     key: &str,
-    low: u64,
-    high: u64,
-) -> Result<u64, ConfigFault>
+    low: T,
+    high: T,
+) -> Result<T, ConfigFault>
     requires { length key.now ≤ 24 }
-    ensures { result ≡ required place (table_view table.now) key.now (kind.number low high) }
+    ensures { result ≡ required place (table_view table.now) key.now (T.range low high) }
 {
     match value_at(table, key) {
         None => Err(missing(place, key)),
-        Some(value) => value_or_fault(place, key, values::number(value, low, high)),
-    }
-}
-
-/// A number that must be there, from `low` to `high`, of at most 32 bits.
-pub fn count(
-    place: Place,
-    table: &Table,
-    key: &str,
-    low: u32,
-    high: u32,
-) -> Result<u32, ConfigFault>
-    requires { length key.now ≤ 24 }
-    ensures { result ≡ required place (table_view table.now) key.now (kind.number low high) }
-{
-    match value_at(table, key) {
-        None => Err(missing(place, key)),
-        Some(value) => value_or_fault(place, key, values::count(value, low, high)),
+        Some(value) => value_or_fault(place, key, T::within(value, low, high)),
     }
 }
 
 /// A number from `low` to `high`, or the default.
-pub fn number_or(
+pub fn number_or<T: Number>(
     place: Place,
     table: &Table,
     key: &str,
-    low: u64,
-    high: u64,
-    default: u64,
-) -> Result<u64, ConfigFault>
+    low: T,
+    high: T,
+    default: T,
+) -> Result<T, ConfigFault>
     requires { length key.now ≤ 24 }
-    ensures { result ≡ optional place (table_view table.now) key.now (kind.number low high) default }
+    ensures { result ≡ optional place (table_view table.now) key.now (T.range low high) default }
 {
     match value_at(table, key) {
         None => Ok(default),
-        Some(value) => value_or_fault(place, key, values::number(value, low, high)),
-    }
-}
-
-/// A number from `low` to `high`, of at most 32 bits, or the default.
-pub fn count_or(
-    place: Place,
-    table: &Table,
-    key: &str,
-    low: u32,
-    high: u32,
-    default: u32,
-) -> Result<u32, ConfigFault>
-    requires { length key.now ≤ 24 }
-    ensures { result ≡ optional place (table_view table.now) key.now (kind.number low high) default }
-{
-    match value_at(table, key) {
-        None => Ok(default),
-        Some(value) => value_or_fault(place, key, values::count(value, low, high)),
-    }
-}
-
-/// A tag of at most 16 bits, or 0.
-pub fn tag(place: Place, table: &Table, key: &str) -> Result<u16, ConfigFault>
-    requires { length key.now ≤ 24 }
-    ensures { result ≡ optional place (table_view table.now) key.now (kind.number 0 65535) 0 }
-{
-    match value_at(table, key) {
-        None => Ok(0),
-        Some(value) => value_or_fault(place, key, values::tag(value)),
-    }
-}
-
-/// A number from `low` to `high`, of at most 8 bits, or the default.
-pub fn small_or(
-    place: Place,
-    table: &Table,
-    key: &str,
-    low: u8,
-    high: u8,
-    default: u8,
-) -> Result<u8, ConfigFault>
-    requires { length key.now ≤ 24 }
-    ensures { result ≡ optional place (table_view table.now) key.now (kind.number low high) default }
-{
-    match value_at(table, key) {
-        None => Ok(default),
-        Some(value) => value_or_fault(place, key, values::small(value, low, high)),
+        Some(value) => value_or_fault(place, key, T::within(value, low, high)),
     }
 }
 

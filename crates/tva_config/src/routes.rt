@@ -1,5 +1,5 @@
 // What routes must be to the nodes, the links and one another.
-ghost use Rattle.std.specs.Prelude.{◌≡◌, ◌≤◌, ℕ, IfOk, length};
+ghost use Rattle.std.specs.Prelude.{◌≡◌, ◌≤◌, IfOk, length};
 ghost use Rattle.std.specs.HashMap.{get_by_text};
 ghost use Rattle.tva_config.specs.Faults.{AnswersBy};
 ghost use Rattle.tva_config.specs.Views.{link_at, IsSeen};

@@ -1,13 +1,10 @@
 // The entries of each table, by the keys in their order.
-ghost use Rattle.std.specs.Prelude.{◌≡◌, ◌≤◌, ℕ, length, codes};
+ghost use Rattle.std.specs.Prelude.{◌≡◌, ◌≤◌, ℕ, length};
 ghost use Rattle.toml.specs.Data.{Members};
 ghost use Rattle.toml.specs.View.{table_view};
 ghost use Rattle.tva_config.specs.declared.place.Place.{Place};
-ghost use Rattle.tva_base.specs.Versions.{seconds_max, units_max};
 ghost use Rattle.tva_config.specs.Faults.{Answers, Read};
-ghost use Rattle.tva_config.specs.Keys.{optional};
-ghost use Rattle.tva_config.specs.Values.{number};
-ghost use Rattle.tva_config.specs.Entries.{router_of, policy_plan_of, host_of, link_of, row, class_limits, behind_a_tag, inner_of, limits_of, route_of};
+ghost use Rattle.tva_config.specs.Entries.{router_of, rights_of, policy_plan_of, host_of, link_of, row, class_limits, behind_a_tag, inner_of, limits_of, route_of};
 
 use crate::entries::{HostEntry, LinkEntry, RouteEntry, RouterEntry};
 use crate::fault::{ConfigError, ConfigFault};
@@ -54,9 +51,9 @@ impl Entry for RouterEntry {
         keys::only_listed(place, table, &ROUTER_KEYS)?;
         let name = keys::required(place, table, "name")?;
         let master = keys::required(place, table, "master")?;
-        let slots = keys::count(place, table, "slots", 0, 1_000_000)?;
+        let slots = keys::number(place, table, "slots", 0, 1_000_000)?;
         let clock_offset = keys::number_or(place, table, "clock_offset_ns", 0, TIME_MAX, 0)?;
-        let edge_tag = keys::tag(place, table, "edge_tag")?;
+        let edge_tag = keys::number_or(place, table, "edge_tag", 0, u16::MAX, 0)?;
         Ok(RouterEntry {
             name,
             master,
@@ -131,7 +128,7 @@ impl Entry for LinkEntry {
         let to = keys::required(place, table, "to")?;
         let ns_per_byte = keys::number(place, table, "ns_per_byte", 1, 1_000_000)?;
         let delay = keys::number(place, table, "delay_ns", 1, 1_000_000_000_000)?;
-        let tag = keys::tag(place, table, "tag")?;
+        let tag = keys::number_or(place, table, "tag", 0, u16::MAX, 0)?;
         let limits = limits(place, ns_per_byte, table)?;
         Ok(LinkEntry {
             from,
@@ -150,7 +147,7 @@ fn limits(place: Place, ns_per_byte: u64, table: &Table) -> Result<LinkLimits, C
 {
     let share = keys::number_or(place, table, "share", 2, 1000, 20)?;
     let burst = keys::number_or(place, table, "burst", 4096, 1_000_000, 8192)?;
-    let quantum = keys::count_or(place, table, "quantum", LENGTH_MAX, 1_000_000, 2048)?;
+    let quantum = keys::number_or(place, table, "quantum", LENGTH_MAX, 1_000_000, 2048)?;
     let queues = row(
         place,
         table,
@@ -179,8 +176,8 @@ fn limits(place: Place, ns_per_byte: u64, table: &Table) -> Result<LinkLimits, C
         BYTES_MAX,
         1_048_576,
     )?;
-    let legacy_ring = keys::count_or(place, table, "legacy_ring", 1, 65_536, 256)?;
-    let legacy_bytes = keys::count_or(
+    let legacy_ring = keys::number_or(place, table, "legacy_ring", 1, 65_536, 256)?;
+    let legacy_bytes = keys::number_or(
         place,
         table,
         "legacy_bytes",
@@ -205,8 +202,8 @@ fn limits(place: Place, ns_per_byte: u64, table: &Table) -> Result<LinkLimits, C
 fn inner_queues(place: Place, table: &Table) -> Result<Option<u32>, ConfigFault>
     ensures { result ≡ inner_of place (table_view table.now) }
 {
-    let levels = keys::count_or(place, table, "request_levels", 1, 2, 1)?;
-    let inner = keys::count_or(place, table, "request_inner", 1, 65_536, 4)?;
+    let levels = keys::number_or(place, table, "request_levels", 1, 2, 1)?;
+    let inner = keys::number_or(place, table, "request_inner", 1, 65_536, 4)?;
     Ok(behind_a_tag(levels, inner))
 }
 
@@ -230,8 +227,8 @@ fn row(
     requires regular { length regular.now ≤ 24 }
     ensures { result ≡ row place (table_view table.now) request.now regular.now low high default }
 {
-    let first = keys::count_or(place, table, request, low, high, default)?;
-    let second = keys::count_or(place, table, regular, low, high, default)?;
+    let first = keys::number_or(place, table, request, low, high, default)?;
+    let second = keys::number_or(place, table, regular, low, high, default)?;
     Ok((first, second))
 }
 
@@ -255,18 +252,13 @@ fn class_limits(
     }
 }
 
-// The units that a host grants, within the version.
-fn units(version: u8, place: Place, table: &Table) -> Result<u32, ConfigFault>
-    ensures { result ≡ optional place (table_view table.now) (codes "n") (number 0 (units_max version)) 32 }
+// The rights that a host grants, within the version.
+fn rights(version: u8, place: Place, table: &Table) -> Result<Rights, ConfigFault>
+    ensures { result ≡ rights_of version place (table_view table.now) }
 {
-    keys::count_or(place, table, "n", 0, units_max(version), 32)
-}
-
-// The seconds in which it grants them.
-fn seconds(version: u8, place: Place, table: &Table) -> Result<u8, ConfigFault>
-    ensures { result ≡ optional place (table_view table.now) (codes "t") (number 0 (seconds_max version)) 10 }
-{
-    keys::small_or(place, table, "t", 0, seconds_max(version), 10)
+    let n = keys::number_or(place, table, "n", 0, units_max(version), 32)?;
+    let t = keys::number_or(place, table, "t", 0, seconds_max(version), 10)?;
+    Ok(Rights { n, t })
 }
 
 const HOST_KEYS: [&str; 11] = [
@@ -324,14 +316,13 @@ fn policy(
     ensures { Answers (policy_plan_of version place (table_view table.now)) result }
 {
     let kind = keys::optional(place, table, "policy", PolicyKind::DenyAll)?;
-    let n = units(version, place, table)?;
-    let t = seconds(version, place, table)?;
-    let grants = keys::count_or(place, table, "grants", 0, 1_000_000, 1000)?;
+    let rights = rights(version, place, table)?;
+    let grants = keys::number_or(place, table, "grants", 0, 1_000_000, 1000)?;
     let deny = keys::few_items(alloc, place, table, "deny")?;
     let deny_tags = keys::few_items(alloc, place, table, "deny_tags")?;
     Ok(PolicyPlan {
         kind,
-        rights: Rights { n, t },
+        rights,
         grants,
         deny,
         deny_tags,

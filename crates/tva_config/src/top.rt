@@ -50,7 +50,7 @@ pub fn top<'a>(alloc: Global, table: &'a Table) -> Result<TopTable<'a>, ConfigEr
     keys::only_listed(TOP, table, &TOP_KEYS)?;
     let horizon = keys::number(TOP, table, "horizon_ns", 0, TIME_MAX)?;
     let max_events = keys::number(TOP, table, "max_events", 1, 4_000_000)?;
-    let version = keys::small_or(TOP, table, "version", 1, 2, 1)?;
+    let version = keys::number_or(TOP, table, "version", 1, 2, 1)?;
     tables(alloc, horizon, max_events, version, table)
 }
 

@@ -19,8 +19,16 @@ pub trait Kind: Drop {
         ensures { result ≡ kind (view value.now) };
 }
 
-/// A number from `low` to `high`.
-pub fn number(value: &Value, low: u64, high: u64) -> Option<u64>
+/// A number of some width, as a key's value.
+pub trait Number: Drop {
+    /// What a value of the document is read as, where it is from the first number to the second.
+    ghost range: { Self → Self → Data → Option Self };
+
+    fn within(value: &Value, low: Self, high: Self) -> Option<Self>
+        ensures { result ≡ range low high (view value.now) };
+}
+
+fn number_in(value: &Value, low: u64, high: u64) -> Option<u64>
     ensures value { result ≡ number low high (view value.now) }
     ensures range { IfSome result (λ n. (low ≤ n) × (n ≤ high)) }
 {
@@ -40,23 +48,44 @@ fn within(n: i64, low: u64, high: u64) -> Option<u64>
     }
 }
 
-/// A number from `low` to `high`, of at most 32 bits.
-pub fn count(value: &Value, low: u32, high: u32) -> Option<u32>
-    ensures { result ≡ number low high (view value.now) }
-{
-    match number(value, u64::from(low), u64::from(high)) {
-        Some(n) => Some(n as u32),
-        None => None,
+impl Number for u64 {
+    ghost range = { number };
+
+    fn within(value: &Value, low: u64, high: u64) -> Option<u64> {
+        number_in(value, low, high)
     }
 }
 
-/// A tag that may be 0.
-pub fn tag(value: &Value) -> Option<u16>
-    ensures { result ≡ number 0 65535 (view value.now) }
-{
-    match number(value, 0, 65_535) {
-        Some(n) => Some(n as u16),
-        None => None,
+impl Number for u32 {
+    ghost range = { number };
+
+    fn within(value: &Value, low: u32, high: u32) -> Option<u32> {
+        match number_in(value, u64::from(low), u64::from(high)) {
+            Some(n) => Some(n as u32),
+            None => None,
+        }
+    }
+}
+
+impl Number for u16 {
+    ghost range = { number };
+
+    fn within(value: &Value, low: u16, high: u16) -> Option<u16> {
+        match number_in(value, u64::from(low), u64::from(high)) {
+            Some(n) => Some(n as u16),
+            None => None,
+        }
+    }
+}
+
+impl Number for u8 {
+    ghost range = { number };
+
+    fn within(value: &Value, low: u8, high: u8) -> Option<u8> {
+        match number_in(value, u64::from(low), u64::from(high)) {
+            Some(n) => Some(n as u8),
+            None => None,
+        }
     }
 }
 
@@ -65,20 +94,7 @@ impl Kind for u16 {
     ghost kind = { number 1 65535 };
 
     fn of(value: &Value) -> Option<u16> {
-        match number(value, 1, 65_535) {
-            Some(n) => Some(n as u16),
-            None => None,
-        }
-    }
-}
-
-/// A number from `low` to `high`, of at most 8 bits.
-pub fn small(value: &Value, low: u8, high: u8) -> Option<u8>
-    ensures { result ≡ number low high (view value.now) }
-{
-    match number(value, u64::from(low), u64::from(high)) {
-        Some(n) => Some(n as u8),
-        None => None,
+        u16::within(value, 1, 65_535)
     }
 }
 

@@ -3,4 +3,4 @@ use Rattle.tva_config.proofs.Listed.{any_of_keys}
 use Rattle.tva_config.proofs.keys.is_listed.Goals as goal
 
 pub returns : goal.returns
-returns c = c.is_one_of.ensures ∙ sym (any_of_keys c.args.name.now c.args.listed.now)
+returns c = c.contains.ensures.value ∙ sym (any_of_keys c.args.name.now c.args.listed.now)

@@ -1,4 +1,4 @@
-use Rattle.std.proofs.Common.{◌≡◌, ◌∙◌, ◌<◌, ◌≤◌, [], length, ap, sym, true, false, get_or, take, drop, codes, Ok, arith}
+use Rattle.std.proofs.Common.{rules, ◌≡◌, ◌∙◌, ◌<◌, ◌≤◌, [], length, ap, sym, true, false, get_or, take, drop, codes, Ok, arith}
 use Rattle.std.proofs.lemmas.List.{drop_all, take_all, take_more}
 use Rattle.std.specs.List.{list_any}
 use Rattle.std.specs.Str.{bytes_eq}
@@ -60,3 +60,6 @@ returns-clause-numbers c =
     let long = names_long c.args.routers.now c.args.hosts.now in
     let past : length names ≤ c.loop-i.i = omega (arith, long) in
     all_named c.loop-i.numbers names c.loop-i.i past c.loop-i.invariant.numbers
+
+pub loop-i-init : goal.loop-i-init
+loop-i-init c = search rules
