@@ -14,6 +14,3 @@ mod shape;
 
 pub use sender::Sender;
 pub use shape::{Held, Shape};
-
-#[cfg(test)]
-mod tests;

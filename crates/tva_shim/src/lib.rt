@@ -21,6 +21,3 @@ pub use limits::{HOPS_MAX, MALFORMED_MAX, PAYLOAD_MAX, limits_hold, packets_are_
 pub use packets::{Carried, Packet, class_of, length};
 pub use shims::Shim;
 pub use shows::{inner_queue_key, queue_key, return_shown};
-
-#[cfg(test)]
-mod tests;

@@ -1,5 +1,5 @@
 use Rattle.tva_shim.specs.Changes.{IsRequest}
-use Rattle.tva_shim.proofs.tests.requests_show_the_tag_before.Given as goal
+use Rattle.tva_shim_tests.proofs.tests.requests_show_the_tag_before.Given as goal
 
 -- the shim stays a request
 abbrev pub invariant-loop-tag : goal.invariant-loop-tag

@@ -3,7 +3,7 @@ ghost use Rattle.std.specs.Prelude.{◌≤◌, ◌<◌};
 
 use super::caps_of;
 use super::plain::{Contact, Rules, Shown, length_of, of_peer, shape_of, takes};
-use crate::{Sender, Shape};
+use tva_sender::{Sender, Shape};
 use std::alloc::{AllocError, Global};
 use std::process::Abort;
 use tva_base::{Address, Caps, Rights, Time};

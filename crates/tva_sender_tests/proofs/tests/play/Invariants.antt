@@ -1,5 +1,5 @@
 use Rattle.std.proofs.Common.{◌≡◌}
-use Rattle.tva_sender.proofs.tests.play.Given as goal
+use Rattle.tva_sender_tests.proofs.tests.play.Given as goal
 
 -- the sender's last time
 abbrev pub invariant-loop-call : goal.invariant-loop-call

@@ -5,7 +5,7 @@ mod plain;
 mod random;
 mod times;
 
-use crate::{Held, Sender, Shape};
+use tva_sender::{Held, Sender, Shape};
 use budgets::BUDGETS;
 use greater::GREATER;
 use random::{RUNS, compare};

@@ -1,4 +1,4 @@
-use crate::{
+use tva_shim::{
     Carried, Entries, Entry, Kind, Packet, PathFull, ReturnInfo, Shim, Shown, class_of, decode,
     encode, inner_queue_key, length, queue_key, return_shown,
 };
