@@ -4,6 +4,8 @@
 //! added; and that want of memory changes nothing but the room for peers.
 #![tactic(auto)]
 
+#[cfg(test)]
+mod cases;
 mod host;
 mod laws;
 mod made;

@@ -2,19 +2,16 @@ ghost use Rattle.std.specs.Prelude.{◌≡◌, ◌≤◌, IfOk};
 ghost use Rattle.tva_base.specs.Plan.{IsHostPlan};
 ghost use Rattle.tva_shim.specs.Packets.{IsCarried};
 
-mod cases;
-
+use super::*;
+use crate::cases::CASES;
 use arrayvec::ArrayVec;
-use cases::CASES;
-use std::alloc::{AllocError, Global};
 use std::process::Abort;
 use std::test::Fail;
 use tva_base::{
-    Address, BackKind, Flow, HostPlan, Listed, Name, PacketId, PolicyKind, PolicyPlan, Rights,
-    ShapeKind, Time, WhatKind, address, decimal, seconds_max, units_max,
+    Listed, Name, PolicyKind, PolicyPlan, Rights, ShapeKind, WhatKind, address, decimal,
+    seconds_max, units_max,
 };
-use tva_host::{Host, Made, Receipt};
-use tva_shim::{Carried, Packet, ReturnInfo, decode, encode, length};
+use tva_shim::{decode, encode, length};
 
 fn crosses<T: Send + Sync>() {}
 
