@@ -121,7 +121,6 @@ place_looked routes table dst bits t =
     ∙ place_same (has_prefix bits (kept dst bits).0) (leads bits dst) 0 routes (has_leads bits dst)
     ∙ sym (position_from-zero (leads bits dst) routes)
 
-
 unmarked_leads : (marks : List Bool) (dst : Address) (bits : ℕ) (r : Route) → get_or marks bits false ≡ false → get_or marks r.prefix.bits false ≡ true → leads bits dst r ≡ false
 unmarked_leads marks dst bits r none some =
     elim (eqb_tells r.prefix.bits bits) [
