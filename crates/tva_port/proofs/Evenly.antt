@@ -23,7 +23,7 @@ use Rattle.tva_port.specs.Waiting.{same_class, request_step, fair_step, waiting_
 use Rattle.tva_port.specs.Decide.{credit_after}
 use Rattle.tva_port.specs.Legal.{Follows, GoesOn, IsStarted, IsLegal}
 use Rattle.tva_port.specs.Keeps.{AreWithin, IsWithinLimits}
-use Rattle.tva_port.specs.Bounds.{queues_of, bytes_started, AlwaysWaits}
+use Rattle.tva_port.specs.Bounds.{queues_of, bytes_started, IsNeverEmpty}
 use Rattle.tva_port.proofs.Logs.{legal-front, requests-push, goes_on-push}
 use Rattle.tva_port.proofs.Deciding.{covered_pays}
 use Rattle.tva_port.proofs.Legality.{started_is}
@@ -188,7 +188,7 @@ module _ (l : LinkLimits) (c : Class) (q : HasKeys l c) (a : AreLinkLimits l) wh
       (λ _ e. subst (λ z. drr.AlwaysWaits packet_length key z (steps_of c es)) (sym e) h)
       (sym s)
 
-  waits_all : (key : ℕ) (log es : List Entry) → IsLegal l log → GoesOn l log es → AlwaysWaits l c key log es → drr.AlwaysWaits packet_length key (state l c log) (steps_of c es)
+  waits_all : (key : ℕ) (log es : List Entry) → IsLegal l log → GoesOn l log es → IsNeverEmpty l c key log es → drr.AlwaysWaits packet_length key (state l c log) (steps_of c es)
   waits_all key log [] g r w = w
   waits_all key log (e ∷ es) g r w = waits_one key log e es g w.0 (waits_all key (log ++ e ∷ []) es (goes_on-push l [] log e g r.0) r.1 w.1)
 
@@ -208,19 +208,19 @@ most_of l Legacy a = a.regular.max
 
 -- what waits all along waits at first
 waits_first : (l : LinkLimits) (c : Class) (key : ℕ) (before between : List Entry)
-    → AlwaysWaits l c key before between → has_key key (queues_of c (waiting_after l before)) ≡ true
+    → IsNeverEmpty l c key before between → has_key key (queues_of c (waiting_after l before)) ≡ true
 waits_first l c key before [] w = w
 waits_first l c key before (e ∷ es) w = w.0
 
 has_keys : (l : LinkLimits) (c : Class) (key : ℕ) (before between : List Entry) → IsQueueing c
-    → IsWithinLimits l (waiting_after l before) → AlwaysWaits l c key before between → HasKeys l c
+    → IsWithinLimits l (waiting_after l before) → IsNeverEmpty l c key before between → HasKeys l c
 has_keys l Request key before between q i w = is_one_level l (waiting_after l before).requests key i.requests
     (waits_first l Request key before between w)
 has_keys l Regular key before between q i w = tt
 has_keys l Legacy key before between q i w = absurd q
 
 -- between two places of a log
-pub even : (l : LinkLimits) (c : Class) (before between : List Entry) (a b : ℕ) → IsQueueing c → AreLinkLimits l → IsLegal l (before ++ between) → a ≢ b → AlwaysWaits l c a before between → AlwaysWaits l c b before between
+pub even : (l : LinkLimits) (c : Class) (before between : List Entry) (a b : ℕ) → IsQueueing c → AreLinkLimits l → IsLegal l (before ++ between) → a ≢ b → IsNeverEmpty l c a before between → IsNeverEmpty l c b before between
     → bytes_started l c a before between < bytes_started l c b before between + ((limits_of l c).quantum + 2 * (limits_of l c).max)
 even l c before between a b r v g n w u =
     let legal = legal-front l [] before between g in

@@ -18,7 +18,7 @@ use Rattle.tva_port.specs.Log.{Entry, Queued, Started, entry_time, NoneLater, cu
 use Rattle.tva_port.specs.Waiting.{waiting_after, queued_legacy}
 use Rattle.tva_port.specs.Decide.{covered, start_or, decision, credit_after, is_start, RestsAt}
 use Rattle.tva_port.specs.Legal.{Follows, GoesOn, IsStarted, IsLegal}
-use Rattle.tva_port.specs.Bounds.{starts_first, start_of}
+use Rattle.tva_port.specs.Bounds.{starts_first, start_among}
 use Rattle.tva_port.proofs.Logs.{later-front, cut-all, free-queued, free-started, legal-all, queued-push, goes_on-push}
 use Rattle.tva_port.proofs.Deciding.{Rests, none_starts, covered_pays}
 use Rattle.tva_port.proofs.Legality.{started_is}
@@ -171,14 +171,14 @@ free_soon l log time a g n = (legal-all l (IsFreeSoon l) (tt, λ t _. omega arit
 -- among these entries the packet starts by that time, where so many wait before it
 pub record Finds (l : LinkLimits) (class : Class) (key : ℕ) (p : PacketData) (ahead : ℕ) (log rest : List Entry) (time : ℕ) : Type 0 where
   pub start : ℕ
-  pub found : start_of l class key p ahead log rest ≡ Some (Started start class p)
+  pub found : start_among l class key p ahead log rest ≡ Some (Started start class p)
   pub soon : start ≤ time
 
 module _ (l : LinkLimits) (class : Class) (key : ℕ) (p : PacketData) where
   start_other : (n : ℕ) (log : List Entry) (e : Entry) (es : List Entry) → starts_first l class key p log e ≡ false
-      → start_of l class key p n log (e ∷ es) ≡ start_of l class key p n (log ++ e ∷ []) es
-  start_other zero log e es h = ap (λ b. cond b (Some e) (start_of l class key p zero (log ++ e ∷ []) es)) h
-  start_other (suc n) log e es h = ap (λ b. start_of l class key p (cond b n (suc n)) (log ++ e ∷ []) es) h
+      → start_among l class key p n log (e ∷ es) ≡ start_among l class key p n (log ++ e ∷ []) es
+  start_other zero log e es h = ap (λ b. cond b (Some e) (start_among l class key p zero (log ++ e ∷ []) es)) h
+  start_other (suc n) log e es h = ap (λ b. start_among l class key p (cond b n (suc n)) (log ++ e ∷ []) es) h
 
   pub finds_later : (n : ℕ) (log : List Entry) (e : Entry) (es : List Entry) (time : ℕ)
       → starts_first l class key p log e ≡ false → Finds l class key p n (log ++ e ∷ []) es time
@@ -191,7 +191,7 @@ module _ (l : LinkLimits) (class : Class) (key : ℕ) (p : PacketData) where
   finds_next n log e es time h f = record {
     start = f.start;
     found = ap
-        (λ b. start_of l class key p (cond b n (suc n)) (log ++ e ∷ []) es) h ∙ f.found;
+        (λ b. start_among l class key p (cond b n (suc n)) (log ++ e ∷ []) es) h ∙ f.found;
     soon = f.soon;
   }
 
@@ -202,7 +202,7 @@ module _ (l : LinkLimits) (class : Class) (key : ℕ) (p : PacketData) where
     start = start;
     found = ap
         (λ b. cond b (Some (Started start class q))
-        (start_of l class key p zero (log ++ Started start class q ∷ []) es)) h ∙ ap
+        (start_among l class key p zero (log ++ Started start class q ∷ []) es)) h ∙ ap
         (λ z. Some (Started start class z)) e;
     soon = k;
   }

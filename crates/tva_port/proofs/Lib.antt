@@ -18,3 +18,4 @@ pub mod RequestBound
 pub mod RegularBound
 pub mod Evenly
 pub mod Served
+pub mod Played

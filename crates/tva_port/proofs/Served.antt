@@ -1,16 +1,18 @@
--- After a decision each packet whose bound is over has started.
-use Rattle.std.proofs.Common.{◌≡◌, ℕ, ◌+◌, List, ◌++◌, sym, subst, inl, inr, suc, arith}
+-- After a decision each packet whose bound is over has started, and keys are served alike.
+use Rattle.std.proofs.Common.{◌≡◌, ℕ, ◌+◌, List, [], ◌++◌, sym, subst, inl, inr, suc, arith}
 use Rattle.std.proofs.lemmas.Bool.Decides.{leb_tells}
 use Rattle.tva_base.specs.declared.limits.LinkLimits.{LinkLimits}
 use Rattle.tva_base.specs.Plan.{AreLinkLimits}
+use Rattle.tva_base.specs.declared.packet.Class.TheVariants.{Request, Regular}
 use Rattle.tva_port.specs.declared.decision.Decision.{Decision}
 use Rattle.tva_port.specs.Log.{Entry, NoneLater}
 use Rattle.tva_port.specs.Decide.{decision, started_by, RestsAt, MissesNone}
 use Rattle.tva_port.specs.Legal.{IsLegal}
-use Rattle.tva_port.specs.Bounds.{AreRequestsServed, AreRegularsServed}
-use Rattle.tva_port.proofs.Logs.{cut-all}
+use Rattle.tva_port.specs.Bounds.{AreRequestsServed, AreRegularsServed, ServesAlike}
+use Rattle.tva_port.proofs.Logs.{cut-all, legal-front}
 use Rattle.tva_port.proofs.Resting.{cut_away, none_later}
 use Rattle.tva_port.proofs.Steady.{none_again}
+use Rattle.tva_port.proofs.Evenly.{even}
 use Rattle.tva_port.proofs.RequestBound.{requests_served}
 use Rattle.tva_port.proofs.RegularBound.{regulars_served}
 
@@ -27,3 +29,9 @@ pub all_served : (l : LinkLimits) (log : List Entry) (now : ℕ) (d : Decision) 
 all_served l log now d a g n e m =
     let none = misses_now l log now d a n e m in
     (requests_served l (log ++ started_by d now) now (now + 1) a g none (omega arith), regulars_served l (log ++ started_by d now) now (now + 1) a g none (omega arith))
+
+-- from any place of a log to any other
+pub alike : (l : LinkLimits) (log : List Entry) → AreLinkLimits l → IsLegal l log → ServesAlike l log
+alike l log a g before between rest e =
+    let front = legal-front l [] (before ++ between) rest (subst (λ (z : List Entry). IsLegal l z) e g) in
+    (λ x y n w u. even l Request before between x y tt a front n w u, λ x y n w u. even l Regular before between x y tt a front n w u)

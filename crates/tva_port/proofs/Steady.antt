@@ -93,7 +93,7 @@ misses_empty l until = λ time k. inr (ap is_start
 
 -- ## a queueing
 
-misses_queued : (l : LinkLimits) (log : List Entry) (now until : ℕ) (class : Class) (key : ℕ) (p : PacketData) → NoneLater now log → until ≤ max now (free_after l log) → MissesNone l until log → MissesNone l until (log ++ Queued now class key p ∷ [])
+pub misses_queued : (l : LinkLimits) (log : List Entry) (now until : ℕ) (class : Class) (key : ℕ) (p : PacketData) → NoneLater now log → until ≤ max now (free_after l log) → MissesNone l until log → MissesNone l until (log ++ Queued now class key p ∷ [])
 misses_queued l log now until class key p n i m = let x = Queued now class key p in
     λ time k. elim (leb_tells (suc time) now) [
       | inl h ↦ subst (λ z. RestsAt l z time) (sym (cut-push (time + 1) log x (omega (arith, h.1)))) (m time k)

@@ -1,5 +1,5 @@
 -- How soon a packet that is queued starts, and how evenly queues are served, whatever others send.
-use Rattle.std.specs.Prelude.{◌≡◌, ℕ, zero, suc, ◌+◌, ◌-◌, ◌*◌, ◌≤◌, Bool, true, false, ◌&&◌, if◌then◌else◌, List, [], ◌∷◌, ◌++◌, length, Option, Some, None}
+use Rattle.std.specs.Prelude.{◌≡◌, ◌≢◌, ℕ, zero, suc, ◌+◌, ◌-◌, ◌*◌, ◌<◌, ◌≤◌, Bool, true, false, ◌&&◌, if◌then◌else◌, List, [], ◌∷◌, ◌++◌, length, Option, Some, None}
 use Rattle.std.specs.Int.{div_ceil}
 use Rattle.tva_base.specs.declared.limits.DrrLimits.{DrrLimits}
 use Rattle.tva_base.specs.declared.limits.LinkLimits.{LinkLimits}
@@ -38,18 +38,18 @@ starts_first l class key packet before (Started time c p) =
     same_class c class && is_next class key packet (waiting_after l before)
 
 -- where so many packets wait before a packet in its queue, its start among the later entries
-abbrev pub start_of : LinkLimits → Class → ℕ → PacketData → ℕ → List Entry → List Entry → Option Entry
-start_of l class key packet ahead before [] = None
-start_of l class key packet zero before (e ∷ es) =
-    if starts_first l class key packet before e then Some e else start_of l class key packet zero (before ++ e ∷ []) es
-start_of l class key packet (suc n) before (e ∷ es) =
-    start_of l class key packet (if starts_first l class key packet before e then n else suc n) (before ++ e ∷ []) es
+abbrev pub start_among : LinkLimits → Class → ℕ → PacketData → ℕ → List Entry → List Entry → Option Entry
+start_among l class key packet ahead before [] = None
+start_among l class key packet zero before (e ∷ es) =
+    if starts_first l class key packet before e then Some e else start_among l class key packet zero (before ++ e ∷ []) es
+start_among l class key packet (suc n) before (e ∷ es) =
+    start_among l class key packet (if starts_first l class key packet before e then n else suc n) (before ++ e ∷ []) es
 
 -- the packet that these entries queued last in its queue starts among the later ones by that time
 pub record StartsBy (l : LinkLimits) (class : Class) (key : ℕ) (packet : PacketData)
     (before later : List Entry) (time : ℕ) : Type 0 where
   pub start : ℕ
-  pub found : start_of l class key packet (length (waiting_with l class key packet before) - 1) before later
+  pub found : start_among l class key packet (length (waiting_with l class key packet before) - 1) before later
       ≡ Some (Started start class packet)
   pub soon : start ≤ time
 
@@ -105,7 +105,22 @@ bytes_started l class key before (e ∷ es) =
     bytes_of_start l class key before e + bytes_started l class key (before ++ e ∷ []) es
 
 -- before and after each of some entries something waits under the key
-abbrev pub AlwaysWaits : LinkLimits → Class → ℕ → List Entry → List Entry → Type 0
-AlwaysWaits l class key before [] = has_key key (queues_of class (waiting_after l before)) ≡ true
-AlwaysWaits l class key before (e ∷ es) =
-    (has_key key (queues_of class (waiting_after l before)) ≡ true) × AlwaysWaits l class key (before ++ e ∷ []) es
+abbrev pub IsNeverEmpty : LinkLimits → Class → ℕ → List Entry → List Entry → Type 0
+IsNeverEmpty l class key before [] = has_key key (queues_of class (waiting_after l before)) ≡ true
+IsNeverEmpty l class key before (e ∷ es) =
+    (has_key key (queues_of class (waiting_after l before)) ≡ true) × IsNeverEmpty l class key (before ++ e ∷ []) es
+
+-- from one place of a log to another, two keys of a class under which something waits all along start less than so many
+-- bytes more than each other
+abbrev pub AreServedAlike : LinkLimits → Class → ℕ → List Entry → List Entry → Type 0
+AreServedAlike l class more before between =
+    (a b : ℕ) → a ≢ b → IsNeverEmpty l class a before between → IsNeverEmpty l class b before between
+    → bytes_started l class a before between < bytes_started l class b before between + more
+
+-- so it is from any place of a log to any other, with a quantum and two greatest packets; on a link with two levels
+-- this says nothing of requests, which wait under two keys
+abbrev pub ServesAlike : LinkLimits → List Entry → Type 0
+ServesAlike l log =
+    (before between rest : List Entry) → log ≡ before ++ between ++ rest
+    → AreServedAlike l Request (l.request.quantum + 2 * l.request.max) before between
+    × AreServedAlike l Regular (l.regular.quantum + 2 * l.regular.max) before between

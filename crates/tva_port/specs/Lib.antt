@@ -7,5 +7,6 @@ pub mod Legal
 pub mod Stands
 pub mod Keeps
 pub mod Bounds
+pub mod Worked
 pub mod Steps
 pub mod Lists

@@ -1,5 +1,5 @@
 // How soon a packet that is queued starts, and how evenly queues are served, whatever others send.
-ghost use Rattle.std.specs.Prelude.{◌≡◌, ◌≢◌, ℕ, ◌+◌, ◌*◌, ◌^◌, ◌<◌, ◌≤◌, List, ◌++◌};
+ghost use Rattle.std.specs.Prelude.{◌≡◌, ℕ, ◌+◌, ◌*◌, ◌^◌, ◌<◌, ◌≤◌, List, ◌++◌};
 ghost use Rattle.tva_base.specs.declared.limits.LinkLimits.{LinkLimits};
 ghost use Rattle.tva_base.specs.declared.packet.Class.TheVariants.{Request, Regular};
 ghost use Rattle.tva_base.specs.Plan.{AreClassLimits, AreLinkLimits};
@@ -8,7 +8,7 @@ ghost use Rattle.tva_hier.specs.Ahead.{most_until_under};
 ghost use Rattle.tva_port.specs.Log.{Entry};
 ghost use Rattle.tva_port.specs.Decide.{MissesNone};
 ghost use Rattle.tva_port.specs.Legal.{IsLegal};
-ghost use Rattle.tva_port.specs.Bounds.{requests_until, request_bound, regular_bound, AreRequestsServed, AreRegularsServed, bytes_started, AlwaysWaits};
+ghost use Rattle.tva_port.specs.Bounds.{requests_until, request_bound, regular_bound, AreRequestsServed, AreRegularsServed, AreServedAlike};
 
 use tva_base::{DrrLimits, LinkLimits};
 
@@ -94,14 +94,10 @@ pub fn packets_start_in_time()
 /// start about as many bytes as each other: one less than a quantum and two greatest packets
 /// more. On a link with two levels nothing is said of requests.
 pub fn keys_are_served_alike()
-    ensures requests { (l : LinkLimits) (before between : List Entry) (a b : ℕ) → AreLinkLimits l
-        → IsLegal l (before ++ between) → a ≢ b → AlwaysWaits l Request a before between
-        → AlwaysWaits l Request b before between
-        → bytes_started l Request a before between
-        < bytes_started l Request b before between + (l.request.quantum + 2 * l.request.max) }
-    ensures regulars { (l : LinkLimits) (before between : List Entry) (a b : ℕ) → AreLinkLimits l
-        → IsLegal l (before ++ between) → a ≢ b → AlwaysWaits l Regular a before between
-        → AlwaysWaits l Regular b before between
-        → bytes_started l Regular a before between
-        < bytes_started l Regular b before between + (l.regular.quantum + 2 * l.regular.max) }
+    ensures requests { (l : LinkLimits) (before between : List Entry) → AreLinkLimits l
+        → IsLegal l (before ++ between)
+        → AreServedAlike l Request (l.request.quantum + 2 * l.request.max) before between }
+    ensures regulars { (l : LinkLimits) (before between : List Entry) → AreLinkLimits l
+        → IsLegal l (before ++ between)
+        → AreServedAlike l Regular (l.regular.quantum + 2 * l.regular.max) before between }
 {}

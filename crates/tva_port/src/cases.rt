@@ -155,6 +155,27 @@ decide 16160 -> Start regular #9 2020 free_at 18180
 decide 18180 -> Start regular #10 2020 free_at 20200
 decide 20200 -> Start regular #11 2020 free_at 22220
 decide 22220 -> Idle
+case a regular packet waits half its bound among three queues
+port ns_per_byte=1 share=1000 burst=4096 quantum=2048 request=3/64/65536/131072 regular=3/64/65536/131072 legacy=9/20000
+queue 0 legacy 0 1620 -> Queued
+decide 0 -> Start legacy #1 1620 free_at 1620
+queue 1 request 7 1620 -> Queued
+queue 1 request 7 1620 -> Queued
+queue 1 regular 1 1620 -> Queued
+queue 1 regular 1 1620 -> Queued
+queue 1 regular 2 1000 -> Queued
+queue 1 regular 2 1000 -> Queued
+queue 1 regular 2 1000 -> Queued
+queue 1 regular 3 1620 -> Queued
+decide 1620 -> Start request #2 1620 free_at 3240
+decide 3240 -> Start request #3 1620 free_at 4860
+decide 4860 -> Start regular #4 1620 free_at 6480
+decide 6480 -> Start regular #6 1000 free_at 7480
+decide 7480 -> Start regular #7 1000 free_at 8480
+decide 8480 -> Start regular #9 1620 free_at 10100
+decide 10100 -> Start regular #5 1620 free_at 11720
+decide 11720 -> Start regular #8 1000 free_at 12720
+decide 12720 -> Idle
 case request then regular then legacy
 port ns_per_byte=10 share=20 burst=4096 quantum=2048 request=64/32/65536/1048576 regular=64/32/65536/1048576 legacy=256/262144
 queue 0 request 1 1000 -> Queued

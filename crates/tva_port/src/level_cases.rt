@@ -56,6 +56,42 @@ decide 16652 -> Start request #2 1643 free_at 19938
 decide 19938 -> WaitUntil 23052
 decide 23052 -> Start request #9 1600 free_at 26252
 decide 26252 -> Idle
+case a request waits half its bound behind four queues
+port ns_per_byte=1 share=1000 burst=4096 quantum=2048 request=2/64/65536/131072 regular=2/64/65536/131072 legacy=9/20000 inner=2
+queue 0 request 2 1643 1 -> Queued
+queue 0 request 2 1643 1 -> Queued
+queue 0 request 1 1024 1 -> Queued
+decide 0 -> Start request #1 1643 free_at 1643
+queue 1 request 2 1024 1 -> Queued
+queue 1 request 1 1024 1 -> Queued
+queue 1 request 1 1643 1 -> Queued
+queue 1 request 1 1643 2 -> Queued
+queue 1 request 1 820 1 -> Queued
+queue 1 request 1 1643 2 -> Queued
+queue 1 request 2 1643 1 -> Queued
+queue 1 request 2 1643 2 -> Queued
+queue 1 request 2 1643 2 -> Queued
+decide 1643 -> Start request #3 1024 free_at 2667
+decide 2667 -> Start request #5 1024 free_at 3691
+decide 3691 -> WaitUntil 1238000
+decide 1238000 -> Start request #2 1643 free_at 1239643
+decide 1239643 -> WaitUntil 2881000
+decide 2881000 -> Start request #7 1643 free_at 2882643
+decide 2882643 -> WaitUntil 4524000
+decide 4524000 -> Start request #11 1643 free_at 4525643
+decide 4525643 -> WaitUntil 5548000
+decide 5548000 -> Start request #4 1024 free_at 5549024
+decide 5549024 -> WaitUntil 7191000
+decide 7191000 -> Start request #6 1643 free_at 7192643
+decide 7192643 -> WaitUntil 8834000
+decide 8834000 -> Start request #10 1643 free_at 8835643
+decide 8835643 -> WaitUntil 10477000
+decide 10477000 -> Start request #9 1643 free_at 10478643
+decide 10478643 -> WaitUntil 11297000
+decide 11297000 -> Start request #8 820 free_at 11297820
+decide 11297820 -> WaitUntil 12940000
+decide 12940000 -> Start request #12 1643 free_at 12941643
+decide 12941643 -> Idle
 case a mix on a link with two levels
 port ns_per_byte=3 share=2 burst=5000 quantum=2048 request=3/4/5000/12000 regular=2/3/5000/9000 legacy=3/4000 inner=2
 queue 9000 request 1 1643 2 -> Queued

@@ -20,6 +20,7 @@ mod level_cases;
 mod parts;
 mod port;
 mod requests;
+mod worked;
 
 pub use bounds::{
     keys_are_served_alike, longest_regular_wait, longest_request_wait, packets_start_in_time,
@@ -29,3 +30,7 @@ pub use laws::{
     links_rest, logs_have_places, queues_keep_limits, requests_keep_their_rate, starts_rise,
 };
 pub use port::Port;
+pub use worked::{
+    a_regular_packet_waits_half_its_bound, a_request_waits_half_its_bound_on_two_levels,
+    worked_keys_are_served_alike,
+};

@@ -10,7 +10,7 @@ ghost use Rattle.tva_port.specs.Waiting.{waiting, waiting_after, next_request, q
 ghost use Rattle.tva_port.specs.Decide.{decision, is_start, started_by, RestsAt, MissesNone, NoneDueBefore, IsFirstCovered};
 ghost use Rattle.tva_port.specs.declared.decision.Decision.TheVariants.{Start, WaitUntil, Idle};
 ghost use Rattle.tva_port.specs.Stands.{port_data, StandsFor};
-ghost use Rattle.tva_port.specs.Bounds.{AreRequestsServed, AreRegularsServed};
+ghost use Rattle.tva_port.specs.Bounds.{AreRequestsServed, AreRegularsServed, ServesAlike};
 ghost use Rattle.tva_port.specs.Keeps.{IsWithinRate, start_times, AreRising, StaysWithinLimits};
 
 use crate::credits::{grow, most_credit, occupy, pay};
@@ -157,6 +157,10 @@ impl Port {
         ensures served { (log : List Entry) → StandsFor self.old log → MissesNone self.old.limits now.0 log
             → AreRequestsServed self.old.limits now.0 (log ++ started_by result now.0)
             × AreRegularsServed self.old.limits now.0 (log ++ started_by result now.0) }
+        // From any place so far to any other, two keys under which something waits all along start about
+        // as many bytes as each other: less than a quantum and two greatest packets more.
+        ensures alike { (log : List Entry) → StandsFor self.old log
+            → ServesAlike self.old.limits (log ++ started_by result now.0) }
         // What starts occupies the link for some time, so that nothing starts twice at one time.
         ensures busy { is_start result ≡ true → now.0 < self.new.free_at }
         ensures occupied { (class : Class) (packet : PacketData) → result ≡ Start class packet

@@ -3,7 +3,6 @@ use Rattle.std.proofs.Common.{◌≡◌, ℕ, ◌≤◌, List, [], ◌∷◌, �
 use Rattle.std.specs.List.{AllByRecursion}
 use Rattle.std.proofs.lemmas.List.Elements.{filter_map-append}
 use Rattle.tva_base.specs.declared.limits.LinkLimits.{LinkLimits}
-use Rattle.tva_base.specs.declared.packet.Class.TheVariants.{Request, Regular}
 use Rattle.tva_base.specs.declared.plan.RouterPlan.{RouterPlan}
 use Rattle.tva_base.specs.Plan.{AreLinkLimits}
 use Rattle.tva_flow.specs.Charges.{Charge}
@@ -16,9 +15,8 @@ use Rattle.tva_port.specs.Log as port
 use Rattle.tva_port.specs.Decide.{MissesNone}
 use Rattle.tva_port.specs.Legal.{IsLegal}
 use Rattle.tva_port.proofs.Legality.{rate_kept}
-use Rattle.tva_port.proofs.Logs.{legal-front}
 use Rattle.tva_port.proofs.Limits.{stays_within}
-use Rattle.tva_port.proofs.Evenly.{even}
+use Rattle.tva_port.proofs.Served.{alike}
 use Rattle.tva_port.proofs.RequestBound.{requests_served}
 use Rattle.tva_port.proofs.RegularBound.{regulars_served}
 use Rattle.tva_plan.specs.declared.config.NodePlan.TheVariants as plans
@@ -54,11 +52,7 @@ service_kept l until log a g m = record {
   missed = m;
   requests = λ now k. requests_served l log now until a g m k;
   regulars = λ now k. regulars_served l log now until a g m k;
-  alike = λ before between rest e.
-      let front = legal-front l [] (before ++ between) rest (subst (λ (z : List port.Entry). IsLegal l z) e g) in (
-        λ x y n w u. even l Request before between x y tt a front n w u,
-        λ x y n w u. even l Regular before between x y tt a front n w u,
-      );
+  alike = alike l log a g;
 }
 
 -- what an input at a place of the log was made of

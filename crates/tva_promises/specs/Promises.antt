@@ -1,8 +1,6 @@
 -- What the log of every node keeps, at each of its places.
-use Rattle.std.specs.Prelude.{◌≡◌, ◌≢◌, ℕ, ◌+◌, ◌*◌, ◌<◌, ◌≤◌, List, [], ◌∷◌, ◌++◌, Some}
+use Rattle.std.specs.Prelude.{◌≡◌, ℕ, ◌<◌, ◌≤◌, List, [], ◌∷◌, ◌++◌, Some}
 use Rattle.tva_base.specs.declared.limits.LinkLimits.{LinkLimits}
-use Rattle.tva_base.specs.declared.packet.Class.{Class}
-use Rattle.tva_base.specs.declared.packet.Class.TheVariants.{Request, Regular}
 use Rattle.tva_base.specs.declared.plan.RouterPlan.{RouterPlan}
 use Rattle.tva_flow.specs.Charges.{Charge, living_count}
 use Rattle.tva_flow.specs.Stands.{NoneLater, AreNext}
@@ -11,7 +9,7 @@ use Rattle.tva_port.specs.Log as port
 use Rattle.tva_port.specs.Decide.{MissesNone}
 use Rattle.tva_port.specs.Legal.{IsLegal}
 use Rattle.tva_port.specs.Keeps.{IsWithinRate, StaysWithinLimits}
-use Rattle.tva_port.specs.Bounds.{AreRequestsServed, AreRegularsServed, AlwaysWaits, bytes_started}
+use Rattle.tva_port.specs.Bounds.{AreRequestsServed, AreRegularsServed, ServesAlike}
 use Rattle.tva_plan.specs.declared.config.NodePlan.TheVariants.{Router}
 use Rattle.tva_log.specs.declared.kinds.Input.{Input}
 use Rattle.tva_log.specs.Sites.{Site, limits_out}
@@ -27,13 +25,6 @@ pub record KeepsGrants (plan : RouterPlan) (h : List Charge) : Type 0 where
   pub budget : IsWithinBudget h
   pub living : (now : ℕ) → NoneLater now h → living_count h now ≤ plan.slots
 
--- from one place of a port's log to another, two keys of a class under which something waits all along start less than
--- so many bytes more than each other; on a link with two levels this says nothing of requests, which wait under two keys
-abbrev pub AreServedAlike : LinkLimits → Class → ℕ → List port.Entry → List port.Entry → Type 0
-AreServedAlike limits class more before between =
-    (a b : ℕ) → a ≢ b → AlwaysWaits limits class a before between → AlwaysWaits limits class b before between
-    → bytes_started limits class a before between < bytes_started limits class b before between + more
-
 -- the log of a link's port up to a time: it is one that a port can have, the requests that start from any time to any
 -- other keep their rate, what waits is within the limits at each place, no start was missed, each request and each
 -- regular packet whose bound is over has started within it, and between any two places keys are served alike
@@ -44,9 +35,7 @@ pub record KeepsService (limits : LinkLimits) (until : ℕ) (log : List port.Ent
   pub missed : MissesNone limits until log
   pub requests : (now : ℕ) → now < until → AreRequestsServed limits now log
   pub regulars : (now : ℕ) → now < until → AreRegularsServed limits now log
-  pub alike : (before between rest : List port.Entry) → log ≡ before ++ between ++ rest
-      → AreServedAlike limits Request (limits.request.quantum + 2 * limits.request.max) before between
-      × AreServedAlike limits Regular (limits.regular.quantum + 2 * limits.regular.max) before between
+  pub alike : ServesAlike limits log
 
 -- a router handles each input
 abbrev pub IsHandled : RouterPlan → List Entry → Input → Content → Type 0

@@ -2,6 +2,7 @@
 use Rattle.std.proofs.Common.{◌≡◌, ℕ, ◌≤◌, Bool, true, false, cond, leb, List, [], ◌∷◌, ◌++◌, Option, None, refl, sym, ap, ◌∙◌, subst, arith, append-nil}
 use Rattle.std.specs.List.{All}
 use Rattle.std.proofs.lemmas.List.Elements.{All-nil, All-cons, All-weaker}
+use Rattle.tva_base.specs.Plan.{IsRouterPlan}
 use Rattle.tva_base.specs.declared.limits.LinkLimits.{LinkLimits}
 use Rattle.tva_base.specs.declared.packet.Fate.{Fate}
 use Rattle.tva_base.specs.declared.packet.Outcome.{Outcome}
@@ -24,9 +25,10 @@ use Rattle.tva_router.specs.Steps.{ArePorts, IsSound, Keeps}
 use Rattle.tva_router.proofs.Answers.{guard-later}
 use Rattle.tva_router.proofs.Ports.{ports-later, stands-nothing}
 
-pub sound-later : (plan : RouterPlan) (last now : ℕ) (g : Guard) (w : Ways) (ps : List port.PortData) → last ≤ now → IsSound plan last g w ps → IsSound plan now g w ps
-sound-later plan last now g w ps le s = record {
+pub sound-later : (built plan : RouterPlan) (last now : ℕ) (g : Guard) (w : Ways) (ps : List port.PortData) → last ≤ now → IsSound built plan last g w ps → IsSound built plan now g w ps
+sound-later built plan last now g w ps le s = record {
   valid = s.valid;
+  in_force = s.in_force;
   guard = guard-later plan last now g le s.guard;
   ways = s.ways;
   ports = ports-later plan.outgoing last now ps le s.ports;
@@ -39,9 +41,10 @@ all-early (o ∷ os) last [] a = absurd a
 all-early (o ∷ os) last (p ∷ ps) a = All-cons (λ (q : port.PortData). q.last ≤ last) p ps a.1 (all-early os last ps a.2)
 
 -- a sound router is one of its plan
-pub by-plan : (plan : RouterPlan) (last : ℕ) (g : Guard) (w : Ways) (ps : List port.PortData) → IsSound plan last g w ps → IsByPlan (router_data plan last g.minter g.cache ps)
-by-plan plan last g w ps s = record {
-  valid = s.valid;
+pub by-plan : (built plan : RouterPlan) (last : ℕ) (g : Guard) (w : Ways) (ps : List port.PortData) → IsSound built plan last g w ps → IsByPlan (router_data built plan last g.minter g.cache ps)
+by-plan built plan last g w ps s = record {
+  valid = subst (λ (z : RouterPlan). IsRouterPlan z) s.in_force s.valid;
+  in_force = s.in_force;
   master = s.guard.master;
   clock = s.guard.clock;
   slots = s.guard.slots;
@@ -50,9 +53,10 @@ by-plan plan last g w ps s = record {
   ports = all-early plan.outgoing last ps s.ports;
 }
 
-pub by-plan-later : (plan : RouterPlan) (last now : ℕ) (m : MinterState) (c : flows.Cache) (ps : List port.PortData) → last ≤ now → IsByPlan (router_data plan last m c ps) → IsByPlan (router_data plan now m c ps)
-by-plan-later plan last now m c ps le b = record {
+pub by-plan-later : (built plan : RouterPlan) (last now : ℕ) (m : MinterState) (c : flows.Cache) (ps : List port.PortData) → last ≤ now → IsByPlan (router_data built plan last m c ps) → IsByPlan (router_data built plan now m c ps)
+by-plan-later built plan last now m c ps le b = record {
   valid = b.valid;
+  in_force = b.in_force;
   master = b.master;
   clock = b.clock;
   slots = b.slots;
@@ -71,13 +75,13 @@ unfolding handle
 handle-forwarded plan h logs now from p free = rw free refl
 
 -- nothing became of it
-pub stands-stopped : (plan : RouterPlan) (last now : ℕ) (m : MinterState) (c : flows.Cache) (ps : List port.PortData) (h : List Charge) (logs : Logs) (from : Option ℕ) (p : PacketData) → leb 32 p.hops ≡ true → last ≤ now
-    → StandsFor (router_data plan last m c ps) h logs
-    → StandsFor (router_data plan now m c ps) (h ++ (handle plan h logs now from p).charges) (logs with (handle plan h logs now from p).queued)
-stands-stopped plan last now m c ps h logs from p many le s =
-    subst (λ (z : Handled). StandsFor (router_data plan now m c ps) (h ++ z.charges) (logs with z.queued)) (sym (handle-stopped plan h logs now from p many))
+pub stands-stopped : (built plan : RouterPlan) (last now : ℕ) (m : MinterState) (c : flows.Cache) (ps : List port.PortData) (h : List Charge) (logs : Logs) (from : Option ℕ) (p : PacketData) → leb 32 p.hops ≡ true → last ≤ now
+    → StandsFor (router_data built plan last m c ps) h logs
+    → StandsFor (router_data built plan now m c ps) (h ++ (handle plan h logs now from p).charges) (logs with (handle plan h logs now from p).queued)
+stands-stopped built plan last now m c ps h logs from p many le s =
+    subst (λ (z : Handled). StandsFor (router_data built plan now m c ps) (h ++ z.charges) (logs with z.queued)) (sym (handle-stopped plan h logs now from p many))
     (record {
-      plan = by-plan-later plan last now m c ps le s.plan;
+      plan = by-plan-later built plan last now m c ps le s.plan;
       charges = subst (λ (z : List Charge). flows.StandsFor c z) (sym (append-nil h)) s.charges;
       timely = subst (λ (z : List Charge). AreTimely plan.clock_offset z) (sym (append-nil h)) s.timely;
       links = stands-nothing plan.outgoing ps logs s.links;
@@ -92,14 +96,14 @@ fate-forwarded plan h logs now from p j o few judged went =
     ∙ ap (λ (z : Judged). (forwarded plan logs now p z).fate) judged
     ∙ sym (ap (λ (z : Handled). z.fate) (handle-forwarded plan h logs now from p few))
 
-pub stands-forwarded : (plan : RouterPlan) (last now : ℕ) (m n : MinterState) (c d : flows.Cache) (ps qs : List port.PortData) (h : List Charge) (logs : Logs) (from : Option ℕ) (p : PacketData) (j : Judged) → leb 32 p.hops ≡ false
-    → j ≡ judge plan h (arrival now from p) p.carried → StandsFor (router_data plan last m c ps) h logs
+pub stands-forwarded : (built plan : RouterPlan) (last now : ℕ) (m n : MinterState) (c d : flows.Cache) (ps qs : List port.PortData) (h : List Charge) (logs : Logs) (from : Option ℕ) (p : PacketData) (j : Judged) → leb 32 p.hops ≡ false
+    → j ≡ judge plan h (arrival now from p) p.carried → StandsFor (router_data built plan last m c ps) h logs
     → Keeps plan (arrival now from p) j.charge (nonce_in p.carried) c d
     → StandForLogs plan.outgoing qs (logs with queued logs now j.class (goes_on p j.carried) (way_to plan p.flow.dst))
-    → IsByPlan (router_data plan now n d qs)
-    → StandsFor (router_data plan now n d qs) (h ++ (handle plan h logs now from p).charges) (logs with (handle plan h logs now from p).queued)
-stands-forwarded plan last now m n c d ps qs h logs from p j few judged s keeps links by =
-    subst (λ (z : Handled). StandsFor (router_data plan now n d qs) (h ++ z.charges) (logs with z.queued))
+    → IsByPlan (router_data built plan now n d qs)
+    → StandsFor (router_data built plan now n d qs) (h ++ (handle plan h logs now from p).charges) (logs with (handle plan h logs now from p).queued)
+stands-forwarded built plan last now m n c d ps qs h logs from p j few judged s keeps links by =
+    subst (λ (z : Handled). StandsFor (router_data built plan now n d qs) (h ++ z.charges) (logs with z.queued))
     (ap (forwarded plan logs now p) judged ∙ sym (handle-forwarded plan h logs now from p few))
     (record { plan = by; charges = keeps.stands h s.charges; timely = keeps.timely h s.charges s.timely; links = links })
 

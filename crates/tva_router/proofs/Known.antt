@@ -3,7 +3,7 @@ use Rattle.std.proofs.Common.{◌≡◌, ℕ, ◌≤◌, max, Bool, true, false,
 use Rattle.std.specs.List.{All, find}
 use Rattle.std.proofs.lemmas.Bool.Decides.{nat_tests}
 use Rattle.std.proofs.lemmas.List.Elements.{All-head, All-tail}
-use Rattle.tva_base.specs.Plan.{AreLinkLimits}
+use Rattle.tva_base.specs.Plan.{AreLinkLimits, IsRouterPlan}
 use Rattle.tva_base.specs.declared.limits.LinkLimits.{LinkLimits}
 use Rattle.tva_base.specs.declared.packet.Class.{Class}
 use Rattle.tva_base.specs.declared.plan.RouterPlan.{RouterPlan}
@@ -67,7 +67,7 @@ pub known : (v : RouterData) (h : List Charge) (logs : Logs) (link : ℕ) (limit
 known v h logs link limits now s f le =
     let q = port_for v.plan.outgoing v.last v.ports logs link limits s.links s.plan.ports f in
     record {
-      valid = limits_valid v.plan.outgoing link limits s.plan.valid.limits f;
+      valid = limits_valid v.plan.outgoing link limits (subst (λ (z : RouterPlan). IsRouterPlan z) (sym s.plan.in_force) s.plan.valid).limits f;
       legal = subst (λ (l : LinkLimits). IsLegal l (logs link)) q.1.limits_are q.1.stands.legal;
       later = later-weaker q.0.last now (logs link) (omega (arith, q.1.early, le)) q.1.stands.past;
     }

@@ -7,3 +7,4 @@ pub mod Known
 pub mod Ways
 pub mod Tables
 pub mod Fates
+pub mod Rerouted

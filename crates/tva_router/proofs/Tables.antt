@@ -6,14 +6,16 @@ use Rattle.std.specs.HashMap.{get}
 use Rattle.std.proofs.lemmas.Bool.Decides.{eqb_tells, nat_tests}
 use Rattle.std.proofs.lemmas.List.{drop_more, get_or-set_same}
 use Rattle.std.proofs.lemmas.List.Elements.{All-more, All-weaker, recursion_from_All}
+use Rattle.std.proofs.lemmas.List.Quantifiers.{position-Some}
+use Rattle.std.proofs.lemmas.Iterator.Adapters.{position_from-zero}
 use Rattle.tva_base.specs.Addresses.{holds, kept}
 use Rattle.tva_base.specs.Plan.{IsPrefix}
 use Rattle.tva_base.specs.declared.addresses.Address.{Address}
 use Rattle.tva_base.specs.declared.plan.Route.{Route}
 use Rattle.tva_router.specs.Routes.{longest, leads, link_to}
-use Rattle.tva_router.specs.Tables.{Places, ArePlacesFrom, PrefixLinks, same_prefix, has_prefix, AreLinksOf, AreMarked, IsTableOf}
+use Rattle.tva_router.specs.Tables.{Places, ArePlacesFrom, PrefixPlaces, same_prefix, has_prefix, AreRoutePlacesFrom, AreMarked, IsTableOf}
 use Rattle.tva_router.specs.declared.routes.RouteTable.{RouteTable}
-use Rattle.tva_router.proofs.Links.{is_at, at_within}
+use Rattle.tva_router.proofs.Links.{is_at, at_within, find_there, find_nowhere}
 use Rattle.tva_router.proofs.Ports.{same_link}
 use Rattle.tva_router.proofs.Ways.{all_at, found_is, none_is, Within, greatest, reached, both, leads_is, link_none, not_true}
 
@@ -39,21 +41,17 @@ pub place_within : {X : Type 0} (links : List (ℕ × X)) (link : ℕ) (o : Opti
 place_within links link None e = tt
 place_within links link (Some at) e = at_within links at link (is_at links at link (sym e))
 
-first_kept : (b : Bool) (r : Route) (o : Option Route) → cond b (Some r.link) (option_map (λ (x : Route). x.link) o) ≡ option_map (λ (x : Route). x.link) (cond b (Some r) o)
-first_kept true r o = refl
-first_kept false r o = refl
-
 -- one route more
-pub links-before : (routes : List Route) (n m : ℕ) (d : Route) (old new : PrefixLinks) → n ≤ length routes → m + 1 ≡ n → AreLinksOf (drop n routes) old
-    → ((q : ℕ × ℕ) → get same_prefix new q ≡ cond (same_prefix ((get_or routes m d).prefix.bits, (get_or routes m d).prefix.address.0) q) (Some (get_or routes m d).link) (get same_prefix old q))
-    → AreLinksOf (drop m routes) new
-links-before routes n m d old new within next is updates =
+pub route_places-before : (routes : List Route) (n m : ℕ) (d : Route) (old new : PrefixPlaces) → n ≤ length routes → m + 1 ≡ n → AreRoutePlacesFrom n (drop n routes) old
+    → ((q : ℕ × ℕ) → get same_prefix new q ≡ cond (same_prefix ((get_or routes m d).prefix.bits, (get_or routes m d).prefix.address.0) q) (Some m) (get same_prefix old q))
+    → AreRoutePlacesFrom m (drop m routes) new
+route_places-before routes n m d old new within next is updates =
     λ bits address.
     let r : Route = get_or routes m d in
     updates (bits, address)
-    ∙ ap (λ (o : Option ℕ). cond (has_prefix bits address r) (Some r.link) o) (is bits address)
-    ∙ first_kept (has_prefix bits address r) r (find (has_prefix bits address) (drop n routes))
-    ∙ ap (λ (rs : List Route). option_map (λ (x : Route). x.link) (find (has_prefix bits address) rs)) (sym (drop_before routes n m d within next))
+    ∙ ap (λ (o : Option ℕ). cond (has_prefix bits address r) (Some m) o) (is bits address)
+    ∙ ap (λ (k : ℕ). cond (has_prefix bits address r) (Some m) (position_from (has_prefix bits address) k (drop n routes))) (sym next)
+    ∙ ap (λ (rs : List Route). position_from (has_prefix bits address) m rs) (sym (drop_before routes n m d within next))
 
 -- ## which lengths there are
 
@@ -98,10 +96,15 @@ has_leads bits dst r =
       | inr h ↦ subst (λ (b : Bool). b && eqb r.prefix.address.0 (kept dst bits).0 ≡ holds r.prefix dst && b) (sym h.0) (sym (and_false (holds r.prefix dst)))
     ]
 
--- tests that agree find the same
-find_same : (p q : Route → Bool) (routes : List Route) → ((r : Route) → p r ≡ q r) → find p routes ≡ find q routes
-find_same p q [] same = refl
-find_same p q (r ∷ rs) same = ap (λ (b : Bool). cond b (Some r) (find p rs)) (same r) ∙ ap (λ (o : Option Route). cond (q r) (Some r) o) (find_same p q rs same)
+-- tests that agree find the same place
+place_same : (p q : Route → Bool) (n : ℕ) (routes : List Route) → ((r : Route) → p r ≡ q r) → position_from p n routes ≡ position_from q n routes
+place_same p q n [] same = refl
+place_same p q n (r ∷ rs) same =
+    ap (λ (b : Bool). cond b (Some n) (position_from p (n + 1) rs)) (same r) ∙ ap (λ (o : Option ℕ). cond (q r) (Some n) o) (place_same p q (n + 1) rs same)
+
+place_none : (p : Route → Bool) (n : ℕ) (routes : List Route) → AllByRecursion (λ r. p r ≡ false) routes → position_from p n routes ≡ None
+place_none p n [] a = refl
+place_none p n (r ∷ rs) a = ap (λ (b : Bool). cond b (Some n) (position_from p (n + 1) rs)) a.0 ∙ place_none p (n + 1) rs a.1
 
 find_none : (p : Route → Bool) (routes : List Route) → AllByRecursion (λ r. p r ≡ false) routes → find p routes ≡ None
 find_none p [] a = refl
@@ -110,12 +113,13 @@ find_none p (r ∷ rs) a = ap (λ (b : Bool). cond b (Some r) (find p rs)) a.0 �
 all_none : (p : Route → Bool) (routes : List Route) → All (λ r. p r ≡ false) routes → find p routes ≡ None
 all_none p routes a = find_none p routes (recursion_from_All (λ (r : Route). p r ≡ false) routes a)
 
--- the table has the link
-pub link_looked : (routes : List Route) (table : RouteTable) (dst : Address) (bits : ℕ) → IsTableOf routes table
-    → get same_prefix table.links (bits, (kept dst bits).0) ≡ option_map (λ r. r.link) (find (leads bits dst) routes)
-link_looked routes table dst bits t =
-    t.links bits (kept dst bits).0
-    ∙ ap (λ (o : Option Route). option_map (λ (r : Route). r.link) o) (find_same (has_prefix bits (kept dst bits).0) (leads bits dst) routes (has_leads bits dst))
+-- the table has the place
+pub place_looked : (routes : List Route) (table : RouteTable) (dst : Address) (bits : ℕ) → IsTableOf routes table
+    → get same_prefix table.places (bits, (kept dst bits).0) ≡ position (leads bits dst) routes
+place_looked routes table dst bits t =
+    t.places bits (kept dst bits).0
+    ∙ place_same (has_prefix bits (kept dst bits).0) (leads bits dst) 0 routes (has_leads bits dst)
+    ∙ sym (position_from-zero (leads bits dst) routes)
 
 unmarked_leads : (marks : List Bool) (dst : Address) (bits : ℕ) (r : Route) → get_or marks bits false ≡ false → get_or marks r.prefix.bits false ≡ true → leads bits dst r ≡ false
 unmarked_leads marks dst bits r none some =
@@ -125,10 +129,24 @@ unmarked_leads marks dst bits r none some =
     ]
 
 -- no prefix has that length
-pub link_unmarked : (routes : List Route) (marks : List Bool) (dst : Address) (bits : ℕ) → AreMarked routes marks → get_or marks bits false ≡ false → None ≡ option_map (λ r. r.link) (find (leads bits dst) routes)
-link_unmarked routes marks dst bits a none =
-    sym (ap (λ (o : Option Route). option_map (λ (r : Route). r.link) o)
-    (all_none (leads bits dst) routes (All-weaker (λ (r : Route). get_or marks r.prefix.bits false ≡ true) (λ (r : Route). leads bits dst r ≡ false) (λ r some. unmarked_leads marks dst bits r none some) routes a)))
+pub place_unmarked : (routes : List Route) (marks : List Bool) (dst : Address) (bits : ℕ) → AreMarked routes marks → get_or marks bits false ≡ false → None ≡ position (leads bits dst) routes
+place_unmarked routes marks dst bits a none =
+    let absent = All-weaker (λ (r : Route). get_or marks r.prefix.bits false ≡ true) (λ (r : Route). leads bits dst r ≡ false) (λ r some. unmarked_leads marks dst bits r none some) routes a in
+    sym (position_from-zero (leads bits dst) routes ∙ place_none (leads bits dst) 0 routes (recursion_from_All (λ (r : Route). leads bits dst r ≡ false) routes absent))
+
+-- a place is one of the list
+pub route_within : (p : Route → Bool) (routes : List Route) (o : Option ℕ) → o ≡ position p routes → IfSome o (λ at. at < length routes)
+route_within p routes None e = tt
+route_within p routes (Some at) e =
+    let none : Route = record { prefix = record { address = record { 0 = 0 }; bits = 0 }; link = 0 } in
+    (position-Some p routes at none (sym e)).0
+
+-- the route there is the one that is found, or none is
+pub link_there : (p : Route → Bool) (routes : List Route) (at : ℕ) (d : Route) → Some at ≡ position p routes → Some (get_or routes at d).link ≡ option_map (λ (r : Route). r.link) (find p routes)
+link_there p routes at d e = sym (ap (λ (o : Option Route). option_map (λ (r : Route). r.link) o) (find_there p routes at d (sym e)))
+
+pub link_nowhere : (p : Route → Bool) (routes : List Route) → None ≡ position p routes → None ≡ option_map (λ (r : Route). r.link) (find p routes)
+link_nowhere p routes e = sym (ap (λ (o : Option Route). option_map (λ (r : Route). r.link) o) (find_nowhere p routes (sym e)))
 
 -- ## from the longest length down
 

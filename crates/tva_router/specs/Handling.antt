@@ -9,6 +9,7 @@ use Rattle.tva_base.specs.declared.packet.Class.{Class}
 use Rattle.tva_base.specs.declared.packet.Outcome.{Outcome}
 use Rattle.tva_base.specs.declared.packet.Outcome.TheVariants as outcome
 use Rattle.tva_base.specs.declared.packet.DropCause.TheVariants as drop
+use Rattle.tva_base.specs.declared.plan.Route.{Route}
 use Rattle.tva_base.specs.declared.plan.RouterPlan.{RouterPlan}
 use Rattle.tva_shim.specs.declared.packets.Carried.{Carried}
 use Rattle.tva_shim.specs.Packets.{PacketData, packet_length, class_by_shim}
@@ -117,3 +118,7 @@ unfoldable pub handle : RouterPlan → List Charge → Logs → ℕ → Option �
 handle plan h logs now from p =
     if nat_le 32 p.hops then stopped p
     else forwarded plan logs now p (judge plan h (arrival now from p) p.carried)
+
+-- the plan with other routes
+abbrev pub with_routes : List Route → RouterPlan → RouterPlan
+with_routes routes plan = record plan { routes = routes }

@@ -12,23 +12,25 @@ use Rattle.tva_port.specs.Decide.{started_by}
 use Rattle.tva_port.specs.Stands as port
 use Rattle.tva_router.specs.Handling.{Logs}
 
--- a router: its plan, its last time in nanoseconds, its minter, its flow cache, and the port of each
--- outgoing link, in their order
+-- a router: the plan by which it was built and the plan in force, its last time in nanoseconds, its minter,
+-- its flow cache, and the port of each outgoing link, in their order
 pub record RouterData : Type 0 where
+  pub built : RouterPlan
   pub plan : RouterPlan
   pub last : ℕ
   pub minter : MinterState
   pub cache : flows.Cache
   pub ports : List port.PortData
 
-abbrev pub router_data : RouterPlan → ℕ → MinterState → flows.Cache → List port.PortData → RouterData
-router_data plan last minter cache ports =
-    record { plan = plan; last = last; minter = minter; cache = cache; ports = ports }
+abbrev pub router_data : (built plan : RouterPlan) → ℕ → MinterState → flows.Cache → List port.PortData → RouterData
+router_data built plan last minter cache ports =
+    record { built = built; plan = plan; last = last; minter = minter; cache = cache; ports = ports }
 
--- the plan is valid, the minter and the cache are the plan's, and neither the cache nor a port was called
--- later than the router
+-- the plan of the router is valid and is the one in force, the minter and the cache are that plan's, and neither
+-- the cache nor a port was called later than the router
 pub record IsByPlan (v : RouterData) : Type 0 where
-  pub valid : IsRouterPlan v.plan
+  pub valid : IsRouterPlan v.built
+  pub in_force : v.plan ≡ v.built
   pub master : v.minter.master ≡ v.plan.master
   pub clock : v.minter.clock_offset ≡ v.plan.clock_offset
   pub slots : v.cache.slots ≡ v.plan.slots

@@ -63,9 +63,10 @@ ArePorts [] last (p ∷ ps) = ⊥
 ArePorts (o ∷ os) last [] = ⊥
 ArePorts (o ∷ os) last (p ∷ ps) = (p.limits ≡ o.1) × (p.last ≤ last) × ArePorts os last ps
 
--- a router by its plan, whose parts were called no later than that
-pub record IsSound (plan : RouterPlan) (last : ℕ) (g : Guard) (w : Ways) (ps : List port.PortData) : Type 0 where
+-- a router by its plan, which is in force, and whose parts were called no later than that
+pub record IsSound (built plan : RouterPlan) (last : ℕ) (g : Guard) (w : Ways) (ps : List port.PortData) : Type 0 where
   pub valid : IsRouterPlan plan
+  pub in_force : plan ≡ built
   pub guard : IsGuard plan last g
   pub ways : AreWays plan w
   pub ports : ArePorts plan.outgoing last ps

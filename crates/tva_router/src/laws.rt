@@ -16,7 +16,7 @@ ghost use Rattle.tva_port.specs.Legal.{IsLegal};
 ghost use Rattle.tva_port.specs.Keeps.{IsWithinRate, start_times, AreRising, IsWithinLimits};
 ghost use Rattle.tva_router.specs.Routes.{link_to, IsWay};
 ghost use Rattle.tva_shim.specs.Shows.{nonce_in};
-ghost use Rattle.tva_router.specs.Handling.{Logs, charged_by, outgoing_link, entered, handle};
+ghost use Rattle.tva_router.specs.Handling.{Logs, charged_by, outgoing_link, entered, with_routes, handle};
 ghost use Rattle.tva_router.specs.Marks.{is_marked, calls_for_mark};
 ghost use Rattle.tva_router.specs.Stands.{RouterData, StandsFor};
 
@@ -76,6 +76,19 @@ pub fn verdicts_need_no_logs()
         → (handle plan h logs now from p).fate.charge ≡ (handle plan h others now from p).fate.charge }
     ensures onward { (plan : RouterPlan) (h : List Charge) (logs others : Logs) (now : ℕ) (from : Option ℕ) (p : PacketData)
         → (handle plan h logs now from p).onward ≡ (handle plan h others now from p).onward }
+{}
+
+/// What a router judges of an arrival, and what it charges, doesn't depend on its routes either, which say
+/// where a packet goes and nothing of what it is.
+pub fn verdicts_need_no_routes()
+    ensures class { (plan : RouterPlan) (routes : List Route) (h : List Charge) (logs others : Logs) (now : ℕ) (from : Option ℕ) (p : PacketData)
+        → (handle (with_routes routes plan) h logs now from p).fate.class ≡ (handle plan h others now from p).fate.class }
+    ensures cause { (plan : RouterPlan) (routes : List Route) (h : List Charge) (logs others : Logs) (now : ℕ) (from : Option ℕ) (p : PacketData)
+        → (handle (with_routes routes plan) h logs now from p).fate.cause ≡ (handle plan h others now from p).fate.cause }
+    ensures charge { (plan : RouterPlan) (routes : List Route) (h : List Charge) (logs others : Logs) (now : ℕ) (from : Option ℕ) (p : PacketData)
+        → (handle (with_routes routes plan) h logs now from p).fate.charge ≡ (handle plan h others now from p).fate.charge }
+    ensures onward { (plan : RouterPlan) (routes : List Route) (h : List Charge) (logs others : Logs) (now : ℕ) (from : Option ℕ) (p : PacketData)
+        → (handle (with_routes routes plan) h logs now from p).onward ≡ (handle plan h others now from p).onward }
 {}
 
 /// A packet goes on with the mark exactly where it had it, or was judged for a cause other than a

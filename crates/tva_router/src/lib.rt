@@ -16,6 +16,6 @@ mod sending;
 pub use judged::{Arrival, Judged};
 pub use laws::{
     charges_keep_slots, fates_tell_entries, links_keep_limits, marks_have_causes,
-    verdicts_need_no_logs, ways_lead,
+    verdicts_need_no_logs, verdicts_need_no_routes, ways_lead,
 };
 pub use router::Router;

@@ -22,11 +22,12 @@ use tva_base::{Class, DropCause, Fate, LinkLimits, Listed, Name, Outcome, Router
 use tva_port::{Decision, Port};
 use tva_shim::{HOPS_MAX, Packet, class_of, length};
 
-/// What a router keeps: its plan, its last time, what it judges packets with, the tables by which it
-/// finds links, and a port for each outgoing link. Contracts speak of all its charges and of the logs of
+/// What a router keeps: the plan by which it was built and the plan in force, its last time, what it
+/// judges packets with, the tables by which it finds links, and a port for each outgoing link. Contracts speak of all its charges and of the logs of
 /// its links' ports, for which these stand. All memory is taken when it is built.
 #[derive(Drop)]
 pub struct Router {
+    built: RouterPlan,
     plan: RouterPlan,
     last: u64,
     guard: Guard,
@@ -40,9 +41,9 @@ impl Model for Router {
 
     ghost Value = { RouterData };
 
-    ghost view = { λ r. router_data r.plan r.last r.guard.minter r.guard.cache r.ports.items };
+    ghost view = { λ r. router_data r.built r.plan r.last r.guard.minter r.guard.cache r.ports.items };
 
-    ghost invariant = { λ r. IsSound r.plan r.last r.guard r.ways r.ports.items };
+    ghost invariant = { λ r. IsSound r.built r.plan r.last r.guard r.ways r.ports.items };
 }
 
 impl Router {
@@ -50,6 +51,7 @@ impl Router {
     /// want of memory.
     pub fn build(alloc: Global, plan: &RouterPlan) -> Result<Router, AllocError>
         requires { IsRouterPlan plan.now }
+        ensures built { IfOk result (λ router. router.built ≡ plan.now) }
         ensures plan { IfOk result (λ router. router.plan ≡ plan.now) }
         ensures last { IfOk result (λ router. router.last ≡ 0) }
         ensures stands { IfOk result (λ router. StandsFor router [] (λ link. [])) }
@@ -58,6 +60,7 @@ impl Router {
             → outgoing_link plan.now link ≡ Some (link, limits) → MissesNone limits until []) }
     {
         Ok(Router {
+            built: copied(alloc, plan)?,
             plan: copied(alloc, plan)?,
             last: 0,
             guard: Guard::build(alloc, plan)?,
@@ -88,6 +91,7 @@ impl Router {
             → until ≤ max now.0 (free_after limits (logs link)) → MissesNone limits until (logs link)
             → MissesNone limits until ((logs with (handle self.old.plan h logs now.0 from packet).queued) link) }
         ensures last { self.new.last ≡ now.0 }
+        ensures built { self.new.built ≡ self.old.built }
         ensures same { self.new.plan ≡ self.old.plan }
     {
         self.last = now.0;
@@ -161,6 +165,7 @@ impl Router {
         // 2,048 bytes take at most 2,048,000,000 ns.
         ensures soon { free_of self.new link ≤ now.0 + 2048000000 }
         ensures last { self.new.last ≡ now.0 }
+        ensures built { self.new.built ≡ self.old.built }
         ensures same { self.new.plan ≡ self.old.plan }
     {
         self.last = now.0;

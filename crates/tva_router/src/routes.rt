@@ -1,22 +1,23 @@
 // Which link leads to a destination. Of the lengths that prefixes have, the longest is looked up first,
 // so the time doesn't grow with the number of routes.
-ghost use Rattle.std.specs.Prelude.{◌≡◌, ◌≤◌, ◌-◌, ◌^◌, All, IfOk};
+ghost use Rattle.std.specs.Prelude.{◌≡◌, ◌≤◌, ◌<◌, ◌-◌, ◌^◌, All, IfOk, IfSome, length, position};
 ghost use Rattle.std.specs.Option.{option_map};
 ghost use Rattle.std.specs.List.{find};
 ghost use Rattle.tva_base.specs.Addresses.{kept};
 ghost use Rattle.tva_base.specs.Plan.{IsPrefix};
 ghost use Rattle.tva_router.specs.Routes.{leads, link_to};
-ghost use Rattle.tva_router.specs.Tables.{AreMarked, AreLinksOf, IsTableOf};
+ghost use Rattle.tva_router.specs.Tables.{AreMarked, AreRoutePlacesFrom, IsTableOf};
 
 use std::alloc::{AllocError, Global};
 use std::collections::HashMap;
 use tva_base::{Address, Route};
 
-/// The links of routes by the lengths and the addresses of their prefixes, and which lengths there are.
+/// The places of routes by the lengths and the addresses of their prefixes, and which lengths there are.
+/// The link of a route stands with the route alone.
 #[derive(Drop)]
 pub(crate) struct RouteTable {
     lengths: [bool; 33],
-    links: HashMap<(u8, u32), u16>,
+    places: HashMap<(u8, u32), usize>,
 }
 
 /// The table of these routes. The error is want of memory.
@@ -26,7 +27,7 @@ pub(crate) fn table_of(alloc: Global, routes: &[Route]) -> Result<RouteTable, Al
 {
     Ok(RouteTable {
         lengths: lengths_of(routes),
-        links: links_of(alloc, routes)?,
+        places: places_by_prefix(alloc, routes)?,
     })
 }
 
@@ -42,18 +43,21 @@ fn lengths_of(routes: &[Route]) -> [bool; 33]
     lengths
 }
 
-// The links by their prefixes. Of two routes with one prefix the first counts.
-fn links_of(alloc: Global, routes: &[Route]) -> Result<HashMap<(u8, u32), u16>, AllocError>
-    ensures { IfOk result (λ links. AreLinksOf routes.now links) }
+// The places by their prefixes. Of two routes with one prefix the first counts.
+fn places_by_prefix(
+    alloc: Global,
+    routes: &[Route],
+) -> Result<HashMap<(u8, u32), usize>, AllocError>
+    ensures { IfOk result (λ places. AreRoutePlacesFrom 0 routes.now places) }
 {
-    let mut links = HashMap::with_capacity(alloc, routes.len())?;
-    let mut number = routes.len();
-    while number > 0 {
-        number -= 1;
-        let route = routes[number];
-        links.insert((route.prefix.bits, route.prefix.address.0), route.link)?;
+    let mut places = HashMap::with_capacity(alloc, routes.len())?;
+    let mut place = routes.len();
+    while place > 0 {
+        place -= 1;
+        let prefix = routes[place].prefix;
+        places.insert((prefix.bits, prefix.address.0), place)?;
     }
-    Ok(links)
+    Ok(places)
 }
 
 /// The link of the longest prefix that the destination begins with.
@@ -76,8 +80,21 @@ fn link_at(routes: &[Route], table: &RouteTable, dst: Address, bits: u8) -> Opti
     requires bits { bits ≤ 32 }
     ensures { result ≡ option_map (λ route. route.link) (find (leads bits dst) routes.now) }
 {
+    match place_at(routes, table, dst, bits) {
+        Some(place) => Some(routes[place].link),
+        None => None,
+    }
+}
+
+// The place of its route.
+fn place_at(routes: &[Route], table: &RouteTable, dst: Address, bits: u8) -> Option<usize>
+    requires table { IsTableOf routes.now table.now }
+    requires bits { bits ≤ 32 }
+    ensures place { result ≡ position (leads bits dst) routes.now }
+    ensures within { IfSome result (λ place. place < length routes.now) }
+{
     if table.lengths[usize::from(bits)] {
-        table.links.get(&(bits, front_of(dst, bits))).copied()
+        table.places.get(&(bits, front_of(dst, bits))).copied()
     } else {
         None
     }

@@ -5,7 +5,7 @@ use Rattle.tva_port.specs.Levels.{next_in}
 use Rattle.tva_port.specs.Waiting.{Waiting, IsEmpty, IsRequestAlone}
 use Rattle.tva_port.specs.Decide.{NoneDueBefore, started_by}
 use Rattle.tva_port.specs.Legal.{IsLegal}
-use Rattle.tva_port.proofs.Served.{all_served}
+use Rattle.tva_port.proofs.Served.{all_served, alike}
 use Rattle.tva_port.specs.Stands.{PortData}
 use Rattle.tva_port.specs.Steps.{freed}
 use Rattle.tva_port.proofs.Logs.{later-weaker}
@@ -101,3 +101,11 @@ returns-clause-served c log s m =
     (later-weaker c.args.self.now.last c.args.now.0 log c.requires.time s.past)
     (decided _ c.args.self.now log c.args.now.0 c.grow-self-inside.result c.start_next-decision.result c.self.view_is s c.requires.time c.grow-self-inside.ensures c.start_next-decision.ensures.decision)
     m
+
+pub returns-clause-alike : goal.returns-clause-alike
+returns-clause-alike c log s =
+    let stood = stands_by_decide _ c.args.self.now log c.args.now.0 c.grow-self-inside.result c.pay-self-inside.result c.occupy-self-inside.result _ c.start_next-decision.result c.self.view_is s c.requires.time c.requires.free
+    c.grow-self-inside.ensures c.start_next-decision.ensures.decision c.pay-self-inside.ensures c.occupy-self-inside.ensures.value c.start_next-decision.ensures.left in
+    alike c.args.self.now.limits (log ++ started_by c.start_next-decision.result c.args.now.0)
+    (subst (λ (z : PortData). AreLinkLimits z.limits) c.self.view_is c.self.invariant.limits)
+    (subst (λ (z : PortData). IsLegal z.limits (log ++ started_by c.start_next-decision.result c.args.now.0)) c.self.view_is stood.legal)

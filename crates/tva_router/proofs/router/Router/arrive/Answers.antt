@@ -15,7 +15,7 @@ use Rattle.tva_router.proofs.router.Router.arrive.Goals as goal
 
 pub invariant_of-self : goal.invariant_of-self
 invariant_of-self c =
-    sound-later c.self.inside.plan c.self.inside.last c.args.now.0 c.self.inside.guard c.self.inside.ways c.self.inside.ports.items
+    sound-later c.self.inside.built c.self.inside.plan c.self.inside.last c.args.now.0 c.self.inside.guard c.self.inside.ways c.self.inside.ports.items
     (subst (λ (z : RouterData). z.last ≤ c.args.now.0) (sym c.self.view_is) c.requires.time) c.self.invariant
 
 pub returns-then-at_hop_limit-clause-fate : goal.returns-then-at_hop_limit-clause-fate
@@ -25,9 +25,9 @@ returns-then-at_hop_limit-clause-fate c h logs s =
 
 pub returns-then-at_hop_limit-clause-stands : goal.returns-then-at_hop_limit-clause-stands
 returns-then-at_hop_limit-clause-stands c h logs s =
-    subst (λ (z : RouterData). StandsFor (router_data c.self.inside.plan c.args.now.0 c.self.inside.guard.minter c.self.inside.guard.cache c.self.inside.ports.items)
+    subst (λ (z : RouterData). StandsFor (router_data c.self.inside.built c.self.inside.plan c.args.now.0 c.self.inside.guard.minter c.self.inside.guard.cache c.self.inside.ports.items)
     (h ++ (handle z.plan h logs c.args.now.0 c.args.from c.args.packet).charges) (logs with (handle z.plan h logs c.args.now.0 c.args.from c.args.packet).queued)) c.self.view_is
-    (stands-stopped c.self.inside.plan c.self.inside.last c.args.now.0 c.self.inside.guard.minter c.self.inside.guard.cache c.self.inside.ports.items h logs c.args.from c.args.packet
+    (stands-stopped c.self.inside.built c.self.inside.plan c.self.inside.last c.args.now.0 c.self.inside.guard.minter c.self.inside.guard.cache c.self.inside.ports.items h logs c.args.from c.args.packet
     (sym c.at_hop_limit.ensures ∙ c.if-at_hop_limit.true) (subst (λ (z : RouterData). z.last ≤ c.args.now.0) (sym c.self.view_is) c.requires.time) (subst (λ (z : RouterData). StandsFor z h logs) (sym c.self.view_is) s))
 
 pub send-outcome-requires-clause-ports : goal.send-outcome-requires-clause-ports
@@ -39,7 +39,7 @@ pub returns-clause-fate : goal.returns-clause-fate
 returns-clause-fate c h logs s =
     let plan = c.self.inside.plan in
     let packet : PacketData = record { id = c.packet.inside.id; flow = c.packet.inside.flow; hops = c.packet.inside.hops; payload = c.packet.inside.payload; carried = c.packet.inside.carried } in
-    let stood : StandsFor (router_data plan c.self.inside.last c.self.inside.guard.minter c.self.inside.guard.cache c.self.inside.ports.items) h logs =
+    let stood : StandsFor (router_data c.self.inside.built plan c.self.inside.last c.self.inside.guard.minter c.self.inside.guard.cache c.self.inside.ports.items) h logs =
     subst (λ (z : RouterData). StandsFor z h logs) (sym c.self.view_is) s in
     let came : c.arrival_of-arrival.result ≡ arrival c.args.now.0 c.args.from packet =
     c.arrival_of-arrival.ensures.value ∙ ap (arrival c.args.now.0 c.args.from) (sym c.packet.view_is) in
@@ -58,7 +58,7 @@ pub returns-clause-stands : goal.returns-clause-stands
 returns-clause-stands c h logs s =
     let plan = c.self.inside.plan in
     let packet : PacketData = record { id = c.packet.inside.id; flow = c.packet.inside.flow; hops = c.packet.inside.hops; payload = c.packet.inside.payload; carried = c.packet.inside.carried } in
-    let stood : StandsFor (router_data plan c.self.inside.last c.self.inside.guard.minter c.self.inside.guard.cache c.self.inside.ports.items) h logs =
+    let stood : StandsFor (router_data c.self.inside.built plan c.self.inside.last c.self.inside.guard.minter c.self.inside.guard.cache c.self.inside.ports.items) h logs =
     subst (λ (z : RouterData). StandsFor z h logs) (sym c.self.view_is) s in
     let came : c.arrival_of-arrival.result ≡ arrival c.args.now.0 c.args.from packet =
     c.arrival_of-arrival.ensures.value ∙ ap (arrival c.args.now.0 c.args.from) (sym c.packet.view_is) in
@@ -69,19 +69,20 @@ returns-clause-stands c h logs s =
     subst (λ (z : Arrival). Keeps plan z c.judge-class.result.charge (nonce_in packet.carried) c.self.inside.guard.cache c.judge-class.new.self.cache) came c.judge-class.ensures.keeps in
     let links : StandForLogs plan.outgoing c.send-outcome.new.ports.items (logs with queued logs c.args.now.0 j.class (goes_on packet j.carried) (way_to plan packet.flow.dst)) =
     c.send-outcome.ensures.stands logs stood.links in
-    let by : IsByPlan (router_data plan c.args.now.0 c.judge-class.new.self.minter c.judge-class.new.self.cache c.send-outcome.new.ports.items) =
-    by-plan plan c.args.now.0 c.judge-class.new.self c.self.inside.ways c.send-outcome.new.ports.items (record {
+    let by : IsByPlan (router_data c.self.inside.built plan c.args.now.0 c.judge-class.new.self.minter c.judge-class.new.self.cache c.send-outcome.new.ports.items) =
+    by-plan c.self.inside.built plan c.args.now.0 c.judge-class.new.self c.self.inside.ways c.send-outcome.new.ports.items (record {
       valid = c.self.invariant.valid;
+      in_force = c.self.invariant.in_force;
       guard = subst (λ (z : Arrival). IsGuard plan z.time.0 c.judge-class.new.self) came c.judge-class.ensures.guard;
       ways = c.self.invariant.ways;
       ports = c.send-outcome.ensures.ports;
     }) in
     let few : leb 32 packet.hops ≡ false = subst (λ (z : PacketData). leb 32 z.hops ≡ false) (sym c.packet.view_is) (sym c.at_hop_limit.ensures ∙ c.if-at_hop_limit.false) in
-    subst (λ (z : RouterData). StandsFor (router_data plan c.args.now.0 c.judge-class.new.self.minter c.judge-class.new.self.cache c.send-outcome.new.ports.items)
+    subst (λ (z : RouterData). StandsFor (router_data c.self.inside.built plan c.args.now.0 c.judge-class.new.self.minter c.judge-class.new.self.cache c.send-outcome.new.ports.items)
     (h ++ (handle z.plan h logs c.args.now.0 c.args.from c.args.packet).charges) (logs with (handle z.plan h logs c.args.now.0 c.args.from c.args.packet).queued)) c.self.view_is
-    (subst (λ (z : PacketData). StandsFor (router_data plan c.args.now.0 c.judge-class.new.self.minter c.judge-class.new.self.cache c.send-outcome.new.ports.items)
+    (subst (λ (z : PacketData). StandsFor (router_data c.self.inside.built plan c.args.now.0 c.judge-class.new.self.minter c.judge-class.new.self.cache c.send-outcome.new.ports.items)
     (h ++ (handle plan h logs c.args.now.0 c.args.from z).charges) (logs with (handle plan h logs c.args.now.0 c.args.from z).queued)) c.packet.view_is
-    (stands-forwarded plan c.self.inside.last c.args.now.0 c.self.inside.guard.minter c.judge-class.new.self.minter c.self.inside.guard.cache c.judge-class.new.self.cache c.self.inside.ports.items c.send-outcome.new.ports.items
+    (stands-forwarded c.self.inside.built plan c.self.inside.last c.args.now.0 c.self.inside.guard.minter c.judge-class.new.self.minter c.self.inside.guard.cache c.judge-class.new.self.cache c.self.inside.ports.items c.send-outcome.new.ports.items
     h logs c.args.from packet j few judged stood keeps links by))
 
 pub returns-then-at_hop_limit-clause-uncharged : goal.returns-then-at_hop_limit-clause-uncharged

@@ -26,13 +26,14 @@ returns-clause-decision c h logs limits s f =
 
 pub returns-clause-stands : goal.returns-clause-stands
 returns-clause-stands c h logs s =
-    let stood : StandsFor (router_data c.self.inside.plan c.self.inside.last c.self.inside.guard.minter c.self.inside.guard.cache c.self.inside.ports.items) h logs =
+    let stood : StandsFor (router_data c.self.inside.built c.self.inside.plan c.self.inside.last c.self.inside.guard.minter c.self.inside.guard.cache c.self.inside.ports.items) h logs =
     subst (λ (z : RouterData). StandsFor z h logs) (sym c.self.view_is) s in
     let le : c.self.inside.last ≤ c.args.now.0 = subst (λ (z : RouterData). z.last ≤ c.args.now.0) (sym c.self.view_is) c.requires.time in
     record {
-      plan = by-plan c.self.inside.plan c.args.now.0 c.self.inside.guard c.self.inside.ways c.decide_on.new.ports.items
+      plan = by-plan c.self.inside.built c.self.inside.plan c.args.now.0 c.self.inside.guard c.self.inside.ways c.decide_on.new.ports.items
           (record {
             valid = c.self.invariant.valid;
+            in_force = c.self.invariant.in_force;
             guard = guard-later c.self.inside.plan c.self.inside.last c.args.now.0 c.self.inside.guard le c.self.invariant.guard;
             ways = c.self.invariant.ways;
             ports = c.decide_on.ensures.ports;
@@ -76,7 +77,7 @@ pub returns-clause-rests : goal.returns-clause-rests
 returns-clause-rests c h logs limits until time s f i low high =
     let k = known c.args.self.now h logs c.args.link limits c.args.now.0 s f c.requires.time in
     let e = returns-clause-decision c h logs limits s f in
-    let due = due_then (router_data c.self.inside.plan c.args.now.0 c.self.inside.guard.minter c.self.inside.guard.cache c.decide_on.new.ports.items) h logs c.args.link limits c.decide_on.result c.args.now.0 until
+    let due = due_then (router_data c.self.inside.built c.self.inside.plan c.args.now.0 c.self.inside.guard.minter c.self.inside.guard.cache c.decide_on.new.ports.items) h logs c.args.link limits c.decide_on.result c.args.now.0 until
     (returns-clause-stands c h logs s) (subst (λ (z : RouterData). outgoing_link z.plan c.args.link ≡ Some (c.args.link, limits)) (sym c.self.view_is) f) i in
     rests_after limits (logs c.args.link) c.args.now.0 c.decide_on.result until time k.legal k.later e due low high
 
@@ -84,13 +85,13 @@ pub returns-clause-missed : goal.returns-clause-missed
 returns-clause-missed c h logs limits until s f m i =
     let k = known c.args.self.now h logs c.args.link limits c.args.now.0 s f c.requires.time in
     let e = returns-clause-decision c h logs limits s f in
-    let due = due_then (router_data c.self.inside.plan c.args.now.0 c.self.inside.guard.minter c.self.inside.guard.cache c.decide_on.new.ports.items) h logs c.args.link limits c.decide_on.result c.args.now.0 until
+    let due = due_then (router_data c.self.inside.built c.self.inside.plan c.args.now.0 c.self.inside.guard.minter c.self.inside.guard.cache c.decide_on.new.ports.items) h logs c.args.link limits c.decide_on.result c.args.now.0 until
     (returns-clause-stands c h logs s) (subst (λ (z : RouterData). outgoing_link z.plan c.args.link ≡ Some (c.args.link, limits)) (sym c.self.view_is) f) i in
     misses_after limits (logs c.args.link) c.args.now.0 c.decide_on.result until k.legal k.later e m due
 
 pub returns-clause-occupied : goal.returns-clause-occupied
 returns-clause-occupied c h logs limits class packet s f e =
-    free_then (router_data c.self.inside.plan c.args.now.0 c.self.inside.guard.minter c.self.inside.guard.cache c.decide_on.new.ports.items) h logs c.args.link limits c.decide_on.result c.args.now.0
+    free_then (router_data c.self.inside.built c.self.inside.plan c.args.now.0 c.self.inside.guard.minter c.self.inside.guard.cache c.decide_on.new.ports.items) h logs c.args.link limits c.decide_on.result c.args.now.0
     (returns-clause-stands c h logs s) (subst (λ (z : RouterData). outgoing_link z.plan c.args.link ≡ Some (c.args.link, limits)) (sym c.self.view_is) f)
     ∙ ap (λ (d : Decision). free_after limits (logs c.args.link ++ started_by d c.args.now.0)) e
     ∙ free-started limits 0 (logs c.args.link) c.args.now.0 class packet
