@@ -10,6 +10,7 @@ pub mod Matching
 pub mod Asks
 pub mod Comings
 pub mod Miles
+pub mod Regular
 pub mod Kept
 pub mod Steady
 pub mod Read

@@ -1,5 +1,6 @@
 -- The path of the worked walk is steady, by the logs of host and router.
-use Rattle.std.proofs.Common.{◌≡◌, ◌<◌, ℕ, true, false, List, [], ◌∷◌, ◌++◌, is_some, None, refl, sym, subst, arith}
+use Rattle.std.proofs.Common.{◌≡◌, ◌<◌, ℕ, false, List, [], ◌∷◌, ◌++◌, None, refl, sym, subst, arith}
+use Rattle.std.specs.Prelude.{IsSomeAnd}
 use Rattle.std.proofs.lemmas.List.Elements.{All-nil, All-from_recursion}
 use Rattle.tva_base.specs.declared.packet.Rights.{Rights}
 use Rattle.tva_base.specs.declared.plan.HostPlan.{HostPlan}
@@ -17,7 +18,7 @@ use Rattle.tva_log.specs.declared.kinds.Input.TheVariants.{Arrival}
 use Rattle.tva_log.specs.Parts.{charges}
 use Rattle.tva_log.specs.Told.{at_time}
 use Rattle.tva_paths.specs.Deals.{Deal, Prepared, Granted, Coming, coming, deals, comings}
-use Rattle.tva_paths.specs.Paths.{ask_came, ComesSteadily, IsSteadyPath}
+use Rattle.tva_paths.specs.Paths.{ask_coming, ComesInTime, ComesSteadily, IsSteadyPath}
 use Rattle.tva_paths.specs.Walk.{walk_request, walk_list, walk_nonce, walk_cap, walk_host_log, walk_grant, walk_charged, walk_router_log, walk_input}
 
 module _ (host : HostPlan) (router : RouterPlan) (margin : host.margin ≡ 1000000) (es : List entries.Entry) (given : ℕ)
@@ -37,7 +38,7 @@ module _ (host : HostPlan) (router : RouterPlan) (margin : host.margin ≡ 10000
   abbrev last : Coming
   last = coming walk_input walk_nonce (walk_charged router)
 
-  request_comes : ComesSteadily host router 1000520 own seen (record { time = 1001000; packet = walk_request; charge = None })
+  request_comes : ComesInTime host 1000520 own (record { time = 1001000; packet = walk_request; charge = None })
   request_comes = record {
     before = [];
     sent = 0;
@@ -48,13 +49,14 @@ module _ (host : HostPlan) (router : RouterPlan) (margin : host.margin ≡ 10000
     same = refl;
     from = omega arith;
     until = omega (arith, margin);
-    behind = λ s. tt;
-    minted = tt;
   }
 
-  list_comes : ComesSteadily host router 1000520 own seen (coming (Arrival (at_time 5003420) 0 (walk_list (walk_cap router) given))
-      (walk_list (walk_cap router) given) (walk_charged router))
-  list_comes = record {
+  abbrev list_coming : Coming
+  list_coming =
+      coming (Arrival (at_time 5003420) 0 (walk_list (walk_cap router) given)) (walk_list (walk_cap router) given) (walk_charged router)
+
+  list_in_time : ComesInTime host 1000520 own list_coming
+  list_in_time = record {
     before = granted;
     sent = 4002900;
     packet = walk_list (walk_cap router) given;
@@ -63,12 +65,14 @@ module _ (host : HostPlan) (router : RouterPlan) (margin : host.margin ≡ 10000
     same = refl;
     from = omega arith;
     until = omega (arith, margin);
-    behind = λ s. omega arith;
-    minted = refl;
   }
 
-  nonce_comes : ComesSteadily host router 1000520 own seen last
-  nonce_comes = record {
+  list_comes : ComesSteadily host router 1000520 own seen list_coming
+  unfolding list_in_time
+  list_comes = record { in_time = list_in_time; behind = omega arith; minted = refl }
+
+  nonce_in_time : ComesInTime host 1000520 own last
+  nonce_in_time = record {
     before = listed;
     sent = 10000000;
     packet = walk_nonce;
@@ -77,15 +81,18 @@ module _ (host : HostPlan) (router : RouterPlan) (margin : host.margin ≡ 10000
     same = refl;
     from = omega arith;
     until = omega (arith, margin);
-    behind = λ s. omega arith;
-    minted = tt;
   }
 
+  nonce_comes : ComesSteadily host router 1000520 own seen last
+  unfolding nonce_in_time
+  nonce_comes = record { in_time = nonce_in_time; behind = omega arith; minted = tt }
+
   asked : (before : List Deal) (rights : Rights) (caps : List ℕ) (after : List Deal) → listed ≡ before ++ Granted rights caps ∷ after
-      → is_some (ask_came seen before) ≡ true
+      → IsSomeAnd (ask_coming seen before) (ComesInTime host 1000520 own)
   asked [] rights caps after e = absurd (cc)
   asked (x ∷ []) rights caps after e =
-      (let same : Prepared 0 walk_request ≡ x = cc in subst (λ (d : Deal). is_some (ask_came seen (d ∷ [])) ≡ true) same refl)
+      (let same : Prepared 0 walk_request ≡ x = cc in
+      subst (λ (d : Deal). IsSomeAnd (ask_coming seen (d ∷ [])) (ComesInTime host 1000520 own)) same request_comes)
   asked (x ∷ y ∷ []) rights caps after e = absurd (cc)
   asked (x ∷ y ∷ z ∷ []) rights caps after e = absurd (cc)
   asked (x ∷ y ∷ z ∷ w ∷ ws) rights caps after e = absurd (cc)
@@ -106,9 +113,9 @@ module _ (host : HostPlan) (router : RouterPlan) (margin : host.margin ≡ 10000
       omega (arith, length-layout shim)
 
   pub walked : IsSteadyPath host router 1000520 own seen (charges (walk_router_log router es given first reply second)) last
-  unfolding credit_of nonce_comes
+  unfolding credit_of nonce_in_time nonce_comes
   walked = record {
-    each = (request_comes, (list_comes, tt));
+    each = (list_comes, tt);
     last = nonce_comes;
     order = (All-from_recursion (λ n. 2 < n) (3 ∷ []) (omega arith, tt), (All-nil (λ n. 3 < n), tt));
     asked = asked;
