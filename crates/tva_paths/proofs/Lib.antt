@@ -14,4 +14,5 @@ pub mod Regular
 pub mod Kept
 pub mod Steady
 pub mod Read
+pub mod Walking
 pub mod Walked
