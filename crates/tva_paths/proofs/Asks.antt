@@ -12,10 +12,10 @@ use Rattle.tva_shim.specs.declared.packets.Carried.TheVariants as carried
 use Rattle.tva_shim.specs.Packets.{PacketData}
 use Rattle.tva_sender.specs.declared.shape.Shape.TheVariants as shapes
 use Rattle.tva_sender.specs.Contacts as contact
-use Rattle.tva_sender.specs.Contacts.{Contact, Ask, asks, asked_at, time}
+use Rattle.tva_sender.specs.Contacts.{Contact, Ask, Taking, taking_in, last_taking, asks, asked_at, time}
 use Rattle.tva_flow.proofs.Same.{and_true}
 use Rattle.tva_paths.specs.Deals.{Deal, Prepared, Granted, Noticed, Coming}
-use Rattle.tva_paths.specs.Paths.{asks_kind, asks_in, ask_in, last_ask, same_id, come_as, ask_came, granted_by, grant_came}
+use Rattle.tva_paths.specs.Paths.{asks_kind, asks_in, ask_in, last_ask, same_id, come_as, ask_coming, ask_came, granted_by, grant_came, rights_in, last_rights}
 use Rattle.tva_paths.proofs.Lists.{some_same}
 use Rattle.tva_paths.proofs.Dealt.{shape_of_kind, shape_in, contact_of}
 
@@ -146,6 +146,13 @@ pub come_is : (P : Coming → Type 0) (seen : List Coming) (id : PacketId) (y : 
     → P y × (y.packet.id ≡ id)
 come_is P seen id y a e = let k = found (λ x. same_id x.packet.id id) P seen y a e in (k.0, id_is y.packet.id id k.1)
 
+all_units : (xs : List Coming) → AllByRecursion (λ (x : Coming). Unit {0}) xs
+all_units [] = tt
+all_units (x ∷ xs) = (tt, all_units xs)
+
+pub come_id : (seen : List Coming) (id : PacketId) (y : Coming) → come_as seen id ≡ Some y → y.packet.id ≡ id
+come_id seen id y e = (come_is (λ (x : Coming). Unit {0}) seen id y (all_units seen) e).1
+
 -- ## the ask of the last grant
 
 -- when the ask of a grant that is taken next came
@@ -188,7 +195,7 @@ came_for seen ds came a None l e t = absurd (cc)
 came_for seen ds came a (Some x) l e t = record { asked = a; coming = x; last = l; found = e; time = some_same x.time came t }
 
 came_asked : (seen : List Coming) (ds : List Deal) (came : ℕ) (o : Option Asked) → last_asked ds ≡ o
-    → option_and_then (λ id. option_map (λ (x : Coming). x.time) (come_as seen id)) (option_map (λ (a : Asked). a.id) o) ≡ Some came
+    → option_map (λ (x : Coming). x.time) (option_and_then (come_as seen) (option_map (λ (a : Asked). a.id) o)) ≡ Some came
     → CameFor seen ds came
 came_asked seen ds came None l e = absurd (cc)
 came_asked seen ds came (Some a) l e = came_for seen ds came a (come_as seen a.id) l refl e
@@ -196,4 +203,24 @@ came_asked seen ds came (Some a) l e = came_for seen ds came a (come_as seen a.i
 pub ask_is : (seen : List Coming) (ds : List Deal) (came : ℕ) → ask_came seen ds ≡ Some came → CameFor seen ds came
 ask_is seen ds came e =
     came_asked seen ds came (last_asked ds) refl (sym
-    (ap (option_and_then (λ id. option_map (λ (x : Coming). x.time) (come_as seen id))) (last_id ds)) ∙ e)
+    (ap (λ (o : Option PacketId). option_map (λ (x : Coming). x.time) (option_and_then (come_as seen) o)) (last_id ds)) ∙ e)
+
+pub coming_is : (seen : List Coming) (ds : List Deal) (came : ℕ) (c : CameFor seen ds came) → ask_coming seen ds ≡ Some c.coming
+coming_is seen ds came c =
+    ap (option_and_then (come_as seen)) (last_id ds ∙ ap (option_map (λ (a : Asked). a.id)) c.last) ∙ c.found
+
+-- ## the rights of the last grant
+
+rights_is : (before : List Contact) (d : Deal) (after : List Contact)
+    → option_map (λ (t : Taking). t.rights) (taking_in before (contact_of d) after) ≡ rights_in d
+rights_is before (Prepared t p) after = refl
+rights_is before (Granted rights caps) after = refl
+rights_is before Noticed after = refl
+
+pub last_rights_are : (before : List Contact) (ds : List Deal)
+    → option_map (λ (t : Taking). t.rights) (last_taking before (map contact_of ds)) ≡ last_rights ds
+last_rights_are before [] = refl
+last_rights_are before (d ∷ ds) =
+    map_or (λ (t : Taking). t.rights) (last_taking (before ++ contact_of d ∷ []) (map contact_of ds))
+    (taking_in before (contact_of d) (map contact_of ds))
+    ∙ ap₂ option_or (last_rights_are (before ++ contact_of d ∷ []) ds) (rights_is before d (map contact_of ds))

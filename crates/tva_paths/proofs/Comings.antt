@@ -33,7 +33,7 @@ use Rattle.tva_log.specs.Parts.{charged, charge_of, charges, port_logs}
 use Rattle.tva_promises.specs.Fates.{NoRowRefusesShown, NoRowRefusesNonce, NoRowRefusesKind, NoRowRefuses, IsFate}
 use Rattle.tva_promises.specs.Promises.{KeepsPromises}
 use Rattle.tva_paths.specs.Deals.{Coming, coming, came_at, comings}
-use Rattle.tva_paths.specs.Paths.{shows}
+use Rattle.tva_paths.specs.Paths.{shows, those_charged}
 use Rattle.tva_paths.proofs.Lists.{place}
 
 -- ## what was charged
@@ -278,12 +278,11 @@ pub paid_each : (P : Coming → Type 0) (seen : List Coming) → AllByRecursion 
 paid_each P [] a = tt
 paid_each P (x ∷ xs) a = let k = paid_each_by P x (paid xs) x.charge refl a in (k.0, paid_each P xs k.1)
 
-each_paid_by : (P : Coming → Type 0) (x : Coming) (xs : List Coming) (b : Bool) → P x → AllByRecursion P xs
-    → AllByRecursion P (cons_option (cond b (Some x) None) xs)
-each_paid_by P x xs true k a = (k, a)
-each_paid_by P x xs false k a = a
+charged_here : (x : Coming) (xs ys : List Coming) (b : Bool) → xs ≡ ys → cond b (x ∷ xs) xs ≡ cons_option (cond b (Some x) None) ys
+charged_here x xs ys true e = ap (λ (zs : List Coming). x ∷ zs) e
+charged_here x xs ys false e = e
 
--- and what holds of all holds of them
-pub each_paid : (P : Coming → Type 0) (seen : List Coming) → AllByRecursion P seen → AllByRecursion P (paid seen)
-each_paid P [] a = tt
-each_paid P (x ∷ xs) a = each_paid_by P x (paid xs) (is_some x.charge) a.0 (each_paid P xs a.1)
+-- they are those that were charged
+pub charged_is : (seen : List Coming) → those_charged seen ≡ paid seen
+charged_is [] = refl
+charged_is (x ∷ xs) = charged_here x (those_charged xs) (paid xs) (is_some x.charge) (charged_is xs)

@@ -29,10 +29,10 @@ use Rattle.tva_host.specs.Receiving.{shows_grant}
 use Rattle.tva_steady.specs.Miles.{Mile, charges_in, last_came}
 use Rattle.tva_steady.specs.Steady.{Way, checked, IsShown}
 use Rattle.tva_promises.specs.Fates.{NoRowRefusesShown, NoRowRefusesNonce, NoRowRefusesKind, NoRowRefuses}
-use Rattle.tva_promises.specs.Honest.{ShowsShape, ShowsGrant}
 use Rattle.tva_paths.specs.Origins.{KeepsShown, KeepsKind, KeepsShim, KeepsCarried, Keeps}
 use Rattle.tva_paths.specs.Paths.{shows, IsMinted, ShowsMintedKind, ShowsMinted}
 use Rattle.tva_paths.proofs.Lists.{some_same}
+use Rattle.tva_paths.proofs.Regular.{ShowsShape, ShowsGrant}
 use Rattle.tva_paths.proofs.Dealt.{shape_of_kind, shape_in, counted}
 
 -- both carry unmarked shims, and that which came shows a grant

@@ -10,7 +10,9 @@ pub mod Matching
 pub mod Asks
 pub mod Comings
 pub mod Miles
+pub mod Regular
 pub mod Kept
 pub mod Steady
 pub mod Read
+pub mod Walking
 pub mod Walked

@@ -47,6 +47,17 @@ pub rises_front : (ns ms : List ℕ) → Rises (ns ++ ms) → Rises ns
 rises_front [] ms r = tt
 rises_front (n ∷ ns) ms r = (each_front (λ m. n < m) ns ms r.0, rises_front ns ms r.1)
 
+pub each_last : {X : Type 0} (P : X → Type 0) (xs : List X) (x : X) → AllByRecursion P (xs ++ x ∷ []) → P x
+each_last P [] x h = h.0
+each_last P (y ∷ ys) x h = each_last P ys x h.1
+
+-- the last one is the greatest
+pub rises_last : (ns : List ℕ) (n : ℕ) → Rises (ns ++ n ∷ []) → Rises ns × AllByRecursion (λ m. m < n) ns
+rises_last [] n r = (tt, tt)
+rises_last (m ∷ ms) n r =
+    let rest = rises_last ms n r.1 in
+    ((each_front (λ k. m < k) ms (n ∷ []) r.0, rest.0), (each_last (λ k. m < k) ms n r.0, rest.1))
+
 -- so many are there at most
 pub few_rise : (m n : ℕ) (ns : List ℕ) → Rises ns → AllByRecursion (λ k. m ≤ k) ns → AllByRecursion (λ k. k < n) ns → m ≤ n
     → m + length ns ≤ n

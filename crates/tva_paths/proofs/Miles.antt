@@ -133,8 +133,8 @@ map-push (e ∷ es) d = ap (λ (cs : List Contact). contact_of e ∷ cs) (map-pu
 
 module _ (w : Way) (seen : List Coming) (log : List Entry) (own earlier : List Deal) (tail : List Deal) (whole : own ≡ earlier ++ tail)
     (rises : Rises (keys own))
-    (comes : (before : List Deal) (rest : List Deal) (came : ℕ) → earlier ≡ before ++ rest → ask_came seen before ≡ Some came →
-    (ms : List Mile) → contacts ms ≡ map contact_of before
+    (comes : (before : List Deal) (rights : Rights) (caps : List ℕ) (rest : List Deal) (came : ℕ)
+    → earlier ≡ before ++ Granted rights caps ∷ rest → ask_came seen before ≡ Some came → (ms : List Mile) → contacts ms ≡ map contact_of before
     → IfSome (asked_at (contacts ms)) (λ (t : Time). ComesIn w t.0 came))
     (asked : (before : List Deal) (rights : Rights) (caps : List ℕ) (after : List Deal)
     → earlier ≡ before ++ Granted rights caps ∷ after → is_some (ask_came seen before) ≡ true)
@@ -191,7 +191,7 @@ module _ (w : Way) (seen : List Coming) (log : List Entry) (own earlier : List D
 
   -- a grant
   granted : (before : List Deal) (front : List Coming) (rights : Rights) (caps : List ℕ) (rest : List Deal) (o : Option ℕ)
-      → Run before front → earlier ≡ before ++ rest → ask_came seen before ≡ o → is_some o ≡ true → AreSomeRights rights
+      → Run before front → earlier ≡ before ++ Granted rights caps ∷ rest → ask_came seen before ≡ o → is_some o ≡ true → AreSomeRights rights
       → Run (before ++ Granted rights caps ∷ []) front
   granted before front rights caps rest None r here e s fine = absurd (cc)
   granted before front rights caps rest (Some came) r here e s fine =
@@ -201,7 +201,7 @@ module _ (w : Way) (seen : List Coming) (log : List Entry) (own earlier : List D
         contacts_are = contacts-push r.miles m ∙ (ap (λ (cs : List Contact). cs ++ contact_of (Granted rights caps) ∷ []) r.contacts_are
             ∙ sym (map-push before (Granted rights caps)));
         charges_are = charges-push r.miles m ∙ (append-nil (charges_in r.miles) ∙ r.charges_are);
-        are = miles-push w [] r.miles m r.are (fine, comes before rest came here e r.miles r.contacts_are);
+        are = miles-push w [] r.miles m r.are (fine, comes before rights caps rest came here e r.miles r.contacts_are);
         came = came-got r.miles rights caps came ∙ sym (came-granted seen [] before rights caps came e);
         beside = beside-push seen before r.miles (Granted rights caps) m r.beside tt;
       }
@@ -321,7 +321,7 @@ module _ (w : Way) (seen : List Coming) (log : List Entry) (own earlier : List D
           (each-append (IsOther p.id) front xs (front_other before t p ds front all a.ins)
           (back_other t p ds xs (rises_back before (Prepared t p ∷ ds) all) (matches_in ds xs m)))))
       by (Granted rights caps) here k =
-          granted before front rights caps (Granted rights caps ∷ ds) (ask_came seen before) a.run here refl
+          granted before front rights caps ds (ask_came seen before) a.run here refl
           (asked before rights caps ds here) k
       by Noticed here k = noticed before front a.run
 

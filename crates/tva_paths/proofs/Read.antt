@@ -1,5 +1,5 @@
 -- The rows that a text stands for are few, and a shim of some version can carry their return info.
-use Rattle.std.proofs.Common.{◌≡◌, ℕ, ◌+◌, ◌≤◌, Bool, true, false, cond, List, [], ◌∷◌, length, Option, Some, None, Result, Ok, Err, refl, sym, ap, subst, arith}
+use Rattle.std.proofs.Common.{◌≡◌, ℕ, ◌+◌, ◌≤◌, List, [], ◌∷◌, length, Option, Some, None, Result, Ok, Err, refl, sym, subst, arith}
 use Rattle.std.specs.Prelude.{nat_le, ◌==◌}
 use Rattle.std.specs.Option.{option_map}
 use Rattle.std.specs.List.{AllByRecursion, AllZip}
@@ -29,7 +29,7 @@ use Rattle.tva_trace.specs.declared.said.SaidShim.TheVariants.{Bytes, Built}
 use Rattle.tva_trace.specs.declared.said.SaidWhat.{SaidWhat}
 use Rattle.tva_trace.specs.declared.said.SaidWhat.TheVariants as say
 use Rattle.tva_trace.specs.Items.{hex_number_of, plain_shim, raw_of, shim_of, shown_of}
-use Rattle.tva_trace.specs.Rows.{Judged, ◌>>=◌, behind, demand, fault_at, field, flow_from, hold, injection_of, is_empty, is_header, kind_at, records_in, row_of, rows_from, rows_of, rows_under, sending_of, then_rows, what_of}
+use Rattle.tva_trace.specs.Rows.{Judged, behind, demand, field, flow_from, hold, injection_of, is_empty, is_header, kind_at, records_in, row_of, rows_from, rows_under, sending_of, then_rows, what_of}
 use Rattle.tva_trace.specs.Meaning.{AreRows, CarriedBy, Means, MeansWhat}
 use Rattle.tva_run.specs.Reaching.{Logs}
 use Rattle.tva_run.specs.Run.{IsRunTo}

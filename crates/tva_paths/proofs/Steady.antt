@@ -1,14 +1,15 @@
 -- In each run what comes on a steady path and shows a grant is charged and goes on as regular.
-use Rattle.std.proofs.Common.{◌≡◌, ◌≤◌, ◌<◌, ◌⊎◌, inl, inr, ℕ, Bool, true, false, cond, List, [], ◌∷◌, ◌++◌, map, filter, is_some, Option, Some, None, refl, ap, ap₂, sym, subst, ◌∙◌, arith, append_assoc}
+use Rattle.std.proofs.Common.{◌≡◌, ◌≤◌, ◌<◌, ◌⊎◌, inl, inr, ℕ, true, false, cond, List, [], ◌∷◌, ◌++◌, map, is_some, Option, Some, None, refl, ap, ap₂, sym, subst, ◌∙◌, arith, append_assoc}
+use Rattle.std.specs.Prelude.{IsSomeAnd}
 use Rattle.std.specs.Option.{option_map, IfSome}
 use Rattle.std.specs.List.{AllByRecursion, filter_map, cons_option}
 use Rattle.std.proofs.lemmas.List.Elements.{filter_map-append}
-use Rattle.tva_base.specs.declared.packet.Class.TheVariants.{Regular}
 use Rattle.tva_base.specs.declared.packet.Fate.{Fate}
 use Rattle.tva_base.specs.declared.packet.Flow.{Flow}
 use Rattle.tva_base.specs.declared.packet.Grant.{Grant}
 use Rattle.tva_base.specs.declared.packet.Outcome.{Outcome}
 use Rattle.tva_base.specs.declared.packet.PacketId.{PacketId}
+use Rattle.tva_base.specs.declared.packet.Rights.{Rights}
 use Rattle.tva_base.specs.declared.packet.Time.{Time}
 use Rattle.tva_base.specs.declared.plan.HostPlan.{HostPlan}
 use Rattle.tva_base.specs.declared.plan.RouterPlan.{RouterPlan}
@@ -19,9 +20,9 @@ use Rattle.tva_shim.specs.Shows.{back_in}
 use Rattle.tva_flow.specs.Charges.{Charge, same_flow, of_flow, last_charge, holder}
 use Rattle.tva_flow.proofs.Same.{flow_is}
 use Rattle.tva_sender.specs.Contacts as contact
-use Rattle.tva_sender.specs.Contacts.{Contact, asked_at, time}
+use Rattle.tva_sender.specs.Contacts.{Contact, Taking, last_taking, asked_at, time}
 use Rattle.tva_sender.specs.Played.{AreNext, IsPlayed}
-use Rattle.tva_router.specs.Handling.{arrival}
+use Rattle.tva_router.specs.Handling.{arrival, handle}
 use Rattle.tva_router.specs.Marks.{is_marked}
 use Rattle.tva_host.specs.declared.made.Receipt.{Receipt}
 use Rattle.tva_host.specs.Calls.{NeverFall}
@@ -41,18 +42,18 @@ use Rattle.tva_log.specs.declared.kinds.Input.{Input}
 use Rattle.tva_log.specs.declared.kinds.Input.TheVariants.{FromTrace, Arrival}
 use Rattle.tva_log.specs.Sites.{Site, IsPlanned}
 use Rattle.tva_log.specs.Entries.{Arrived, Received, Entry, Took, Started, input_time, entry_time, entry_rank}
-use Rattle.tva_log.specs.Parts.{charged, charges, call_of_row, calls}
+use Rattle.tva_log.specs.Parts.{charged, charges, port_logs, call_of_row, calls}
 use Rattle.tva_log.specs.NodeLog.{due}
 use Rattle.tva_run.specs.Reaching.{Logs, log_at, site_at}
 use Rattle.tva_run.specs.Run.{IsRunTo}
 use Rattle.tva_run.proofs.Sites.{site_is}
-use Rattle.tva_promises.specs.Honest.{ShowsGrant}
 use Rattle.tva_promises.specs.Promises.{KeepsPromises}
+use Rattle.tva_promises.proofs.Entries.{fate_is}
 use Rattle.tva_paths.specs.Origins.{made_in, Keeps, HasOrigin}
 use Rattle.tva_paths.specs.Deals.{Deal, Prepared, Granted, Noticed, Coming, coming, deals, comings}
-use Rattle.tva_paths.specs.Paths.{shows, ask_came, grant_came, ShowsMinted, ComesSteadily, IsSteadyPath, AreHonestRegular}
+use Rattle.tva_paths.specs.Paths.{shows, ask_coming, ask_came, grant_came, ShowsMinted, ComesInTime, ComesSteadily, those_charged, IsSteadyPath, IsTakenByLast, AreHonestRegular}
 use Rattle.tva_paths.proofs.Given.{AreGiven}
-use Rattle.tva_paths.proofs.Lists.{some_same, Rises, rises_from, rises_rest, rises_front, each_front, one_place}
+use Rattle.tva_paths.proofs.Lists.{some_same, Rises, rises_from, rises_rest, rises_front, rises_last, each_front, one_place}
 use Rattle.tva_paths.proofs.Walks.{at_place}
 use Rattle.tva_paths.proofs.Origins.{origin_at}
 use Rattle.tva_paths.proofs.Dealt.{shape_in, counted, contact_of}
@@ -60,9 +61,10 @@ use Rattle.tva_paths.proofs.Hosts.{ordinal_of, made_at, entry_key, deal_key, tak
 use Rattle.tva_paths.proofs.Returns.{received_returns}
 use Rattle.tva_paths.proofs.Counts.{few_inputs}
 use Rattle.tva_paths.proofs.Matching.{In, come_key, keys, AreIn, Matches, in_place, in_append, in_behind, matched}
-use Rattle.tva_paths.proofs.Asks.{Asked, last_time, asked_place, come_is, ask_is}
-use Rattle.tva_paths.proofs.Comings.{paid_of, paid, claim, fate_at, claim_at, flow_charges, CameAt, came_place, paid_only, paid_place, each_paid}
+use Rattle.tva_paths.proofs.Asks.{Asked, last_time, asked_place, come_id, ask_is, coming_is, last_rights_are}
+use Rattle.tva_paths.proofs.Comings.{paid_of, paid, claim, claim_at, flow_charges, CameAt, came_place, paid_only, paid_place, charged_is}
 use Rattle.tva_paths.proofs.Miles.{Run, miles_of, authorised_since}
+use Rattle.tva_paths.proofs.Regular.{ShowsGrant, steady_regular}
 use Rattle.tva_paths.proofs.Kept.{AreShims, are_shims, same_length, at_router, shown_as_made, shows_as_made}
 
 -- ## the times of a host's calls
@@ -102,59 +104,20 @@ map_place (x ∷ xs) d after = ap (λ (cs : List Contact). contact_of x ∷ cs) 
 
 -- ## places
 
-each_by_place : (P : Coming → Type 0) (seen front ys : List Coming) → seen ≡ front ++ ys
-    → ((before : List Coming) (y : Coming) (after : List Coming) → seen ≡ before ++ y ∷ after → P y) → AllByRecursion P ys
-each_by_place P seen front [] e k = tt
-each_by_place P seen front (y ∷ ys) e k =
-    (k front y ys e, each_by_place P seen (front ++ y ∷ []) ys (e ∙ sym (append_assoc front (y ∷ []) ys)) k)
-
 abbrev deal_time : Deal → ℕ
 deal_time (Prepared t p) = t
 deal_time (Granted rights caps) = 0
 deal_time Noticed = 0
 
--- ## those that were charged show grants, so they came in order
-
-abbrev shown_in : Coming → Bool
-shown_in y = shows y.packet.carried
-
-abbrev ShowsPaid : Coming → Type 0
-ShowsPaid y = is_some y.charge ≡ true → shows y.packet.carried ≡ true
-
-each_sub_by : (Q : ℕ → Type 0) (x y : Coming) (ys : List Coming) (s c : Bool) → (c ≡ true → s ≡ true)
-    → (AllByRecursion Q (map come_key (filter shown_in ys ++ x ∷ [])) → AllByRecursion Q (map come_key (paid ys)) × Q (come_key x))
-    → AllByRecursion Q (map come_key (cond s (y ∷ filter shown_in ys) (filter shown_in ys) ++ x ∷ []))
-    → AllByRecursion Q (map come_key (cons_option (cond c (Some y) None) (paid ys))) × Q (come_key x)
-each_sub_by Q x y ys true true k rest a = let r = rest a.1 in ((a.0, r.0), r.1)
-each_sub_by Q x y ys true false k rest a = rest a.1
-each_sub_by Q x y ys false true k rest a = (let e = k refl in absurd (cc))
-each_sub_by Q x y ys false false k rest a = rest a
-
-each_sub : (Q : ℕ → Type 0) (x : Coming) (ys : List Coming) → AllByRecursion ShowsPaid ys
-    → AllByRecursion Q (map come_key (filter shown_in ys ++ x ∷ [])) → AllByRecursion Q (map come_key (paid ys)) × Q (come_key x)
-each_sub Q x [] f a = (tt, a.0)
-each_sub Q x (y ∷ ys) f a = each_sub_by Q x y ys (shown_in y) (is_some y.charge) f.0 (λ b. each_sub Q x ys f.1 b) a
+-- ## those that were charged came in order
 
 -- in order, and before the last
 abbrev AreBefore : Coming → List ℕ → Type 0
 AreBefore x ns = Rises ns × AllByRecursion (λ n. n < come_key x) ns
 
-rises_sub_by : (x y : Coming) (ys : List Coming) (s c : Bool) → (c ≡ true → s ≡ true) → AllByRecursion ShowsPaid ys
-    → (Rises (map come_key (filter shown_in ys ++ x ∷ [])) → AreBefore x (map come_key (paid ys)))
-    → Rises (map come_key (cond s (y ∷ filter shown_in ys) (filter shown_in ys) ++ x ∷ []))
-    → AreBefore x (map come_key (cons_option (cond c (Some y) None) (paid ys)))
-rises_sub_by x y ys true true k f rest a =
-    let r = rest a.1 in
-    let sub = each_sub (λ n. come_key y < n) x ys f a.0 in
-    ((sub.0, r.0), (sub.1, r.1))
-rises_sub_by x y ys true false k f rest a = rest a.1
-rises_sub_by x y ys false true k f rest a = (let e = k refl in absurd (cc))
-rises_sub_by x y ys false false k f rest a = rest a
-
-rises_sub : (x : Coming) (ys : List Coming) → AllByRecursion ShowsPaid ys → Rises (map come_key (filter shown_in ys ++ x ∷ []))
-    → AreBefore x (map come_key (paid ys))
-rises_sub x [] f a = (tt, tt)
-rises_sub x (y ∷ ys) f a = rises_sub_by x y ys (shown_in y) (is_some y.charge) f.0 f.1 (λ b. rises_sub x ys f.1 b) a
+keys_push : (xs : List Coming) (x : Coming) → map come_key (xs ++ x ∷ []) ≡ map come_key xs ++ come_key x ∷ []
+keys_push [] x = refl
+keys_push (y ∷ ys) x = ap (λ (ns : List ℕ). come_key y ∷ ns) (keys_push ys x)
 
 -- those that came before were prepared before
 prepared_before : (earlier : List Deal) (t : ℕ) (q : PacketData) (after : List Deal) (x : Coming) (ys : List Coming)
@@ -226,6 +189,9 @@ module _ (config : Config) (rows : List Row) (until : ℕ) (logs : Logs) (valid 
     offset = router.clock_offset;
     slots = router.slots;
   }
+
+  abbrev InTime : Coming → Type 0
+  InTime y = ComesInTime host delay own y
 
   abbrev Steadily : Coming → Type 0
   Steadily y = ComesSteadily host router delay own seen y
@@ -309,19 +275,6 @@ module _ (config : Config) (rows : List Row) (until : ℕ) (logs : Logs) (valid 
       (ap (λ (z : PacketId). Some z.ordinal) same) (subst (λ (ds : List Deal). Rises (keys ds)) place rises) in
       (s.before, ap deal_time s.here)
 
-  shows_charged : (b : List Entry) (i : Input) (o : Option ℕ) (p : PacketData) (ft : Fate) (ow : PacketData) (r : List Entry)
-      → log_at logs node ≡ b ++ Took i (Arrived o p ft ow) ∷ r → (k : Option Grant) → ft.charge ≡ k → is_some k ≡ true
-      → shows p.carried ≡ true
-  shows_charged b i o p ft ow r h None e s = absurd (cc)
-  shows_charged b i o p ft ow r h (Some g) e s =
-      (claim router (charges b) (arrival (input_time i) o p) p.carried g
-      (claim_at to router to_plan until (log_at logs node) keeps b i o p ft ow r h g e)).shown
-
-  shows_paid : AllByRecursion ShowsPaid seen
-  shows_paid = each_by_place ShowsPaid seen [] seen refl (λ front y back e.
-      (let c = came front y back e in subst ShowsPaid c.is
-      (λ s. shows_charged c.before c.input c.from c.packet c.fate c.onward c.rest c.here c.fate.charge refl s)))
-
   -- the charge of what came steadily
   pays_at : (b : List Entry) (i : Input) (o : Option ℕ) (p : PacketData) (ft : Fate) (ow : PacketData) (r : List Entry)
       → log_at logs node ≡ b ++ Took i (Arrived o p ft ow) ∷ r → same_flow p.flow packet.flow ≡ true → is_marked p.carried ≡ false
@@ -335,9 +288,10 @@ module _ (config : Config) (rows : List Row) (until : ℕ) (logs : Logs) (valid 
       let cl = claim_at to router to_plan until (log_at logs node) keeps b i o p ft ow r h g e in
       let ic = claim router (charges b) (arrival (input_time i) o p) p.carried g cl in
       let v = are_shims q.carried p.carried k.carried plain ic.shown in
-      let s = one_deal before t q after cs.before cs.sent cs.packet cs.after place cs.place (cs.same ∙ sym same) in
-      let sent : t ≡ cs.sent = s.1 in
-      let came_eq : last_came ms ≡ grant_came seen [] cs.before = lc ∙ ap (grant_came seen []) s.0 in
+      let it : InTime (coming i p ft) = cs.in_time in
+      let s = one_deal before t q after it.before it.sent it.packet it.after place it.place (it.same ∙ sym same) in
+      let sent : t ≡ it.sent = s.1 in
+      let came_eq : last_came ms ≡ grant_came seen [] it.before = lc ∙ ap (grant_came seen []) s.0 in
       let fl : packet.flow ≡ p.flow = sym (flow_is p.flow packet.flow flow) in
       let hold : last_charge (charges_in ms) ≡ holder (charges b) p.flow =
       ap last_charge (ce ∙
@@ -346,45 +300,62 @@ module _ (config : Config) (rows : List Row) (until : ℕ) (logs : Logs) (valid 
       let a = at_router way router p ms (charges b) (input_time i) fl refl refl hold in
       let minted : IfSome (last_came ms) (λ u. ShowsMinted router p p.carried u) =
       subst (λ (z : Option ℕ). IfSome z (λ u. ShowsMinted router p p.carried u)) (sym came_eq) cs.minted in
-      let after_delay = cs.from in
-      let within = cs.until in
+      let after_delay = it.from in
+      let within = it.until in
       record {
         comes = record { from = omega (arith, sent, after_delay); until = omega (arith, sent, within) };
-        behind = subst (λ (z : Option ℕ). IfSome z (λ u. u ≤ input_time i)) (sym came_eq) (cs.behind ic.shown);
+        behind = subst (λ (z : Option ℕ). IfSome z (λ u. u ≤ input_time i)) (sym came_eq) cs.behind;
         length = same_length q p k v;
         shown = shown_as_made way router q p ms (charges b) (input_time i) a o (charged (input_time i) p g) v refl refl cl minted;
       }
 
   module _ (steady : IsSteadyPath host router delay own seen (charges past) last) where
+    abbrev at : InTime last
+    at = steady.last.in_time
+
     abbrev earlier : List Deal
-    earlier = steady.last.before
+    earlier = at.before
 
     abbrev tail : List Deal
-    tail = Prepared steady.last.sent steady.last.packet ∷ steady.last.after
+    tail = Prepared at.sent at.packet ∷ at.after
 
-    comes_for : (before after : List Deal) (at : ℕ) → earlier ≡ before ++ after → ask_came seen before ≡ Some at → (ms : List Mile)
-        → contacts ms ≡ map contact_of before → IfSome (asked_at (contacts ms)) (λ (t : Time). ComesIn way t.0 at)
-    comes_for before after at front e ms same =
-        let c = ask_is seen before at e in
-        let i = come_is Steadily seen c.asked.id c.coming steady.each c.found in
-        let cs : Steadily c.coming = i.0 in
+    -- what was charged came steadily
+    each : AllByRecursion Steadily (paid seen)
+    each = subst (AllByRecursion Steadily) (charged_is seen) steady.each
+
+    comes_for : (before : List Deal) (rights : Rights) (caps : List ℕ) (after : List Deal) (came : ℕ)
+        → earlier ≡ before ++ Granted rights caps ∷ after → ask_came seen before ≡ Some came → (ms : List Mile)
+        → contacts ms ≡ map contact_of before → IfSome (asked_at (contacts ms)) (λ (t : Time). ComesIn way t.0 came)
+    comes_for before rights caps after came front e ms same =
+        let c = ask_is seen before came e in
+        let it : InTime c.coming =
+        subst (λ (o : Option Coming). IsSomeAnd o InTime) (coming_is seen before came c) (steady.asked before rights caps after front) in
         let p = asked_place before c.asked c.last in
         let ask : Deal = Prepared c.asked.time p.packet in
-        let whole : own ≡ p.before ++ ask ∷ (p.after ++ (after ++ tail)) =
-        steady.last.place ∙ (ap (λ (ds : List Deal). ds ++ tail) (front ∙ ap (λ (ds : List Deal). ds ++ after) p.is) ∙
-        (append_assoc (p.before ++ ask ∷ p.after) after tail ∙ append_assoc p.before (ask ∷ p.after) (after ++ tail))) in
+        let more : List Deal = Granted rights caps ∷ after in
+        let whole : own ≡ p.before ++ ask ∷ (p.after ++ (more ++ tail)) =
+        at.place ∙ (ap (λ (ds : List Deal). ds ++ tail) (front ∙ ap (λ (ds : List Deal). ds ++ more) p.is) ∙
+        (append_assoc (p.before ++ ask ∷ p.after) more tail ∙ append_assoc p.before (ask ∷ p.after) (more ++ tail))) in
         let s =
-        one_deal p.before c.asked.time p.packet (p.after ++ (after ++ tail)) cs.before cs.sent cs.packet cs.after whole cs.place
-        (cs.same ∙ (i.1 ∙ sym p.same)) in
-        let sent : c.asked.time ≡ cs.sent = s.1 in
-        let came_at : c.coming.time ≡ at = c.time in
-        let after_delay = cs.from in
-        let within = cs.until in
+        one_deal p.before c.asked.time p.packet (p.after ++ (more ++ tail)) it.before it.sent it.packet it.after whole it.place
+        (it.same ∙ (come_id seen c.asked.id c.coming c.found ∙ sym p.same)) in
+        let sent : c.asked.time ≡ it.sent = s.1 in
+        let came_at : c.coming.time ≡ came = c.time in
+        let after_delay = it.from in
+        let within = it.until in
         let asked : asked_at (contacts ms) ≡ Some (time c.asked.time) =
         ap asked_at same ∙ (last_time before ∙ ap (option_map (λ (a : Asked). time a.time)) c.last) in
-        let comes : ComesIn way c.asked.time at =
+        let comes : ComesIn way c.asked.time came =
         record { from = omega (arith, sent, came_at, after_delay); until = omega (arith, sent, came_at, within) } in
-        subst (λ (o : Option Time). IfSome o (λ (t : Time). ComesIn way t.0 at)) (sym asked) comes
+        subst (λ (o : Option Time). IfSome o (λ (t : Time). ComesIn way t.0 came)) (sym asked) comes
+
+    asked_some : (o : Option Coming) → IsSomeAnd o InTime → is_some (option_map (λ (x : Coming). x.time) o) ≡ true
+    asked_some None k = absurd k
+    asked_some (Some x) k = refl
+
+    asked_for : (before : List Deal) (rights : Rights) (caps : List ℕ) (after : List Deal)
+        → earlier ≡ before ++ Granted rights caps ∷ after → is_some (ask_came seen before) ≡ true
+    asked_for before rights caps after e = asked_some (ask_coming seen before) (steady.asked before rights caps after e)
 
     pays_for : (before : List Deal) (t : ℕ) (p : PacketData) (after : List Deal) (front : List Coming) (x : Coming) (back : List Coming)
         → own ≡ before ++ Prepared t p ∷ after → paid seen ≡ front ++ x ∷ back
@@ -394,7 +365,7 @@ module _ (config : Config) (rows : List Row) (until : ℕ) (logs : Logs) (valid 
     pays_for before t p after front x back place picked same c pays ms lc ce =
         let pa = paid_place seen front x back picked in
         let ca = came pa.before x pa.after pa.is in
-        let cs = at_place Steadily seen pa.before x pa.after pa.is steady.each in
+        let cs = at_place Steadily (paid seen) front x back picked each in
         let parts = charge_parts x x.charge c refl pays in
         let g : Grant = parts.0 in
         let fr : filter_map paid_of (comings packet.flow ca.before) ≡ filter_map paid_of front =
@@ -408,58 +379,61 @@ module _ (config : Config) (rows : List Row) (until : ℕ) (logs : Logs) (valid 
         subst (IsPaid way ms t (shape_in p.carried) (counted p)) parts.2 (pay same cs parts.1)
 
     in_order : AreBefore last (map come_key (paid seen))
-    in_order = rises_sub last seen shows_paid (rises_from (map come_key (filter shown_in seen ++ last ∷ [])) steady.order)
+    in_order =
+        rises_last (map come_key (paid seen)) (come_key last)
+        (subst Rises (ap (λ (ys : List Coming). map come_key (ys ++ last ∷ [])) (charged_is seen) ∙ keys_push (paid seen) last)
+        (rises_from (map come_key (those_charged seen ++ last ∷ [])) steady.order))
 
     whole_rises : Rises (keys (earlier ++ tail))
-    whole_rises = subst (λ (ds : List Deal). Rises (keys ds)) steady.last.place rises
+    whole_rises = subst (λ (ds : List Deal). Rises (keys ds)) at.place rises
 
     ins : AreIn earlier (paid seen)
     ins =
-        prepared_before earlier steady.last.sent steady.last.packet steady.last.after last (paid seen) steady.last.same
+        prepared_before earlier at.sent at.packet at.after last (paid seen) at.same
         (rises_behind earlier tail whole_rises)
-        (each_paid (λ (y : Coming). In (earlier ++ tail) y.packet.id) seen
         (each-weaker Steadily (λ (y : Coming). In (earlier ++ tail) y.packet.id)
-        (λ y cs. subst (λ (ds : List Deal). In ds y.packet.id) (sym cs.place ∙ steady.last.place)
-        (in_place cs.before cs.sent cs.packet cs.after y.packet.id cs.same)) seen steady.each))
+        (λ y cs. let it : InTime y = cs.in_time in
+        subst (λ (ds : List Deal). In ds y.packet.id) (sym it.place ∙ at.place)
+        (in_place it.before it.sent it.packet it.after y.packet.id it.same)) (paid seen) each)
         in_order.1
 
     fine : AllByRecursion (IsTrue (log_at logs sender)) earlier
     fine =
         each_front (IsTrue (log_at logs sender)) earlier tail
-        (subst (AllByRecursion (IsTrue (log_at logs sender))) steady.last.place told_all.each)
+        (subst (AllByRecursion (IsTrue (log_at logs sender))) at.place told_all.each)
 
     match : Matches earlier (paid seen)
     match =
         matched earlier (paid seen) (rises_front (keys earlier) (keys tail)
         (subst Rises (filter_map-append deal_key earlier tail) whole_rises)) in_order.0 ins
 
-    miles : Run way seen (log_at logs sender) own earlier tail steady.last.place rises comes_for steady.asked pays_for
+    miles : Run way seen (log_at logs sender) own earlier tail at.place rises comes_for asked_for pays_for
         (paying_all seen) earlier (paid seen)
     miles =
-        miles_of way seen (log_at logs sender) own earlier tail steady.last.place rises comes_for steady.asked pays_for
+        miles_of way seen (log_at logs sender) own earlier tail at.place rises comes_for asked_for pays_for
         (paying_all seen) fine match
 
-    kept : Keeps steady.last.packet packet
+    kept : Keeps at.packet packet
     kept =
         kept_at past input on packet fate onward rest here
-        steady.last.before steady.last.sent steady.last.packet steady.last.after steady.last.place steady.last.same
+        at.before at.sent at.packet at.after at.place at.same
 
-    shims : AreShims steady.last.packet.carried packet.carried
-    shims = are_shims steady.last.packet.carried packet.carried kept.carried unmarked shown
+    shims : AreShims at.packet.carried packet.carried
+    shims = are_shims at.packet.carried packet.carried kept.carried unmarked shown
 
-    played_here : IsPlayed host.margin host.retry host.version (contacts miles.miles ++ contact.Prepared steady.last.sent
-        (shape_in steady.last.packet.carried) (packet_length packet) ∷ [])
+    played_here : IsPlayed host.margin host.retry host.version (contacts miles.miles ++ contact.Prepared at.sent
+        (shape_in at.packet.carried) (packet_length packet) ∷ [])
     played_here =
-        let q : PacketData = steady.last.packet in
+        let q : PacketData = at.packet in
         let split : map contact_of own ≡ map contact_of earlier ++ contact_of
-        (Prepared steady.last.sent q) ∷ map contact_of steady.last.after = ap (map contact_of) steady.last.place ∙ map_place earlier
-        (Prepared steady.last.sent q) steady.last.after in
+        (Prepared at.sent q) ∷ map contact_of at.after = ap (map contact_of) at.place ∙ map_place earlier
+        (Prepared at.sent q) at.after in
         let front =
-        played_front host.margin host.retry host.version [] (map contact_of earlier) (contact_of (Prepared steady.last.sent q))
-        (map contact_of steady.last.after) (subst (IsPlayed host.margin host.retry host.version) split is_played) in
+        played_front host.margin host.retry host.version [] (map contact_of earlier) (contact_of (Prepared at.sent q))
+        (map contact_of at.after) (subst (IsPlayed host.margin host.retry host.version) split is_played) in
         let size : counted q ≡ packet_length packet = sym (same_length q packet kept shims) in
         subst (IsPlayed host.margin host.retry host.version)
-        (ap₂ (λ (cs : List Contact) (n : ℕ). cs ++ contact.Prepared steady.last.sent (shape_in q.carried) n ∷ [])
+        (ap₂ (λ (cs : List Contact) (n : ℕ). cs ++ contact.Prepared at.sent (shape_in q.carried) n ∷ [])
         (sym miles.contacts_are) size)
         front
 
@@ -468,34 +442,46 @@ module _ (config : Config) (rows : List Row) (until : ℕ) (logs : Logs) (valid 
         flow_charges to router to_plan until (log_at logs node) keeps packet.flow past
         (Took input (Arrived on packet fate onward) ∷ rest) here ∙ (paid_only seen ∙ sym miles.charges_are)
 
-    is_steady : IsSteady way (charges past) miles.miles steady.last.sent (shape_in steady.last.packet.carried) (packet_length packet)
+    is_steady : IsSteady way (charges past) miles.miles at.sent (shape_in at.packet.carried) (packet_length packet)
         (input_time input)
     is_steady = record {
       rules = planned.retry.0;
       played = played_here;
       miles = miles.are;
       charges = charged_so;
-      comes = record { from = steady.last.from; until = steady.last.until };
-      behind = subst (λ (o : Option ℕ). IfSome o (λ u. u ≤ input_time input)) (sym miles.came) (steady.last.behind shown);
+      comes = record { from = at.from; until = at.until };
+      behind = subst (λ (o : Option ℕ). IfSome o (λ u. u ≤ input_time input)) (sym miles.came) steady.last.behind;
       authorised = authorised_since way seen
-          (log_at logs sender) own earlier tail steady.last.place rises comes_for steady.asked pays_for
+          (log_at logs sender) own earlier tail at.place rises comes_for asked_for pays_for
           (paying_all seen) miles steady.paid;
       room = steady.room;
     }
 
-    shows_it : ShowsGrant way miles.miles (shape_in steady.last.packet.carried) packet.carried
+    shows_it : ShowsGrant way miles.miles (shape_in at.packet.carried) packet.carried
     shows_it =
         let a =
         at_router way router packet miles.miles (charges past) (input_time input) refl refl refl (ap last_charge (sym charged_so)) in
-        shows_as_made way router steady.last.packet packet miles.miles (charges past) (input_time input) a shims
+        shows_as_made way router at.packet packet miles.miles (charges past) (input_time input) a shims
         (subst (λ (o : Option ℕ). IfSome o (λ u. ShowsMinted router packet packet.carried u)) (sym miles.came) steady.last.minted)
 
-    pub regular : (is_some fate.charge ≡ true) × (fate.class ≡ Regular)
+    pub regular : IsTakenByLast router packet.flow seen steady.last.in_time.before fate
     regular =
-        (fate_at to router to_plan until
-        (log_at logs node) keeps past input on packet fate onward rest here).honest way miles.miles steady.last.sent
-        (shape_in steady.last.packet.carried) below
-        (record { flow_is = refl; master_is = refl; offset_is = refl; slots_are = refl }) is_steady shows_it
+        let is : fate ≡ (handle router (charges past) (port_logs past) (input_time input) on packet).fate =
+        fate_is to router past input on packet fate onward to_plan (keeps.contents past input (Arrived on packet fate onward) rest here) in
+        let r =
+        steady_regular router (charges past) (port_logs past) (input_time input) on packet way miles.miles at.sent
+        (shape_in at.packet.carried) below
+        (record { flow_is = refl; master_is = refl; offset_is = refl; slots_are = refl }) is_steady shows_it in
+        record {
+          rights = r.last.rights;
+          came = r.last.came;
+          granted = sym (last_rights_are [] earlier) ∙
+              (ap (λ (cs : List Contact). option_map (λ (t : Taking). t.rights) (last_taking [] cs)) (sym miles.contacts_are)
+              ∙ r.last.rights_are);
+          asked = sym miles.came ∙ r.last.came_is;
+          charge = ap (λ (f : Fate). f.charge) is ∙ (r.charge_is ∙ ap Some (sym r.last.is));
+          class = ap (λ (f : Fate). f.class) is ∙ r.class_is;
+        }
 
 -- so it is in each run
 pub honest_regular : (config : Config) (rows : List Row) (until : ℕ) (logs : Logs) → IsConfig config → AreGiven config rows until logs

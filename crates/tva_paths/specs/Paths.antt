@@ -1,10 +1,11 @@
 -- When the path of a host's packets to a peer is steady at a router up to one of them, by the logs of host and router.
 use Rattle.std.specs.Prelude.{◌≡◌, ℕ, ◌+◌, ◌<◌, ◌≤◌, ◌==◌, Bool, true, false, ◌&&◌, if◌then◌else◌, List, [], ◌∷◌, ◌++◌}
-use Rattle.std.specs.Prelude.{filter, map, slice_get, is_some, Option, Some, None, IfSome}
+use Rattle.std.specs.Prelude.{filter, map, slice_get, is_some, Option, Some, None, IfSome, IsSomeAnd}
 use Rattle.std.specs.Option.{option_or, option_map, option_and_then}
 use Rattle.std.specs.List.{AllByRecursion, find}
 use Rattle.tva_base.specs.declared.packet.Class.TheVariants.{Regular}
 use Rattle.tva_base.specs.declared.packet.Fate.{Fate}
+use Rattle.tva_base.specs.declared.packet.Flow.{Flow}
 use Rattle.tva_base.specs.declared.packet.PacketId.{PacketId}
 use Rattle.tva_base.specs.declared.packet.Rights.{Rights}
 use Rattle.tva_base.specs.declared.plan.HostPlan.{HostPlan}
@@ -62,9 +63,12 @@ same_id a b = (a.node == b.node) && (a.ordinal == b.ordinal)
 abbrev pub come_as : List Coming → PacketId → Option Coming
 come_as seen id = find (λ x. same_id x.packet.id id) seen
 
--- when the last ask among these deals came to the router
+-- how the last ask among these deals came to the router, and when
+abbrev pub ask_coming : List Coming → List Deal → Option Coming
+ask_coming seen before = option_and_then (come_as seen) (last_ask before)
+
 abbrev pub ask_came : List Coming → List Deal → Option ℕ
-ask_came seen before = option_and_then (λ id. option_map (λ x. x.time) (come_as seen id)) (last_ask before)
+ask_came seen before = option_map (λ x. x.time) (ask_coming seen before)
 
 abbrev pub granted_by : List Coming → List Deal → Deal → Option ℕ
 granted_by seen before (Prepared time packet) = None
@@ -75,6 +79,16 @@ granted_by seen before Noticed = None
 abbrev pub grant_came : List Coming → List Deal → List Deal → Option ℕ
 grant_came seen before [] = None
 grant_came seen before (d ∷ ds) = option_or (grant_came seen (before ++ d ∷ []) ds) (granted_by seen before d)
+
+-- the rights of the last grant among these deals
+abbrev pub rights_in : Deal → Option Rights
+rights_in (Prepared time packet) = None
+rights_in (Granted rights caps) = Some rights
+rights_in Noticed = None
+
+abbrev pub last_rights : List Deal → Option Rights
+last_rights [] = None
+last_rights (d ∷ ds) = option_or (last_rights ds) (rights_in d)
 
 -- the deals since the last grant, of which those are the first
 abbrev pub since_granted : List Deal → List Deal → List Deal
@@ -108,11 +122,9 @@ ShowsMinted router packet carried.Nothing came = Unit {0}
 ShowsMinted router packet (carried.Shim shim) came = ShowsMintedKind router packet shim.kind came
 ShowsMinted router packet (carried.Malformed size) came = Unit {0}
 
--- A packet that came was prepared at a place of these deals, by its identity, and came by the delay later, or up to the
--- margin after that. Where it shows a grant, it came behind the last ask before the last grant, and a capability that it
--- points at is the one minted for that ask.
-pub record ComesSteadily (host : HostPlan) (router : RouterPlan) (delay : ℕ) (own : List Deal) (seen : List Coming) (x : Coming)
-    : Type 0 where
+-- a packet that came was prepared at a place of these deals, by its identity, and came by the delay later, or up to the
+-- margin after that
+pub record ComesInTime (host : HostPlan) (delay : ℕ) (own : List Deal) (x : Coming) : Type 0 where
   pub before : List Deal
   pub sent : ℕ
   pub packet : PacketData
@@ -121,8 +133,18 @@ pub record ComesSteadily (host : HostPlan) (router : RouterPlan) (delay : ℕ) (
   pub same : packet.id ≡ x.packet.id
   pub from : sent + delay ≤ x.time
   pub until : x.time ≤ sent + delay + host.margin
-  pub behind : shows x.packet.carried ≡ true → IfSome (grant_came seen [] before) (λ came. came ≤ x.time)
-  pub minted : IfSome (grant_came seen [] before) (λ came. ShowsMinted router x.packet x.packet.carried came)
+
+-- so came one that shows a grant, behind the last ask before the last grant, and a capability that it points at is the
+-- one minted for that ask
+pub record ComesSteadily (host : HostPlan) (router : RouterPlan) (delay : ℕ) (own : List Deal) (seen : List Coming) (x : Coming)
+    : Type 0 where
+  pub in_time : ComesInTime host delay own x
+  pub behind : IfSome (grant_came seen [] in_time.before) (λ came. came ≤ x.time)
+  pub minted : IfSome (grant_came seen [] in_time.before) (λ came. ShowsMinted router x.packet x.packet.carried came)
+
+-- those that were charged
+abbrev pub those_charged : List Coming → List Coming
+those_charged seen = filter (λ x. is_some x.charge) seen
 
 -- a packet that shows a grant was charged
 abbrev pub WasCharged : List Coming → Deal → Type 0
@@ -131,24 +153,37 @@ WasCharged seen (Prepared time packet) =
 WasCharged seen (Granted rights caps) = Unit {0}
 WasCharged seen Noticed = Unit {0}
 
--- The path is steady up to a packet that shows a grant. All unmarked packets of its flow come steadily, those that show
--- grants in the order in which the host numbered them. Of each grant that was taken before it was prepared the last ask
--- came. All packets that were prepared before it under its grant and show it were charged. And where the flow doesn't
--- live, the cache has room.
+-- The path is steady up to a packet that shows a grant. It and all packets of its flow that were charged come steadily, in
+-- the order in which the host numbered them. Of each grant that was taken before it was prepared the last ask came in time.
+-- All packets that were prepared before it under its grant and show it were charged. And where the flow doesn't live, the
+-- cache has room.
 pub record IsSteadyPath (host : HostPlan) (router : RouterPlan) (delay : ℕ) (own : List Deal) (seen : List Coming)
     (charged : List Charge) (x : Coming) : Type 0 where
-  pub each : AllByRecursion (ComesSteadily host router delay own seen) seen
+  pub each : AllByRecursion (ComesSteadily host router delay own seen) (those_charged seen)
   pub last : ComesSteadily host router delay own seen x
-  pub order : AreRising (map (λ y. y.packet.id.ordinal) (filter (λ y. shows y.packet.carried) seen ++ x ∷ []))
+  pub order : AreRising (map (λ y. y.packet.id.ordinal) (those_charged seen ++ x ∷ []))
   pub asked : (before : List Deal) (rights : Rights) (caps : List ℕ) (after : List Deal)
-      → last.before ≡ before ++ Granted rights caps ∷ after → is_some (ask_came seen before) ≡ true
-  pub paid : AllByRecursion (WasCharged seen) (since_granted [] last.before)
+      → last.in_time.before ≡ before ++ Granted rights caps ∷ after
+      → IsSomeAnd (ask_coming seen before) (ComesInTime host delay own)
+  pub paid : AllByRecursion (WasCharged seen) (since_granted [] last.in_time.before)
   pub room : lives charged x.packet.flow x.time ≡ false → living_count charged x.time < router.slots
 
 -- ## in a run
 
--- Each packet that comes to a router unmarked and below the hop limit, and shows a grant, is charged and goes on as
--- regular where the path from a host is steady up to it.
+-- a packet of a flow is regular, and charged to the last grant among these deals: with its rights, and of the router
+-- second in which the last ask before it came
+pub record IsTakenByLast (router : RouterPlan) (flow : Flow) (seen : List Coming) (before : List Deal) (fate : Fate)
+    : Type 0 where
+  pub rights : Rights
+  pub came : ℕ
+  pub granted : last_rights before ≡ Some rights
+  pub asked : grant_came seen [] before ≡ Some came
+  pub charge : fate.charge ≡
+      Some (record { flow = flow; rights = rights; second = router_second router.clock_offset came })
+  pub class : fate.class ≡ Regular
+
+-- Each packet that comes to a router unmarked and below the hop limit, and shows a grant, is charged to the last grant
+-- that its host took before it was prepared, and goes on as regular, where the path from that host is steady up to it.
 abbrev pub AreHonestRegular : Config → Logs → Type 0
 AreHonestRegular config logs =
     (sender node : ℕ) (from to : Site) (host : HostPlan) (router : RouterPlan)
@@ -159,6 +194,6 @@ AreHonestRegular config logs =
     → log_at logs node ≡ before ++ Took input (Arrived on packet fate onward) ∷ rest
     → is_marked packet.carried ≡ false → packet.hops < 32 → shows packet.carried ≡ true
     → (delay : ℕ)
-    → IsSteadyPath host router delay (deals packet.flow.dst (log_at logs sender)) (comings packet.flow before)
-    (charges before) (coming input packet fate)
-    → (is_some fate.charge ≡ true) × (fate.class ≡ Regular)
+    (steady : IsSteadyPath host router delay (deals packet.flow.dst (log_at logs sender)) (comings packet.flow before)
+    (charges before) (coming input packet fate))
+    → IsTakenByLast router packet.flow (comings packet.flow before) steady.last.in_time.before fate

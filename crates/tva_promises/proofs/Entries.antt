@@ -1,8 +1,9 @@
 -- What a node makes of an input: what goes to its links has its place there, and is within the sizes of a network.
-use Rattle.std.proofs.Common.{◌≡◌, ℕ, ◌≤◌, List, [], Option, Some, None, refl, sym, ap, ◌∙◌, subst, inl, inr, arith}
+use Rattle.std.proofs.Common.{◌≡◌, ℕ, ◌≤◌, List, [], Option, Some, None, refl, sym, ap, ap₂, ◌∙◌, subst, inl, inr, arith}
 use Rattle.std.specs.Option.{option_map, IfSome}
 use Rattle.std.proofs.lemmas.Bool.{cases_lt}
 use Rattle.tva_base.specs.declared.limits.LinkLimits.{LinkLimits}
+use Rattle.tva_base.specs.declared.packet.Fate.{Fate}
 use Rattle.tva_base.specs.declared.packet.Grant.{Grant}
 use Rattle.tva_base.specs.declared.packet.Outcome.{Outcome}
 use Rattle.tva_base.specs.declared.plan.RouterPlan.{RouterPlan}
@@ -23,7 +24,7 @@ use Rattle.tva_trace.specs.declared.rows.RowWhat.TheVariants.{Send, Inject}
 use Rattle.tva_log.specs.declared.kinds.Input.{Input}
 use Rattle.tva_log.specs.declared.kinds.Input.TheVariants.{FromTrace, Arrival}
 use Rattle.tva_log.specs.Sites.{Site, IsSite, IsPlanned, limits_out}
-use Rattle.tva_log.specs.Entries.{Content, Entry, Took, input_time}
+use Rattle.tva_log.specs.Entries.{Content, Arrived, Entry, Took, input_time}
 use Rattle.tva_log.specs.Parts.{charged, charge_of, charges, calls, content_at, queued_at, reply_at, port_logs}
 use Rattle.tva_log.specs.Contents.{packet_of_row, next_id, arrived, routed, goes_out, made_for, hosted, content_by, content}
 use Rattle.tva_promises.specs.Sizes.{IsSizedWhat, IsSizedInput}
@@ -173,3 +174,27 @@ took_handled site plan before input made e c =
     let by_plan : routed site.number plan before input ≡ Some made = sym (ap (λ (p : NodePlan). content_by site p before input) e) ∙ c in
     let k = came site.number plan before input made by_plan in
     subst (IsHandled plan before input) k.is (arrived_handled plan before input k.from k.packet)
+
+record SameArrived (from : Option ℕ) (p : PacketData) (fate : Fate) (on : Option ℕ) (q : PacketData) (other : Fate) : Type 0 where
+  same_from : from ≡ on
+  same_packet : p ≡ q
+  same_fate : fate ≡ other
+
+same_arrived : (from on : Option ℕ) (p q onward further : PacketData) (fate other : Fate) → Arrived from p fate onward ≡ Arrived on q other further → SameArrived from p fate on q other
+same_arrived from on p q onward further fate other e = record { same_from = cc; same_packet = cc; same_fate = cc }
+
+came_is : (plan : RouterPlan) (before : List Entry) (now : ℕ) (on from : Option ℕ) (q p : PacketData) (fate : Fate) (onward : PacketData) → arrived plan before now on q ≡ Arrived from p fate onward
+    → fate ≡ (handle plan (charges before) (port_logs before) now from p).fate
+unfolding arrived
+came_is plan before now on from q p fate onward e =
+    let h : Option ℕ → PacketData → Fate = λ o x. (handle plan (charges before) (port_logs before) now o x).fate in
+    let s = same_arrived on from q p (handle plan (charges before) (port_logs before) now on q).onward onward (h on q) fate e in
+    sym s.same_fate ∙ ap₂ h s.same_from s.same_packet
+
+-- the fate of an arrival is what the router makes of it
+pub fate_is : (site : Site) (plan : RouterPlan) (before : List Entry) (input : Input) (from : Option ℕ) (p : PacketData) (fate : Fate) (onward : PacketData) → site.plan ≡ plans.Router plan
+    → content site before input ≡ Some (Arrived from p fate onward) → fate ≡ (handle plan (charges before) (port_logs before) (input_time input) from p).fate
+fate_is site plan before input from p fate onward e c =
+    let by_plan : routed site.number plan before input ≡ Some (Arrived from p fate onward) = sym (ap (λ (p : NodePlan). content_by site p before input) e) ∙ c in
+    let k = came site.number plan before input (Arrived from p fate onward) by_plan in
+    came_is plan before (input_time input) k.from from k.packet p fate onward k.is

@@ -1,10 +1,11 @@
 -- The fate of every arrival is by the router's tables.
-use Rattle.std.proofs.Common.{◌≡◌, ℕ, ◌+◌, ◌*◌, ◌≤◌, ◌<◌, Bool, true, false, not, ◌&&◌, ◌||◌, cond, eqb, ltb, leb, List, length, Option, Some, None, Ok, Err, refl, sym, ap, ◌∙◌, subst, le-leb, le-ltb, eq-eqb}
-use Rattle.std.proofs.lemmas.Bool.{cond-false, lt-leb}
+use Rattle.std.proofs.Common.{◌≡◌, ℕ, ◌+◌, ◌*◌, ◌≤◌, ◌<◌, Bool, true, false, not, ◌&&◌, ◌||◌, ◌↔◌, cond, eqb, ltb, leb, List, length, is_some, Option, Some, None, Ok, Err, refl, sym, ap, ◌∙◌, subst, le-leb, le-ltb, eq-eqb, inl, inr}
+use Rattle.std.proofs.lemmas.Bool.{cases_lt, cond-false, lt-leb}
 use Rattle.tva_base.specs.declared.packet.Grant.{Grant}
 use Rattle.tva_base.specs.declared.packet.Class.TheVariants as class
 use Rattle.tva_base.specs.declared.packet.Cause.{Cause}
 use Rattle.tva_base.specs.declared.packet.Cause.TheVariants as cause
+use Rattle.tva_base.specs.declared.packet.Fate.{Fate}
 use Rattle.tva_base.specs.declared.packet.Outcome.TheVariants.{Dropped}
 use Rattle.tva_base.specs.declared.packet.DropCause.TheVariants.{HopLimit}
 use Rattle.tva_base.specs.declared.plan.RouterPlan.{RouterPlan}
@@ -26,7 +27,6 @@ use Rattle.tva_router.specs.Judging.{Answer, tag_of, second_of, fresh_for, answe
 use Rattle.tva_router.specs.Handling.{Logs, arrival, sent, way_to, stopped, forwarded, handle}
 use Rattle.tva_router.proofs.Fates.{mark_told}
 use Rattle.tva_promises.proofs.Only.{charged_only}
-use Rattle.tva_promises.proofs.Honest.{steady_regular}
 use Rattle.tva_promises.specs.Fates.{refusal, cause_of_kind, cause_in, cause_of, NoRowRefusesShown, NoRowRefusesNonce, NoRowRefusesKind, NoRowRefuses, IsFate}
 
 -- ## causes
@@ -142,12 +142,12 @@ bare_taken : (plan : RouterPlan) (h : List Charge) (a : Arrival) (nonce : ℕ) (
 unfolding answer_to_nonce
 bare_taken plan h a nonce g n = ap answer_of (nonce_taken plan h a nonce g n)
 
--- a packet is charged to a grant and regular
+-- a packet is charged to a grant
 abbrev IsTaken : Grant → Judged → Type 0
-IsTaken g j = (j.charge ≡ Some g) × (j.class ≡ class.Regular)
+IsTaken g j = j.charge ≡ Some g
 
 answer_taken : (shim changed : ShimData) (o : Answer) (g : Grant) → o ≡ Ok g → IsTaken g (judged_by shim changed o)
-answer_taken shim changed (Ok k) g e = let same : k ≡ g = cc in (ap Some same, refl)
+answer_taken shim changed (Ok k) g e = let same : k ≡ g = cc in ap Some same
 answer_taken shim changed (Err c) g e = absurd (cc)
 
 kind_taken : (plan : RouterPlan) (h : List Charge) (a : Arrival) (shim : ShimData) (kind : Kind) (g : Grant) → NoRowRefusesKind plan h a kind g → IsTaken g (judged_kind plan h a shim kind)
@@ -167,9 +167,51 @@ judge_taken plan h a (carried.Malformed size) g n = absurd n
 judge_taken plan h a (carried.Shim shim) g n = shim_taken plan h a shim g n.0 n.1
 
 taken : (plan : RouterPlan) (h : List Charge) (logs : Logs) (now : ℕ) (from : Option ℕ) (p : PacketData) (g : Grant) → p.hops < 32 → NoRowRefuses plan h (arrival now from p) p.carried g
-    → ((handle plan h logs now from p).fate.charge ≡ Some g) × ((handle plan h logs now from p).fate.class ≡ class.Regular)
+    → (handle plan h logs now from p).fate.charge ≡ Some g
 unfolding handle
 taken plan h logs now from p g l n = rw (lt-leb 32 p.hops l) (judge_taken plan h (arrival now from p) p.carried g n)
+
+-- ## the class
+
+-- regular exactly where it is charged
+abbrev IsRegularWhereCharged : Judged → Type 0
+IsRegularWhereCharged j = (j.class ≡ class.Regular) ↔ (is_some j.charge ≡ true)
+
+answer_regular : (shim changed : ShimData) (o : Answer) → IsRegularWhereCharged (judged_by shim changed o)
+answer_regular shim changed (Ok g) = (λ e. refl, λ e. refl)
+answer_regular shim changed (Err c) = (λ e. absurd (cc), λ e. absurd (cc))
+
+request_regular : (plan : RouterPlan) (a : Arrival) (shim : ShimData) → IsRegularWhereCharged (judged_request plan a shim)
+request_regular plan a shim =
+    let entry : entries.Entry = record { tag = tag_of plan a.from; precap = fresh_for plan a } in
+    elim (eqb (length (entries_of shim.kind)) 16) as (λ b. IsRegularWhereCharged (cond b (marked shim cause.PathFull) (judged class.Request None None (carried.Shim (with_entry entry shim))))) [
+      | true ↦ (λ e. absurd (cc), λ e. absurd (cc))
+      | false ↦ (λ e. absurd (cc), λ e. absurd (cc))
+    ]
+
+kind_regular : (plan : RouterPlan) (h : List Charge) (a : Arrival) (shim : ShimData) (kind : Kind) → IsRegularWhereCharged (judged_kind plan h a shim kind)
+kind_regular plan h a shim (kinds.Request es) = request_regular plan a shim
+kind_regular plan h a shim (kinds.List shown) = answer_regular shim (with_next_pointer shim) (answer_to_shown plan h a shown)
+kind_regular plan h a shim (kinds.Nonce nonce) = answer_regular shim shim (answer_to_nonce plan h a nonce)
+kind_regular plan h a shim (kinds.Renewal shown) = answer_regular shim (with_next_pointer (with_fresh (fresh_for plan a) shim)) (answer_to_shown plan h a shown)
+
+shim_regular : (plan : RouterPlan) (h : List Charge) (a : Arrival) (shim : ShimData) → IsRegularWhereCharged (judged_shim plan h a shim)
+unfolding judged_shim
+shim_regular plan h a shim =
+    elim shim.demoted as (λ b. IsRegularWhereCharged (cond b (judged class.Legacy None None (carried.Shim shim)) (judged_kind plan h a shim shim.kind))) [
+      | true ↦ (λ e. absurd (cc), λ e. absurd (cc))
+      | false ↦ kind_regular plan h a shim shim.kind
+    ]
+
+judge_regular : (plan : RouterPlan) (h : List Charge) (a : Arrival) (c : Carried) → IsRegularWhereCharged (judge plan h a c)
+judge_regular plan h a carried.Nothing = (λ e. absurd (cc), λ e. absurd (cc))
+judge_regular plan h a (carried.Malformed size) = (λ e. absurd (cc), λ e. absurd (cc))
+judge_regular plan h a (carried.Shim shim) = shim_regular plan h a shim
+
+regular : (plan : RouterPlan) (h : List Charge) (logs : Logs) (now : ℕ) (from : Option ℕ) (p : PacketData) → p.hops < 32
+    → ((handle plan h logs now from p).fate.class ≡ class.Regular) ↔ (is_some (handle plan h logs now from p).fate.charge ≡ true)
+unfolding handle
+regular plan h logs now from p l = rw (lt-leb 32 p.hops l) (judge_regular plan h (arrival now from p) p.carried)
 
 -- ## fates
 
@@ -180,6 +222,38 @@ is_fate plan h logs now from p = record {
   way = λ l. on_way plan h logs now from p l;
   taken = λ g l n. taken plan h logs now from p g l n;
   only = λ g e. charged_only plan h logs now from p g e;
+  regular = λ l. regular plan h logs now from p l;
   mark = mark_told plan h logs now from p;
-  honest = λ w miles prepared s l leads steady shows. steady_regular plan h logs now from p w miles prepared s l leads steady shows;
 }
+
+-- ## what is refused
+
+-- what no row refuses has no cause
+kind_passes : (plan : RouterPlan) (h : List Charge) (a : Arrival) (kind : Kind) (g : Grant) → NoRowRefusesKind plan h a kind g → cause_of_kind plan h a kind ≡ None
+kind_passes plan h a (kinds.Request es) g n = absurd n
+kind_passes plan h a (kinds.List shown) g n = ap refusal (shown_taken plan h a shown g n)
+kind_passes plan h a (kinds.Nonce nonce) g n = ap refusal (bare_taken plan h a nonce g n)
+kind_passes plan h a (kinds.Renewal shown) g n = ap refusal (shown_taken plan h a shown g n)
+
+passes : (plan : RouterPlan) (h : List Charge) (a : Arrival) (c : Carried) (g : Grant) → NoRowRefuses plan h a c g → cause_in plan h a c ≡ None
+passes plan h a carried.Nothing g n = absurd n
+passes plan h a (carried.Malformed size) g n = absurd n
+passes plan h a (carried.Shim shim) g n = cond-false shim.demoted None (cause_of_kind plan h a shim.kind) n.0 ∙ kind_passes plan h a shim.kind g n.1
+
+no_cause : (c : Cause) (o : Option Cause) → o ≡ Some c → o ≡ None → ⊥
+no_cause c o e k = cc
+
+uncharged : (o : Option Grant) → ((g : Grant) → o ≡ Some g → ⊥) → is_some o ≡ true → ⊥
+uncharged None k e = cc
+uncharged (Some g) k e = k g refl
+
+-- what has a cause isn't regular
+pub refused : (plan : RouterPlan) (h : List Charge) (logs : Logs) (now : ℕ) (from : Option ℕ) (p : PacketData) (fate : Fate) (onward : PacketData) (c : Cause) → IsFate plan h logs now from p fate onward → fate.cause ≡ Some c → fate.class ≡ class.Regular → ⊥
+refused plan h logs now from p fate onward c f is e =
+    let a : Arrival = arrival now from p in
+    elim (cases_lt p.hops 32) [
+      | inl below ↦ uncharged fate.charge
+          (λ g k. no_cause c fate.cause is (f.named ∙ (ap (λ (b : Bool). cond b None (cause_in plan h a p.carried)) (lt-leb 32 p.hops below) ∙ passes plan h a p.carried g (f.only g k).1)))
+          ((f.regular below).0 e)
+      | inr limit ↦ no_cause c fate.cause is (f.stopped limit).0
+    ]

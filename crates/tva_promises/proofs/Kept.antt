@@ -81,12 +81,16 @@ module _ (site : Site) (inputs : List Input) (until : ℕ) (log : List Entry) (v
   links_at link l out =
       service_kept l until (port_logs log link) (limits_valid site link (link, l) valid out) (is_sound.legal link l out) (misses_none site until log link l out h.none_left)
 
+  contents_at : (before : List Entry) (input : Input) (made : Content) (rest : List Entry) → log ≡ before ++ Took input made ∷ rest → content site before input ≡ Some made
+  contents_at before input made rest d = made_at site [] (due until inputs) before input made rest (subst (λ (es : List Entry). GoesOn site [] (due until inputs) es) d h.steps)
+
   fates_at : (plan : RouterPlan) → site.plan ≡ plans.Router plan → (before : List Entry) (input : Input) (made : Content) (rest : List Entry) → log ≡ before ++ Took input made ∷ rest → IsHandled plan before input made
   fates_at plan e before input made rest d =
-      took_handled site plan before input made e (made_at site [] (due until inputs) before input made rest (subst (λ (es : List Entry). GoesOn site [] (due until inputs) es) d h.steps))
+      took_handled site plan before input made e (contents_at before input made rest d)
 
   pub keeps : KeepsPromises site until log
   keeps = record {
+    contents = λ before input made rest d. contents_at before input made rest d;
     grants = λ plan e before rest d. grants_at plan e before rest d;
     links = λ link l out. links_at link l out;
     fates = λ plan e before input made rest d. fates_at plan e before input made rest d;

@@ -3,7 +3,6 @@ pub mod Made
 pub mod Waits
 pub mod Charging
 pub mod Only
-pub mod Honest
 pub mod Fates
 pub mod Links
 pub mod Entries

@@ -1,5 +1,5 @@
 -- Why a router refuses what an arrival claims, and which arrivals no row refuses.
-use Rattle.std.specs.Prelude.{◌≡◌, ℕ, ◌+◌, ◌*◌, ◌<◌, ◌≤◌, nat_le, ◌==◌, ◌||◌, true, false}
+use Rattle.std.specs.Prelude.{◌≡◌, ◌↔◌, ℕ, ◌+◌, ◌*◌, ◌<◌, ◌≤◌, nat_le, ◌==◌, ◌||◌, true, false}
 use Rattle.std.specs.Prelude.{if◌then◌else◌, List, length}
 use Rattle.std.specs.Prelude.{slice_get, is_some, Option, Some, None, Ok, Err}
 use Rattle.tva_base.specs.declared.packet.Grant.{Grant}
@@ -15,19 +15,15 @@ use Rattle.tva_shim.specs.declared.kinds.Kind.{Kind}
 use Rattle.tva_shim.specs.declared.kinds.Kind.TheVariants as kinds
 use Rattle.tva_shim.specs.declared.packets.Carried.{Carried}
 use Rattle.tva_shim.specs.declared.packets.Carried.TheVariants as carried
-use Rattle.tva_shim.specs.Packets.{PacketData, packet_length}
+use Rattle.tva_shim.specs.Packets.{PacketData}
 use Rattle.tva_caps.specs.Check.{check_of}
 use Rattle.tva_caps.specs.declared.minters.Checked.TheVariants.{Valid}
 use Rattle.tva_flow.specs.Charges.{Charge, lives, holder, used, living_count}
 use Rattle.tva_flow.specs.Verdicts.{supersedes}
-use Rattle.tva_sender.specs.declared.shape.Shape.{Shape}
-use Rattle.tva_steady.specs.Miles.{Mile}
-use Rattle.tva_steady.specs.Steady.{Way, IsSteady}
 use Rattle.tva_router.specs.declared.judged.Arrival.{Arrival}
 use Rattle.tva_router.specs.Judging.{Answer, second_of, answer_to_shown, answer_to_nonce}
 use Rattle.tva_router.specs.Handling.{Logs, arrival, sent, way_to}
 use Rattle.tva_router.specs.Marks.{is_marked, calls_for_mark}
-use Rattle.tva_promises.specs.Honest.{LeadsTo, ShowsGrant}
 
 -- ## causes
 
@@ -94,19 +90,17 @@ NoRowRefuses plan h a (carried.Malformed size) grant = ⊥
 
 -- The fate of a packet that comes in, over the charges and the logs of links before it. It has a cause exactly
 -- where one is named, and that one. At the hop limit it has none, isn't charged, and is dropped. Below it, it is
--- dropped or queued as its way and its link's port give; it is charged to a grant, and regular, exactly where no row
--- refuses it; and so is what shows a grant as it was prepared on a steady path. It goes on with the mark exactly where
--- it had it, or has a cause other than a malformed shim.
+-- dropped or queued as its way and its link's port give; it is charged to a grant exactly where no row refuses it, and
+-- regular exactly where it is charged. It goes on with the mark exactly where it had it, or has a cause other than a
+-- malformed shim.
 pub record IsFate (plan : RouterPlan) (h : List Charge) (logs : Logs) (now : ℕ) (from : Option ℕ) (p : PacketData)
     (fate : Fate) (onward : PacketData) : Type 0 where
   pub named : fate.cause ≡ cause_of plan h (arrival now from p) p
   pub stopped : 32 ≤ p.hops → (fate.cause ≡ None) × (fate.charge ≡ None) × (fate.outcome ≡ Dropped HopLimit)
   pub way : p.hops < 32 → fate.outcome ≡ sent logs fate.class onward (way_to plan p.flow.dst)
   pub taken : (grant : Grant) → p.hops < 32 → NoRowRefuses plan h (arrival now from p) p.carried grant
-      → (fate.charge ≡ Some grant) × (fate.class ≡ class.Regular)
+      → fate.charge ≡ Some grant
   pub only : (grant : Grant) → fate.charge ≡ Some grant
       → (p.hops < 32) × NoRowRefuses plan h (arrival now from p) p.carried grant
+  pub regular : p.hops < 32 → (fate.class ≡ class.Regular) ↔ (is_some fate.charge ≡ true)
   pub mark : is_marked onward.carried ≡ (is_marked p.carried || calls_for_mark fate.cause)
-  pub honest : (w : Way) (miles : List Mile) (prepared : ℕ) (s : Shape) → p.hops < 32 → LeadsTo plan p.flow w
-      → IsSteady w h miles prepared s (packet_length p) now → ShowsGrant w miles s p.carried
-      → (is_some fate.charge ≡ true) × (fate.class ≡ class.Regular)

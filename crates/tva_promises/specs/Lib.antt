@@ -1,4 +1,3 @@
 pub mod Sizes
-pub mod Honest
 pub mod Fates
 pub mod Promises

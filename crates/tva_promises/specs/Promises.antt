@@ -15,6 +15,7 @@ use Rattle.tva_log.specs.declared.kinds.Input.{Input}
 use Rattle.tva_log.specs.Sites.{Site, limits_out}
 use Rattle.tva_log.specs.Entries.{Content, Arrived, Sent, Received, Entry, Took, input_time}
 use Rattle.tva_log.specs.Parts.{port_logs, charges}
+use Rattle.tva_log.specs.Contents.{content}
 use Rattle.tva_promises.specs.Fates.{IsFate}
 
 -- the charges of a router are a list that its cache can have: each came in one of its grant's seconds, no grant
@@ -44,9 +45,12 @@ IsHandled plan before input (Arrived from packet fate onward) =
 IsHandled plan before input (Sent made outcome) = ⊥
 IsHandled plan before input (Received from packet receipt went) = ⊥
 
--- a node's log up to a time: at each place a router's charges keep their grants, the log of each link out of the
--- node keeps its service, and each arrival at a router has its fate over what stands before it
+-- a node's log up to a time: at each place an input became what the node makes of it over what stands before it, a
+-- router's charges keep their grants, the log of each link out of the node keeps its service, and each arrival at a
+-- router has its fate
 pub record KeepsPromises (site : Site) (until : ℕ) (log : List Entry) : Type 0 where
+  pub contents : (before : List Entry) (input : Input) (made : Content) (rest : List Entry)
+      → log ≡ before ++ Took input made ∷ rest → content site before input ≡ Some made
   pub grants : (plan : RouterPlan) → site.plan ≡ Router plan → (before rest : List Entry) → log ≡ before ++ rest
       → KeepsGrants plan (charges before)
   pub links : (link : ℕ) (limits : LinkLimits) → limits_out site link ≡ Some (link, limits)

@@ -1,6 +1,13 @@
 // What every log of a node keeps, and so every run.
-ghost use Rattle.std.specs.Prelude.{◌≡◌, ℕ, ◌≤◌, List, Some};
+ghost use Rattle.std.specs.Prelude.{◌≡◌, ◌≢◌, ℕ, ◌≤◌, List, Option, Some};
 ghost use Rattle.std.specs.List.{AllByRecursion};
+ghost use Rattle.tva_base.specs.declared.packet.Cause.{Cause};
+ghost use Rattle.tva_base.specs.declared.packet.Class.TheVariants.{Regular};
+ghost use Rattle.tva_base.specs.declared.packet.Fate.{Fate};
+ghost use Rattle.tva_base.specs.declared.plan.RouterPlan.{RouterPlan};
+ghost use Rattle.tva_shim.specs.Packets.{PacketData};
+ghost use Rattle.tva_flow.specs.Charges.{Charge};
+ghost use Rattle.tva_router.specs.Handling as router;
 ghost use Rattle.tva_plan.specs.declared.config.Config.{Config};
 ghost use Rattle.tva_plan.specs.Valid.{IsConfig};
 ghost use Rattle.tva_trace.specs.declared.rows.Row.{Row};
@@ -13,7 +20,16 @@ ghost use Rattle.tva_log.specs.NodeLog.{IsNodeLog};
 ghost use Rattle.tva_run.specs.Reaching.{Logs, log_at, site_at};
 ghost use Rattle.tva_run.specs.Run.{IsRunTo};
 ghost use Rattle.tva_promises.specs.Sizes.{IsSizedEntry, IsSizedInput};
+ghost use Rattle.tva_promises.specs.Fates.{IsFate};
 ghost use Rattle.tva_promises.specs.Promises.{KeepsPromises};
+
+/// What a router refuses is never regular: a fate with a cause, such as that of a list over its grant's
+/// units, has another class.
+pub fn refused_is_not_regular()
+    ensures { (plan : RouterPlan) (h : List Charge) (logs : router.Logs) (now : ℕ) (from : Option ℕ) (p : PacketData)
+        (fate : Fate) (onward : PacketData) (cause : Cause) → IsFate plan h logs now from p fate onward
+        → fate.cause ≡ Some cause → fate.class ≢ Regular }
+{}
 
 /// Whatever reaches a node, within the sizes of a network and up to a time of at most 10^15 nanoseconds,
 /// its log keeps its promises, and what its links send is within those sizes. The budget of a grant is

@@ -2,7 +2,7 @@
 use Rattle.std.proofs.Common.{◌≡◌, ◌≤◌, ◌<◌, ◌⊎◌, inl, inr, ℕ, ◌+◌, ◌*◌, Bool, true, false, not, ◌&&◌, ◌||◌, cond, ltb, leb, eqb, eq-eqb, List, [], ◌∷◌, ◌++◌, Option, Some, None, refl, ap, sym, subst, ◌∙◌, arith, append_assoc, append-nil}
 use Rattle.std.specs.Prelude.{IsSomeAnd}
 use Rattle.std.specs.List.{AllByRecursion}
-use Rattle.std.specs.Option.{IfSome, unwrap_or}
+use Rattle.std.specs.Option.{IfSome, option_map, unwrap_or}
 use Rattle.std.proofs.lemmas.Bool.Decides.{nat_tests}
 use Rattle.std.proofs.lemmas.List.Sums.{sum_by-cons, sum_by-append}
 use Rattle.tva_base.specs.declared.packet.Flow.{Flow}
@@ -16,7 +16,7 @@ use Rattle.tva_flow.specs.Verdicts.{supersedes, list_verdict, nonce_rows, nonce_
 use Rattle.tva_flow.proofs.Same.{same_grant-self, and_false_right}
 use Rattle.tva_sender.specs.declared.shape.Shape.{Shape}
 use Rattle.tva_sender.specs.declared.shape.Shape.TheVariants as shape
-use Rattle.tva_sender.specs.Contacts.{Contact, Prepared, uses, first_nonce, asked_at, grant_held}
+use Rattle.tva_sender.specs.Contacts.{Contact, Prepared, Taking, uses, first_nonce, asked_at, grant_held}
 use Rattle.tva_sender.specs.Shapes.{list_length, nonce_length, length_of, fits, is_alive, nonce_of, held, may_ask}
 use Rattle.tva_sender.specs.Played.{IsNext, AreNext, IsPrepared}
 use Rattle.tva_steady.specs.Miles.{Mile, contacts, charges_in}
@@ -105,7 +105,7 @@ facts w h ms k sent s bytes at st = record {
   own = k.all (subst AreAuthorised k.since_is st.authorised);
 }
 
-taken-list : (w : Way) (h : List Charge) (ms : List Mile) (k : Holds w ms) (sent : ℕ) (s : Shape) (bytes at nonce : ℕ) → IsSteady w h ms sent s bytes at → Spends w ms k sent bytes nonce → IsListTaken w h k.rights k.came bytes at
+taken-list : (w : Way) (h : List Charge) (ms : List Mile) (k : Holds w ms) (sent : ℕ) (s : Shape) (bytes at nonce : ℕ) → IsSteady w h ms sent s bytes at → Spends w ms k sent bytes nonce → IsListTaken w h ms k.rights k.came bytes at
 taken-list w h ms k sent s bytes at nonce st spends =
     let g = grant_at w k.rights k.came in
     let f = facts w h ms k sent s bytes at st in
@@ -116,11 +116,12 @@ taken-list w h ms k sent s bytes at nonce st spends =
     let late : supersedes (holder h w.flow) g ≡ false = not-superseded g (last_charge (of_flow w.flow h))
     (λ c e. last-of (IsOfOrBefore g) (charges_in k.earlier ++ charges_in k.own) c each (ap last_charge (sym (st.charges ∙ k.charges)) ∙ e)) in
     record {
+      last = ap (option_map (λ (t : Taking). t.rights)) k.taking;
       valid = valid w k.rights k.came at k.carried f.behind left;
       verdict = list-passes w.slots h at g bytes late (within w h ms k sent bytes nonce at st.charges f.own spends) st.room;
     }
 
-taken-nonce : (w : Way) (h : List Charge) (ms : List Mile) (k : Holds w ms) (sent : ℕ) (s : Shape) (bytes at nonce : ℕ) → IsSteady w h ms sent s bytes at → SpendsNonce w ms k sent bytes nonce → IsNonceTaken w h nonce k.came bytes at
+taken-nonce : (w : Way) (h : List Charge) (ms : List Mile) (k : Holds w ms) (sent : ℕ) (s : Shape) (bytes at nonce : ℕ) → IsSteady w h ms sent s bytes at → SpendsNonce w ms k sent bytes nonce → IsNonceTaken w h ms nonce k.came bytes at
 unfolding nonce_verdict
 taken-nonce w h ms k sent s bytes at nonce st by =
     let g = grant_at w k.rights k.came in
@@ -143,6 +144,7 @@ taken-nonce w h ms k sent s bytes at nonce st by =
     let living : lives h w.flow at ≡ true = grind (arith, nat_tests) in
     record {
       rights = k.rights;
+      last = ap (option_map (λ (t : Taking). t.rights)) k.taking;
       verdict = subst (λ (o : Option Charge). nonce_rows w.offset h at w.flow nonce bytes o ≡ Authorised g) (sym last)
           (nonce-passes w.offset h at w.flow nonce bytes c g grant living shows (second-within w.offset k.came at k.rights.t left)
           (within w h ms k sent bytes nonce at st.charges f.own by.spends));
@@ -169,19 +171,19 @@ taken-by w h ms sent body offered (shape.List hd) bytes at st (inl f) sized a =
     absurd (no-taking (λ g. (hd ≡ held g offered) × (fits w.margin sent g (list_length w.version hd.caps body) ≡ true)) (contacts ms) f.taking a)
 taken-by w h ms sent body offered (shape.List hd) bytes at st (inr k) sized a =
     let list = by-list w ms k sent body offered bytes hd sized a in
-    subst (λ (o : Option ℕ). IsSomeAnd o (λ came. IsListTaken w h hd.rights came bytes at)) (sym k.came_is)
-    (subst (λ (r : Rights). IsListTaken w h r k.came bytes at) (sym list.rights) (taken-list w h ms k sent (shape.List hd) bytes at hd.nonce st list.spends))
+    subst (λ (o : Option ℕ). IsSomeAnd o (λ came. IsListTaken w h ms hd.rights came bytes at)) (sym k.came_is)
+    (subst (λ (r : Rights). IsListTaken w h ms r k.came bytes at) (sym list.rights) (taken-list w h ms k sent (shape.List hd) bytes at hd.nonce st list.spends))
 taken-by w h ms sent body offered (shape.NonceOnly n) bytes at st (inl f) sized a =
     absurd (no-taking (λ g. (n ≡ nonce_of g offered) × (is_alive w.margin sent g ≡ true) × (fits w.margin sent g (nonce_length body) ≡ true)) (contacts ms) f.taking a)
 taken-by w h ms sent body offered (shape.NonceOnly n) bytes at st (inr k) sized a =
     let by = by-nonce w ms k sent body offered bytes n sized a in
-    subst (λ (o : Option ℕ). IsSomeAnd o (λ came. IsNonceTaken w h n came bytes at)) (sym k.came_is) (taken-nonce w h ms k sent (shape.NonceOnly n) bytes at n st by)
+    subst (λ (o : Option ℕ). IsSomeAnd o (λ came. IsNonceTaken w h ms n came bytes at)) (sym k.came_is) (taken-nonce w h ms k sent (shape.NonceOnly n) bytes at n st by)
 taken-by w h ms sent body offered (shape.Renewal hd) bytes at st (inl f) sized a =
     absurd (no-taking (λ g. (hd ≡ held g offered) × (fits w.margin sent g (list_length w.version hd.caps body) ≡ true)) (contacts ms) f.taking a.1)
 taken-by w h ms sent body offered (shape.Renewal hd) bytes at st (inr k) sized a =
     let list = by-list w ms k sent body offered bytes hd sized a.1 in
-    subst (λ (o : Option ℕ). IsSomeAnd o (λ came. IsListTaken w h hd.rights came bytes at)) (sym k.came_is)
-    (subst (λ (r : Rights). IsListTaken w h r k.came bytes at) (sym list.rights) (taken-list w h ms k sent (shape.Renewal hd) bytes at hd.nonce st list.spends))
+    subst (λ (o : Option ℕ). IsSomeAnd o (λ came. IsListTaken w h ms hd.rights came bytes at)) (sym k.came_is)
+    (subst (λ (r : Rights). IsListTaken w h ms r k.came bytes at) (sym list.rights) (taken-list w h ms k sent (shape.Renewal hd) bytes at hd.nonce st list.spends))
 taken-by w h ms sent body offered shape.Legacy bytes at st stage sized a = tt
 
 pub honest : (w : Way) (h : List Charge) (ms : List Mile) (sent : ℕ) (s : Shape) (bytes at : ℕ) → IsSteady w h ms sent s bytes at → IsTaken w h ms s bytes at

@@ -1,10 +1,10 @@
--- What a host sends to a peer and takes from it, and what a router on the way makes of it.
+-- Kit: what a host sends to a peer and takes from it, and what a router on the way makes of it.
 use Rattle.std.specs.Prelude.{ℕ, List, [], ◌∷◌, ◌++◌, Option, Some, None}
-use Rattle.std.specs.Option.{option_or}
+use Rattle.std.specs.Option.{option_or, option_map}
 use Rattle.tva_base.specs.declared.packet.Rights.{Rights}
 use Rattle.tva_flow.specs.Charges.{Charge}
 use Rattle.tva_sender.specs.declared.shape.Shape.{Shape}
-use Rattle.tva_sender.specs.Contacts.{Contact, Prepared, Taken, Notice}
+use Rattle.tva_sender.specs.Contacts.{Contact, Prepared, Taken, Notice, last_taking}
 
 -- a packet that was prepared at a time, in a shape and of a length, with its charge at the router, if it
 -- was authorised there; a grant that was taken, with its rights and capabilities and the time at which
@@ -44,6 +44,10 @@ came_in Told = None
 abbrev pub last_came : List Mile → Option ℕ
 last_came [] = None
 last_came (m ∷ ms) = option_or (last_came ms) (came_in m)
+
+-- the rights of the last grant that was taken
+abbrev pub last_rights : List Mile → Option Rights
+last_rights ms = option_map (λ t. t.rights) (last_taking [] (contacts ms))
 
 -- the miles since the last grant, of which those are the first
 abbrev pub since_got : List Mile → List Mile → List Mile

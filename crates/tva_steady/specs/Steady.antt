@@ -1,4 +1,4 @@
--- When the path of a host's packets is steady at a router.
+-- Kit: when the path of a host's packets is steady at a router, by miles.
 use Rattle.std.specs.Prelude.{◌≡◌, ℕ, ◌+◌, ◌<◌, ◌≤◌, false, List, [], ◌∷◌, ◌++◌, Some, None, IfSome, IsSomeAnd}
 use Rattle.std.specs.Option.{option_map}
 use Rattle.tva_base.specs.declared.packet.Flow.{Flow}
@@ -17,7 +17,7 @@ use Rattle.tva_sender.specs.declared.shape.Shape.{Shape}
 use Rattle.tva_sender.specs.declared.shape.Shape.TheVariants as shape
 use Rattle.tva_sender.specs.Contacts.{Prepared, asked_at, uses_in}
 use Rattle.tva_sender.specs.Played.{IsPlayed}
-use Rattle.tva_steady.specs.Miles.{Mile, Went, Got, Told, contacts, charges_in, last_came, since_got}
+use Rattle.tva_steady.specs.Miles.{Mile, Went, Got, Told, contacts, charges_in, last_came, last_rights, since_got}
 
 -- a sender's margin and retry in nanoseconds and the version of its shims, the least delay to the router in
 -- nanoseconds, the flow, and the router's master, the nanoseconds that its clock is ahead and its slots
@@ -106,23 +106,25 @@ pub record IsSteady (w : Way) (h : List Charge) (ms : List Mile) (sent : ℕ) (s
   -- where the flow doesn't live, the cache has room
   pub room : lives h w.flow at ≡ false → living_count h at < w.slots
 
--- a list is taken: its capability is valid, and its grant authorises it
-pub record IsListTaken (w : Way) (h : List Charge) (rights : Rights) (came bytes at : ℕ) : Type 0 where
+-- a list is taken: it shows the rights that were granted last, its capability is valid, and that grant authorises it
+pub record IsListTaken (w : Way) (h : List Charge) (miles : List Mile) (rights : Rights) (came bytes at : ℕ) : Type 0 where
+  pub last : last_rights miles ≡ Some rights
   pub valid : checked w rights came at ≡ Valid (grant_at w rights came)
   pub verdict : list_verdict w.slots h at (grant_at w rights came) bytes ≡ Authorised (grant_at w rights came)
 
--- a nonce alone is taken, by the grant that it stands for
-pub record IsNonceTaken (w : Way) (h : List Charge) (nonce : ℕ) (came bytes at : ℕ) : Type 0 where
+-- a nonce alone is taken, by the grant of the rights that were granted last
+pub record IsNonceTaken (w : Way) (h : List Charge) (miles : List Mile) (nonce : ℕ) (came bytes at : ℕ) : Type 0 where
   pub rights : Rights
+  pub last : last_rights miles ≡ Some rights
   pub verdict : nonce_verdict w.offset h at w.flow nonce bytes ≡ Authorised (grant_at w rights came)
 
 -- the router authorises what shows a grant, by the ask of the last grant that was taken
 abbrev pub IsTaken : Way → List Charge → List Mile → Shape → ℕ → ℕ → Type 0
 IsTaken w h miles shape.Request bytes at = Unit {0}
 IsTaken w h miles (shape.List held) bytes at =
-    IsSomeAnd (last_came miles) (λ came. IsListTaken w h held.rights came bytes at)
+    IsSomeAnd (last_came miles) (λ came. IsListTaken w h miles held.rights came bytes at)
 IsTaken w h miles (shape.NonceOnly nonce) bytes at =
-    IsSomeAnd (last_came miles) (λ came. IsNonceTaken w h nonce came bytes at)
+    IsSomeAnd (last_came miles) (λ came. IsNonceTaken w h miles nonce came bytes at)
 IsTaken w h miles (shape.Renewal held) bytes at =
-    IsSomeAnd (last_came miles) (λ came. IsListTaken w h held.rights came bytes at)
+    IsSomeAnd (last_came miles) (λ came. IsListTaken w h miles held.rights came bytes at)
 IsTaken w h miles shape.Legacy bytes at = Unit {0}

@@ -1,4 +1,4 @@
--- A worked walk: a request, the grant that answers it, a list and a nonce alone, at one router.
+-- Kit: a worked walk as miles: a request, the grant that answers it, a list and a nonce alone, at one router.
 use Rattle.std.specs.Prelude.{ℕ, List, [], ◌∷◌, Some, None}
 use Rattle.tva_base.specs.declared.packet.Flow.{Flow}
 use Rattle.tva_base.specs.declared.packet.Rights.{Rights}
