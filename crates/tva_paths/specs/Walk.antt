@@ -17,7 +17,7 @@ use Rattle.tva_shim.specs.declared.kinds.Kind.TheVariants as kinds
 use Rattle.tva_shim.specs.declared.kinds.ReturnInfo.{ReturnInfo}
 use Rattle.tva_shim.specs.declared.kinds.ReturnInfo.TheVariants as backs
 use Rattle.tva_shim.specs.declared.packets.Carried.TheVariants.{Shim}
-use Rattle.tva_shim.specs.Packets.{PacketData}
+use Rattle.tva_shim.specs.Packets.{PacketData, made_packet, packet_data}
 use Rattle.tva_caps.specs.Formula.{precap_of, capability_of}
 use Rattle.tva_host.specs.declared.made.Made.{Made}
 use Rattle.tva_steady.specs.Walk.{walk_flow, walk_rights}
@@ -29,13 +29,9 @@ use Rattle.tva_log.specs.Told.{at_time}
 
 -- the host is node 1, its peer node 2; links 0 and 2 lead to the peer, and links 3 and 1 back
 abbrev pub walk_packet : ℕ → ℕ → ℕ → Kind → ReturnInfo → PacketData
-walk_packet ordinal hops payload kind back = record {
-  id = record { node = 1; ordinal = ordinal };
-  flow = walk_flow;
-  hops = hops;
-  payload = payload;
-  carried = Shim (record { version = 1; demoted = false; protocol = 6; kind = kind; back = back });
-}
+walk_packet ordinal hops payload kind back =
+    packet_data (record { node = 1; ordinal = ordinal }) walk_flow hops payload
+    (Shim (record { version = 1; demoted = false; protocol = 6; kind = kind; back = back }))
 
 -- its first three packets
 abbrev pub walk_request : PacketData
@@ -56,19 +52,15 @@ walk_cap router = capability_of (precap_of router.master walk_flow (router_secon
 
 -- the peer's reply, as it comes with these entries
 abbrev pub walk_reply : ℕ → List entries.Entry → PacketData
-walk_reply cap es = record {
-  id = record { node = 2; ordinal = 1 };
-  flow = record { src = walk_flow.dst; dst = walk_flow.src };
-  hops = 0;
-  payload = 0;
-  carried = Shim (record {
-    version = 1;
-    demoted = false;
-    protocol = 6;
-    kind = kinds.Request es;
-    back = backs.Grant walk_rights (cap ∷ []);
-  });
-}
+walk_reply cap es =
+    made_packet (record { node = 2; ordinal = 1 }) (record { src = walk_flow.dst; dst = walk_flow.src }) 0
+    (Shim (record {
+      version = 1;
+      demoted = false;
+      protocol = 6;
+      kind = kinds.Request es;
+      back = backs.Grant walk_rights (cap ∷ []);
+    }))
 
 abbrev pub walk_row : ℕ → ℕ → Input
 walk_row time payload = FromTrace (record { time = at_time time; node = 1; what = Send walk_flow.dst payload })
