@@ -4,6 +4,8 @@ pub mod Credit
 pub mod Decimal
 pub mod Lives
 pub mod Options
+pub mod Orders
 pub mod Ordinals
 pub mod Plan
+pub mod Printable
 pub mod Versions

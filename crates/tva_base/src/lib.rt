@@ -24,7 +24,9 @@ pub use event::{BackKind, Event, Happened, ReplyLine, ShapeKind, Totals, WhatKin
 pub use limits::{DrrLimits, LinkLimits};
 pub use listed::{Caps, Listed};
 pub use numbers::decimal;
-pub use packet::{Cause, Class, DropCause, Fate, Flow, Grant, Outcome, PacketId, Rights, Time};
+pub use packet::{
+    Cause, Class, DropCause, Fate, Flow, Grant, Outcome, PacketId, Rights, Time, grants_are_ordered,
+};
 pub use plan::{HostPlan, LinkPlan, PolicyKind, PolicyPlan, Route, RouterPlan};
 pub use readers::{address, addresses_are_four_numbers, prefix};
 pub use texts::{Key, Line, Name};

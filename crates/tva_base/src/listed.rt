@@ -47,6 +47,16 @@ impl<T> Listed<T> {
     {
         self.as_slice().len()
     }
+
+    /// Puts another element at a place.
+    pub fn set(&mut self, place: usize, item: T)
+    where
+        T: Drop,
+        requires { place < length self.old }
+        ensures { self.new ≡ slice_set self.old place item }
+    {
+        self.items[place] = item;
+    }
 }
 
 /// The capabilities in a packet, at most 16. Contracts see them as a list.

@@ -1,12 +1,16 @@
 // What names a packet, what a sender may send, and what became of an arrival.
+ghost use Rattle.std.specs.Prelude.{◌≡◌};
+ghost use Rattle.tva_base.specs.Orders.{grant_order};
+
 use crate::addresses::Address;
+use std::cmp::Ordering;
 
 /// A time, in nanoseconds since the start of the replay.
 #[derive(Clone, Copy, Debug, PartialEq, Eq, PartialOrd, Ord)]
 pub struct Time(pub u64);
 
 /// The source and the destination of a packet.
-#[derive(Clone, Copy, Debug, PartialEq, Eq)]
+#[derive(Clone, Copy, Debug, PartialEq, Eq, PartialOrd, Ord)]
 pub struct Flow {
     pub src: Address,
     pub dst: Address,
@@ -20,18 +24,27 @@ pub struct PacketId {
 }
 
 /// What a destination grants: `n` units of 1,024 bytes within `t` seconds.
-#[derive(Clone, Copy, Debug, PartialEq, Eq)]
+#[derive(Clone, Copy, Debug, PartialEq, Eq, PartialOrd, Ord)]
 pub struct Rights {
     pub n: u32,
     pub t: u8,
 }
 
 /// The rights of a flow from the router second in which its capability was minted.
-#[derive(Clone, Copy, Debug, PartialEq, Eq)]
+#[derive(Clone, Copy, Debug, PartialEq, Eq, PartialOrd, Ord)]
 pub struct Grant {
     pub flow: Flow,
     pub rights: Rights,
     pub second: u64,
+}
+
+/// Grants are ordered by their flows, then by their rights, then by their seconds: flows by their
+/// sources first, and rights by their units first.
+pub fn grants_are_ordered(a: &Grant, b: &Grant) -> Ordering
+    ensures order { result ≡ grant_order a.now b.now }
+    ensures same { result ≡ Ordering.Equal → a.now ≡ b.now }
+{
+    a.cmp(b)
 }
 
 /// In which order a link carries a packet: requests under their rate limit, then regular

@@ -1,4 +1,6 @@
 use super::*;
+use std::cmp::Ordering;
+use std::collections::BTreeMap;
 
 // Lengths, rights and credits in nanoseconds.
 const CREDITS: [(u32, u32, u8, u64); 32] = [
@@ -255,6 +257,10 @@ fn lists_give_back_what_they_hold(rt: HostRuntime) -> Result<(), std::test::Fail
     let listed = Listed::new(vec![in rt.alloc(); 3, 1, 2]?);
     assert_eq!(rt; listed.len(), 3);
     assert_eq!(rt; listed.as_slice(), [3, 1, 2].as_slice());
+    let mut listed = listed;
+    listed.set(1, 9);
+    assert_eq!(rt; listed.as_slice(), [3, 9, 2].as_slice());
+    listed.set(1, 1);
     assert_eq!(rt; listed.into_vec().as_slice(), [3, 1, 2].as_slice());
     let mut caps = Caps::new();
     caps.push(7);
@@ -262,6 +268,44 @@ fn lists_give_back_what_they_hold(rt: HostRuntime) -> Result<(), std::test::Fail
     assert_eq!(rt; caps.copied().as_slice(), [7, 5].as_slice());
     assert_eq!(rt; Name::new("R1").as_str(), "R1");
     assert_eq!(rt; Key::new("horizon_ns").as_str(), "horizon_ns");
-    assert_eq!(rt; Line::new("total").as_str(), "total");
+    assert_eq!(rt; Line::new(b"in A#1 ~").as_str(), "in A#1 ~");
+    Ok(())
+}
+
+fn granted(src: u32, dst: u32, n: u32, t: u8, second: u64) -> Grant {
+    let flow = Flow {
+        src: Address(src),
+        dst: Address(dst),
+    };
+    let rights = Rights { n, t };
+    Grant {
+        flow,
+        rights,
+        second,
+    }
+}
+
+// Grants can be sorted, and be the keys of a map.
+#[test]
+fn grants_stand_in_order(rt: HostRuntime) -> Result<(), std::test::Fail> {
+    let order = [
+        granted(1, 7, 5, 5, 5),
+        granted(2, 1, 9, 9, 9),
+        granted(2, 3, 4, 9, 9),
+        granted(2, 3, 5, 6, 9),
+        granted(2, 3, 5, 7, 1),
+        granted(2, 3, 5, 7, 2),
+    ];
+    let mut grants = order;
+    grants.reverse();
+    grants.sort_unstable();
+    assert_eq!(rt; grants.as_slice(), order.as_slice());
+    let mut sums = BTreeMap::new(rt.alloc());
+    for (place, grant) in grants.iter().enumerate() {
+        sums.insert(*grant, place)?;
+    }
+    assert_eq!(rt; sums.len(), 6);
+    assert_eq!(rt; sums.get(&granted(2, 3, 5, 7, 1)).copied(), Some(4));
+    assert_eq!(rt; grants_are_ordered(&order[1], &order[0]), Ordering::Greater);
     Ok(())
 }

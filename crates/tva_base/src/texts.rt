@@ -1,5 +1,6 @@
 // Short texts that contracts see as the lists of their bytes.
-ghost use Rattle.std.specs.Prelude.{◌≡◌, ◌≤◌, length};
+ghost use Rattle.std.specs.Prelude.{◌≡◌, ◌≤◌, length, All};
+ghost use Rattle.tva_base.specs.Printable.{IsPrintable};
 
 use arrayvec::ArrayString;
 use std::marker::Model;
@@ -68,33 +69,39 @@ impl Key {
     }
 }
 
-/// A line of a report, without its line feed.
+/// A line of a report, without its line feed: at most 255 bytes from the blank to `~`. An empty one
+/// stands where a text has no such line.
 #[derive(Debug, Drop)]
 pub struct Line(ArrayString<256>);
 
 impl Model for Line {
-    ghost use Rattle.std.specs.Prelude.{List, ℕ, ◌≤◌, length};
+    ghost use Rattle.std.specs.Prelude.{List, ℕ, ◌≤◌, length, All};
+    ghost use Rattle.tva_base.specs.Printable.{IsPrintable};
 
     ghost Value = { List ℕ };
 
     ghost view = { λ line. line.0.bytes };
 
-    ghost invariant = { λ line. length line.0.bytes ≤ 256 };
+    ghost invariant = { λ line. (length line.0.bytes ≤ 255) × All IsPrintable line.0.bytes };
 }
 
 impl Line {
-    pub fn new(text: &str) -> Line
-        requires { length text.now ≤ 256 }
+    pub fn new(text: &[u8]) -> Line
+        requires short { length text.now ≤ 255 }
+        requires printable { All IsPrintable text.now }
         ensures { result ≡ text.now }
     {
         let mut line = ArrayString::new();
-        line.push_str(text);
+        for byte in text {
+            line.push(char::from(*byte));
+        }
         Line(line)
     }
 
     pub fn as_str(&self) -> &str
         ensures bytes { result.now ≡ self.now }
-        ensures short { length self.now ≤ 256 }
+        ensures short { length self.now ≤ 255 }
+        ensures printable { All IsPrintable self.now }
     {
         self.0.as_str()
     }

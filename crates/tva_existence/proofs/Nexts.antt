@@ -10,7 +10,7 @@ use Rattle.tva_base.specs.declared.packet.Class.{Class}
 use Rattle.tva_base.specs.declared.packet.PacketId.{PacketId}
 use Rattle.tva_base.specs.declared.plan.LinkPlan.{LinkPlan}
 use Rattle.tva_base.specs.declared.plan.RouterPlan.{RouterPlan}
-use Rattle.tva_shim.specs.Packets.{PacketData, packet_length}
+use Rattle.tva_shim.specs.Packets.{PacketData, packet_length, made_packet}
 use Rattle.tva_port.specs.Log as port
 use Rattle.tva_port.proofs.Legality.{occupies}
 use Rattle.tva_port.proofs.Logs.{free-started}
@@ -52,7 +52,7 @@ row_content : (plan : RouterPlan) (before : List Entry) (now : ℕ) (id : Packet
     → (c : Content) × (option_map (arrived plan before now None) (packet_of_row id what) ≡ Some c)
 row_content plan before now id (Send dst payload) t = absurd t
 row_content plan before now id (Inject flow payload carried) t =
-    (arrived plan before now None (record { id = id; flow = flow; hops = 0; payload = payload; carried = carried }), refl)
+    (arrived plan before now None (made_packet id flow payload carried), refl)
 
 content_of_plan : (site : Site) (plan : NodePlan) (before : List Entry) (i : Input) → IsTakable plan i
     → (c : Content) × (content_by site plan before i ≡ Some c)

@@ -14,7 +14,7 @@ use Rattle.tva_shim.specs.declared.kinds.ReturnInfo.TheVariants as backs
 use Rattle.tva_shim.specs.declared.packets.Carried.{Carried}
 use Rattle.tva_shim.specs.declared.packets.Carried.TheVariants as carried
 use Rattle.tva_shim.specs.Shims.{ShimData}
-use Rattle.tva_shim.specs.Packets.{PacketData}
+use Rattle.tva_shim.specs.Packets.{PacketData, made_packet}
 use Rattle.tva_policy.specs.Grants.{Sent}
 use Rattle.tva_sender.specs.declared.shape.Held.{Held}
 use Rattle.tva_sender.specs.declared.shape.Shape.{Shape}
@@ -66,15 +66,10 @@ abbrev pub carried_by : ℕ → Shape → Carried
 carried_by version shape =
     if is_legacy shape then carried.Nothing else carried.Shim (shim_of version shape backs.Nothing)
 
--- the next packet of the node: it passed no router
+-- the next packet of the node
 abbrev pub next_packet : ℕ → History → Flow → ℕ → Carried → PacketData
-next_packet node h flow payload carries = record {
-  id = record { node = node; ordinal = ordinal_behind h.made };
-  flow = flow;
-  hops = 0;
-  payload = payload;
-  carried = carries;
-}
+next_packet node h flow payload carries =
+    made_packet (record { node = node; ordinal = ordinal_behind h.made }) flow payload carries
 
 -- the shape of the next packet for a peer, with a body of so many bytes
 abbrev pub next_shape : HostPlan → History → ℕ → Address → ℕ → Shape

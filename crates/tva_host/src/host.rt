@@ -173,7 +173,7 @@ impl Host {
             ordinal: self.next,
         };
         self.next = self.next.saturating_add(1);
-        Packet::new(id, flow, 0, payload, carried)
+        Packet::made(id, flow, payload, carried)
     }
 
     // Notes a send row, when there is room for its peer.

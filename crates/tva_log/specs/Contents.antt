@@ -6,7 +6,7 @@ use Rattle.tva_base.specs.declared.packet.Outcome.{Outcome}
 use Rattle.tva_base.specs.declared.plan.RouterPlan.{RouterPlan}
 use Rattle.tva_base.specs.declared.plan.HostPlan.{HostPlan}
 use Rattle.tva_base.specs.declared.event.ShapeKind.TheVariants as shape
-use Rattle.tva_shim.specs.Packets.{PacketData, class_by_shim}
+use Rattle.tva_shim.specs.Packets.{PacketData, class_by_shim, made_packet}
 use Rattle.tva_router.specs.Handling.{handle, sent}
 use Rattle.tva_host.specs.declared.made.Made.{Made}
 use Rattle.tva_host.specs.declared.made.Receipt.{Receipt}
@@ -27,11 +27,10 @@ use Rattle.tva_log.specs.Parts.{charges, port_logs, rows_in, calls}
 
 -- ## at a router
 
--- the packet of a row, which passed no router; a router takes no row that sends
+-- the packet of a row; a router takes no row that sends
 abbrev pub packet_of_row : PacketId → RowWhat → Option PacketData
 packet_of_row id (Send dst payload) = None
-packet_of_row id (Inject flow payload carried) =
-    Some (record { id = id; flow = flow; hops = 0; payload = payload; carried = carried })
+packet_of_row id (Inject flow payload carried) = Some (made_packet id flow payload carried)
 
 -- the next packet from the trace: they are numbered from 1 on, and those of links are not counted
 abbrev pub next_id : ℕ → List Entry → PacketId

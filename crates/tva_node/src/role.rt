@@ -152,7 +152,7 @@ impl Routed {
                 flow,
                 payload,
                 carried,
-            } => Packet::new(id, *flow, 0, *payload, carried.copied()),
+            } => Packet::made(id, *flow, *payload, carried.copied()),
             RowWhat::Send { .. } => unreachable!(),
         }
     }

@@ -17,7 +17,7 @@ use Rattle.tva_shim.specs.declared.packets.Carried.{Carried}
 use Rattle.tva_shim.specs.declared.packets.Carried.TheVariants as carried
 use Rattle.tva_shim.specs.Shims.{ShimData, entries_of}
 use Rattle.tva_shim.specs.Changes.{on_shown, with_entry, with_next_pointer, with_fresh, with_mark}
-use Rattle.tva_shim.specs.Packets.{PacketData}
+use Rattle.tva_shim.specs.Packets.{PacketData, made_packet}
 use Rattle.tva_flow.specs.Charges.{Charge}
 use Rattle.tva_router.specs.declared.judged.Arrival as arrivals
 use Rattle.tva_router.specs.Judging.{Answer, tag_of, fresh_for, answer_to_shown, answer_to_nonce, judged, marked, judged_by, judged_request, judged_kind, judged_shim, judge}
@@ -237,7 +237,7 @@ row_of : (number : ℕ) (plan : RouterPlan) (before : List Entry) (now : ℕ) (w
     → IsOf number (made_in c)
 row_of number plan before now (Send dst payload) c e = absurd (cc)
 row_of number plan before now (Inject flow payload carries) c e =
-    let p : PacketData = record { id = next_id number before; flow = flow; hops = 0; payload = payload; carried = carries } in
+    let p : PacketData = made_packet (next_id number before) flow payload carries in
     subst (λ (x : Content). IsOf number (made_in x)) (some_same (arrived plan before now None p) c e)
     (arrived_of number plan before now p refl)
 

@@ -14,7 +14,7 @@ use Rattle.tva_shim.specs.declared.kinds.ReturnInfo.TheVariants as backs
 use Rattle.tva_shim.specs.declared.packets.Carried.{Carried}
 use Rattle.tva_shim.specs.declared.packets.Carried.TheVariants as carried
 use Rattle.tva_shim.specs.Shims.{IsReturn}
-use Rattle.tva_shim.specs.Packets.{PacketData}
+use Rattle.tva_shim.specs.Packets.{PacketData, made_packet}
 use Rattle.tva_shim.specs.Shows.{back_in}
 use Rattle.tva_flow.specs.Charges.{Charge}
 use Rattle.tva_policy.specs.Grants.{Deed, is_granted, decision}
@@ -79,7 +79,7 @@ row_made : (number : ℕ) (plan : RouterPlan) (before : List Entry) (now : ℕ) 
 unfolding arrived
 row_made number plan before now (Send dst payload) c k e = absurd (cc)
 row_made number plan before now (Inject flow payload carries) c k e =
-    let p : PacketData = record { id = next_id number before; flow = flow; hops = 0; payload = payload; carried = carries } in
+    let p : PacketData = made_packet (next_id number before) flow payload carries in
     subst Makes (some_same (arrived plan before now None p) c e) (λ q i. subst Returns (some_same p q i) k)
 
 came_made : (plan : RouterPlan) (before : List Entry) (now link : ℕ) (p : PacketData) → Makes (arrived plan before now (Some link) p)

@@ -14,7 +14,7 @@ use Rattle.tva_base.specs.declared.packet.Outcome.TheVariants.{Queued, Dropped}
 use Rattle.tva_base.specs.declared.plan.HostPlan.{HostPlan}
 use Rattle.tva_base.specs.declared.plan.LinkPlan.{LinkPlan}
 use Rattle.tva_base.specs.declared.plan.RouterPlan.{RouterPlan}
-use Rattle.tva_shim.specs.Packets.{PacketData, packet_length, class_by_shim}
+use Rattle.tva_shim.specs.Packets.{PacketData, packet_length, class_by_shim, made_packet}
 use Rattle.tva_shim.specs.Shows.{key_of}
 use Rattle.tva_flow.specs.Charges.{Charge}
 use Rattle.tva_port.specs.Log as port
@@ -186,7 +186,7 @@ module _ (P : PacketData → Type 0) (W : RowWhat → Type 0) where
         → option_map (arrived plan before now None) (packet_of_row (next_id number before) w) ≡ Some c → Goes c
     row_goes number plan before now (Send dst payload) c m e = absurd (cc)
     row_goes number plan before now (Inject flow payload carries) c m e =
-        let p : PacketData = record { id = next_id number before; flow = flow; hops = 0; payload = payload; carried = carries } in
+        let p : PacketData = made_packet (next_id number before) flow payload carries in
         let same : arrived plan before now None p ≡ c = some_same (arrived plan before now None p) c e in
         subst Goes same (arrived_goes plan before now None p (m p (ap made_in (sym same) ∙ own_packet plan before now p)))
 

@@ -29,7 +29,7 @@ use Rattle.tva_shim.specs.declared.kinds.ReturnInfo.{ReturnInfo}
 use Rattle.tva_shim.specs.declared.kinds.ReturnInfo.TheVariants as backs
 use Rattle.tva_shim.specs.declared.packets.Carried.{Carried}
 use Rattle.tva_shim.specs.declared.packets.Carried.TheVariants.{Nothing, Shim}
-use Rattle.tva_shim.specs.Packets.{PacketData}
+use Rattle.tva_shim.specs.Packets.{PacketData, packet_data}
 use Rattle.tva_caps.specs.Formula.{precap_of, capability_of}
 use Rattle.tva_plan.specs.declared.config.Config.{Config}
 use Rattle.tva_plan.specs.declared.config.NodePlan.TheVariants.{Router, Host}
@@ -147,13 +147,8 @@ walk_rows = walk_first ∷ walk_spoofed ∷ walk_second ∷ walk_third ∷ []
 -- ## the packets
 
 abbrev pub walk_packet : ℕ → ℕ → Flow → ℕ → ℕ → Carried → PacketData
-walk_packet node ordinal flow hops payload carried = record {
-  id = record { node = node; ordinal = ordinal };
-  flow = flow;
-  hops = hops;
-  payload = payload;
-  carried = carried;
-}
+walk_packet node ordinal flow hops payload carried =
+    packet_data (record { node = node; ordinal = ordinal }) flow hops payload carried
 
 abbrev pub walk_shim : Kind → ReturnInfo → Carried
 walk_shim kind back = Shim (record { version = 1; demoted = false; protocol = 6; kind = kind; back = back })

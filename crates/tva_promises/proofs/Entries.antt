@@ -8,7 +8,7 @@ use Rattle.tva_base.specs.declared.packet.Grant.{Grant}
 use Rattle.tva_base.specs.declared.packet.Outcome.{Outcome}
 use Rattle.tva_base.specs.declared.plan.RouterPlan.{RouterPlan}
 use Rattle.tva_base.specs.declared.plan.HostPlan.{HostPlan}
-use Rattle.tva_shim.specs.Packets.{PacketData, IsSizedPacket, class_by_shim}
+use Rattle.tva_shim.specs.Packets.{PacketData, IsSizedPacket, class_by_shim, made_packet}
 use Rattle.tva_flow.specs.Charges.{Charge}
 use Rattle.tva_flow.specs.Stands.{NoneLater, IsNext, AreNext}
 use Rattle.tva_flow.specs.Budget.{IsWithinSeconds, AreTimely}
@@ -50,7 +50,7 @@ record Came (sizes : Type 0) (plan : RouterPlan) (before : List Entry) (now : �
 came_row : (number : ℕ) (plan : RouterPlan) (before : List Entry) (now : ℕ) (what : RowWhat) (made : Content) → option_map (arrived plan before now None) (packet_of_row (next_id number before) what) ≡ Some made → Came (IsSizedWhat what) plan before now made
 came_row number plan before now (Send dst payload) made e = absurd (cc)
 came_row number plan before now (Inject flow payload carried) made e =
-    let p : PacketData = record { id = next_id number before; flow = flow; hops = 0; payload = payload; carried = carried } in
+    let p : PacketData = made_packet (next_id number before) flow payload carried in
     record {
       from = None;
       packet = p;

@@ -18,7 +18,7 @@ use Rattle.tva_base.specs.declared.plan.HostPlan.{HostPlan}
 use Rattle.tva_base.specs.declared.plan.LinkPlan.{LinkPlan}
 use Rattle.tva_base.specs.declared.plan.RouterPlan.{RouterPlan}
 use Rattle.tva_shim.specs.declared.kinds.ReturnInfo.{ReturnInfo}
-use Rattle.tva_shim.specs.Packets.{PacketData, packet_length, class_by_shim}
+use Rattle.tva_shim.specs.Packets.{PacketData, packet_length, class_by_shim, made_packet}
 use Rattle.tva_shim.specs.Shows.{key_of}
 use Rattle.tva_flow.specs.Charges.{Charge}
 use Rattle.tva_drr.specs.declared.offered.Offered as offer
@@ -218,7 +218,7 @@ module _ (config : Config) where
         → option_map (arrived plan before now None) (packet_of_row (next_id site.number before) w) ≡ Some made → IsNamed made
     row_named plan now (Send dst payload) made out e = absurd (cc)
     row_named plan now (Inject flow payload carried) made out e =
-        let packet : PacketData = record { id = next_id site.number before; flow = flow; hops = 0; payload = payload; carried = carried } in
+        let packet : PacketData = made_packet (next_id site.number before) flow payload carried in
         subst IsNamed (some_same (arrived plan before now None packet) made e) (arrived_named plan now None packet out placed.number tt)
 
     routed_named : (plan : RouterPlan) (i : Input) (made : Content) → AllByRecursion (λ (x : ℕ × LinkLimits). HasLink config x.0) plan.outgoing

@@ -19,6 +19,15 @@ pub record PacketData : Type 0 where
   pub payload : ℕ
   pub carried : Carried
 
+-- the packet of these parts
+abbrev pub packet_data : PacketId → Flow → ℕ → ℕ → Carried → PacketData
+packet_data id flow hops payload carries =
+    record { id = id; flow = flow; hops = hops; payload = payload; carried = carries }
+
+-- a packet as it is made, which passed no router
+abbrev pub made_packet : PacketId → Flow → ℕ → Carried → PacketData
+made_packet id flow payload carries = packet_data id flow 0 payload carries
+
 -- a malformed shim has at most 400 bytes
 abbrev pub IsCarried : Carried → Type 0
 IsCarried carried.Nothing = Unit {0}

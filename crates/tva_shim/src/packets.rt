@@ -1,6 +1,6 @@
 // Packets, their lengths and their classes.
 ghost use Rattle.std.specs.Prelude.{◌≡◌, ◌≤◌, ◌+◌};
-ghost use Rattle.tva_shim.specs.Packets.{IsCarried, CarriesFew, IsSizedPacket, class_by_shim, packet_length, carried_bytes, carried_size};
+ghost use Rattle.tva_shim.specs.Packets.{IsCarried, CarriesFew, IsSizedPacket, class_by_shim, packet_length, carried_bytes, carried_size, made_packet, packet_data};
 
 use crate::kinds::Kind;
 use crate::shims::{Shim, shim_bytes_of};
@@ -32,9 +32,11 @@ impl Model for Packet {
 
     ghost Value = { PacketData };
 
-    ghost view = { λ p. record { id = p.id; flow = p.flow; hops = p.hops; payload = p.payload; carried = p.carried } };
+    ghost use Rattle.tva_shim.specs.Fields.{packet_of_fields};
 
-    ghost invariant = { λ p. IsPacket (record { id = p.id; flow = p.flow; hops = p.hops; payload = p.payload; carried = p.carried }) };
+    ghost view = { packet_of_fields };
+
+    ghost invariant = { λ p. IsPacket (packet_of_fields p) };
 }
 
 impl Carried {
@@ -56,7 +58,7 @@ impl Packet {
         requires hops { hops ≤ 32 }
         requires payload { payload ≤ 1600 }
         requires carried { IsCarried carried }
-        ensures { result ≡ record { id = id; flow = flow; hops = hops; payload = payload; carried = carried } }
+        ensures { result ≡ packet_data id flow hops payload carried }
     {
         Packet {
             id,
@@ -65,6 +67,15 @@ impl Packet {
             payload,
             carried,
         }
+    }
+
+    /// A packet as it is made: it passed no router.
+    pub fn made(id: PacketId, flow: Flow, payload: u16, carried: Carried) -> Packet
+        requires payload { payload ≤ 1600 }
+        requires carried { IsCarried carried }
+        ensures { result ≡ made_packet id flow payload carried }
+    {
+        Packet::new(id, flow, 0, payload, carried)
     }
 
     /// The same packet once more.

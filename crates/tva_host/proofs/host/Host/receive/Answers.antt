@@ -3,6 +3,7 @@ use Rattle.std.proofs.Math.Nat.{le_refl}
 use Rattle.tva_base.specs.declared.plan.HostPlan.{HostPlan}
 use Rattle.tva_shim.specs.declared.kinds.ReturnInfo.{ReturnInfo}
 use Rattle.tva_shim.specs.Packets.{PacketData}
+use Rattle.tva_shim.specs.Fields.{packet_of_fields}
 use Rattle.tva_host.specs.declared.made.Receipt.{Receipt}
 use Rattle.tva_shim.specs.Shows.{back_in}
 use Rattle.tva_host.specs.Receiving.{after_back, became_of, claim_in, answer_to, after_answer, reply_of, after_reply, before_reply, receipt_of, after_receipt}
@@ -17,7 +18,7 @@ pub returns-then-not-is_for-clause-receipt : goal.returns-then-not-is_for-clause
 returns-then-not-is_for-clause-receipt c calls s =
     let told = c.args.self.now in
     let h = history_of told.plan calls in
-    let packet : PacketData = record { id = c.packet.inside.id; flow = c.packet.inside.flow; hops = c.packet.inside.hops; payload = c.packet.inside.payload; carried = c.packet.inside.carried } in
+    let packet : PacketData = packet_of_fields c.packet.inside in
     let apart : eqb packet.flow.dst.0 told.plan.address.0 ≡ false = sym (c.if-not-is_for.ensures ∙ ap (λ (w : HostData). eqb packet.flow.dst.0 w.plan.address.0) c.self.view_is) in
     subst (λ (z : PacketData). c.stray.result ≡ receipt_of told.node told.plan h c.args.now.0 z) c.packet.view_is
     (c.stray.ensures ∙ receipt-stray told.node told.plan h c.args.now.0 packet apart)
@@ -28,7 +29,7 @@ returns-then-not-is_for-clause-stands c calls s =
     let v : HostData = host_data inside.node inside.plan inside.next inside.offered inside.last.0 inside.policy inside.sender in
     let told = c.args.self.now in
     let h = history_of told.plan calls in
-    let packet : PacketData = record { id = c.packet.inside.id; flow = c.packet.inside.flow; hops = c.packet.inside.hops; payload = c.packet.inside.payload; carried = c.packet.inside.carried } in
+    let packet : PacketData = packet_of_fields c.packet.inside in
     let apart : eqb packet.flow.dst.0 told.plan.address.0 ≡ false = sym (c.if-not-is_for.ensures ∙ ap (λ (w : HostData). eqb packet.flow.dst.0 w.plan.address.0) c.self.view_is) in
     let start = keeps-timed v c.args.now.0 h (subst (λ (w : HostData). Keeps w h) (sym c.self.view_is) s.keeps) in
     stands-push told (timed c.args.now.0 v) calls (Received c.args.now.0 c.args.packet) s (ap (λ (w : HostData). w.plan) c.self.view_is)
@@ -44,7 +45,7 @@ returns-clause-receipt c calls s =
     let h = history_of told.plan calls in
     let src = c.packet.inside.flow.src in
     let carries = c.packet.inside.carried in
-    let packet : PacketData = record { id = c.packet.inside.id; flow = c.packet.inside.flow; hops = c.packet.inside.hops; payload = c.packet.inside.payload; carried = carries } in
+    let packet : PacketData = packet_of_fields c.packet.inside in
     let here : eqb packet.flow.dst.0 told.plan.address.0 ≡ true = sym (c.if-not-is_for.ensures ∙ ap (λ (w : HostData). eqb packet.flow.dst.0 w.plan.address.0) c.self.view_is) in
     let start = keeps-timed v c.args.now.0 h (subst (λ (w : HostData). Keeps w h) (sym c.self.view_is) s.keeps) in
     let roomy = c.in_ok-make_room.ensures.keeps h start in
@@ -77,7 +78,7 @@ returns-clause-stands c calls s =
     let h = history_of told.plan calls in
     let src = c.packet.inside.flow.src in
     let carries = c.packet.inside.carried in
-    let packet : PacketData = record { id = c.packet.inside.id; flow = c.packet.inside.flow; hops = c.packet.inside.hops; payload = c.packet.inside.payload; carried = carries } in
+    let packet : PacketData = packet_of_fields c.packet.inside in
     let here : eqb packet.flow.dst.0 told.plan.address.0 ≡ true = sym (c.if-not-is_for.ensures ∙ ap (λ (w : HostData). eqb packet.flow.dst.0 w.plan.address.0) c.self.view_is) in
     let start = keeps-timed v c.args.now.0 h (subst (λ (w : HostData). Keeps w h) (sym c.self.view_is) s.keeps) in
     let roomy = c.in_ok-make_room.ensures.keeps h start in

@@ -1,6 +1,7 @@
 use Rattle.std.proofs.Common.{◌≡◌, ◌≤◌, false, leb, ◌++◌, sym, ap, ◌∙◌, subst}
 use Rattle.tva_base.specs.declared.packet.Fate.{Fate}
 use Rattle.tva_shim.specs.Packets.{PacketData}
+use Rattle.tva_shim.specs.Fields.{packet_of_fields}
 use Rattle.tva_router.specs.declared.judged.Arrival.{Arrival}
 use Rattle.tva_router.specs.declared.judged.Judged.{Judged}
 use Rattle.tva_router.specs.Judging.{judge}
@@ -38,7 +39,7 @@ send-outcome-requires-clause-ports c =
 pub returns-clause-fate : goal.returns-clause-fate
 returns-clause-fate c h logs s =
     let plan = c.self.inside.plan in
-    let packet : PacketData = record { id = c.packet.inside.id; flow = c.packet.inside.flow; hops = c.packet.inside.hops; payload = c.packet.inside.payload; carried = c.packet.inside.carried } in
+    let packet : PacketData = packet_of_fields c.packet.inside in
     let stood : StandsFor (router_data c.self.inside.built plan c.self.inside.last c.self.inside.guard.minter c.self.inside.guard.cache c.self.inside.ports.items) h logs =
     subst (λ (z : RouterData). StandsFor z h logs) (sym c.self.view_is) s in
     let came : c.arrival_of-arrival.result ≡ arrival c.args.now.0 c.args.from packet =
@@ -57,7 +58,7 @@ returns-clause-fate c h logs s =
 pub returns-clause-stands : goal.returns-clause-stands
 returns-clause-stands c h logs s =
     let plan = c.self.inside.plan in
-    let packet : PacketData = record { id = c.packet.inside.id; flow = c.packet.inside.flow; hops = c.packet.inside.hops; payload = c.packet.inside.payload; carried = c.packet.inside.carried } in
+    let packet : PacketData = packet_of_fields c.packet.inside in
     let stood : StandsFor (router_data c.self.inside.built plan c.self.inside.last c.self.inside.guard.minter c.self.inside.guard.cache c.self.inside.ports.items) h logs =
     subst (λ (z : RouterData). StandsFor z h logs) (sym c.self.view_is) s in
     let came : c.arrival_of-arrival.result ≡ arrival c.args.now.0 c.args.from packet =
