@@ -1,5 +1,5 @@
 -- The texts of a report are short.
-use Rattle.std.proofs.Common.{◌≡◌, ℕ, zero, suc, ◌+◌, ◌^◌, ◌<◌, ◌≤◌, List, [], ◌∷◌, ◌++◌, length, map, Option, Some, None, arith, length-append}
+use Rattle.std.proofs.Common.{ℕ, zero, suc, ◌+◌, ◌^◌, ◌<◌, ◌≤◌, List, [], ◌∷◌, ◌++◌, length, map, Option, Some, None, arith, length-append}
 use Rattle.std.specs.Prelude.{All, codes, decimal, slice_get}
 use Rattle.std.specs.Option.{option_map_or}
 use Rattle.std.specs.List.{join_with_byte}
@@ -31,7 +31,7 @@ use Rattle.tva_plan.specs.declared.config.Config.{Config}
 use Rattle.tva_plan.specs.declared.config.NodePlan.{NodePlan}
 use Rattle.tva_plan.specs.Names.{name_at}
 use Rattle.tva_plan.specs.Valid.{IsConfig, IsName}
-use Rattle.tva_trace.specs.Words.{class_word, cause_word, drop_word, shape_word, what_word, back_word}
+use Rattle.tva_trace.specs.Words.{class_word, drop_word, shape_word, what_word, back_word}
 use Rattle.tva_trace.specs.Lines.{FitsEvent, FitsHappened, FitsId, FitsReply, FitsTotals, name_of, name_before, name_behind, id_word, from_word, outcome_word, cause_or_dash, reply_word, happened_words, text_of_event, text_of_totals}
 use Rattle.tva_trace.proofs.Printables.{event_printable, totals_printable}
 

@@ -1,4 +1,4 @@
-use Rattle.std.proofs.Common.{◌∙◌, sym, ap, subst, inl, inr, Bool, true, false, arith}
+use Rattle.std.proofs.Common.{◌∙◌, sym, ap, subst, inl, inr, Bool, true, arith}
 use Rattle.csv.specs.Reading.{ReadRecord, error_kind, with_flexible}
 use Rattle.csv.specs.Records.{fields_of}
 use Rattle.tva_trace.proofs.Reading.{told, read-start, read-fault, read-on, read-nothing, read-short, read-valid, read-whole}
