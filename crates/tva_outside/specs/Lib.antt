@@ -10,3 +10,4 @@ pub mod ShelfState
 pub mod Sink
 pub mod SinkState
 pub mod Reading
+pub mod Writing

@@ -12,11 +12,12 @@ taken (wrote_as.Count n) piece = take n piece
 taken wrote_as.Failed piece = []
 taken wrote_as.OutOfMemory piece = []
 
--- what a write of the piece may answer, where the count of faults went from before to now
+-- what a write of the piece may answer, where the count of faults went from before to now: it rises at a failure, and at
+-- nothing else
 abbrev pub IsWrote : List ℕ → ℕ → ℕ → wrote.Wrote → Type 0
-IsWrote piece before now (wrote_as.Count n) = (n ≤ length piece) × (n ≡ 0 → piece ≡ [])
+IsWrote piece before now (wrote_as.Count n) = (n ≤ length piece) × (n ≡ 0 → piece ≡ []) × (now ≡ before)
 IsWrote piece before now wrote_as.Failed = Rose before now
-IsWrote piece before now wrote_as.OutOfMemory = Unit {0}
+IsWrote piece before now wrote_as.OutOfMemory = now ≡ before
 
 -- those of the bytes that were written
 abbrev pub sent : sent_type.Sent → List ℕ → List ℕ
@@ -26,6 +27,6 @@ sent (sent_as.OutOfMemory n) bytes = take n bytes
 
 -- what a call that is to write all of the bytes may answer, where the count of faults went from before to now
 abbrev pub IsSent : List ℕ → ℕ → ℕ → sent_type.Sent → Type 0
-IsSent bytes before now sent_as.All = Unit {0}
+IsSent bytes before now sent_as.All = now ≡ before
 IsSent bytes before now (sent_as.Failed n) = (n < length bytes) × Rose before now
-IsSent bytes before now (sent_as.OutOfMemory n) = n < length bytes
+IsSent bytes before now (sent_as.OutOfMemory n) = (n < length bytes) × (now ≡ before)

@@ -1,15 +1,15 @@
 // The files of the system. What they hold isn't told; their failures are counted.
-ghost use Rattle.std.specs.Prelude.{◌≡◌, ◌≤◌, ◌^◌, None};
+ghost use Rattle.std.specs.Prelude.{◌≡◌, ◌≤◌, ◌^◌, MatchResult, None};
 ghost use Rattle.tva_outside.specs.Edge.{faults_after_load};
-ghost use Rattle.tva_outside.specs.Reading.{IsWithin};
+ghost use Rattle.tva_outside.specs.Reading.{IsBroken, IsReading, loaded_of};
 ghost use Rattle.tva_outside.specs.Shelf.{IsLoaded};
 
 use crate::{Loaded, Shelf};
 use std::alloc::Global;
-use std::fs;
 use std::io::{Error, ErrorKind, Read};
 use std::marker::Model;
 use std::rt::Files;
+use std::{fs, io};
 
 /// The files of the system, each under its path. Contracts see the count of failures.
 #[derive(Drop)]
@@ -46,19 +46,11 @@ impl<'a, R: Files> Shelf for FileShelf<'a, R> {
         ensures answer { IsLoaded None name.now max self.old self.new result }
         ensures counted { self.new ≡ faults_after_load self.old result }
     {
-        let reading = match fs::open(self.rt, name) {
-            Ok(mut file) => read_whole(alloc, &mut file, max),
-            Err(error) => broken_off(&error),
-        };
-        match reading {
-            Reading::Whole(bytes) => Loaded::Bytes(bytes),
-            Reading::Longer => Loaded::TooLarge(max + 1),
-            Reading::OutOfMemory => Loaded::OutOfMemory,
-            Reading::Failed => {
-                self.faults = self.faults.saturating_add(1);
-                Loaded::Failed
-            }
+        let loaded = answer(read_opened(alloc, fs::open(self.rt, name), max), max);
+        if let Loaded::Failed = loaded {
+            self.faults = self.faults.saturating_add(1);
         }
+        loaded
     }
 }
 
@@ -71,13 +63,37 @@ pub(crate) enum Reading {
     OutOfMemory,
 }
 
+// What a load answers where reading ended so.
+fn answer(reading: Reading, max: u64) -> Loaded
+    requires { max ≤ 2 ^ 40 }
+    ensures { result ≡ loaded_of max reading }
+{
+    match reading {
+        Reading::Whole(bytes) => Loaded::Bytes(bytes),
+        Reading::Longer => Loaded::TooLarge(max + 1),
+        Reading::Failed => Loaded::Failed,
+        Reading::OutOfMemory => Loaded::OutOfMemory,
+    }
+}
+
+// Reads what was opened, or ends so where it couldn't be.
+fn read_opened<F: Read + Drop>(alloc: Global, opened: io::Result<F>, max: u64) -> Reading
+    requires { max ≤ 2 ^ 40 }
+    ensures { MatchResult opened (λ file. IsReading (F.Read.remaining file) max result) (λ error. IsBroken error result) }
+{
+    match opened {
+        Ok(mut file) => read_whole(alloc, &mut file, max),
+        Err(error) => broken_off(&error),
+    }
+}
+
 // The bytes that one read takes at most.
 const PIECE: usize = 65_536;
 
 // All of the bytes that a reader gives, where they are no more than the limit.
 pub(crate) fn read_whole<F: Read>(alloc: Global, file: &mut F, max: u64) -> Reading
     requires { max ≤ 2 ^ 40 }
-    ensures { IsWithin max result }
+    ensures { IsReading (F.remaining file.old) max result }
 {
     let mut bytes = Vec::new(alloc);
     let mut piece = [0u8; PIECE];
@@ -106,7 +122,7 @@ pub(crate) fn read_whole<F: Read>(alloc: Global, file: &mut F, max: u64) -> Read
 
 // The system's want of memory is no failure.
 fn broken_off(error: &Error) -> Reading
-    ensures { IsWithin 0 result }
+    ensures { IsBroken error.now result }
 {
     if error.kind() == ErrorKind::OutOfMemory {
         return Reading::OutOfMemory;

@@ -1,5 +1,5 @@
 // Where the output goes.
-ghost use Rattle.std.specs.Prelude.{◌≡◌, ◌≤◌, List, ℕ};
+ghost use Rattle.std.specs.Prelude.{◌≡◌, ◌≤◌, List, [], ℕ};
 ghost use Rattle.std.specs.declared.option.Option.{Option};
 ghost use Rattle.std.specs.Io.KnownBytes.{append_known};
 ghost use Rattle.tva_outside.specs.Sink.{IsWrote, IsSent, taken, sent};
@@ -31,7 +31,8 @@ pub trait Sink {
     /// The bytes written so far, where the sink tells them.
     ghost written: { Self → Option (List ℕ) };
 
-    /// How often a write has failed. The count never falls, and stands still at 2^64-1.
+    /// How often a write has failed. The count rises at a failure alone, never falls, and stands still
+    /// at 2^64-1.
     ghost faults: { Self → ℕ };
 
     /// Writes as many bytes of the piece as the sink takes at once, at least one where there are any.
@@ -47,6 +48,7 @@ pub fn write_all<W: Sink>(sink: &mut W, bytes: &[u8]) -> Sent
     ensures written { W.written sink.new ≡ append_known (W.written sink.old) (sent result bytes.now) }
     ensures never_falls { W.faults sink.old ≤ W.faults sink.new }
     ensures answer { IsSent bytes.now (W.faults sink.old) (W.faults sink.new) result }
+    ensures untouched { bytes.now ≡ [] → sink.new ≡ sink.old }
 {
     let mut done = 0;
     while done < bytes.len() {

@@ -1,8 +1,9 @@
 // Standard output. What it took isn't told; its failures are counted.
 ghost use Rattle.std.specs.Prelude.{◌≡◌, ◌≤◌, None, IfOk, length};
 ghost use Rattle.std.specs.Io.KnownBytes.{append_known};
-ghost use Rattle.tva_outside.specs.Edge.{faults_after_write, TakesSome};
+ghost use Rattle.tva_outside.specs.Edge.{faults_after_write};
 ghost use Rattle.tva_outside.specs.Sink.{IsWrote};
+ghost use Rattle.tva_outside.specs.Writing.{AnswersTo, TakesSome};
 
 use crate::{Sink, Wrote};
 use std::io;
@@ -51,12 +52,19 @@ impl<'a, R: Print> Sink for StdSink<'a, R> {
     }
 }
 
-// One write of the runtime's. The system's want of memory is no failure; a write that takes nothing
-// of a piece that isn't empty is one.
+// One write of the runtime's.
 fn write_once<R: Print>(rt: &R, piece: &[u8]) -> Wrote
     ensures { TakesSome piece.now result }
 {
-    match write_through(rt, piece) {
+    answer(piece, write_through(rt, piece))
+}
+
+// What a write of the piece answers where the system's ended so. The system's want of memory is no
+// failure; a write that takes nothing of a piece that isn't empty is one.
+fn answer(piece: &[u8], written: io::Result<usize>) -> Wrote
+    ensures { AnswersTo piece.now written result }
+{
+    match written {
         Ok(0) if !piece.is_empty() => Wrote::Failed,
         Ok(count) => Wrote::Count(count),
         Err(error) if error.kind() == ErrorKind::OutOfMemory => Wrote::OutOfMemory,

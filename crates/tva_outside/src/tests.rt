@@ -1,5 +1,5 @@
 // What no clause says: that calls succeed with ample memory, and the files and the output of the system.
-ghost use Rattle.std.specs.Prelude.{◌≤◌, ◌^◌};
+ghost use Rattle.std.specs.Prelude.{◌≤◌, ◌^◌, Some};
 
 use super::file_shelf::{Reading, read_whole};
 use super::*;
@@ -193,7 +193,7 @@ fn a_write_that_a_signal_breaks_off_is_made_again(rt: HostRuntime) {
 }
 
 // A file that gives at most three bytes at a read, and at which a signal breaks off each other read.
-// Behind its last byte it ends, or fails so.
+// Behind its last byte it ends, or fails so. It tells the bytes that are left.
 #[derive(Drop)]
 struct Halting<'a> {
     rest: &'a [u8],
@@ -202,6 +202,8 @@ struct Halting<'a> {
 }
 
 impl<'a> Read for Halting<'a> {
+    ghost remaining = { λ file. Some file.rest.now };
+
     fn read(&mut self, buf: &mut [u8]) -> io::Result<usize> {
         self.is_broken = !self.is_broken;
         if self.is_broken {
