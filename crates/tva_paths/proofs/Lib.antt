@@ -14,5 +14,6 @@ pub mod Regular
 pub mod Kept
 pub mod Steady
 pub mod Read
+pub mod Walkable
 pub mod Walking
 pub mod Walked

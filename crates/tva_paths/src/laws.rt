@@ -42,7 +42,9 @@ pub fn honest_senders_are_regular()
 /// The logs of a worked walk, in nanoseconds, are a run: of the network of `examples/walk.toml` with a horizon of
 /// ten seconds, and its trace with two more rows, up to just past the time at which a renewal comes to the router.
 pub fn worked_walk_is_a_run()
-    ensures { IsRunTo walk_config walk_rows walk_until walk_logs }
+    ensures valid { IsConfig walk_config }
+    ensures traced { AreTraceRows walk_config walk_rows }
+    ensures run { IsRunTo walk_config walk_rows walk_until walk_logs }
 {}
 
 /// Some paths are steady, by the logs of a run: those of the worked walk up to its list, up to its nonce alone, which
