@@ -4,7 +4,7 @@ use Rattle.std.specs.declared.option.Option.{Option}
 use Rattle.std.specs.Prelude.{nat_lt, option_and_then}
 use Rattle.tva_outside.specs.Held.{Held, bytes_at}
 use Rattle.tva_plan.specs.declared.config.Config.{Config}
-use Rattle.tva_config.specs.declared.fault.ConfigFault.{ConfigFault}
+use Rattle.tva_config_entries.specs.declared.faults.ConfigFault.{ConfigFault}
 use Rattle.tva_config.specs.Read.{read_of}
 use Rattle.tva_plan.specs.Valid.{IsConfig}
 use Rattle.tva_config.proofs.ReadValid.{read_valid}

@@ -5,7 +5,7 @@ use Rattle.std.specs.declared.option.Option.{Option}
 use Rattle.std.specs.Option.{option_map}
 use Rattle.tva_outside.specs.Held.{Held, bytes_at}
 use Rattle.tva_plan.specs.declared.config.Config.{Config}
-use Rattle.tva_config.specs.declared.fault.ConfigFault.{ConfigFault}
+use Rattle.tva_config_entries.specs.declared.faults.ConfigFault.{ConfigFault}
 use Rattle.tva_config.specs.Read.{read_of}
 use Rattle.tva_trace.specs.declared.rows.Row.{Row}
 use Rattle.tva_trace.specs.declared.rows.TraceFault.{TraceFault}

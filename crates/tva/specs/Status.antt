@@ -1,8 +1,8 @@
 -- The number and the text of each status.
 use Rattle.std.specs.Prelude.{ℕ, List, [], ◌∷◌, ◌++◌, codes, decimal}
 use Rattle.std.specs.List.{join_with_byte}
-use Rattle.tva_config.specs.declared.fault.ConfigFault.{ConfigFault}
-use Rattle.tva_config.specs.Words.{rule_word, table_word}
+use Rattle.tva_config_entries.specs.declared.faults.ConfigFault.{ConfigFault}
+use Rattle.tva_config_entries.specs.Words.{rule_word, table_word}
 use Rattle.tva_trace.specs.Words as trace
 use Rattle.tva.specs.declared.status.Status as status
 use Rattle.tva.specs.declared.status.Status.TheVariants.{Done, Usage, ReadFault, WriteFault, TooLarge}

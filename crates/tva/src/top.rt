@@ -1,7 +1,7 @@
 // The top call.
 ghost use Rattle.std.specs.Prelude.{◌≡◌, ◌≤◌, ◌⊎◌, ◌↔◌, ℕ, IfSome, length, None, Some};
 ghost use Rattle.tva_outside.specs.Faults.{Rose};
-ghost use Rattle.tva_config.specs.declared.fault.ConfigFault.{ConfigFault};
+ghost use Rattle.tva_config_entries.specs.declared.faults.ConfigFault.{ConfigFault};
 ghost use Rattle.tva_trace.specs.declared.rows.TraceFault.{TraceFault};
 ghost use Rattle.tva.specs.Asked.{asked};
 ghost use Rattle.tva.specs.Command.{command_of, texts, replay, check, shim, gen};

@@ -11,14 +11,14 @@ use Rattle.tva_base.specs.declared.plan.Route.{Route}
 use Rattle.tva_base.specs.Plan.{AreDistinct}
 use Rattle.tva_plan.specs.declared.config.NodePlan as nodes
 use Rattle.tva_plan.specs.declared.config.NodePlan.TheVariants as node
-use Rattle.tva_config.specs.declared.fault.ConfigTable.TheVariants as table
-use Rattle.tva_config.specs.declared.fault.ConfigRule.TheVariants as rule
-use Rattle.tva_config.specs.declared.entries.RouterEntry.{RouterEntry}
-use Rattle.tva_config.specs.declared.entries.HostEntry.{HostEntry}
-use Rattle.tva_config.specs.declared.entries.LinkEntry.{LinkEntry}
-use Rattle.tva_config.specs.declared.entries.RouteEntry.{RouteEntry}
-use Rattle.tva_config.specs.declared.entries.OwnedRoute.{OwnedRoute}
-use Rattle.tva_config.specs.Faults.{at, fault_at}
+use Rattle.tva_config_entries.specs.declared.faults.ConfigTable.TheVariants as table
+use Rattle.tva_config_entries.specs.declared.faults.ConfigRule.TheVariants as rule
+use Rattle.tva_config_entries.specs.declared.entries.RouterEntry.{RouterEntry}
+use Rattle.tva_config_entries.specs.declared.entries.HostEntry.{HostEntry}
+use Rattle.tva_config_entries.specs.declared.entries.LinkEntry.{LinkEntry}
+use Rattle.tva_config_entries.specs.declared.entries.RouteEntry.{RouteEntry}
+use Rattle.tva_config.specs.declared.joined.OwnedRoute.{OwnedRoute}
+use Rattle.tva_config_entries.specs.Faults.{at, fault_at}
 use Rattle.tva_config.specs.Nodes.{node_names, node_of, all_slots, slots_of}
 use Rattle.tva_config.specs.Links.{link_between, links_of, uplinks_of, rings_of}
 use Rattle.tva_plan.specs.Wiring.{all_places}
@@ -26,9 +26,9 @@ use Rattle.tva_config.specs.Routes.{routes_of}
 use Rattle.tva_plan.specs.Names.{name_at, is_host_plan}
 use Rattle.tva_plan.specs.Counts.{routes_in, slots_in}
 use Rattle.tva_config.specs.Read.{if_owned, routes_at, router_plan, host_plan, router_plans, host_plans, config_of}
-use Rattle.tva_config.proofs.Ranges.{IsRouterEntry, IsHostEntry, IsLinkEntry, IsRouteEntry}
+use Rattle.tva_config_entries.proofs.Ranges.{IsRouterEntry, IsHostEntry, IsLinkEntry, IsRouteEntry}
 use Rattle.tva_plan.specs.Valid.{IsName, IsNodePlan, IsLinkPlan, AreWired, AreRoutersFirst, addresses_at, IsConfig}
-use Rattle.tva_config.proofs.Turns.{all_cons, unless_gave}
+use Rattle.tva_config_entries.proofs.Turns.{all_cons, unless_gave}
 use Rattle.tva_config.proofs.StepsLinks.{AreLinks, links_keep, AreUplinks, uplinks_keep}
 use Rattle.tva_config.proofs.StepsRoutes.{AreRoutes, routes_keep}
 use Rattle.tva_config.proofs.PlanValid.{router_valid, host_valid}

@@ -7,13 +7,13 @@ use Rattle.std.proofs.lemmas.Bool.{and_parts}
 use Rattle.std.proofs.lemmas.List.Folds.{list_any-append}
 use Rattle.std.proofs.lemmas.List.{take_more, drop_more, take_all, get_or-map, get_or_append_left, get_or-append_right, length-map, length-take-le, map-append}
 use Rattle.tva_base.specs.declared.addresses.Address.{Address}
-use Rattle.tva_config.specs.declared.fault.ConfigRule.TheVariants as rule
-use Rattle.tva_config.specs.declared.fault.ConfigTable.TheVariants as table
-use Rattle.tva_config.specs.declared.entries.RouterEntry.{RouterEntry}
-use Rattle.tva_config.specs.declared.entries.HostEntry.{HostEntry}
-use Rattle.tva_config.specs.Faults.{in_turn, at, fault_at}
+use Rattle.tva_config_entries.specs.declared.faults.ConfigRule.TheVariants as rule
+use Rattle.tva_config_entries.specs.declared.faults.ConfigTable.TheVariants as table
+use Rattle.tva_config_entries.specs.declared.entries.RouterEntry.{RouterEntry}
+use Rattle.tva_config_entries.specs.declared.entries.HostEntry.{HostEntry}
+use Rattle.tva_config_entries.specs.Faults.{in_turn, at, fault_at}
 use Rattle.tva_config.specs.Nodes.{node_names, node_of, node_place, name_step, address_step}
-use Rattle.tva_config.proofs.InTurn.{Continues}
+use Rattle.tva_config_entries.proofs.InTurn.{Continues}
 use Rattle.tva_base.specs.declared.plan.LinkPlan.{LinkPlan}
 use Rattle.std.specs.HashMap.{get_by_text}
 use Rattle.std.specs.Map.{update}

@@ -8,14 +8,14 @@ use Rattle.tva_base.specs.declared.limits.LinkLimits.{LinkLimits}
 use Rattle.tva_base.specs.declared.plan.LinkPlan.{LinkPlan}
 use Rattle.tva_base.specs.declared.plan.Route.{Route}
 use Rattle.tva_base.specs.Plan.{AreLinkLimits, AreDistinct, IsPrefix, IsRouterPlan, IsHostPlan, links_of}
-use Rattle.tva_config.specs.declared.entries.RouterEntry.{RouterEntry}
-use Rattle.tva_config.specs.declared.entries.HostEntry.{HostEntry}
-use Rattle.tva_config.specs.declared.entries.OwnedRoute.{OwnedRoute}
+use Rattle.tva_config_entries.specs.declared.entries.RouterEntry.{RouterEntry}
+use Rattle.tva_config_entries.specs.declared.entries.HostEntry.{HostEntry}
+use Rattle.tva_config.specs.declared.joined.OwnedRoute.{OwnedRoute}
 use Rattle.tva_plan.specs.Wiring.{picked, tagged_to, incoming_of, limited_from, outgoing_of}
 use Rattle.tva_config.specs.Read.{if_owned, routes_at, router_plan, host_plan}
-use Rattle.tva_config.proofs.Ranges.{IsRouterEntry, IsHostEntry}
+use Rattle.tva_config_entries.proofs.Ranges.{IsRouterEntry, IsHostEntry}
 use Rattle.tva_plan.specs.Valid.{IsLinkPlan}
-use Rattle.tva_config.proofs.Turns.{all_cons}
+use Rattle.tva_config_entries.proofs.Turns.{all_cons}
 use Rattle.tva_config.proofs.StepsRoutes.{contains_cons, IsOwned, key_of, AreRoutes}
 
 -- a choice that keeps the number of what it takes

@@ -7,13 +7,13 @@ use Rattle.std.proofs.lemmas.List.{map-id}
 use Rattle.std.proofs.lemmas.Slice.Eq.{bytes_eq-Decides}
 use Rattle.tva_base.specs.declared.addresses.Address.{Address}
 use Rattle.tva_base.specs.Plan.{AreDistinct}
-use Rattle.tva_config.specs.declared.fault.ConfigTable.TheVariants as table
-use Rattle.tva_config.specs.declared.fault.ConfigRule.TheVariants as rule
-use Rattle.tva_config.specs.declared.entries.RouterEntry.{RouterEntry}
-use Rattle.tva_config.specs.declared.entries.HostEntry.{HostEntry}
-use Rattle.tva_config.specs.Faults.{at, fault_at, unless}
+use Rattle.tva_config_entries.specs.declared.faults.ConfigTable.TheVariants as table
+use Rattle.tva_config_entries.specs.declared.faults.ConfigRule.TheVariants as rule
+use Rattle.tva_config_entries.specs.declared.entries.RouterEntry.{RouterEntry}
+use Rattle.tva_config_entries.specs.declared.entries.HostEntry.{HostEntry}
+use Rattle.tva_config_entries.specs.Faults.{at, fault_at, unless}
 use Rattle.tva_config.specs.Nodes.{node_names, node_place, name_step, names_of, address_step, addresses_of, retry_step, retries_of}
-use Rattle.tva_config.proofs.Turns.{first_gave, unless_gave, in_turn_keeps, in_turn_maps, in_turn_shows, distinct_push}
+use Rattle.tva_config_entries.proofs.Turns.{first_gave, unless_gave, in_turn_keeps, in_turn_maps, in_turn_shows, distinct_push}
 
 or_false : (a b : Bool) → (a || b) ≡ false → (a ≡ false) × (b ≡ false)
 or_false true b is = absurd (cc)

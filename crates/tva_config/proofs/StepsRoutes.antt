@@ -8,16 +8,16 @@ use Rattle.tva_base.specs.declared.addresses.Prefix.{Prefix}
 use Rattle.tva_base.specs.declared.limits.LinkLimits.{LinkLimits}
 use Rattle.tva_base.specs.declared.plan.LinkPlan.{LinkPlan}
 use Rattle.tva_base.specs.Plan.{AreDistinct, IsPrefix, links_of}
-use Rattle.tva_config.specs.declared.fault.ConfigTable.TheVariants as table
-use Rattle.tva_config.specs.declared.fault.ConfigRule.TheVariants as rule
-use Rattle.tva_config.specs.declared.entries.RouteEntry.{RouteEntry}
-use Rattle.tva_config.specs.declared.entries.OwnedRoute.{OwnedRoute}
-use Rattle.tva_config.specs.Faults.{at, fault_at, unless}
-use Rattle.tva_config.specs.Links.{found, joins, link_between}
+use Rattle.tva_config_entries.specs.declared.faults.ConfigTable.TheVariants as table
+use Rattle.tva_config_entries.specs.declared.faults.ConfigRule.TheVariants as rule
+use Rattle.tva_config_entries.specs.declared.entries.RouteEntry.{RouteEntry}
+use Rattle.tva_config.specs.declared.joined.OwnedRoute.{OwnedRoute}
+use Rattle.tva_config_entries.specs.Faults.{at, fault_at, unless, found}
+use Rattle.tva_config.specs.Links.{joins, link_between}
 use Rattle.tva_plan.specs.Wiring.{picked, limited_from, outgoing_of}
 use Rattle.tva_config.specs.Routes.{router_named, link_to, is_for, resolved, route_step, routes_of}
-use Rattle.tva_config.proofs.Ranges.{IsRouteEntry}
-use Rattle.tva_config.proofs.Turns.{first_gave, unless_gave, found_gave, in_turn_keeps_of, distinct_push, all_push}
+use Rattle.tva_config_entries.proofs.Ranges.{IsRouteEntry}
+use Rattle.tva_config_entries.proofs.Turns.{first_gave, unless_gave, found_gave, in_turn_keeps_of, distinct_push, all_push}
 use Rattle.tva_config.proofs.StepsKeep.{not_in, any_of_map}
 
 pub contains_cons : {A : Type 0} (x y : A) (xs : List A) → Contains xs x → Contains (y ∷ xs) x

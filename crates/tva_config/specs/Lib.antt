@@ -1,11 +1,5 @@
-pub mod Entries
-pub mod Faults
-pub mod Keys
 pub mod Links
 pub mod Nodes
 pub mod Read
 pub mod Routes
-pub mod Tables
-pub mod Values
-pub mod Words
 pub mod Views

@@ -1,20 +1,14 @@
 -- What links must be to the nodes and to one another.
 use Rattle.std.specs.Prelude.{ℕ, ◌+◌, ◌==◌, ◌&&◌, Bool, List, [], ◌∷◌, length, nat_lt}
-use Rattle.std.specs.Prelude.{Ok, Err, Option, Some, None, codes}
+use Rattle.std.specs.Prelude.{Ok, Option, Some, None, codes}
 use Rattle.std.specs.List.{list_any, position_from}
 use Rattle.tva_base.specs.declared.plan.LinkPlan.{LinkPlan}
-use Rattle.tva_config.specs.declared.fault.ConfigTable.TheVariants as table
-use Rattle.tva_config.specs.declared.fault.ConfigRule.TheVariants as rule
-use Rattle.tva_config.specs.declared.fault.ConfigFault.{ConfigFault}
-use Rattle.tva_config.specs.declared.entries.HostEntry.{HostEntry}
-use Rattle.tva_config.specs.declared.entries.LinkEntry.{LinkEntry}
-use Rattle.tva_config.specs.Faults.{Read, ◌>>=◌, at, fault_at, unless, in_turn}
+use Rattle.tva_config_entries.specs.declared.faults.ConfigTable.TheVariants as table
+use Rattle.tva_config_entries.specs.declared.faults.ConfigRule.TheVariants as rule
+use Rattle.tva_config_entries.specs.declared.entries.HostEntry.{HostEntry}
+use Rattle.tva_config_entries.specs.declared.entries.LinkEntry.{LinkEntry}
+use Rattle.tva_config_entries.specs.Faults.{Read, ◌>>=◌, at, fault_at, unless, found, in_turn}
 use Rattle.tva_plan.specs.Wiring.{links_from, all_places}
-
--- what was looked for, or a fault
-abbrev pub found : {A : Type 0} → Option A → ConfigFault → Read A
-found None fault = Err fault
-found (Some x) fault = Ok x
 
 -- the link is from this node to that
 abbrev pub joins : ℕ → ℕ → LinkPlan → Bool

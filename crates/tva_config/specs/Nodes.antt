@@ -4,12 +4,12 @@ use Rattle.std.specs.Prelude.{if◌then◌else◌, Ok, Option, codes}
 use Rattle.std.specs.List.{list_any, position_from}
 use Rattle.std.specs.Str.{bytes_eq}
 use Rattle.tva_base.specs.declared.addresses.Address.{Address}
-use Rattle.tva_config.specs.declared.fault.ConfigTable.TheVariants as table
-use Rattle.tva_config.specs.declared.fault.ConfigRule.TheVariants as rule
-use Rattle.tva_config.specs.declared.place.Place.{Place}
-use Rattle.tva_config.specs.declared.entries.RouterEntry.{RouterEntry}
-use Rattle.tva_config.specs.declared.entries.HostEntry.{HostEntry}
-use Rattle.tva_config.specs.Faults.{Read, ◌>>=◌, at, fault_at, unless, in_turn}
+use Rattle.tva_config_entries.specs.declared.faults.ConfigTable.TheVariants as table
+use Rattle.tva_config_entries.specs.declared.faults.ConfigRule.TheVariants as rule
+use Rattle.tva_config_entries.specs.declared.place.Place.{Place}
+use Rattle.tva_config_entries.specs.declared.entries.RouterEntry.{RouterEntry}
+use Rattle.tva_config_entries.specs.declared.entries.HostEntry.{HostEntry}
+use Rattle.tva_config_entries.specs.Faults.{Read, ◌>>=◌, at, fault_at, unless, in_turn}
 
 -- the names of all nodes, in the order of their numbers
 abbrev pub node_names : List RouterEntry → List HostEntry → List (List ℕ)

@@ -1,10 +1,7 @@
 -- The plan of a text, or its first fault.
 use Rattle.std.specs.Prelude.{ℕ, ◌+◌, ◌==◌, List, [], ◌∷◌, ◌++◌, length, if◌then◌else◌}
-use Rattle.std.specs.Prelude.{Ok, Err, Option, Some, None, codes}
+use Rattle.std.specs.Prelude.{Ok, Option, Some, None}
 use Rattle.std.specs.List.{filter_map}
-use Rattle.std.specs.Str.{is_utf8}
-use Rattle.toml.specs.Data.{Members}
-use Rattle.toml.specs.Parse.{parse_document}
 use Rattle.tva_base.specs.declared.plan.LinkPlan.{LinkPlan}
 use Rattle.tva_base.specs.declared.plan.Route.{Route}
 use Rattle.tva_base.specs.declared.plan.RouterPlan.{RouterPlan}
@@ -12,12 +9,12 @@ use Rattle.tva_base.specs.declared.plan.HostPlan.{HostPlan}
 use Rattle.tva_plan.specs.declared.config.Config.{Config}
 use Rattle.tva_plan.specs.declared.config.NodePlan as nodes
 use Rattle.tva_plan.specs.declared.config.NodePlan.TheVariants as node
-use Rattle.tva_config.specs.declared.fault.ConfigRule.TheVariants as rule
-use Rattle.tva_config.specs.declared.entries.RouterEntry.{RouterEntry}
-use Rattle.tva_config.specs.declared.entries.HostEntry.{HostEntry}
-use Rattle.tva_config.specs.declared.entries.OwnedRoute.{OwnedRoute}
-use Rattle.tva_config.specs.Faults.{Read, ◌>>=◌, top, fault_at}
-use Rattle.tva_config.specs.Tables.{top_of, counts_of, Entries, all_entries_of}
+use Rattle.tva_config_entries.specs.declared.entries.RouterEntry.{RouterEntry}
+use Rattle.tva_config_entries.specs.declared.entries.HostEntry.{HostEntry}
+use Rattle.tva_config.specs.declared.joined.OwnedRoute.{OwnedRoute}
+use Rattle.tva_config_entries.specs.Faults.{Read, ◌>>=◌}
+use Rattle.tva_config_entries.specs.Tables.{Entries}
+use Rattle.tva_config_entries.specs.Reading.{entries_read}
 use Rattle.tva_config.specs.Nodes.{node_of, names_of, addresses_of, retries_of, slots_of}
 use Rattle.tva_config.specs.Links.{link_between, links_of, uplinks_of, rings_of}
 use Rattle.tva_config.specs.Routes.{routes_of}
@@ -102,27 +99,13 @@ joined_of e = do
   linked_of (node_of names) e
 
 -- the plan of the entries
-unfoldable pub plan_of : ℕ → ℕ → Entries → Read Config
-plan_of horizon max_events e = do
+unfoldable pub plan_of : Entries → Read Config
+plan_of e = do
   j ← joined_of e
-  Ok (config_of horizon max_events e.routers e.hosts j.links j.uplinks j.routes)
+  Ok (config_of e.horizon e.max_events e.routers e.hosts j.links j.uplinks j.routes)
 
--- the steps of a document, in their order
-unfoldable pub members_read : Members → Read Config
-members_read ms = do
-  t ← top_of ms
-  few ← counts_of (length t.routers + length t.hosts) (length t.links) (length t.routes)
-  e ← all_entries_of t
-  plan_of t.horizon t.max_events e
-
--- the table that `toml` gives for a text, if any
-unfoldable pub document_of : List ℕ → Option Members
-document_of text = if is_utf8 text then parse_document text else None
-
-abbrev pub document_read : Option Members → Read Config
-document_read None = Err (fault_at top rule.Syntax (codes "-"))
-document_read (Some ms) = members_read ms
-
--- the plan of a text, or the first fault in the stated order
+-- the plan of a text, or the first fault in the stated order: those of keys and tables come first
 unfoldable pub read_of : List ℕ → Read Config
-read_of text = document_read (document_of text)
+read_of text = do
+  e ← entries_read text
+  plan_of e

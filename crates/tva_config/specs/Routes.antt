@@ -3,13 +3,12 @@ use Rattle.std.specs.Prelude.{ℕ, ◌==◌, ◌&&◌, Bool, List, [], length, n
 use Rattle.std.specs.Prelude.{option_and_then, Ok, Option, Some, None, codes}
 use Rattle.std.specs.List.{list_any}
 use Rattle.tva_base.specs.declared.addresses.Prefix.{Prefix}
-use Rattle.tva_config.specs.declared.fault.ConfigTable.TheVariants as table
-use Rattle.tva_config.specs.declared.fault.ConfigRule.TheVariants as rule
-use Rattle.tva_config.specs.declared.place.Place.{Place}
-use Rattle.tva_config.specs.declared.entries.RouteEntry.{RouteEntry}
-use Rattle.tva_config.specs.declared.entries.OwnedRoute.{OwnedRoute}
-use Rattle.tva_config.specs.Faults.{Read, ◌>>=◌, at, fault_at, unless, in_turn}
-use Rattle.tva_config.specs.Links.{found}
+use Rattle.tva_config_entries.specs.declared.faults.ConfigTable.TheVariants as table
+use Rattle.tva_config_entries.specs.declared.faults.ConfigRule.TheVariants as rule
+use Rattle.tva_config_entries.specs.declared.place.Place.{Place}
+use Rattle.tva_config_entries.specs.declared.entries.RouteEntry.{RouteEntry}
+use Rattle.tva_config.specs.declared.joined.OwnedRoute.{OwnedRoute}
+use Rattle.tva_config_entries.specs.Faults.{Read, ◌>>=◌, at, fault_at, unless, found, in_turn}
 
 -- a node that is one of so many routers
 abbrev pub if_router : ℕ → ℕ → Option ℕ

@@ -1,41 +1,18 @@
 -- Kit: what the values of the code stand for, for the clauses within the crate.
-use Rattle.std.specs.Prelude.{◌≡◌, ◌==◌, ◌&&◌, ℕ, Bool, List, map, Option, String}
+use Rattle.std.specs.Prelude.{◌≡◌, ◌==◌, ◌&&◌, ℕ, Bool, List, Option, String}
 use Rattle.std.specs.HashMap.{HashMap, get, get_by_text}
 use Rattle.std.specs.HashSet.{HashSet, contains}
 use Rattle.std.specs.List.{list_any}
 use Rattle.std.specs.declared.hash.FoldHasher.{FoldHasher}
 use Rattle.std.specs.declared.hash.BuildHasherDefault.{BuildHasherDefault}
 use Rattle.std.specs.declared.alloc.Global.{Global}
-use Rattle.toml.specs.View.{table_view}
 use Rattle.tva_base.specs.declared.plan.LinkPlan.{LinkPlan}
-use Rattle.tva_config.specs.declared.top.TopTable.{TopTable}
-use Rattle.tva_config.specs.declared.entries.EntryLists.{EntryLists}
-use Rattle.tva_config.specs.declared.entries.JoinedLists.{JoinedLists}
+use Rattle.tva_config.specs.declared.joined.JoinedLists.{JoinedLists}
 use Rattle.tva_config.specs.Read.{Joined}
-use Rattle.tva_config.specs.Tables.{Top, Entries}
-use Rattle.tva_config.specs.declared.entries.OwnedRoute.{OwnedRoute}
+use Rattle.tva_config.specs.declared.joined.OwnedRoute.{OwnedRoute}
 use Rattle.tva_config.specs.Nodes.{node_of}
 use Rattle.tva_config.specs.Links.{link_between}
 use Rattle.tva_config.specs.Routes.{is_for}
-
-abbrev pub seen_top : TopTable → Top
-seen_top t = record {
-  horizon = t.horizon;
-  max_events = t.max_events;
-  version = t.version;
-  routers = map (λ m. table_view m.now) t.routers.items;
-  hosts = map (λ m. table_view m.now) t.hosts.items;
-  links = map (λ m. table_view m.now) t.links.items;
-  routes = map (λ m. table_view m.now) t.routes.items;
-}
-
-abbrev pub seen_entries : EntryLists → Entries
-seen_entries e = record {
-  routers = e.routers.items;
-  hosts = e.hosts.items;
-  links = e.links.items;
-  routes = e.routes.items;
-}
 
 abbrev pub seen_joined : JoinedLists → Joined
 seen_joined j = record { links = j.links.items; uplinks = j.uplinks.items; routes = j.routes.items }

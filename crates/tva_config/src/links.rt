@@ -2,18 +2,17 @@
 ghost use Rattle.std.specs.Prelude.{◌≡◌, ◌≤◌, ◌<◌, ◌^◌, ◌+◌, ◌*◌, IfOk, false, length};
 ghost use Rattle.std.specs.List.{list_any};
 ghost use Rattle.std.specs.HashMap.{get_by_text};
-ghost use Rattle.tva_config.specs.Faults.{AnswersBy};
+ghost use Rattle.tva_config_entries.specs.Faults.{AnswersBy};
 ghost use Rattle.tva_config.specs.Views.{IsPairs, link_at};
 ghost use Rattle.tva_config.specs.Links.{joins, link_between, link_step, links_of, only, uplink_of, uplinks_of, rings_of};
 ghost use Rattle.tva_plan.specs.Wiring.{links_from, queues_behind, places, all_places};
 
-use crate::entries::{HostEntry, LinkEntry};
-use crate::fault::{ConfigError, ConfigFault, ConfigRule, ConfigTable};
-use crate::keys::fault;
-use crate::place::Place;
 use std::alloc::Global;
 use std::collections::HashMap;
 use tva_base::LinkPlan;
+use tva_config_entries::{
+    ConfigError, ConfigFault, ConfigRule, ConfigTable, HostEntry, LinkEntry, Place, fault,
+};
 
 /// The links with the numbers of their ends, and their own numbers by their ends.
 #[derive(Drop)]

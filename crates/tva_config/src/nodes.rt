@@ -5,17 +5,16 @@ ghost use Rattle.std.specs.Bool.{OnTrue};
 ghost use Rattle.std.specs.HashMap.{get_by_text};
 ghost use Rattle.std.specs.Map.{update};
 ghost use Rattle.std.specs.Str.{bytes_eq};
-ghost use Rattle.tva_config.specs.declared.fault.ConfigTable.TheVariants as table;
-ghost use Rattle.tva_config.specs.Faults.{AnswersBy, at, fault_at};
+ghost use Rattle.tva_config_entries.specs.declared.faults.ConfigTable.TheVariants as table;
+ghost use Rattle.tva_config_entries.specs.Faults.{AnswersBy, at, fault_at};
 ghost use Rattle.tva_config.specs.Nodes.{node_names, node_of, node_place, names_of, addresses_of, retries_of, slots_of, all_slots};
 
-use crate::entries::{HostEntry, RouterEntry};
-use crate::fault::{ConfigError, ConfigFault, ConfigRule, ConfigTable};
-use crate::keys::fault;
-use crate::place::Place;
 use std::alloc::{AllocError, Global};
 use std::collections::{HashMap, HashSet};
 use tva_base::SECOND;
+use tva_config_entries::{
+    ConfigError, ConfigFault, ConfigRule, ConfigTable, HostEntry, Place, RouterEntry, fault,
+};
 
 /// The numbers of the nodes by their names, or the first name that an earlier node has.
 #[tactic(auto, unfolding(crate::specs::Nodes::names_of))]

@@ -3,9 +3,10 @@ ghost use Rattle.std.specs.Prelude.{◌≡◌, ◌≤◌, ◌+◌, ◌++◌, IfO
 ghost use Rattle.tva_config.specs.Read.{routes_at, router_plan, host_plan, router_plans, host_plans};
 ghost use Rattle.tva_plan.specs.Wiring.{incoming_of, outgoing_of};
 
-use crate::entries::{HostEntry, OwnedRoute, RouterEntry};
+use crate::joined::OwnedRoute;
 use std::alloc::{AllocError, Global};
 use tva_base::{HostPlan, LinkLimits, LinkPlan, Listed, Route, RouterPlan};
+use tva_config_entries::{HostEntry, RouterEntry};
 use tva_plan::NodePlan;
 
 /// The plans of the routers.

@@ -1,26 +1,21 @@
-// The steps of a configuration, in their order.
-ghost use Rattle.std.specs.Prelude.{◌≡◌, ◌≤◌, ◌+◌, IfOk, Ok, Err, length, option_map};
+// The steps of a configuration behind its entries, in their order.
+ghost use Rattle.std.specs.Prelude.{◌≡◌, ◌≤◌, ◌+◌, IfOk, Ok, Err, length};
 ghost use Rattle.std.specs.HashMap.{get_by_text};
-ghost use Rattle.toml.specs.View.{table_view};
-ghost use Rattle.tva_config.specs.declared.fault.ConfigFault.{ConfigFault};
-ghost use Rattle.tva_config.specs.declared.fault.ConfigError.TheVariants.{Fault};
+ghost use Rattle.tva_config_entries.specs.declared.faults.ConfigFault.{ConfigFault};
+ghost use Rattle.tva_config_entries.specs.declared.faults.ConfigError.TheVariants.{Fault};
 ghost use Rattle.tva_plan.specs.declared.config.Config.{Config};
-ghost use Rattle.tva_config.specs.Faults.{Answers, AnswersBy, IsOrLacksMemory};
+ghost use Rattle.tva_config_entries.specs.Faults.{Answers, AnswersBy, IsOrLacksMemory};
 ghost use Rattle.tva_plan.specs.Valid.{IsConfig};
-ghost use Rattle.tva_config.specs.Tables.{all_entries_of};
-ghost use Rattle.tva_config.specs.Views.{seen_top, seen_entries, seen_joined};
-ghost use Rattle.tva_config.specs.Read.{config_of, linked_of, joined_of, plan_of, members_read, document_of, read_of};
+ghost use Rattle.tva_config_entries.specs.Views.{seen_entries};
+ghost use Rattle.tva_config.specs.Views.{seen_joined};
+ghost use Rattle.tva_config.specs.Read.{config_of, linked_of, joined_of, plan_of, read_of};
 
-use crate::entries::{EntryLists, HostEntry, JoinedLists, OwnedRoute, RouterEntry};
-use crate::fault::{ConfigError, ConfigRule, ConfigTable};
-use crate::keys::fault;
-use crate::place::Place;
-use crate::top::TopTable;
-use crate::{links, nodes, plans, routes, top};
+use crate::joined::{JoinedLists, OwnedRoute};
+use crate::{links, nodes, plans, routes};
 use std::alloc::{AllocError, Global};
 use std::collections::HashMap;
-use toml::Table;
 use tva_base::{LinkPlan, Listed, Time};
+use tva_config_entries::{ConfigError, EntryLists, HostEntry, RouterEntry, read_entries};
 use tva_plan::Config;
 
 /// Reads a configuration, a TOML text.
@@ -43,85 +38,23 @@ pub fn read_config(alloc: Global, text: &[u8]) -> Result<Config, ConfigError>
 fn read_text(alloc: Global, text: &[u8]) -> Result<Config, ConfigError>
     ensures { Answers (read_of text.now) result }
 {
-    match document(alloc, text)? {
-        Some(table) => read_table(alloc, &table),
-        None => {
-            let top = Place {
-                table: ConfigTable::Top,
-                entry: 0,
-            };
-            Err(fault(top, ConfigRule::Syntax, "-").into())
-        }
-    }
-}
-
-// The table of a text, or nothing where it has none.
-fn document(alloc: Global, text: &[u8]) -> Result<Option<Table>, AllocError>
-    ensures { IfOk result (λ table. option_map table_view table ≡ document_of text.now) }
-{
-    match toml::table_from_slice(alloc, text) {
-        Ok(table) => Ok(Some(table)),
-        Err(error) => {
-            if error.is_memory() {
-                return Err(AllocError);
-            }
-            Ok(None)
-        }
-    }
-}
-
-// What a table is read as.
-#[tactic(auto, unfolding(crate::specs::Read::members_read))]
-fn read_table(alloc: Global, table: &Table) -> Result<Config, ConfigError>
-    ensures { Answers (members_read (table_view table.now)) result }
-{
-    let top = top::top(alloc, table)?;
-    top::counts(&top)?;
-    let entries = read_entries(alloc, &top)?;
-    plan(alloc, top.horizon, top.max_events, entries)
-}
-
-// The entries of all tables, or the first fault in them.
-#[tactic(auto, unfolding(crate::specs::Tables::all_entries_of))]
-fn read_entries(alloc: Global, top: &TopTable) -> Result<EntryLists, ConfigError>
-    requires nodes { length top.now.routers.items + length top.now.hosts.items ≤ 1024 }
-    requires links { length top.now.links.items ≤ 4096 }
-    requires routes { length top.now.routes.items ≤ 65536 }
-    ensures answer { AnswersBy seen_entries (all_entries_of (seen_top top.now)) result }
-    ensures nodes { IfOk result (λ e. length e.routers.items + length e.hosts.items ≤ 1024) }
-    ensures links { IfOk result (λ e. length e.links.items ≤ 4096) }
-    ensures routes { IfOk result (λ e. length e.routes.items ≤ 65536) }
-{
-    let routers = top::entries(alloc, ConfigTable::Router, top.version, &top.routers)?;
-    let hosts = top::entries(alloc, ConfigTable::Host, top.version, &top.hosts)?;
-    let links = top::entries(alloc, ConfigTable::Link, top.version, &top.links)?;
-    let routes = top::entries(alloc, ConfigTable::Route, top.version, &top.routes)?;
-    Ok(EntryLists {
-        routers,
-        hosts,
-        links,
-        routes,
-    })
+    let entries = read_entries(alloc, text)?;
+    plan(alloc, entries)
 }
 
 // The plan of the entries, or the first fault of the steps across tables.
 #[tactic(auto, unfolding(crate::specs::Read::plan_of))]
-fn plan(
-    alloc: Global,
-    horizon: u64,
-    max_events: u64,
-    entries: EntryLists,
-) -> Result<Config, ConfigError>
+fn plan(alloc: Global, entries: EntryLists) -> Result<Config, ConfigError>
     requires nodes { length entries.routers.items + length entries.hosts.items ≤ 1024 }
     requires links { length entries.links.items ≤ 4096 }
     requires routes { length entries.routes.items ≤ 65536 }
-    ensures { Answers (plan_of horizon max_events (seen_entries entries)) result }
+    ensures { Answers (plan_of (seen_entries entries)) result }
 {
     let joined = join(alloc, &entries)?;
     Ok(config(
         alloc,
-        horizon,
-        max_events,
+        entries.horizon,
+        entries.max_events,
         entries.routers,
         entries.hosts,
         joined.links,

@@ -1,18 +1,18 @@
 // What routes must be to the nodes, the links and one another.
 ghost use Rattle.std.specs.Prelude.{◌≡◌, ◌≤◌, IfOk, length};
 ghost use Rattle.std.specs.HashMap.{get_by_text};
-ghost use Rattle.tva_config.specs.Faults.{AnswersBy};
+ghost use Rattle.tva_config_entries.specs.Faults.{AnswersBy};
 ghost use Rattle.tva_config.specs.Views.{link_at, IsSeen};
 ghost use Rattle.tva_config.specs.Routes.{router_named, link_to, resolved, route_step, routes_of};
 
-use crate::entries::{OwnedRoute, RouteEntry};
-use crate::fault::{ConfigError, ConfigFault, ConfigRule, ConfigTable};
-use crate::keys::fault;
+use crate::joined::OwnedRoute;
 use crate::links::node;
-use crate::place::Place;
 use std::alloc::Global;
 use std::collections::{HashMap, HashSet};
 use tva_base::Route;
+use tva_config_entries::{
+    ConfigError, ConfigFault, ConfigRule, ConfigTable, Place, RouteEntry, fault,
+};
 
 /// The routes, or the first fault among them. So many nodes are routers.
 #[tactic(auto, unfolding(crate::specs::Routes::routes_of))]

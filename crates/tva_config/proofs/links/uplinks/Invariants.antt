@@ -1,6 +1,6 @@
 use Rattle.std.proofs.Common.{◌≡◌, length, drop}
 use Rattle.tva_config.specs.Links.{uplink_step}
-use Rattle.tva_config.proofs.InTurn.{Continues}
+use Rattle.tva_config_entries.proofs.InTurn.{Continues}
 use Rattle.tva_config.proofs.links.uplinks.Given as goal
 
 abbrev pub invariant-loop-i : goal.invariant-loop-i

@@ -2,7 +2,7 @@ use Rattle.std.proofs.Common.{◌≡◌, ◌==◌, ℕ, nat_eq, map, take, drop}
 use Rattle.std.specs.List.{list_any}
 use Rattle.std.specs.HashSet as bag
 use Rattle.tva_config.specs.Nodes.{address_step}
-use Rattle.tva_config.proofs.InTurn.{Continues}
+use Rattle.tva_config_entries.proofs.InTurn.{Continues}
 use Rattle.tva_config.proofs.nodes.addresses.Given as goal
 
 abbrev pub invariant-loop-i : goal.invariant-loop-i

@@ -1,6 +1,6 @@
 use Rattle.std.proofs.Common.{map, take, drop}
 use Rattle.tva_config.specs.Nodes.{retry_step}
-use Rattle.tva_config.proofs.InTurn.{Continues}
+use Rattle.tva_config_entries.proofs.InTurn.{Continues}
 use Rattle.tva_config.proofs.nodes.retries.Given as goal
 
 abbrev pub invariant-loop-i : goal.invariant-loop-i

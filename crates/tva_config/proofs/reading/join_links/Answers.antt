@@ -1,13 +1,14 @@
 use Rattle.std.proofs.Common.{◌≡◌, ◌∙◌, length, refl, sym, Ok, Err, Vec, Global, ℕ}
 use Rattle.std.specs.HashMap.{get_by_text}
-use Rattle.tva_config.specs.declared.entries.OwnedRoute.{OwnedRoute}
+use Rattle.tva_config.specs.declared.joined.OwnedRoute.{OwnedRoute}
 use Rattle.tva_config.specs.declared.links.NumberedLinks.{NumberedLinks}
 use Rattle.tva_config.specs.Nodes.{slots_of}
 use Rattle.tva_config.specs.Links.{link_between, links_of, uplinks_of}
 use Rattle.tva_config.specs.Routes.{routes_of}
 use Rattle.tva_config.specs.Read.{linked_of}
-use Rattle.tva_config.specs.Views.{link_at, seen_entries, seen_joined}
-use Rattle.tva_config.proofs.Answered.{answered_there, error_told, fault_told, given, refused}
+use Rattle.tva_config.specs.Views.{link_at, seen_joined}
+use Rattle.tva_config_entries.specs.Views.{seen_entries}
+use Rattle.tva_config_entries.proofs.Answered.{answered_there, error_told, fault_told, given, refused}
 use Rattle.tva_config.proofs.reading.join_links.Goals as goal
 
 pub returns-in_err-links-clause-answer : goal.returns-in_err-links-clause-answer

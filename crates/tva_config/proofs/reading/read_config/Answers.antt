@@ -1,4 +1,4 @@
-use Rattle.tva_config.proofs.Answered.{answer_ok, answer_fault, ok_answered, fault_answered}
+use Rattle.tva_config_entries.proofs.Answered.{answer_ok, answer_fault, ok_answered, fault_answered}
 use Rattle.tva_config.proofs.ReadValid.{answer_valid}
 use Rattle.tva_config.specs.Read.{read_of}
 use Rattle.tva_config.proofs.reading.read_config.Goals as goal

@@ -1,8 +1,0 @@
-use Rattle.std.proofs.Common.{map}
-use Rattle.toml.specs.View.{table_view}
-use Rattle.tva_config.proofs.Items.{Collects}
-use Rattle.tva_config.specs.Values.{table_members}
-use Rattle.tva_config.proofs.arrays.each_table.Given as goal
-
-abbrev pub invariant-loop-value : goal.invariant-loop-value
-invariant-loop-value l = Collects table_members (map (λ t. table_view t.now) l.found.items) l.array.items l.value-index

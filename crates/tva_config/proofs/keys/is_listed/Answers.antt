@@ -1,6 +1,0 @@
-use Rattle.std.proofs.Common.{◌∙◌, sym}
-use Rattle.tva_config.proofs.Listed.{any_of_keys}
-use Rattle.tva_config.proofs.keys.is_listed.Goals as goal
-
-pub returns : goal.returns
-returns c = c.contains.ensures.value ∙ sym (any_of_keys c.args.name.now c.args.listed.now)

@@ -1,4 +1,0 @@
-use Rattle.tva_config.proofs.keys.missing.Goals as goal
-
-pub returns : goal.returns
-returns c = c.fault.ensures

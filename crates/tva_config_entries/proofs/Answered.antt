@@ -1,0 +1,65 @@
+-- What an answer by cases says in each of them.
+use Rattle.std.proofs.Common.{◌≡◌, Result, Ok, Err, IfOk, IsErrAnd, inl, inr, refl, ap, sym, subst, ◌∙◌}
+use Rattle.tva_config_entries.specs.declared.faults.ConfigFault.{ConfigFault}
+use Rattle.tva_config_entries.specs.declared.faults.ConfigError.{ConfigError}
+use Rattle.tva_config_entries.specs.declared.faults.ConfigError.TheVariants as error
+use Rattle.tva_config_entries.specs.Faults.{Read, ◌>>=◌, Answers, AnswersBy, IsOrLacksMemory}
+
+pub answer_ok : {A : Type 0} (read : Read A) (answer : Result A ConfigError) → Answers read answer → IfOk answer (λ x. read ≡ Ok x)
+answer_ok read (Ok x) is = is
+answer_ok read (Err e) is = tt
+
+pub answer_fault : {A : Type 0} (read : Read A) (answer : Result A ConfigError) → Answers read answer
+    → (fault : ConfigFault) → answer ≡ Err (error.Fault fault) → read ≡ Err fault
+answer_fault read (Ok x) is fault gave = absurd (cc)
+answer_fault read (Err (error.Fault f)) is fault gave = let same : f ≡ fault = cc in is ∙ ap Err same
+answer_fault read (Err error.OutOfMemory) is fault gave = absurd (cc)
+
+pub ok_answered : {A : Type 0} (read : Read A) (answer : Result A ConfigError) → Answers read answer
+    → (x : A) → read ≡ Ok x → IsOrLacksMemory (Ok x) answer
+ok_answered read (Ok y) is x due = let same : y ≡ x = cc in inl (ap Ok same)
+ok_answered read (Err (error.Fault f)) is x due = absurd (cc)
+ok_answered read (Err error.OutOfMemory) is x due = inr refl
+
+pub fault_answered : {A : Type 0} (read : Read A) (answer : Result A ConfigError) → Answers read answer
+    → (fault : ConfigFault) → read ≡ Err fault → IsOrLacksMemory (Err (error.Fault fault)) answer
+fault_answered read (Ok y) is fault due = absurd (cc)
+fault_answered read (Err (error.Fault f)) is fault due = let same : f ≡ fault = cc in inl (ap (λ g. Err (error.Fault g)) same)
+fault_answered read (Err error.OutOfMemory) is fault due = inr refl
+
+-- the answer that `?` makes of a fault
+pub fault_told : {A B : Type 0} (seen : B → A) (read : Read A) (answer : Result B ConfigError) (fault : ConfigFault)
+    → IsErrAnd answer (λ e. e ≡ error.Fault fault) → read ≡ Err fault → AnswersBy seen read answer
+fault_told seen read (Ok x) fault is due = absurd is
+fault_told seen read (Err e) fault is due = subst (λ (x : ConfigError). AnswersBy seen read (Err x)) (sym is) due
+
+-- the same of a fault whose type stays
+pub fault_kept : {A : Type 0} (read answer : Read A) (fault : ConfigFault) → IsErrAnd answer (λ e. e ≡ fault) → read ≡ Err fault → answer ≡ read
+fault_kept read (Ok x) fault is due = absurd is
+fault_kept read (Err e) fault is due = ap Err is ∙ sym due
+
+-- the same of an error that an earlier step told
+pub error_told : {A B C D : Type 0} (seen : B → A) (read : Read A) (answer : Result B ConfigError) (step : Read C) (seen_there : D → C) (next : C → Read A) (e : ConfigError)
+    → IsErrAnd answer (λ x. x ≡ e) → read ≡ (step >>= next) → AnswersBy seen_there step (Err e) → AnswersBy seen read answer
+error_told seen read (Ok x) step seen_there next e is reads told = absurd is
+error_told seen read (Err error.OutOfMemory) step seen_there next e is reads told = tt
+error_told seen read (Err (error.Fault f)) step seen_there next e is reads told =
+    let fault : step ≡ Err f = subst (λ (x : ConfigError). AnswersBy seen_there step (Err x)) (sym is) told in
+    reads ∙ ap (λ r. r >>= next) fault
+
+-- a step that gave a value, and one that gave a fault, in a chain of steps
+pub given : {A B : Type 0} (r : Read A) (next : A → Read B) (x : A) → r ≡ Ok x → (r >>= next) ≡ next x
+given r next x gave = ap (λ q. q >>= next) gave
+
+pub refused : {A B : Type 0} (r : Read A) (next : A → Read B) (fault : ConfigFault) → r ≡ Err fault → (r >>= next) ≡ Err fault
+refused r next fault gave = ap (λ q. q >>= next) gave
+
+-- the answer of a last step
+pub answered_there : {A B : Type 0} (seen : B → A) (read due : Read A) (answer : Result B ConfigError)
+    → read ≡ due → AnswersBy seen due answer → AnswersBy seen read answer
+answered_there seen read due answer same is = subst (λ r. AnswersBy seen r answer) (sym same) is
+
+-- a fault that the code makes an error
+pub fault_made : {A B : Type 0} (seen : B → A) (read : Read A) (e : ConfigError) (fault due : ConfigFault)
+    → e ≡ error.Fault fault → fault ≡ due → read ≡ Err due → AnswersBy seen read (Err e)
+fault_made seen read e fault due made same is = subst (λ x. AnswersBy seen read (Err x)) (sym made) (is ∙ ap Err (sym same))

@@ -1,0 +1,122 @@
+-- What a value that was read keeps: its range, its letters.
+use Rattle.std.proofs.Common.{◌≡◌, ◌≤◌, ◌<◌, ◌^◌, ◌*◌, ◌&&◌, nat_le, ℕ, ℤ, pos, negsuc, Bool, true, false, cond, List, [], ◌∷◌, length, Result, Ok, Err, Option, Some, None, IfSome, option_and_then, refl, sym, ◌∙◌, subst, arith}
+use Rattle.std.specs.Option.{option_map}
+use Rattle.std.specs.List.{list_all}
+use Rattle.std.proofs.lemmas.Bool.{and_parts, leb-true}
+use Rattle.hex.specs.Hex.{IsBytes, decode_sized}
+use Rattle.hex.specs.declared.error.FromHexError.{FromHexError}
+use Rattle.hex.proofs.HexLemmas.{decode_of-ok, decode_sized-ok, decode_sized-twice}
+use Rattle.toml.specs.Data.{Data, Members, as_integer, as_str, get_member}
+use Rattle.tva_base.specs.declared.addresses.Prefix.{Prefix}
+use Rattle.tva_base.specs.Addresses.{prefix_of}
+use Rattle.tva_base.specs.Plan.{IsPrefix}
+use Rattle.tva_config_entries.specs.declared.place.Place.{Place}
+use Rattle.tva_config_entries.specs.Keys.{value_or_fault, required_at, required, optional_at, optional}
+use Rattle.tva_config_entries.specs.Values.{within, number, name_of, name, prefix, decoded, number_of_bytes, nonce_of, nonce}
+use Rattle.tva_plan.specs.Names.{is_name_byte}
+use Rattle.tva_plan.specs.Valid.{IsName}
+use Rattle.tva_config_entries.proofs.Prefixes.{prefix_valid}
+
+-- what is known of each value of a kind is known of what a key gives
+gave_at : {A : Type 0} (P : A → Type 0) (place : Place) (key : List ℕ) (o : Option A) (x : A)
+    → ((y : A) → o ≡ Some y → P y) → value_or_fault place key o ≡ Ok x → P x
+gave_at P place key None x known gave = absurd (cc)
+gave_at P place key (Some y) x known gave = let same : y ≡ x = cc in subst P same (known y refl)
+
+required_from : {A : Type 0} (P : A → Type 0) (kind : Data → Option A) (place : Place) (key : List ℕ) (o : Option Data) (x : A)
+    → ((d : Data) (y : A) → kind d ≡ Some y → P y) → required_at place key kind o ≡ Ok x → P x
+required_from P kind place key None x known gave = absurd (cc)
+required_from P kind place key (Some d) x known gave = gave_at P place key (kind d) x (known d) gave
+
+pub required_valid : {A : Type 0} (P : A → Type 0) (kind : Data → Option A) (place : Place) (ms : Members) (key : List ℕ) (x : A)
+    → ((d : Data) (y : A) → kind d ≡ Some y → P y) → required place ms key kind ≡ Ok x → P x
+required_valid P kind place ms key x known gave = required_from P kind place key (get_member key ms) x known gave
+
+optional_from : {A : Type 0} (P : A → Type 0) (kind : Data → Option A) (place : Place) (key : List ℕ) (default : A) (o : Option Data) (x : A)
+    → ((d : Data) (y : A) → kind d ≡ Some y → P y) → P default → optional_at place key kind default o ≡ Ok x → P x
+optional_from P kind place key default None x known usual gave = let same : default ≡ x = cc in subst P same usual
+optional_from P kind place key default (Some d) x known usual gave = gave_at P place key (kind d) x (known d) gave
+
+pub optional_valid : {A : Type 0} (P : A → Type 0) (kind : Data → Option A) (place : Place) (ms : Members) (key : List ℕ) (default x : A)
+    → ((d : Data) (y : A) → kind d ≡ Some y → P y) → P default → optional place ms key kind default ≡ Ok x → P x
+optional_valid P kind place ms key default x known usual gave =
+    optional_from P kind place key default (get_member key ms) x known usual gave
+
+-- a step over a value that may be missing
+then_gave : {A B : Type 0} (P : B → Type 0) (f : A → Option B) (o : Option A) (y : B)
+    → ((x : A) → f x ≡ Some y → P y) → option_and_then f o ≡ Some y → P y
+then_gave P f None y known is = absurd (cc)
+then_gave P f (Some x) y known is = known x is
+
+-- a choice by a test
+chosen : {A : Type 0} (b : Bool) (x y : A) → cond b (Some x) None ≡ Some y → (b ≡ true) × (x ≡ y)
+chosen true x y is = (refl, cc)
+chosen false x y is = absurd (cc)
+
+-- a number from low to high
+abbrev pub IsWithin : ℕ → ℕ → ℕ → Type 0
+IsWithin low high n = (low ≤ n) × (n ≤ high)
+
+within_valid : (low high : ℕ) (z : ℤ) (n : ℕ) → within low high z ≡ Some n → IsWithin low high n
+within_valid low high (pos m) n is =
+    let (both, same) = chosen (nat_le low m && nat_le m high) m n is in
+    let (least, most) = and_parts (nat_le low m) (nat_le m high) both in
+    subst (IsWithin low high) same (leb-true low m least, leb-true m high most)
+within_valid low high (negsuc m) n is = absurd (cc)
+
+pub number_valid : (low high : ℕ) (d : Data) (n : ℕ) → number low high d ≡ Some n → IsWithin low high n
+number_valid low high d n is =
+    then_gave (IsWithin low high) (within low high) (as_integer d) n (λ z given. within_valid low high z n given) is
+
+-- a name
+name_of_valid : (text x : List ℕ) → name_of text ≡ Some x → IsName x
+name_of_valid text x is =
+    let (all, same) = chosen (nat_le 1 (length text) && nat_le (length text) 16 && list_all is_name_byte text) text x is in
+    let (sizes, bytes) = and_parts (nat_le 1 (length text) && nat_le (length text) 16) (list_all is_name_byte text) all in
+    let (least, most) = and_parts (nat_le 1 (length text)) (nat_le (length text) 16) sizes in
+    let valid : IsName text = record { size = (leb-true 1 (length text) least, leb-true (length text) 16 most); bytes = bytes } in
+    subst IsName same valid
+
+pub name_valid : (d : Data) (x : List ℕ) → name d ≡ Some x → IsName x
+name_valid d x is = then_gave IsName name_of (as_str d) x (λ text given. name_of_valid text x given) is
+
+-- a prefix
+some_of : {A : Type 0} (P : A → Type 0) (o : Option A) (x : A) → IfSome o P → o ≡ Some x → P x
+some_of P None x known is = absurd (cc)
+some_of P (Some y) x known is = let same : y ≡ x = cc in subst P same known
+
+pub prefix_kind_valid : (d : Data) (x : Prefix) → prefix d ≡ Some x → IsPrefix x
+prefix_kind_valid d x is =
+    then_gave IsPrefix prefix_of (as_str d) x (λ text given. some_of IsPrefix (prefix_of text) x (prefix_valid text) given) is
+
+-- a nonce
+six_bytes : (bytes : List ℕ) → length bytes ≡ 6 → IsBytes bytes → number_of_bytes bytes < 2 ^ 48
+six_bytes [] long small = absurd (omega arith)
+six_bytes (a ∷ []) long small = absurd (omega arith)
+six_bytes (a ∷ b ∷ []) long small = absurd (omega arith)
+six_bytes (a ∷ b ∷ c ∷ []) long small = absurd (omega arith)
+six_bytes (a ∷ b ∷ c ∷ d ∷ []) long small = absurd (omega arith)
+six_bytes (a ∷ b ∷ c ∷ d ∷ e ∷ []) long small = absurd (omega arith)
+six_bytes (a ∷ b ∷ c ∷ d ∷ e ∷ f ∷ []) long small =
+    let a_small : a < 256 = small 0 in
+    let b_small : b < 256 = small 1 in
+    let c_small : c < 256 = small 2 in
+    let d_small : d < 256 = small 3 in
+    let e_small : e < 256 = small 4 in
+    let f_small : f < 256 = small 5 in
+    omega arith
+six_bytes (a ∷ b ∷ c ∷ d ∷ e ∷ f ∷ g ∷ rest) long small = absurd (omega arith)
+
+decoded_from : (text : List ℕ) (r : Result (List ℕ) FromHexError) (n : ℕ) → decode_sized text 6 ≡ r
+    → option_map number_of_bytes (decoded r) ≡ Some n → n < 2 ^ 48
+decoded_from text (Err e) n is gave = absurd (cc)
+decoded_from text (Ok bytes) n is gave =
+    let twice : length text ≡ 2 * 6 = decode_sized-ok text 6 bytes is in
+    let (even, digits, long, small) = decode_of-ok text bytes (sym (decode_sized-twice text 6 twice) ∙ is) in
+    let six : length bytes ≡ 6 = omega arith in
+    let same : number_of_bytes bytes ≡ n = cc in
+    subst (λ m. m < 2 ^ 48) same (six_bytes bytes six small)
+
+pub nonce_valid : (d : Data) (n : ℕ) → nonce d ≡ Some n → n < 2 ^ 48
+nonce_valid d n is =
+    then_gave (λ m. m < 2 ^ 48) nonce_of (as_str d) n (λ text given. decoded_from text (decode_sized text 6) n refl given) is

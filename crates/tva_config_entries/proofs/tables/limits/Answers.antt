@@ -1,0 +1,130 @@
+use Rattle.std.proofs.Common.{◌∙◌, sym, ap, Ok}
+use Rattle.toml.specs.View.{table_view}
+use Rattle.tva_config_entries.specs.Entries.{limits_of}
+use Rattle.tva_config_entries.specs.Entries.{class_limits}
+use Rattle.tva_base.specs.declared.limits.DrrLimits.{DrrLimits}
+use Rattle.tva_base.specs.declared.limits.LinkLimits.{LinkLimits}
+use Rattle.tva_config_entries.proofs.Answered.{fault_kept, given, refused}
+use Rattle.tva_config_entries.proofs.tables.limits.Goals as goal
+
+pub returns-in_err-share : goal.returns-in_err-share
+unfolding limits_of
+returns-in_err-share c =
+    fault_kept (limits_of c.args.place c.args.ns_per_byte (table_view c.args.table.now)) c.from_residual.result c.in_err-share.field-0.0 c.from_residual.ensures.1
+    (refused _ _ _ (sym c.in_err-share.ensures))
+
+pub returns-in_err-burst : goal.returns-in_err-burst
+unfolding limits_of
+returns-in_err-burst c =
+    fault_kept (limits_of c.args.place c.args.ns_per_byte (table_view c.args.table.now)) c.from_residual-in_err-burst.result c.in_err-burst.field-0.0 c.from_residual-in_err-burst.ensures.1
+    (given _ _ _ (sym c.in_ok-share.ensures)
+    ∙ refused _ _ _ (sym c.in_err-burst.ensures))
+
+pub returns-in_err-quantum : goal.returns-in_err-quantum
+unfolding limits_of
+returns-in_err-quantum c =
+    fault_kept (limits_of c.args.place c.args.ns_per_byte (table_view c.args.table.now)) c.from_residual-in_err-quantum.result c.in_err-quantum.field-0.0 c.from_residual-in_err-quantum.ensures.1
+    (given _ _ _ (sym c.in_ok-share.ensures)
+    ∙ given _ _ _ (sym c.in_ok-burst.ensures)
+    ∙ refused _ _ _ (sym c.in_err-quantum.ensures))
+
+pub returns-in_err-queues : goal.returns-in_err-queues
+unfolding limits_of
+returns-in_err-queues c =
+    fault_kept (limits_of c.args.place c.args.ns_per_byte (table_view c.args.table.now)) c.from_residual-in_err-queues.result c.in_err-queues.field-0.0 c.from_residual-in_err-queues.ensures.1
+    (given _ _ _ (sym c.in_ok-share.ensures)
+    ∙ given _ _ _ (sym c.in_ok-burst.ensures)
+    ∙ given _ _ _ (sym c.in_ok-quantum.ensures)
+    ∙ refused _ _ _ (sym c.in_err-queues.ensures))
+
+pub returns-in_err-rings : goal.returns-in_err-rings
+unfolding limits_of
+returns-in_err-rings c =
+    fault_kept (limits_of c.args.place c.args.ns_per_byte (table_view c.args.table.now)) c.from_residual-in_err-rings.result c.in_err-rings.field-0.0 c.from_residual-in_err-rings.ensures.1
+    (given _ _ _ (sym c.in_ok-share.ensures)
+    ∙ given _ _ _ (sym c.in_ok-burst.ensures)
+    ∙ given _ _ _ (sym c.in_ok-quantum.ensures)
+    ∙ given _ _ _ (sym c.in_ok-queues.ensures)
+    ∙ refused _ _ _ (sym c.in_err-rings.ensures))
+
+pub returns-in_err-queue_bytes : goal.returns-in_err-queue_bytes
+unfolding limits_of
+returns-in_err-queue_bytes c =
+    fault_kept (limits_of c.args.place c.args.ns_per_byte (table_view c.args.table.now)) c.from_residual-in_err-queue_bytes.result c.in_err-queue_bytes.field-0.0 c.from_residual-in_err-queue_bytes.ensures.1
+    (given _ _ _ (sym c.in_ok-share.ensures)
+    ∙ given _ _ _ (sym c.in_ok-burst.ensures)
+    ∙ given _ _ _ (sym c.in_ok-quantum.ensures)
+    ∙ given _ _ _ (sym c.in_ok-queues.ensures)
+    ∙ given _ _ _ (sym c.in_ok-rings.ensures)
+    ∙ refused _ _ _ (sym c.in_err-queue_bytes.ensures))
+
+pub returns-in_err-class_bytes : goal.returns-in_err-class_bytes
+unfolding limits_of
+returns-in_err-class_bytes c =
+    fault_kept (limits_of c.args.place c.args.ns_per_byte (table_view c.args.table.now)) c.from_residual-in_err-class_bytes.result c.in_err-class_bytes.field-0.0 c.from_residual-in_err-class_bytes.ensures.1
+    (given _ _ _ (sym c.in_ok-share.ensures)
+    ∙ given _ _ _ (sym c.in_ok-burst.ensures)
+    ∙ given _ _ _ (sym c.in_ok-quantum.ensures)
+    ∙ given _ _ _ (sym c.in_ok-queues.ensures)
+    ∙ given _ _ _ (sym c.in_ok-rings.ensures)
+    ∙ given _ _ _ (sym c.in_ok-queue_bytes.ensures)
+    ∙ refused _ _ _ (sym c.in_err-class_bytes.ensures))
+
+pub returns-in_err-legacy_ring : goal.returns-in_err-legacy_ring
+unfolding limits_of
+returns-in_err-legacy_ring c =
+    fault_kept (limits_of c.args.place c.args.ns_per_byte (table_view c.args.table.now)) c.from_residual-in_err-legacy_ring.result c.in_err-legacy_ring.field-0.0 c.from_residual-in_err-legacy_ring.ensures.1
+    (given _ _ _ (sym c.in_ok-share.ensures)
+    ∙ given _ _ _ (sym c.in_ok-burst.ensures)
+    ∙ given _ _ _ (sym c.in_ok-quantum.ensures)
+    ∙ given _ _ _ (sym c.in_ok-queues.ensures)
+    ∙ given _ _ _ (sym c.in_ok-rings.ensures)
+    ∙ given _ _ _ (sym c.in_ok-queue_bytes.ensures)
+    ∙ given _ _ _ (sym c.in_ok-class_bytes.ensures)
+    ∙ refused _ _ _ (sym c.in_err-legacy_ring.ensures))
+
+pub returns-in_err-legacy_bytes : goal.returns-in_err-legacy_bytes
+unfolding limits_of
+returns-in_err-legacy_bytes c =
+    fault_kept (limits_of c.args.place c.args.ns_per_byte (table_view c.args.table.now)) c.from_residual-in_err-legacy_bytes.result c.in_err-legacy_bytes.field-0.0 c.from_residual-in_err-legacy_bytes.ensures.1
+    (given _ _ _ (sym c.in_ok-share.ensures)
+    ∙ given _ _ _ (sym c.in_ok-burst.ensures)
+    ∙ given _ _ _ (sym c.in_ok-quantum.ensures)
+    ∙ given _ _ _ (sym c.in_ok-queues.ensures)
+    ∙ given _ _ _ (sym c.in_ok-rings.ensures)
+    ∙ given _ _ _ (sym c.in_ok-queue_bytes.ensures)
+    ∙ given _ _ _ (sym c.in_ok-class_bytes.ensures)
+    ∙ given _ _ _ (sym c.in_ok-legacy_ring.ensures)
+    ∙ refused _ _ _ (sym c.in_err-legacy_bytes.ensures))
+
+pub returns-in_err-request_inner : goal.returns-in_err-request_inner
+unfolding limits_of
+returns-in_err-request_inner c =
+    fault_kept (limits_of c.args.place c.args.ns_per_byte (table_view c.args.table.now)) c.from_residual-in_err-request_inner.result c.in_err-request_inner.field-0.0 c.from_residual-in_err-request_inner.ensures.1
+    (given _ _ _ (sym c.in_ok-share.ensures)
+    ∙ given _ _ _ (sym c.in_ok-burst.ensures)
+    ∙ given _ _ _ (sym c.in_ok-quantum.ensures)
+    ∙ given _ _ _ (sym c.in_ok-queues.ensures)
+    ∙ given _ _ _ (sym c.in_ok-rings.ensures)
+    ∙ given _ _ _ (sym c.in_ok-queue_bytes.ensures)
+    ∙ given _ _ _ (sym c.in_ok-class_bytes.ensures)
+    ∙ given _ _ _ (sym c.in_ok-legacy_ring.ensures)
+    ∙ given _ _ _ (sym c.in_ok-legacy_bytes.ensures)
+    ∙ refused _ _ _ (sym c.in_err-request_inner.ensures))
+
+pub returns : goal.returns
+unfolding limits_of
+returns c =
+    let made : DrrLimits → DrrLimits → LinkLimits = λ a b. record { ns_per_byte = c.args.ns_per_byte; share = c.in_ok-share.share; burst = c.in_ok-burst.burst; request = a; regular = b; legacy_ring = c.in_ok-legacy_ring.legacy_ring; legacy_bytes = c.in_ok-legacy_bytes.legacy_bytes; request_inner = c.in_ok-request_inner.request_inner } in
+    ap (λ a. Ok (made a c.class_limits-2.result)) c.class_limits.ensures
+    ∙ ap (λ b. Ok (made (class_limits c.in_ok-queues.queues.0 c.in_ok-rings.rings.0 c.in_ok-queue_bytes.queue_bytes.0 c.in_ok-class_bytes.class_bytes.0 c.in_ok-quantum.quantum) b)) c.class_limits-2.ensures
+    ∙ sym (given _ _ _ (sym c.in_ok-share.ensures)
+    ∙ given _ _ _ (sym c.in_ok-burst.ensures)
+    ∙ given _ _ _ (sym c.in_ok-quantum.ensures)
+    ∙ given _ _ _ (sym c.in_ok-queues.ensures)
+    ∙ given _ _ _ (sym c.in_ok-rings.ensures)
+    ∙ given _ _ _ (sym c.in_ok-queue_bytes.ensures)
+    ∙ given _ _ _ (sym c.in_ok-class_bytes.ensures)
+    ∙ given _ _ _ (sym c.in_ok-legacy_ring.ensures)
+    ∙ given _ _ _ (sym c.in_ok-legacy_bytes.ensures)
+    ∙ given _ _ _ (sym c.in_ok-request_inner.ensures))

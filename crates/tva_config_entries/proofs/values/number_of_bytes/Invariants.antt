@@ -1,0 +1,6 @@
+use Rattle.std.proofs.Common.{◌≡◌, ◌<◌, ◌^◌, take}
+use Rattle.tva_config_entries.specs.Values.{number_of_bytes}
+use Rattle.tva_config_entries.proofs.values.number_of_bytes.Given as goal
+
+abbrev pub invariant-loop-byte : goal.invariant-loop-byte
+invariant-loop-byte l = record { value : l.number ≡ number_of_bytes (take l.byte-index l.bytes); room : l.number < 256 ^ l.byte-index }
