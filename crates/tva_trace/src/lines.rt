@@ -20,8 +20,8 @@ use tva_plan::Config;
 
 /// Leaves the event's line in `line`, with its line feed and nothing else. No line is longer than
 /// 255 bytes: names have at most 16 bytes, times and numbers of packets at most 20 digits and lengths
-/// at most ten, and the longest line, that of a receipt with a reply, has 214 bytes then. Under a
-/// valid configuration each byte before the line feed is printable.
+/// at most ten, and the longest line of an event, that of a receipt with a reply, has 214 bytes then.
+/// Under a valid configuration each byte before the line feed is from the blank to `~`.
 pub fn line_text(config: &Config, event: &Event, line: &mut ArrayString<256>)
     requires ends { LinksJoinNodes config.now }
     requires known { HasEvent config.now event.now }
