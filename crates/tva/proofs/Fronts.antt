@@ -5,7 +5,7 @@ use Rattle.tva_base.specs.declared.event.Event.{Event}
 use Rattle.tva_run.specs.Report.{lines_of}
 use Rattle.tva.specs.Expected.{Expected, writes, shows, replays, lacks, exceeds, misconfigured, mistraced, IsText}
 use Rattle.tva.specs.Answer.{Answers, BeginsEach, IsBegunText, WroteAll, WroteEach, WroteLines, WrotePart}
-use Rattle.tva.specs.Replayed.{AreLines, all_of}
+use Rattle.tva_run.specs.Shown.{AreLines, all_of}
 use Rattle.tva.specs.declared.status.Status as status
 use Rattle.tva.specs.declared.status.Status.TheVariants.{Done, Usage, ReadFault, WriteFault, TooLarge, BadConfig, BadTrace, EventLimit, OutOfMemory}
 use Rattle.tva.proofs.Replays.{cut_of_nothing, cut_of_short, cut_of_whole}

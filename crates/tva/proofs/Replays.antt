@@ -19,7 +19,7 @@ use Rattle.tva.specs.Command.{replay}
 use Rattle.tva.specs.Expected.{Expected, followed, lacks, of_plan, plan_at, replays, told, trace_at}
 use Rattle.tva.specs.Answer.{Answers}
 use Rattle.tva.specs.Parts.{IsCut, IsFound, IsReplayed}
-use Rattle.tva.specs.Replayed.{IsBegun, IsCutShort, all_of}
+use Rattle.tva_run.specs.Shown.{IsBegun, IsCutShort, all_of}
 use Rattle.tva.specs.declared.status.Status as status
 use Rattle.tva.specs.declared.status.Status.TheVariants.{Done, Usage, ReadFault, WriteFault, TooLarge, BadConfig, BadTrace, EventLimit, OutOfMemory}
 use Rattle.tva.proofs.Pieces.{append_known-nil, cut_of_longer}

@@ -3,7 +3,7 @@ use Rattle.std.proofs.Common.{◌≡◌, inl, inr, ℕ, List, ◌++◌, refl, So
 use Rattle.std.specs.declared.option.Option.{Option}
 use Rattle.tva.specs.Expected.{Expected, writes, shows, replays, lacks, exceeds, misconfigured, mistraced, Ends, IsText}
 use Rattle.tva.specs.Answer.{Answers, IsBegunText, WroteLines}
-use Rattle.tva.specs.Replayed.{all_of}
+use Rattle.tva_run.specs.Shown.{all_of}
 use Rattle.tva.specs.Wanted.{Settles, SettlesRefusal}
 use Rattle.tva.specs.declared.status.Status as status
 use Rattle.tva.specs.declared.status.Status.TheVariants.{Done, Usage, ReadFault, WriteFault, TooLarge, BadConfig, BadTrace, EventLimit, OutOfMemory}

@@ -26,7 +26,7 @@ use Rattle.tva.specs.Check.{check_line}
 use Rattle.tva.specs.Command.{Command, command_of, replay, check, shim, gen}
 use Rattle.tva.specs.Expected.{Expected, writes, shows, replays, lacks, exceeds, misconfigured, mistraced, Found, followed, ◌>>=◌, within_limit, plan_at, plan_or_fault, trace_or_fault, of_plan, told, EndsReplay}
 use Rattle.tva.specs.Network.{ArePromisesKept, AreHonestTaken}
-use Rattle.tva.specs.Replayed.{IsPastLimit, IsWithinLimit}
+use Rattle.tva_run.specs.Shown.{IsPastLimit, IsWithinLimit}
 use Rattle.tva.specs.Wanted.{wanted, HasOneEnd, IsOneEnd}
 use Rattle.tva.specs.declared.status.Status as status
 use Rattle.tva.specs.declared.status.Status.TheVariants.{Done, Usage, ReadFault, WriteFault, TooLarge, BadConfig, BadTrace, EventLimit, OutOfMemory}

@@ -22,7 +22,7 @@ use Rattle.tva_net.specs.declared.kinds.NetError.{NetError}
 use Rattle.tva_net.specs.declared.kinds.NetError.TheVariants as error
 use Rattle.tva_net.specs.Steps.{GoesOn, HasEnded, PassesLimit, Refuses}
 use Rattle.tva.specs.Parts.{IsReplayed, IsWritten, WroteCutShort, ended_by}
-use Rattle.tva.specs.Replayed.{AreLines, HasReport, IsBegun, IsCutShort, all_of}
+use Rattle.tva_run.specs.Shown.{AreLines, HasReport, IsBegun, IsCutShort, all_of}
 use Rattle.tva.specs.declared.status.Status as status
 use Rattle.tva.specs.declared.status.Status.TheVariants.{Done, Usage, ReadFault, WriteFault, TooLarge, BadConfig, BadTrace, EventLimit, OutOfMemory}
 use Rattle.tva.proofs.Pieces.{append_known-nil, written_both}

@@ -7,7 +7,7 @@ use Rattle.tva_trace.specs.Meaning.{AreRows}
 use Rattle.tva_run.specs.Report.{IsReport}
 use Rattle.tva.specs.Expected.{Expected, replays, lacks, exceeds, misconfigured, mistraced, IsText}
 use Rattle.tva.specs.Parts.{IsCut, WroteCutShort}
-use Rattle.tva.specs.Replayed.{IsBegun}
+use Rattle.tva_run.specs.Shown.{IsBegun}
 use Rattle.tva.specs.declared.status.Status as status
 use Rattle.tva.specs.declared.status.Status.TheVariants.{Done, Usage, ReadFault, WriteFault, TooLarge}
 use Rattle.tva.specs.declared.status.Status.TheVariants.{BadConfig, BadTrace, EventLimit, OutOfMemory}

@@ -16,7 +16,7 @@ use Rattle.tva_trace.specs.ShimText.{IsTextOf}
 use Rattle.tva_gen.specs.Text.{generated}
 use Rattle.tva.specs.Check.{check_line}
 use Rattle.tva.specs.Command.{Command, replay, check, shim, gen}
-use Rattle.tva.specs.Replayed.{HasReport, IsWithinLimit, IsPastLimit}
+use Rattle.tva_run.specs.Shown.{HasReport, IsWithinLimit, IsPastLimit}
 use Rattle.tva.specs.declared.status.Status as status
 use Rattle.tva.specs.declared.status.Status.TheVariants.{Done, ReadFault, TooLarge, BadConfig, BadTrace}
 use Rattle.tva.specs.declared.status.Status.TheVariants.{EventLimit}

@@ -4,7 +4,6 @@ pub mod Command
 pub mod Expected
 pub mod Network
 pub mod Parts
-pub mod Replayed
 pub mod Status
 pub mod Wanted
 pub mod Asked

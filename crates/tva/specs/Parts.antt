@@ -9,7 +9,7 @@ use Rattle.tva_trace.specs.Meaning.{AreRows}
 use Rattle.tva_net.specs.declared.kinds.NetError.{NetError}
 use Rattle.tva_net.specs.declared.kinds.NetError.TheVariants as error
 use Rattle.tva.specs.Expected.{Found, lacks, exceeds, misconfigured, mistraced}
-use Rattle.tva.specs.Replayed.{HasReport, IsBegun, IsCutShort}
+use Rattle.tva_run.specs.Shown.{HasReport, IsBegun, IsCutShort}
 use Rattle.tva.specs.declared.status.Status as status
 use Rattle.tva.specs.declared.status.Status.TheVariants.{Done, ReadFault, WriteFault, TooLarge}
 use Rattle.tva.specs.declared.status.Status.TheVariants.{BadConfig, BadTrace, EventLimit, OutOfMemory}

@@ -20,12 +20,12 @@ use Rattle.tva_node.specs.States.{NodeState}
 use Rattle.tva_run.specs.Reaching.{Logs, log_at, links_out, site_at}
 use Rattle.tva_run.specs.Report.{events_at}
 use Rattle.tva_run.specs.Run.{IsRunTo}
-use Rattle.tva_run.specs.Windows.{AreWindows, HasWork, IsAtRest, IsNextWindow, IsOver, Window, least_delay, window_length}
+use Rattle.tva_run.specs.Windows.{AreFirstWindows, AreWindows, HasWork, IsAtRest, IsNextWindow, IsOver, Window, least_delay, window_length}
 use Rattle.tva_run.proofs.Going.{run_rests}
 use Rattle.tva_run.proofs.Next.{none_before}
 use Rattle.tva_run.proofs.Runs.{are_delayed}
 use Rattle.tva_net.specs.News.{HasNone, IsFirstTime}
-use Rattle.tva_net.specs.Nets.{AreFirstWindows, IsNodeAt, IsRunSoFar, IsWholeRun, TellOf, WorkState, WorksFor}
+use Rattle.tva_net.specs.Nets.{IsNodeAt, IsRunSoFar, IsWholeRun, TellOf, WorkState, WorksFor}
 use Rattle.tva_net.proofs.Lists.{some_same}
 use Rattle.tva_net.proofs.Nodes.{rests, has_work}
 use Rattle.tva_net.proofs.Resting.{legal_then, work_back, work_then}

@@ -30,7 +30,7 @@ use Rattle.tva_node.specs.States.{Keeps, NodeState, Stands, StandsFor}
 use Rattle.tva_run.specs.Reaching.{Logs, log_at, arrival, arrival_of, arrivals, arrivals_at, links_out, reaches, rows_at, site_at}
 use Rattle.tva_run.specs.Report.{AreEvents, event_node, event_time, events_at}
 use Rattle.tva_run.specs.Run.{HasLog, IsRunTo, logs_before}
-use Rattle.tva_run.specs.Windows.{IsNextWindow, Window, given, window_length}
+use Rattle.tva_run.specs.Windows.{EachBeginsWith, IsNextWindow, Window, given, window_length}
 use Rattle.tva_run.proofs.Going.{events_added, least_delay-least, run_goes_on, same_before}
 use Rattle.tva_run.proofs.Holding.{HappensAt, events_work}
 use Rattle.tva_run.proofs.Next.{window_next}
@@ -38,7 +38,7 @@ use Rattle.tva_run.proofs.Runs.{log_at-before}
 use Rattle.tva_run.proofs.Sites.{link_out_is, sent_arrives, site_number}
 use Rattle.tva_net.specs.Mail.{CanDeliver, GotMail, GotMails, IsPostable, goes_to, mail_to}
 use Rattle.tva_net.specs.News.{IsFirstTime, since, told_since}
-use Rattle.tva_net.specs.Nets.{EachBeginsWith, IsNodeAt, WorkState, WorksFor}
+use Rattle.tva_net.specs.Nets.{IsNodeAt, WorkState, WorksFor}
 use Rattle.tva_net.specs.Work.{IsThrough, if_some}
 use Rattle.tva_net.proofs.Lists.{each_map, map_same, some_same, split_at, zip_from, zip_length}
 use Rattle.tva_net.proofs.Given.{given_more, held_more}

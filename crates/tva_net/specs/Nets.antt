@@ -16,7 +16,7 @@ use Rattle.tva_log.specs.Next.{IsQuiet}
 use Rattle.tva_run.specs.Reaching.{Logs, log_at, site_at, reaches}
 use Rattle.tva_run.specs.Report.{AreEvents, events_at, totals_of}
 use Rattle.tva_run.specs.Run.{IsRun, IsRunTo}
-use Rattle.tva_run.specs.Windows.{AreWindows, IsNextWindow, Window, window_length}
+use Rattle.tva_run.specs.Windows.{AreWindows, EachBeginsWith, Window, window_length}
 use Rattle.tva_run.specs.Windows as spans
 use Rattle.tva_node.specs.States.{NodeState}
 use Rattle.tva_node.specs.States as states
@@ -26,18 +26,6 @@ use Rattle.tva_net.specs.declared.works.Works.{Works}
 use Rattle.tva_net.specs.Sums.{AreWithin}
 
 -- ## the run so far
-
--- from a time on these windows come first, each the next past the one before; behind them it goes on from another time
-abbrev pub AreFirstWindows : Config → List Row → Logs → ℕ → List Window → ℕ → Type 0
-AreFirstWindows config rows logs from [] behind = from ≡ behind
-AreFirstWindows config rows logs from (window ∷ windows) behind =
-    IsNextWindow config rows logs from window × AreFirstWindows config rows logs window.1 windows behind
-
--- every run up to that time or a later one begins with these windows, the last of which ends at that time
-abbrev pub EachBeginsWith : Config → List Row → List Window → ℕ → Type 0
-EachBeginsWith config rows windows until =
-    (later : ℕ) (logs : Logs) → until ≤ later → IsRunTo config rows later logs
-    → AreFirstWindows config rows logs 0 windows until
 
 -- what holds of each node by its place
 abbrev pub ByPlace : (ℕ → NodeState → Type 0) → List NodeState → Type 0

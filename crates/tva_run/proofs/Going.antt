@@ -47,6 +47,30 @@ least_delay-least none (first ∷ other ∷ links) (suc number) link h =
     let b = least_delay-least none (other ∷ links) number link h in
     omega arith
 
+-- the link in one place has the least delay
+record HasLeast (none : ℕ) (links : List LinkPlan) (delay : ℕ) : Type 0 where
+  number : ℕ
+  link : LinkPlan
+  there : slice_get links number ≡ Some link
+  least : delay ≡ link.delay
+
+least_on : (none : ℕ) (link other : LinkPlan) (links : List LinkPlan) → HasLeast none (other ∷ links) (least_delay none (other ∷ links)) → HasLeast none (link ∷ other ∷ links) (least_delay none (link ∷ other ∷ links))
+least_on none link other links h = elim (cases_lt (least_delay none (other ∷ links)) link.delay) [
+  | inl l ↦ record { number = suc h.number; link = h.link; there = h.there; least = omega (arith, h.least) }
+  | inr l ↦ record { number = 0; link = link; there = refl; least = omega arith }
+]
+
+least_there : (none : ℕ) (link : LinkPlan) (links : List LinkPlan) → HasLeast none (link ∷ links) (least_delay none (link ∷ links))
+least_there none link [] = record { number = 0; link = link; there = refl; least = refl }
+least_there none link (other ∷ links) = least_on none link other links (least_there none other links)
+
+pub least_is : (none : ℕ) (links : List LinkPlan) → (links ≡ [] → ⊥) → (number : ℕ) × (link : LinkPlan) × (slice_get links number ≡ Some link) × (least_delay none links ≡ link.delay)
+least_is none [] some = absurd (some refl)
+least_is none (link ∷ links) some = let h = least_there none link links in (h.number, h.link, h.there, h.least)
+
+pub least_of_none : (none : ℕ) (links : List LinkPlan) → links ≡ [] → least_delay none links ≡ none
+least_of_none none links e = ap (least_delay none) e
+
 module _ (config : Config) (rows : List Row) (from until : ℕ) (logs longer : Logs) (later : from ≤ until) (run : IsRunTo config rows from logs) (has : (node : ℕ) (site : Site) → site_at config node ≡ Some site → HasLog config rows logs until site (log_at longer node)) where
   same_there : (node : ℕ) (plan : NodePlan) → slice_get config.nodes node ≡ Some plan → cut entry_time from (log_at longer node) ≡ log_at logs node
   same_there node plan here =

@@ -13,6 +13,7 @@ use Rattle.tva_log.specs.NodeLog.{due}
 use Rattle.tva_log.specs.Next.{AreLegal, IsQuiet, IsWorkAt}
 use Rattle.tva_run.specs.Reaching.{Logs, log_at, site_at, reaches}
 use Rattle.tva_run.specs.Report.{event_time}
+use Rattle.tva_run.specs.Run.{IsRunTo}
 
 -- at that time something reaches a node, or one of its links decides by itself, over what the log has before it
 pub record IsWork (config : Config) (rows : List Row) (logs : Logs) (time : ℕ) : Type 0 where
@@ -55,6 +56,18 @@ abbrev pub AreWindows : Config → List Row → Logs → ℕ → List Window →
 AreWindows config rows logs from [] = IsOver config rows logs from
 AreWindows config rows logs from (window ∷ windows) =
     IsNextWindow config rows logs from window × AreWindows config rows logs window.1 windows
+
+-- from a time on these windows come first, each the next past the one before; behind them it goes on from another time
+abbrev pub AreFirstWindows : Config → List Row → Logs → ℕ → List Window → ℕ → Type 0
+AreFirstWindows config rows logs from [] behind = from ≡ behind
+AreFirstWindows config rows logs from (window ∷ windows) behind =
+    IsNextWindow config rows logs from window × AreFirstWindows config rows logs window.1 windows behind
+
+-- every run up to that time or a later one begins with these windows, the last of which ends at that time
+abbrev pub EachBeginsWith : Config → List Row → List Window → ℕ → Type 0
+EachBeginsWith config rows windows until =
+    (later : ℕ) (logs : Logs) → until ≤ later → IsRunTo config rows later logs
+    → AreFirstWindows config rows logs 0 windows until
 
 -- what happens in a window
 abbrev pub events_in : List Event → Window → List Event

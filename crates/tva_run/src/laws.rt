@@ -1,5 +1,5 @@
 // What holds of every run.
-ghost use Rattle.std.specs.Prelude.{◌≡◌, ℕ, ◌+◌, ◌≤◌, ◌==◌, ◌++◌, All, List, Some, filter, length, map, min, slice_get};
+ghost use Rattle.std.specs.Prelude.{◌≡◌, ℕ, ◌+◌, ◌≤◌, ◌==◌, ◌++◌, [], All, List, Some, filter, length, map, min, slice_get};
 ghost use Rattle.std.specs.List.{flat_map};
 ghost use Rattle.tva_base.specs.declared.event.Event.{Event};
 ghost use Rattle.tva_base.specs.declared.plan.LinkPlan.{LinkPlan};
@@ -55,6 +55,17 @@ pub fn one_report()
 pub fn one_list_of_windows()
     ensures { (config : Config) (rows : List Row) (logs : Logs) (from : ℕ) (windows others : List Window)
         → AreWindows config rows logs from windows → AreWindows config rows logs from others → windows ≡ others }
+{}
+
+/// A window is as long as the least delay of the links: it is the delay of one of them, and no link has a
+/// smaller one. Without links a window is as long as the horizon and one more. Lengths and delays are in
+/// nanoseconds.
+pub fn windows_are_longest()
+    ensures one { (config : Config) → (config.links ≡ [] → ⊥) → (number : ℕ) × (link : LinkPlan)
+        × (slice_get config.links number ≡ Some link) × (window_length config ≡ link.delay) }
+    ensures least { (config : Config) (number : ℕ) (link : LinkPlan) → slice_get config.links number ≡ Some link
+        → window_length config ≤ link.delay }
+    ensures alone { (config : Config) → config.links ≡ [] → window_length config ≡ config.horizon.0 + 1 }
 {}
 
 /// A run up to a time goes on over a window that begins then: logs up to its end over what was sent

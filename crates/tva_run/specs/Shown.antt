@@ -1,30 +1,29 @@
--- What is written of the replay of rows under a plan, and how the replay ends.
+-- What is shown of a run that may have so many events: its report, or what comes before it passes that number.
 use Rattle.std.specs.Prelude.{◌≡◌, ℕ, ◌+◌, ◌<◌, ◌≤◌, ◌⊎◌, List, [], ◌∷◌, ◌++◌, length}
 use Rattle.std.specs.List.{flat_map}
 use Rattle.tva_base.specs.declared.event.Event.{Event}
 use Rattle.tva_plan.specs.declared.config.Config.{Config}
 use Rattle.tva_trace.specs.declared.rows.Row.{Row}
 use Rattle.tva_run.specs.Report.{AreEventsTo, IsReport, lines_of, report_of}
-use Rattle.tva_run.specs.Windows.{Window, given}
-use Rattle.tva_net.specs.Nets.{EachBeginsWith}
+use Rattle.tva_run.specs.Windows.{EachBeginsWith, Window, given}
 
 -- the run up to the horizon has no more events than it may have, and this is its report
-pub record HasReport (plan : Config) (rows : List Row) (text : List ℕ) : Type 0 where
+pub record HasReport (config : Config) (rows : List Row) (text : List ℕ) : Type 0 where
   pub told : List Event
-  pub events : AreEventsTo plan rows (plan.horizon.0 + 1) told
-  pub few : length told ≤ plan.max_events
-  pub whole : text ≡ report_of plan told
+  pub events : AreEventsTo config rows (config.horizon.0 + 1) told
+  pub few : length told ≤ config.max_events
+  pub whole : text ≡ report_of config told
 
 -- these are the lines of the events of the run up to some time
-pub record AreLines (plan : Config) (rows : List Row) (text : List ℕ) : Type 0 where
+pub record AreLines (config : Config) (rows : List Row) (text : List ℕ) : Type 0 where
   pub until : ℕ
   pub told : List Event
-  pub events : AreEventsTo plan rows until told
-  pub lines : text ≡ lines_of plan told
+  pub events : AreEventsTo config rows until told
+  pub lines : text ≡ lines_of config told
 
 -- a text that is begun: the report, or the lines of the events up to some time
 abbrev pub IsBegun : Config → List Row → List ℕ → Type 0
-IsBegun plan rows text = IsReport plan rows text ⊎ AreLines plan rows text
+IsBegun config rows text = IsReport config rows text ⊎ AreLines config rows text
 
 -- what happened in all of these windows
 abbrev pub all_of : List (List Event) → List Event
@@ -33,27 +32,27 @@ all_of windows = flat_map (λ events. events) windows
 -- In a window the run passes the number of events that it may have. Each run up to the end of that window or later
 -- begins with these windows, of which it is the last; what happened up to its end is what the windows before it show and
 -- what passes the number. The text is the lines of the windows before it
-pub record IsCutShort (plan : Config) (rows : List Row) (text : List ℕ) : Type 0 where
+pub record IsCutShort (config : Config) (rows : List Row) (text : List ℕ) : Type 0 where
   pub windows : List Window
   pub until : ℕ
-  pub first : EachBeginsWith plan rows windows until
+  pub first : EachBeginsWith config rows windows until
   pub shown : List (List Event)
   pub passing : List Event
-  pub events : AreEventsTo plan rows until (all_of shown ++ passing)
+  pub events : AreEventsTo config rows until (all_of shown ++ passing)
   pub last : given (all_of shown ++ passing) windows ≡ shown ++ passing ∷ []
-  pub few : length (all_of shown) ≤ plan.max_events
-  pub more : plan.max_events < length (all_of shown ++ passing)
-  pub lines : text ≡ lines_of plan (all_of shown)
+  pub few : length (all_of shown) ≤ config.max_events
+  pub more : config.max_events < length (all_of shown ++ passing)
+  pub lines : text ≡ lines_of config (all_of shown)
 
 -- ## how many events there are
 
 -- the run up to the horizon has no more events than it may have
 abbrev pub IsWithinLimit : Config → List Row → Type 0
-IsWithinLimit plan rows = (text : List ℕ) × HasReport plan rows text
+IsWithinLimit config rows = (text : List ℕ) × HasReport config rows text
 
 -- the run up to some time has more
-pub record IsPastLimit (plan : Config) (rows : List Row) : Type 0 where
+pub record IsPastLimit (config : Config) (rows : List Row) : Type 0 where
   pub until : ℕ
   pub told : List Event
-  pub events : AreEventsTo plan rows until told
-  pub more : plan.max_events < length told
+  pub events : AreEventsTo config rows until told
+  pub more : config.max_events < length told
