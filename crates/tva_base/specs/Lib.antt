@@ -6,4 +6,5 @@ pub mod Lives
 pub mod Options
 pub mod Ordinals
 pub mod Plan
+pub mod Printable
 pub mod Versions

@@ -5,3 +5,4 @@ pub mod NumberBytes
 pub mod Reading
 pub mod RightsRead
 pub mod Wholes
+pub mod Readable

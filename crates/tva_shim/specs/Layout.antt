@@ -1,6 +1,6 @@
 -- The layout of a shim, by cases. Each number stands with its highest byte first. The versions differ in
 -- the bytes of rights alone.
-use Rattle.std.specs.Prelude.{ℕ, ◌+◌, ◌*◌, Bool, List, [], ◌∷◌, ◌++◌, length, flat_map, if◌then◌else◌}
+use Rattle.std.specs.Prelude.{◌≢◌, ℕ, ◌+◌, ◌*◌, Bool, List, [], ◌∷◌, ◌++◌, length, flat_map, if◌then◌else◌}
 use Rattle.byteorder.specs.Endian.{big_bytes}
 use Rattle.tva_base.specs.declared.packet.Rights.{Rights}
 use Rattle.tva_base.specs.Versions.{rights_number, rights_size}
@@ -10,7 +10,7 @@ use Rattle.tva_shim.specs.declared.kinds.Kind.{Kind}
 use Rattle.tva_shim.specs.declared.kinds.Kind.TheVariants as kinds
 use Rattle.tva_shim.specs.declared.kinds.ReturnInfo.{ReturnInfo}
 use Rattle.tva_shim.specs.declared.kinds.ReturnInfo.TheVariants as backs
-use Rattle.tva_shim.specs.Shims.{ShimData}
+use Rattle.tva_shim.specs.Shims.{ShimData, IsShim}
 
 -- a number in two bytes, in six and in eight
 unfoldable pub two_bytes : ℕ → List ℕ
@@ -73,6 +73,10 @@ version_and_type s = s.version * 16 + demoted_bit s.demoted + return_bit s.back 
 -- the bytes of a shim
 unfoldable pub layout : ShimData → List ℕ
 layout s = version_and_type s ∷ s.protocol ∷ [] ++ kind_bytes s.version s.kind ++ return_bytes s.version s.back
+
+-- bytes that are the layout of no shim
+abbrev pub HaveNoShim : List ℕ → Type 0
+HaveNoShim bytes = (s : ShimData) → IsShim s → layout s ≢ bytes
 
 -- how many bytes those are, by what the shim has
 abbrev pub kind_size : ℕ → Kind → ℕ

@@ -10,9 +10,9 @@ pub join-append : (c : ℕ) (x : List ℕ) (xs : List (List ℕ)) (y : List ℕ)
 join-append c x [] y ys = refl
 join-append c x (z ∷ zs) y ys = ap (λ t. x ++ (c ∷ t)) (join-append c z zs y ys) ∙ sym (append_assoc x (c ∷ join_with_byte c (z ∷ zs)) (c ∷ join_with_byte c (y ∷ ys)))
 
--- words that were put in two parts, and an end behind them
-pub put_in_parts : (c : ℕ) (x : List ℕ) (xs : List (List ℕ)) (y : List ℕ) (ys : List (List ℕ)) (end a b d e : List ℕ) → a ≡ join_with_byte c (x ∷ xs) → b ≡ a ++ (c ∷ []) → d ≡ b ++ join_with_byte c (y ∷ ys) → e ≡ d ++ end → e ≡ join_with_byte c ((x ∷ xs) ++ (y ∷ ys)) ++ end
-put_in_parts c x xs y ys end a b d e ea eb ed ee = ee ∙ ap (λ t. t ++ end) (ed ∙ ap (λ t. t ++ join_with_byte c (y ∷ ys)) (eb ∙ ap (λ t. t ++ (c ∷ [])) ea) ∙ append_assoc (join_with_byte c (x ∷ xs)) (c ∷ []) (join_with_byte c (y ∷ ys)) ∙ sym (join-append c x xs y ys))
+-- words that were put in two parts
+pub put_in_parts : (c : ℕ) (x : List ℕ) (xs : List (List ℕ)) (y : List ℕ) (ys : List (List ℕ)) (a b d : List ℕ) → a ≡ join_with_byte c (x ∷ xs) → b ≡ a ++ (c ∷ []) → d ≡ b ++ join_with_byte c (y ∷ ys) → d ≡ join_with_byte c ((x ∷ xs) ++ (y ∷ ys))
+put_in_parts c x xs y ys a b d ea eb ed = ed ∙ ap (λ t. t ++ join_with_byte c (y ∷ ys)) (eb ∙ ap (λ t. t ++ (c ∷ [])) ea) ∙ append_assoc (join_with_byte c (x ∷ xs)) (c ∷ []) (join_with_byte c (y ∷ ys)) ∙ sym (join-append c x xs y ys)
 
 -- joined words are the first, and the others with the byte before each
 join-flat : {X : Type 0} (c : ℕ) (w : List ℕ) (word : X → List ℕ) (rest : List X) → join_with_byte c (w ∷ map word rest) ≡ w ++ flat_map (λ x. c ∷ word x) rest

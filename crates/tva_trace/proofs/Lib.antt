@@ -1,7 +1,9 @@
 pub mod Digits
 pub mod ItemLists
 pub mod Joins
+pub mod Printables
 pub mod OneList
-pub mod OneShim
 pub mod Reading
 pub mod RecordsLeft
+pub mod RowsThere
+pub mod Widths

@@ -5,6 +5,7 @@ use Rattle.std.specs.List.{AllZip}
 use Rattle.tva_base.specs.declared.packet.Time.{Time}
 use Rattle.tva_shim.specs.declared.packets.Carried.{Carried}
 use Rattle.tva_shim.specs.declared.packets.Carried.TheVariants as carried
+use Rattle.tva_shim.proofs.Readable.{one_shim, some_bytes}
 use Rattle.tva_plan.specs.declared.config.Config.{Config}
 use Rattle.tva_trace.specs.declared.rows.Row.{Row}
 use Rattle.tva_trace.specs.declared.rows.RowWhat.{RowWhat}
@@ -17,7 +18,6 @@ use Rattle.tva_trace.specs.declared.said.SaidShim.TheVariants.{Bytes, Built}
 use Rattle.tva_trace.specs.declared.said.SaidWhat.{SaidWhat}
 use Rattle.tva_trace.specs.declared.said.SaidWhat.TheVariants as say
 use Rattle.tva_trace.specs.Meaning.{Answers, AreRows, CarriedBy, CarriedByBytes, Means, MeansWhat}
-use Rattle.tva_trace.proofs.OneShim.{one_shim, some_bytes}
 
 bytes_mean_one : (bytes : List ℕ) (a b : Carried) → CarriedByBytes bytes a → CarriedByBytes bytes b → a ≡ b
 bytes_mean_one bytes carried.Nothing carried.Nothing p q = refl

@@ -1,5 +1,5 @@
--- The lines of a report: its words, joined by blanks, and a line feed.
-use Rattle.std.specs.Prelude.{◌<◌, ℕ, List, [], ◌∷◌, ◌++◌, length, All, Option, Some, None, codes, decimal, slice_get}
+-- The lines of a report: each a text of words, joined by blanks, that a line feed ends.
+use Rattle.std.specs.Prelude.{◌<◌, ◌^◌, ℕ, List, [], ◌∷◌, ◌++◌, length, All, Option, Some, None, codes, decimal, slice_get}
 use Rattle.std.specs.Option.{option_map_or}
 use Rattle.std.specs.List.{join_with_byte}
 use Rattle.tva_base.specs.declared.packet.PacketId.{PacketId}
@@ -64,23 +64,29 @@ happened_words config (Received id bytes from payload what back reply) =
 happened_words config (Started id bytes link class end) =
     codes "start" ∷ id_word config id ∷ decimal bytes ∷ name_behind config link ∷ class_word class ∷ decimal end.0 ∷ []
 
--- words, joined by blanks, and a line feed
-abbrev pub line_of_words : List (List ℕ) → List ℕ
-line_of_words words = join_with_byte 32 words ++ codes "\n"
+-- the text of an event, and that of the sums
+abbrev pub text_of_event : Config → Event → List ℕ
+text_of_event config event =
+    join_with_byte 32 (decimal event.time.0 ∷ name_of config event.node ∷ happened_words config event.happened)
 
--- the line of an event
-abbrev pub line_of : Config → Event → List ℕ
-line_of config event =
-    line_of_words (decimal event.time.0 ∷ name_of config event.node ∷ happened_words config event.happened)
-
--- the last line of a report
-abbrev pub summary_of : Totals → List ℕ
-summary_of t =
-    line_of_words
+abbrev pub text_of_totals : Totals → List ℕ
+text_of_totals t =
+    join_with_byte 32
     (codes "total" ∷ (codes "events=" ++ decimal t.events) ∷ (codes "routed=" ++ decimal t.routed)
     ∷ (codes "authorised=" ++ decimal t.authorised) ∷ (codes "demoted=" ++ decimal t.demoted)
     ∷ (codes "dropped=" ++ decimal t.dropped) ∷ (codes "started=" ++ decimal t.started)
     ∷ (codes "received=" ++ decimal t.received) ∷ (codes "bytes=" ++ decimal t.bytes) ∷ [])
+
+-- a text that a line feed ends
+abbrev pub ended : List ℕ → List ℕ
+ended text = text ++ codes "\n"
+
+-- the line of an event, and the last line of a report
+abbrev pub line_of : Config → Event → List ℕ
+line_of config event = ended (text_of_event config event)
+
+abbrev pub summary_of : Totals → List ℕ
+summary_of t = ended (text_of_totals t)
 
 -- which nodes and links a configuration has
 abbrev pub HasNode : Config → ℕ → Type 0
@@ -116,3 +122,32 @@ HasHappened config (Started id bytes link class end) = HasNode config id.node ×
 -- the nodes and links that an event names are the configuration's
 abbrev pub HasEvent : Config → Event → Type 0
 HasEvent config event = HasNode config event.node × HasHappened config event.happened
+
+-- times and numbers of packets have 64 bits, and lengths 32
+abbrev pub FitsId : PacketId → Type 0
+FitsId id = id.ordinal < 2 ^ 64
+
+abbrev pub FitsReply : Option ReplyLine → Type 0
+FitsReply None = Unit {0}
+FitsReply (Some r) = FitsId r.id × (r.length < 2 ^ 32)
+
+abbrev pub FitsHappened : happened.Happened → Type 0
+FitsHappened (Arrived id bytes from fate) = FitsId id × (bytes < 2 ^ 32)
+FitsHappened (Sent id bytes shape outcome) = FitsId id × (bytes < 2 ^ 32)
+FitsHappened (Received id bytes from payload what back reply) = FitsId id × (bytes < 2 ^ 32) × FitsReply reply
+FitsHappened (Started id bytes link class end) = FitsId id × (bytes < 2 ^ 32) × (end.0 < 2 ^ 64)
+
+-- the numbers of an event, and the sums, are within their widths
+pub record FitsEvent (event : Event) : Type 0 where
+  pub time : event.time.0 < 2 ^ 64
+  pub happened : FitsHappened event.happened
+
+pub record FitsTotals (t : Totals) : Type 0 where
+  pub events : t.events < 2 ^ 64
+  pub routed : t.routed < 2 ^ 64
+  pub authorised : t.authorised < 2 ^ 64
+  pub demoted : t.demoted < 2 ^ 64
+  pub dropped : t.dropped < 2 ^ 64
+  pub started : t.started < 2 ^ 64
+  pub received : t.received < 2 ^ 64
+  pub bytes : t.bytes < 2 ^ 64

@@ -4,8 +4,8 @@ use Rattle.std.specs.List.{AllZip}
 use Rattle.std.specs.declared.alloc.Global.{Global}
 use Rattle.tva_shim.specs.declared.packets.Carried as carries
 use Rattle.tva_shim.specs.declared.packets.Carried.TheVariants as carried
-use Rattle.tva_shim.specs.Shims.{ShimData, IsShim}
-use Rattle.tva_shim.specs.Layout.{layout}
+use Rattle.tva_shim.specs.Shims.{IsShim}
+use Rattle.tva_shim.specs.Layout.{HaveNoShim, layout}
 use Rattle.tva_plan.specs.declared.config.Config.{Config}
 use Rattle.tva_trace.specs.declared.rows.Row.{Row}
 use Rattle.tva_trace.specs.declared.rows.RowWhat as whats
@@ -18,10 +18,6 @@ use Rattle.tva_trace.specs.declared.said.SaidWhat as saids
 use Rattle.tva_trace.specs.declared.said.SaidWhat.TheVariants as say
 use Rattle.tva_trace.specs.declared.said.SaidRow.{SaidRow}
 use Rattle.tva_trace.specs.Rows.{rows_of}
-
--- bytes that are the layout of no shim
-abbrev pub HaveNoShim : List ℕ → Type 0
-HaveNoShim bytes = (s : ShimData) → IsShim s → layout s ≢ bytes
 
 -- what bytes carry: no bytes nothing, the layout of a shim that shim, all others so many bytes that are
 -- none

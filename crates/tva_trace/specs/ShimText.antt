@@ -11,8 +11,7 @@ use Rattle.tva_shim.specs.declared.kinds.Kind.TheVariants as kinds
 use Rattle.tva_shim.specs.declared.kinds.ReturnInfo.{ReturnInfo}
 use Rattle.tva_shim.specs.declared.kinds.ReturnInfo.TheVariants as backs
 use Rattle.tva_shim.specs.Shims.{ShimData, IsShim}
-use Rattle.tva_shim.specs.Layout.{layout}
-use Rattle.tva_trace.specs.Meaning.{HaveNoShim}
+use Rattle.tva_shim.specs.Layout.{HaveNoShim, layout}
 
 -- a number in so many bytes, two digits each
 abbrev pub digits_of : ℕ → ℕ → List ℕ

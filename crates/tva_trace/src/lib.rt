@@ -1,6 +1,6 @@
-//! Traces and the lines of reports. Its contract promises that a trace is read to its rows, which are
-//! the only ones, or to the first rule that its first bad record breaks, and that a line has the bytes
-//! of its event.
+//! Traces, the lines of reports and the text of a shim. Its contract promises that a trace is read to
+//! its rows, which are the only ones, or to the first rule that its first bad record breaks, that a line
+//! has the bytes of its event, each printable, and that bytes have one text of their shim.
 #![tactic(auto)]
 
 mod carried;
@@ -18,7 +18,7 @@ mod secrets;
 mod texts;
 mod words;
 
-pub use laws::texts_have_one_meaning;
+pub use laws::{bytes_have_one_text, lines_are_printable, rows_are_there, texts_have_one_meaning};
 pub use lines::{line_text, summary_text};
 pub use read::read_trace;
 pub use rows::{Row, RowWhat, TraceError, TraceFault, TraceRule};

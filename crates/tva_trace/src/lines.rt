@@ -2,11 +2,13 @@
 ghost use Rattle.std.specs.Prelude.{◌≡◌, ◌≤◌, ◌+◌, ◌∷◌, [], ◌++◌, codes, decimal, length};
 ghost use Rattle.std.specs.List.{join_with_byte};
 ghost use Rattle.tva_trace.specs.Words.{back_word, class_word, shape_word, what_word};
-ghost use Rattle.tva_trace.specs.Lines.{HasEvent, HasHappened, HasLink, HasNode, HasOutcome, HasReply, HasSource, LinksJoinNodes, cause_or_dash, from_word, happened_words, id_word, line_of, name_behind, name_before, outcome_word, reply_word, summary_of};
+ghost use Rattle.tva_trace.specs.Lines.{HasEvent, HasHappened, HasLink, HasNode, HasOutcome, HasReply, HasSource, LinksJoinNodes, cause_or_dash, from_word, happened_words, id_word, line_of, name_behind, name_before, outcome_word, reply_word, summary_of, text_of_event, text_of_totals};
+ghost use Rattle.tva_base.specs.Printable.{IsLine};
+ghost use Rattle.tva_plan.specs.Valid.{IsConfig};
 
 use crate::parts::{
-    cause_or_dash, name_before, name_behind, node_name, put_id, put_number, put_outcome, put_reply,
-    source_word,
+    cause_or_dash, name_before, name_behind, node_name, put_id, put_length, put_number,
+    put_outcome, put_reply, source_word,
 };
 use crate::words::{back_word, class_word, shape_word, what_word};
 use arrayvec::ArrayString;
@@ -17,20 +19,17 @@ use tva_base::{
 use tva_plan::Config;
 
 /// Leaves the event's line in `line`, with its line feed and nothing else. No line is longer than
-/// 255 bytes: names have at most 16 bytes and numbers at most 20 digits, and the longest line, that
-/// of a receipt with a reply, has 234 bytes then.
+/// 255 bytes: names have at most 16 bytes, times and numbers of packets at most 20 digits and lengths
+/// at most ten, and the longest line, that of a receipt with a reply, has 214 bytes then. Under a
+/// valid configuration each byte before the line feed is printable.
 pub fn line_text(config: &Config, event: &Event, line: &mut ArrayString<256>)
     requires ends { LinksJoinNodes config.now }
     requires known { HasEvent config.now event.now }
     ensures line { line.new.bytes ≡ line_of config.now event.now }
     ensures short { length line.new.bytes ≤ 255 }
+    ensures printable { IsConfig config.now → IsLine (text_of_event config.now event.now) }
 {
-    line.clear();
-    put_number(line, event.time.0);
-    line.push_str(" ");
-    line.push_str(node_name(config, event.node));
-    line.push_str(" ");
-    put_happened(config, &event.happened, line);
+    put_event(config, event, line);
     line.push_str("\n");
 }
 
@@ -39,12 +38,36 @@ pub fn line_text(config: &Config, event: &Event, line: &mut ArrayString<256>)
 pub fn summary_text(totals: &Totals, line: &mut ArrayString<256>)
     ensures line { line.new.bytes ≡ summary_of totals.now }
     ensures short { length line.new.bytes ≤ 255 }
+    ensures printable { IsLine (text_of_totals totals.now) }
+{
+    put_totals(totals, line);
+    line.push_str("\n");
+}
+
+/// The text of an event, and nothing else.
+fn put_event(config: &Config, event: &Event, line: &mut ArrayString<256>)
+    requires ends { LinksJoinNodes config.now }
+    requires known { HasEvent config.now event.now }
+    ensures text { line.new.bytes ≡ text_of_event config.now event.now }
+    ensures short { length line.new.bytes ≤ 214 }
+{
+    line.clear();
+    put_number(line, event.time.0);
+    line.push_str(" ");
+    line.push_str(node_name(config, event.node));
+    line.push_str(" ");
+    put_happened(config, &event.happened, line);
+}
+
+/// The text of the sums, and nothing else.
+fn put_totals(totals: &Totals, line: &mut ArrayString<256>)
+    ensures text { line.new.bytes ≡ text_of_totals totals.now }
+    ensures short { length line.new.bytes ≤ 238 }
 {
     line.clear();
     put_work(totals, line);
     line.push_str(" ");
     put_traffic(totals, line);
-    line.push_str("\n");
 }
 
 /// The words of what happened.
@@ -53,7 +76,7 @@ fn put_happened(config: &Config, happened: &Happened, line: &mut ArrayString<256
     requires known { HasHappened config.now happened.now }
     requires room { length line.old.bytes ≤ 38 }
     ensures bytes { line.new.bytes ≡ line.old.bytes ++ join_with_byte 32 (happened_words config.now happened.now) }
-    ensures short { length line.new.bytes ≤ length line.old.bytes + 200 }
+    ensures short { length line.new.bytes ≤ length line.old.bytes + 176 }
 {
     match happened {
         Happened::Arrived {
@@ -105,13 +128,13 @@ fn put_head(config: &Config, word: &str, id: PacketId, bytes: u32, line: &mut Ar
     requires word { length word.now ≤ 5 }
     requires room { length line.old.bytes ≤ 38 }
     ensures bytes { line.new.bytes ≡ line.old.bytes ++ join_with_byte 32 (word.now ∷ id_word config.now id ∷ decimal bytes ∷ []) }
-    ensures short { length line.new.bytes ≤ length line.old.bytes + 64 }
+    ensures short { length line.new.bytes ≤ length line.old.bytes + 54 }
 {
     line.push_str(word);
     line.push_str(" ");
     put_id(config, id, line);
     line.push_str(" ");
-    put_number(line, u64::from(bytes));
+    put_length(line, bytes);
 }
 
 /// What else a line says of an arrival at a router.
@@ -119,7 +142,7 @@ fn put_arrival(config: &Config, from: Option<u16>, fate: &Fate, line: &mut Array
     requires ends { LinksJoinNodes config.now }
     requires source { HasSource config.now from }
     requires outcome { HasOutcome config.now fate.now.outcome }
-    requires room { length line.old.bytes ≤ 102 }
+    requires room { length line.old.bytes ≤ 92 }
     ensures bytes { line.new.bytes ≡ line.old.bytes ++ 32 ∷ join_with_byte 32 (from_word config.now from ∷ class_word fate.now.class ∷ cause_or_dash fate.now.cause ∷ outcome_word config.now fate.now.outcome ∷ []) }
     ensures short { length line.new.bytes ≤ length line.old.bytes + 63 }
 {
@@ -137,7 +160,7 @@ fn put_arrival(config: &Config, from: Option<u16>, fate: &Fate, line: &mut Array
 fn put_sending(config: &Config, shape: ShapeKind, outcome: Outcome, line: &mut ArrayString<256>)
     requires ends { LinksJoinNodes config.now }
     requires known { HasOutcome config.now outcome }
-    requires room { length line.old.bytes ≤ 102 }
+    requires room { length line.old.bytes ≤ 92 }
     ensures bytes { line.new.bytes ≡ line.old.bytes ++ 32 ∷ join_with_byte 32 (shape_word shape ∷ outcome_word config.now outcome ∷ []) }
     ensures short { length line.new.bytes ≤ length line.old.bytes + 32 }
 {
@@ -159,9 +182,9 @@ fn put_receipt(
     requires ends { LinksJoinNodes config.now }
     requires source { HasLink config.now from }
     requires reply { HasReply config.now reply.now }
-    requires room { length line.old.bytes ≤ 102 }
+    requires room { length line.old.bytes ≤ 92 }
     ensures bytes { line.new.bytes ≡ line.old.bytes ++ 32 ∷ join_with_byte 32 (name_before config.now from ∷ what_word what ∷ back_word back ∷ reply_word config.now reply.now ∷ []) }
-    ensures short { length line.new.bytes ≤ length line.old.bytes + 132 }
+    ensures short { length line.new.bytes ≤ length line.old.bytes + 122 }
 {
     line.push_str(" ");
     line.push_str(name_before(config, from));
@@ -177,7 +200,7 @@ fn put_receipt(
 fn put_start(config: &Config, link: u16, class: Class, end: Time, line: &mut ArrayString<256>)
     requires ends { LinksJoinNodes config.now }
     requires known { HasLink config.now link }
-    requires room { length line.old.bytes ≤ 102 }
+    requires room { length line.old.bytes ≤ 92 }
     ensures bytes { line.new.bytes ≡ line.old.bytes ++ 32 ∷ join_with_byte 32 (name_behind config.now link ∷ class_word class ∷ decimal end.0 ∷ []) }
     ensures short { length line.new.bytes ≤ length line.old.bytes + 46 }
 {

@@ -19,6 +19,15 @@ pub fn put_number(line: &mut ArrayString<256>, number: u64)
     line.push_str(Buffer::new().format(number));
 }
 
+/// A length in bytes, in at most ten digits.
+pub fn put_length(line: &mut ArrayString<256>, bytes: u32)
+    requires { length line.old.bytes ≤ 246 }
+    ensures bytes { line.new.bytes ≡ line.old.bytes ++ decimal bytes }
+    ensures short { length line.new.bytes ≤ length line.old.bytes + 10 }
+{
+    line.push_str(Buffer::new().format(bytes));
+}
+
 /// The name of a node.
 pub fn node_name(config: &Config, node: u16) -> &str
     requires { HasNode config.now node }
@@ -115,7 +124,7 @@ pub fn put_reply(config: &Config, reply: &Option<ReplyLine>, line: &mut ArrayStr
     requires known { HasReply config.now reply.now }
     requires room { length line.old.bytes ≤ 150 }
     ensures bytes { line.new.bytes ≡ line.old.bytes ++ reply_word config.now reply.now }
-    ensures short { length line.new.bytes ≤ length line.old.bytes + 98 }
+    ensures short { length line.new.bytes ≤ length line.old.bytes + 88 }
 {
     match reply {
         None => line.push_str("-"),
@@ -129,7 +138,7 @@ fn put_answer(config: &Config, reply: &ReplyLine, line: &mut ArrayString<256>)
     requires known { HasReply config.now (Some reply.now) }
     requires room { length line.old.bytes ≤ 150 }
     ensures bytes { line.new.bytes ≡ line.old.bytes ++ reply_word config.now (Some reply.now) }
-    ensures short { length line.new.bytes ≤ length line.old.bytes + 98 }
+    ensures short { length line.new.bytes ≤ length line.old.bytes + 88 }
 {
     put_made(config, reply, line);
     line.push_str("/");
@@ -143,11 +152,11 @@ fn put_made(config: &Config, reply: &ReplyLine, line: &mut ArrayString<256>)
     requires known { HasNode config.now reply.now.id.node }
     requires room { length line.old.bytes ≤ 150 }
     ensures bytes { line.new.bytes ≡ line.old.bytes ++ join_with_byte 47 (id_word config.now reply.now.id ∷ decimal reply.now.length ∷ shape_word reply.now.shape ∷ []) }
-    ensures short { length line.new.bytes ≤ length line.old.bytes + 66 }
+    ensures short { length line.new.bytes ≤ length line.old.bytes + 56 }
 {
     put_id(config, reply.id, line);
     line.push_str("/");
-    put_number(line, u64::from(reply.length));
+    put_length(line, reply.length);
     line.push_str("/");
     line.push_str(shape_word(reply.shape));
 }

@@ -1,5 +1,5 @@
 // Reads a trace.
-ghost use Rattle.std.specs.Prelude.{◌≡◌, ◌≤◌, ◌==◌, List, [], IfOk, IfErr, IfSome, OnOk, length};
+ghost use Rattle.std.specs.Prelude.{◌≡◌, ◌≤◌, ◌==◌, List, IfOk, IfSome, OnOk, length};
 ghost use Rattle.csv.specs.Records.{fields_of};
 ghost use Rattle.tva_trace.specs.declared.rows.Row.{Row};
 ghost use Rattle.tva_trace.specs.declared.rows.TraceError.TheVariants as error;
@@ -19,6 +19,9 @@ use csv::{ByteRecord, ErrorKind, ReaderBuilder};
 use std::alloc::{AllocError, Global};
 use std::collections::HashMap;
 use tva_plan::{Config, node_numbers};
+
+// The bytes of the shortest row, `0,A,send,,0.0.0.0,0,`.
+const SHORTEST_ROW: usize = 20;
 
 /// The rows of a trace, or the first record that breaks a rule with the first rule that it breaks.
 /// The configuration has at most 65,536 nodes, as each that was read has. Rows stand in the order
@@ -47,7 +50,8 @@ fn read_rows(
     ensures answer { Answers config.now text.now result }
     ensures valid { IfOk result (λ rows. AreTraceRows config.now rows.items) }
 {
-    let mut rows = room_for_rows(alloc, text)?;
+    let mut rows = Vec::new(alloc);
+    let room = room_for_rows(text);
     let mut secrets = KeptSecrets::new();
     let mut number = 1u64;
     let mut last = 0u64;
@@ -74,7 +78,7 @@ fn read_rows(
             Ok(said) => said,
             Err(rule) => return Err(TraceError::Fault(TraceFault { row: number, rule })),
         };
-        let Ok(time) = put_row(&mut rows, last, said) else {
+        let Ok(time) = put_row(&mut rows, room, last, said) else {
             return Err(TraceError::OutOfMemory);
         };
         last = time;
@@ -82,16 +86,12 @@ fn read_rows(
     }
 }
 
-/// No rows, with room for one for each line, and for no more than a trace may have.
-fn room_for_rows(alloc: Global, text: &[u8]) -> Result<Vec<Row>, TraceError>
-    ensures none { IfOk result (λ rows. rows.items ≡ []) }
-    ensures err { IfErr result (λ e. e ≡ error.OutOfMemory) }
-{
-    let lines = text.iter().filter(|byte| **byte == b'\n').count();
-    match Vec::with_capacity(alloc, lines.min(1_000_000)) {
-        Ok(rows) => Ok(rows),
-        Err(_) => Err(TraceError::OutOfMemory),
-    }
+/// How many rows are likely, and no more than a trace may have: as many as there are lines of the
+/// length of the shortest row.
+fn room_for_rows(text: &[u8]) -> usize {
+    let lines = text.split(|byte| *byte == b'\n');
+    let long = lines.filter(|line| line.len() >= SHORTEST_ROW);
+    long.count().min(1_000_000)
 }
 
 /// A reader of bytes in memory that takes any number of fields lacks nothing but memory.
@@ -105,12 +105,21 @@ fn shortage(kind: &ErrorKind) -> TraceError
     }
 }
 
-/// Puts a row last, if there is one, and answers the last row's time.
-fn put_row(rows: &mut Vec<Row>, last: u64, said: Option<SaidRow>) -> Result<u64, AllocError>
+/// Puts a row last, if there is one, and answers the last row's time. Where there is none, that is
+/// behind the header, room is made for so many.
+fn put_row(
+    rows: &mut Vec<Row>,
+    room: usize,
+    last: u64,
+    said: Option<SaidRow>,
+) -> Result<u64, AllocError>
     ensures { IfOk result (λ time. IsPut rows.old.items rows.new.items last time said) }
 {
     match said {
-        None => Ok(last),
+        None => {
+            rows.reserve(room)?;
+            Ok(last)
+        }
         Some(said) => {
             let time = said.time.0;
             rows.push(row_from(said))?;

@@ -1,10 +1,13 @@
-use Rattle.std.proofs.Common.{◌++◌, ◌∷◌, [], codes, decimal}
-use Rattle.tva_trace.proofs.Joins.{put_in_parts}
+use Rattle.std.proofs.Common.{ap, arith, length}
+use Rattle.tva_trace.proofs.Printables.{totals_printable}
+use Rattle.tva_trace.proofs.Widths.{totals_some}
 use Rattle.tva_trace.proofs.lines.summary_text.Goals as goal
 
-pub returns-clause-line : goal.returns-clause-line
-returns-clause-line c =
-    let t = c.args.totals.now in
-    let traffic = (codes "started=" ++ decimal t.started) ∷ (codes "received=" ++ decimal t.received) ∷ (codes "bytes=" ++ decimal t.bytes) ∷ [] in
-    let work = (codes "events=" ++ decimal t.events) ∷ (codes "routed=" ++ decimal t.routed) ∷ (codes "authorised=" ++ decimal t.authorised) ∷ (codes "demoted=" ++ decimal t.demoted) ∷ [] in
-    put_in_parts 32 (codes "total") work (codes "dropped=" ++ decimal t.dropped) traffic (codes "\n") _ _ _ _ c.put_work.ensures.bytes c.push_str.ensures.bytes c.put_traffic.ensures.bytes c.push_str-2.ensures.bytes
+pub returns-clause-printable : goal.returns-clause-printable
+returns-clause-printable c =
+    let long = ap length c.put_totals.ensures.text in
+    record {
+      some = totals_some c.args.totals.now;
+      short = omega (arith, long, c.put_totals.ensures.short);
+      printable = totals_printable c.args.totals.now;
+    }

@@ -1,4 +1,4 @@
-use Rattle.std.proofs.Common.{◌∙◌, sym, ap, subst, inl, inr, Bool, true, false, arith}
+use Rattle.std.proofs.Common.{◌∙◌, sym, ap, subst, inl, inr, Bool, true, arith}
 use Rattle.csv.specs.Reading.{ReadRecord, error_kind, with_flexible}
 use Rattle.csv.specs.Records.{fields_of}
 use Rattle.tva_trace.proofs.Reading.{told, read-start, read-fault, read-on, read-nothing, read-short, read-valid, read-whole}
@@ -8,7 +8,7 @@ pub records-init : goal.records-init
 records-init c =
     let fr = c.from_reader-reader.ensures in
     let e = c.flexible.ensures ∙ ap (λ b. with_flexible b true) c.has_headers.ensures in
-    rw c.in_ok-rows.ensures.none (read-start c.args.config.now c.args.text.now _
+    rw c.new-rows.ensures.items (read-start c.args.config.now c.args.text.now _
     (rw (e) at fr.trim ∙ c.new.ensures.trim)
     (inr (inr (rw e at fr.has_headers, fr.headers)))
     (rw e at fr.config ∙ c.new.ensures.config)
