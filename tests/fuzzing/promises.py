@@ -1,0 +1,82 @@
+"""What every run promises, by plain sums over the lines of a report. What a report doesn't tell, which grant a packet
+was charged to and under which key it waits, is the model's, whose lines are the same."""
+from collections import defaultdict
+
+from model import link as links
+from model import shims
+
+UNIT = 1_024
+
+
+def broken(run, report):
+    """The promises that a report breaks, as texts. `run` is the model's, up to the last line of the report or further."""
+    lines = [line.split(" ") for line in report.decode().splitlines() if not line.startswith("total ")]
+    last = int(lines[-1][0]) if lines else 0
+    found = []
+    for node in run.nodes:
+        of_node = [line for line in lines if line[1] == node.plan.name]
+        found += budgets(node, of_node) if hasattr(node, "charges") else []
+        for link in node.links.values():
+            found += rates(run, link, of_node) + waits(run, link, of_node, last)
+    return found
+
+
+def budgets(node, lines):
+    """The regular packets of each grant are less than twice its units. One at the hop limit is regular, and not charged."""
+    regular = [line for line in lines if line[2] == "in" and line[6] == "regular" and line[8] != "dropped:hop-limit"]
+    told = [(int(line[0]), int(line[4])) for line in regular]
+    if told != [(it.time, it.length) for it in node.charges][: len(told)]:
+        return [f"{node.plan.name}: what is regular isn't what is charged"]
+    sums = defaultdict(int)
+    for (_, length), charge in zip(told, node.charges):
+        sums[charge.grant] += length
+    return [f"{node.plan.name}: {grant} has {had} bytes" for grant, had in sums.items() if had >= 2 * UNIT * grant.rights.n]
+
+
+def rates(run, link, lines):
+    """The requests that start from any start to any other cost at most a burst and the time between."""
+    name, plan = run.config.nodes[link.plan.target].name, link.plan
+    starts = [(int(line[0]), int(line[4])) for line in lines if line[2] == "start" and line[5:7] == [name, "request"]]
+    factor = plan.share * plan.ns_per_byte
+    for place, (begin, _) in enumerate(starts):
+        bytes_started = 0
+        for now, length in starts[place:]:
+            bytes_started += length
+            if bytes_started * factor > plan.burst * factor + now - begin:
+                return [f"link {plan.number}: {bytes_started} bytes of requests start from {begin} to {now}"]
+    return []
+
+
+def waits(run, link, lines, last):
+    """Each request and each regular packet starts within its bound, where that is over. The names of packets and the
+    times of starts are the report's, and so is each outcome; keys are the model's."""
+    name, plan = run.config.nodes[link.plan.target].name, link.plan
+    told = [line for line in lines if line[2] == "start" and line[5] == name]
+    started = [(int(line[0]), line[3], int(line[4])) for line in told]
+    waiting, found, place = [], [], 0
+    for entry in link.log:
+        if entry.time > last:
+            break
+        identity, length = f"{run.config.nodes[entry.packet.identity[0]].name}#{entry.packet.identity[1]}", shims.length(entry.packet)
+        if entry.word == "started":
+            if place >= len(started) or started[place] != (entry.time, identity, length):
+                break
+            place += 1
+            [first] = [it for it in waiting if it[0].packet is entry.packet][:1] or [None]
+            waiting = [it for it in waiting if it is not first]
+            if first is None or first[1] is not None and entry.time > first[1]:
+                found.append(f"link {plan.number}: {identity} starts at {entry.time}, and was to start by {first and first[1]}")
+        else:
+            waiting.append((entry, bound(plan, waiting, entry)))
+    found += [f"link {plan.number}: {it.packet.identity} still waits after {by}" for it, by in waiting if by is not None and by < last]
+    return found
+
+
+def bound(plan, waiting, entry):
+    """When a packet that is queued has started at the latest, or None for a legacy packet."""
+    if entry.kind == "legacy":
+        return None
+    same = [it for it, _ in waiting if (it.kind, it.keys) == (entry.kind, entry.keys)]
+    size = sum(shims.length(it.packet) for it in same + [entry])
+    longest = links.longest_request_wait if entry.kind == "request" else links.longest_regular_wait
+    return entry.time + longest(plan, size)

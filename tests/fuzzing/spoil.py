@@ -1,0 +1,267 @@
+"""Configurations and traces with a fault of each kind."""
+from . import networks
+from .networks import Raw, TABLES, chance
+
+# ## configurations
+
+WRONG = [-1, 10**16, Raw("9223372036854775807"), "", "x" * 17, "a b", True, 1.5, [1], Raw("{}"), Raw("1979-05-27"), Raw("[{}]"), "ä"]
+REQUIRED = {
+    "router": ["name", "master", "slots"],
+    "host": ["name", "address"],
+    "link": ["from", "to", "ns_per_byte", "delay_ns"],
+    "route": ["router", "prefix", "via"],
+}
+BOUNDS = {
+    "top": {"horizon_ns": (0, 10**15), "max_events": (1, 4_000_000), "version": (1, 2)},
+    "router": {"slots": (0, 1_000_000), "clock_offset_ns": (0, 10**15), "edge_tag": (0, 65_535)},
+    "host": {"margin_ns": (0, 10**12), "retry_ns": (0, 10**13), "grants": (0, 1_000_000), "n": (0, 1_023), "t": (0, 63)},
+    "link": {
+        "ns_per_byte": (1, 1_000_000),
+        "delay_ns": (1, 10**12),
+        "tag": (0, 65_535),
+        "share": (2, 1_000),
+        "burst": (4_096, 1_000_000),
+        "quantum": (2_048, 1_000_000),
+        "request_levels": (1, 2),
+        "request_inner": (1, 65_536),
+    }
+    | {f"{kind}_{key}": (1, 65_536) for kind in ("request", "regular") for key in ("queues", "ring")}
+    | {f"{kind}_{key}": (2_048, 1 << 30) for kind in ("request", "regular") for key in ("queue_bytes", "bytes")}
+    | {"legacy_ring": (1, 65_536), "legacy_bytes": (2_048, 1 << 30)},
+}
+TEXTS = {
+    "router": {"name": ["", "x" * 16, "a.b", "ö"], "master": ["0" * 63, "g" * 64, "0" * 66]},
+    "host": {
+        "name": ["a b", "x" * 17],
+        "address": ["10.0.0", "10.0.0.01", "1.2.3.256", "1..2.3", "1.2.3.4.", "+1.2.3.4"],
+        "nonce": ["0" * 11, "0" * 13, "00000000000g"],
+        "policy": ["Server", "", "both"],
+        "deny": [["10.0.0.1"] * 1_025, [1], ["10.0.0"], "10.0.0.1"],
+        "deny_tags": [[0], [65_536], [1] * 1_025, ["1"], 1],
+    },
+    "link": {"from": ["", "x" * 17], "to": ["", "a.b"]},
+    "route": {"router": [""], "prefix": ["10.0.0.0", "10.0.0.0/33", "10.0.0.0/08", "10.0.0.0/", "/8", "1.2.3.4/8/8"], "via": ["-" * 17]},
+    "top": {"router": [1, [1], Raw("{}"), "x"], "host": [[[]], Raw("{ a = 1 }")], "link": [False], "route": [Raw("[{}, 1]")]},
+}
+
+
+def entries(network, table):
+    return [network.top] if table == "top" else getattr(network, table)
+
+
+def an_entry(rng, network, *tables):
+    """An entry of one of the tables, which is made where there is none. Returns it with its table."""
+    table = rng.choice(tables)
+    if not entries(network, table):
+        made = {"router": lambda: networks.router(rng, 9), "host": lambda: networks.host(rng, 9, "10.9.9.9", 1)}
+        made |= {"link": lambda: networks.link(rng, "R0", "R1", [1]), "route": lambda: {"router": "R0", "prefix": "1.2.3.4/5", "via": "R1"}}
+        entries(network, table).append(made[table]())
+    return rng.choice(entries(network, table)), table
+
+
+def unknown(rng, network):
+    entry, _ = an_entry(rng, network, "top", *TABLES)
+    entry[rng.choice(["x", "Name", "slot", "horizon"])] = 1
+
+
+def missing(rng, network):
+    entry, table = an_entry(rng, network, "top", *TABLES)
+    entry.pop(rng.choice(["horizon_ns", "max_events"] if table == "top" else REQUIRED[table]), None)
+
+
+def value(rng, network):
+    entry, table = an_entry(rng, network, "top", *TABLES)
+    if chance(rng, 0.4) and table in BOUNDS:
+        key, (least, most) = rng.choice(list(BOUNDS[table].items()))
+        entry[key] = rng.choice([least - 1, most + 1, least, most])
+    elif chance(rng, 0.6):
+        key, values = rng.choice(list(TEXTS[table].items()))
+        entry[key] = rng.choice(values)
+    else:
+        entry[rng.choice(list(entry))] = rng.choice(WRONG)
+    if table == "top" and not all(isinstance(network.top.get(key, []), list) for key in TABLES):
+        for key in TABLES:
+            setattr(network, key, [] if key in network.top else getattr(network, key))
+
+
+def count(rng, network):
+    table, most = rng.choice([("router", 1_025), ("host", 1_025), ("link", 4_097), ("route", 65_537)])
+    number = most - rng.choice([0, 0, 0, 1])
+    setattr(network, table, [])
+    network.top[table] = Raw("[" + "{}," * number + "]")
+
+
+def names(rng, network):
+    one, table = an_entry(rng, network, "router", "host")
+    entries(network, table).append(dict(one))
+
+
+def addresses(rng, network):
+    one, _ = an_entry(rng, network, "host")
+    network.host.append(dict(one) | {"name": "twin"})
+
+
+def retry(rng, network):
+    one, _ = an_entry(rng, network, "host")
+    one["margin_ns"] = rng.choice([0, 1, 10**9])
+    one["retry_ns"] = one["margin_ns"] + 10**9 - rng.choice([0, 1, 1, 5])
+
+
+def ends(rng, network):
+    one, _ = an_entry(rng, network, "link")
+    one[rng.choice(["from", "to"])] = rng.choice(["nobody", one["from"], one["to"]])
+
+
+def pair(rng, network):
+    one, _ = an_entry(rng, network, "link")
+    network.link.append(dict(one))
+
+
+def uplink(rng, network):
+    one, _ = an_entry(rng, network, "host")
+    if chance(rng, 0.5):
+        network.link = [it for it in network.link if it["from"] != one["name"]]
+    else:
+        network.link += [networks.link(rng, one["name"], it["name"], [5]) for it in network.router + network.host]
+
+
+def owner(rng, network):
+    one, _ = an_entry(rng, network, "route")
+    one["router"] = rng.choice(["nobody"] + [it["name"] for it in network.host])
+
+
+def via(rng, network):
+    one, _ = an_entry(rng, network, "route")
+    one["via"] = rng.choice(["nobody", one["router"]] + [it["name"] for it in network.router + network.host])
+
+
+def prefix(rng, network):
+    one, _ = an_entry(rng, network, "route")
+    address, bits = one["prefix"].split("/")
+    address = address[:-1] + "7" if bits != "32" and address[-2] == "." else address
+    network.route.append(dict(one) | {"prefix": f"{address}/{bits}"})
+
+
+def slots(rng, network):
+    while len(network.router) < 2:
+        network.router.append(networks.router(rng, len(network.router) + 90))
+    network.router[0]["slots"] = 1_000_000 - rng.choice([0, 1, 500])
+    network.router[1]["slots"] = rng.choice([0, 1, 2, 500])
+
+
+def rings(rng, network):
+    one, _ = an_entry(rng, network, "link")
+    one |= {"request_queues": 1_000, "regular_queues": 1, "regular_ring": 1, "request_levels": rng.choice([1, 2])}
+    one |= {"request_ring": 999 if one["request_levels"] == 1 else 333, "request_inner": 3, "legacy_ring": rng.choice([999, 1_000, 998])}
+    network.link[:] = [one] if chance(rng, 0.3) else network.link
+
+
+CONFIG_FAULTS = [unknown, missing, value, value, value, names, addresses, retry, ends, pair, uplink, owner, via, prefix, slots, rings]
+TOML_SCRAPS = [
+    *("x = ", "= 1", "[router]", "[[router]]", "[top", "horizon_ns = 1", 'a = "\\x"', "a = 'b", "a.b = 1", "a = 1 2", "\x00", "a = 08", "a = 0x"),
+    *('a = """', "a = [1,", "a = {b = 1", "a = 9223372036854775808", "a = -9223372036854775809", "a = [0x8000000000000000]", "a = 1_", "a = tru"),
+    *("a = 1979-13-01", "a = {b = 9999999999999999999}", 'a = "\\ud800"', "\r", "a = 1 # \x07", "[a]\n[a]", "a = inf", "[[host]]\n[host]"),
+]
+
+
+def damage(rng, text):
+    """A text that lost a line, or has one twice, or some characters changed."""
+    lines = text.split("\n")
+    place = rng.randrange(len(lines))
+    way = rng.randrange(5)
+    if way == 0:
+        return "\n".join(lines[:place] + lines[place + 1 :])
+    if way == 1:
+        return "\n".join(lines[: place + 1] + lines[place:])
+    at = rng.randrange(len(text))
+    if way == 2:
+        return text[:at] + text[at + 1 :]
+    return text[:at] + rng.choice('"=[]{},.#\n0a _-') + text[at + (way == 3) :]
+
+
+def config(rng, network):
+    """The bytes of a configuration with a fault, mostly."""
+    if chance(rng, 0.12):
+        text = networks.text_of(rng, network)
+        lines = text.split("\n")
+        lines.insert(rng.randrange(len(lines)), rng.choice(TOML_SCRAPS))
+        return "\n".join(lines).encode()
+    if chance(rng, 0.12):
+        return damage(rng, networks.text_of(rng, network)).encode()
+    if chance(rng, 0.05):
+        data = networks.text_of(rng, network).encode()
+        return rng.choice([b"\xef\xbb\xbf" + data, data + b"#\xff\n", b"\xff" + data, data.replace(b"\n", b"\r\n"), b"\xef\xbb\xbf" * 2 + data])
+    fault = count if chance(rng, 0.05) else rng.choice(CONFIG_FAULTS)
+    fault(rng, network)
+    if chance(rng, 0.1):
+        rng.choice(CONFIG_FAULTS)(rng, network)
+    return networks.text_of(rng, network).encode()
+
+
+# ## traces
+
+FIELDS = {
+    "time": ["", "x", "-1", "+1", "1.0", " 1", "0x1", "1" * 21, "0" * 21, "0" * 20, "1000000000000001", "99999999999999999999"],
+    "node": ["", "nobody", "r0", " R0", "R0 "],
+    "kind": ["", "Send", "renewal", "request", "lists", "send"],
+    "src": ["", "10.0.0", "10.0.0.01", "x", "256.1.1.1", "10.0.0.1"],
+    "dst": ["", "10.0.0", "10.0.0.1.1", "H0", "1.2.3.4 "],
+    "payload": ["", "1601", "-1", "x", "0001600", "00000000000000000001", "000000000000000000001", "16e2"],
+    "shim": [
+        *("x", "0", "100", "100600", "zz", "00000000000a", "0000000000a", "00" * 401, "00" * 400, "0" * 801, "0x10"),
+        *("00000000000a/1/1/0/", "00000000000a/1/1/1/", "00000000000a/1/1/0", "00000000000a/1/1/0//", "00000000000a/1048576/1/0/"),
+        *("00000000000a/1/128/0/", "00000000000a/1048575/127/0/", "00000000000a/1/1/0/R0@5", "00000000000a/1/1/0/H0@5", "00000000000a/1/1/0/R0@"),
+        *("00000000000a/1/1/0/R0@2000001", "00000000000a/1/1/0/R0@2000000", "00000000000a/1/1/0/@5", "00000000000a/1/1/0/R0@5@5"),
+        *("00000000000a/1/1/0/R0@5;", "00000000000a/1/1/0/;", "00000000000a/01/001/0/R0@05", "00000000000a/1/1/2/R0@5", "0000000000/1/1/0/"),
+        *("00000000000a/1/1/17/" + ";".join(["0" * 16] * 17), "00000000000a/1/1/16/" + ";".join(["0" * 16] * 16), "00000000000a/1/1/0/00112233445566gg"),
+    ],
+}
+COLUMNS = list(FIELDS)
+
+
+def field(rng, lines):
+    """A field that isn't meant, mostly."""
+    place = rng.randrange(1, len(lines))
+    words = lines[place].split(",")
+    name = rng.choice(COLUMNS)
+    words[COLUMNS.index(name) % len(words)] = rng.choice(FIELDS[name])
+    lines[place] = ",".join(words)
+
+
+def order(rng, lines):
+    """A later row first."""
+    place = rng.randrange(1, len(lines))
+    words = lines[place].split(",")
+    lines.insert(place, ",".join([str(int(words[0].strip(chr(34))) + rng.choice([0, 1, 1, 10**9]))] + words[1:]))
+
+
+def fields(rng, lines):
+    place = rng.randrange(1, len(lines))
+    lines[place] = rng.choice([lines[place] + ",", lines[place].rpartition(",")[0], "", " ", ",", ",,,,,,", '""', "x"])
+
+
+def header(rng, lines):
+    lines[0] = rng.choice(["", lines[0] + ",", lines[0].upper(), lines[0].replace("src,dst", "dst,src"), '"time",node,kind,"src",dst,payload,shim', lines[-1]])
+
+
+def scraps(rng, lines):
+    """Quotes and line ends where none are meant."""
+    place = rng.randrange(len(lines))
+    at = rng.randrange(len(lines[place]) + 1)
+    lines[place] = lines[place][:at] + rng.choice(['"', '""', "\r", "\n", ",", '","', "\x00", "ä"]) + lines[place][at:]
+
+
+def trace(rng, text):
+    """The bytes of a trace with a fault, mostly."""
+    if chance(rng, 0.03):
+        return rng.choice([b"", b"\n\n", b"\xef\xbb\xbf", b"\xff\xfe"])
+    if chance(rng, 0.05):
+        return rng.choice([b"\xef\xbb\xbf", b"\n\r\n", b"\xef\xbb\xbf" * 2]) + text.encode()
+    lines = text.splitlines()
+    if len(lines) < 2:
+        lines.append("0,R0,raw,10.0.0.1,10.0.1.1,0,")
+    ways = [field] * 8 + [order, order, fields, header, scraps]
+    if chance(rng, 0.5):
+        lines = lines[: rng.randrange(2, len(lines) + 1)]
+    rng.choice(ways)(rng, lines)
+    return "\n".join(lines).encode() + b"\n"

@@ -1,0 +1,20 @@
+"""A second model of the program, in plain Python 3 with the standard library alone.
+
+It is written from docs/MODEL.md and docs/FORMATS.md, and shares no line with the program. It keeps whole lists of
+what happened and sums over them, and takes one time after another; so it is slow, and easy to follow.
+
+- texts: numbers, addresses and digits
+- shims: what is sent, its bytes and its words
+- hashes: secrets, pre-capabilities, capabilities, and their check
+- configuration, trace: the readers, with the first fault
+- router: charges, verdicts, and what becomes of an arrival
+- link: fair queues, request credit, and what a link starts next
+- host: senders, policies and receipts
+- run: the nodes of a network, time after time
+- report: the lines
+- generator: traces of a seed
+- commands: the words of the command line
+
+Each file begins with the classes and functions that the others use; `tests/fuzz readings` replaces some of them by
+name, one at a time.
+"""

@@ -1,0 +1,123 @@
+"""The words of the command line: what is written, with which status, and what is said on standard error."""
+import sys
+from typing import NamedTuple
+
+from . import configuration, generator, report, run, shims, texts, trace
+
+CONFIG_MOST, TRACE_MOST = 1 << 20, 1 << 26
+SEED_MOST, COUNT_MOST, SHIM_MOST = (1 << 64) - 1, 500_000, 400
+USAGE = "usage: tva replay CONFIG TRACE, check CONFIG, shim HEX, gen SEED COUNT CONFIG"
+DONE, WRONG_WORDS, READ_FAULT, WRITE_FAULT, TOO_LARGE, BAD_CONFIG, BAD_TRACE, EVENT_LIMIT = 0, 2, 3, 4, 5, 6, 7, 8
+
+
+class Answer(NamedTuple):
+    """The run is for those who look at it afterwards: there is one where a replay came so far."""
+
+    status: int
+    written: bytes = b""
+    said: str = ""
+    run: object = None
+
+
+class Refused(Exception):
+    """A status with its text."""
+
+    def __init__(self, status, said):
+        super().__init__(said)
+        self.status, self.said = status, said
+
+
+def load(name, most):
+    """The bytes of a file."""
+    try:
+        with open(name, "rb") as file:
+            data = file.read(most + 1)
+    except (OSError, ValueError):
+        raise Refused(READ_FAULT, "read fault") from None
+    if len(data) > most:
+        raise Refused(TOO_LARGE, f"too large: {most + 1}")
+    return data
+
+
+def read_config(name):
+    try:
+        return configuration.read(load(name, CONFIG_MOST))
+    except configuration.Fault as fault:
+        raise Refused(BAD_CONFIG, f"bad config: {fault}") from None
+
+
+def read_trace(name, config):
+    try:
+        return trace.read(load(name, TRACE_MOST), config)
+    except trace.Fault as fault:
+        raise Refused(BAD_TRACE, f"bad trace: {fault}") from None
+
+
+# ## commands
+
+
+def replay(config_name, trace_name):
+    config = read_config(config_name)
+    rows = read_trace(trace_name, config)
+    return replay_of(config, rows)
+
+
+def replay_of(config, rows):
+    running, events, most = run.Run(config, rows), [], config.top.most_events
+    for window in run.windows(running):
+        if len(events) + len(window) > most:
+            return Answer(EVENT_LIMIT, lines(config, events), f"more than {most} events", running)
+        events += window
+    return Answer(DONE, lines(config, events) + report.total(events).encode(), "", running)
+
+
+def lines(config, events):
+    return "".join(report.line(config, happened) for happened in events).encode()
+
+
+def check(name):
+    return Answer(DONE, configuration.words(read_config(name)).encode())
+
+
+def shim(digits):
+    data = meant(texts.hexadecimal(digits.encode()))
+    meant(data if len(data) <= SHIM_MOST else None)
+    return Answer(DONE, (shims.words(data) + "\n").encode())
+
+
+def gen(seed, count, name):
+    seed = meant(texts.decimal(seed.encode(), SEED_MOST))
+    count = meant(texts.decimal(count.encode(), COUNT_MOST))
+    return Answer(DONE, generator.generate(seed, count, read_config(name)).encode())
+
+
+def meant(value):
+    if value is None:
+        raise Refused(WRONG_WORDS, USAGE)
+    return value
+
+
+COMMANDS = {"replay": (replay, 2), "check": (check, 1), "shim": (shim, 1), "gen": (gen, 3)}
+
+
+def answer(words):
+    """What the words come to."""
+    command, count = COMMANDS.get(words[0], (None, 0)) if words else (None, 0)
+    if command is None or len(words) != 1 + count:
+        return Answer(WRONG_WORDS, b"", USAGE)
+    try:
+        return command(*words[1:])
+    except Refused as refused:
+        return Answer(refused.status, b"", refused.said)
+
+
+def main(words):
+    given = answer(words)
+    try:
+        sys.stdout.buffer.write(given.written)
+        sys.stdout.buffer.flush()
+    except OSError:
+        given = Answer(WRITE_FAULT, said="write fault")
+    if given.said:
+        print(given.said, file=sys.stderr)
+    return given.status

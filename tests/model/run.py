@@ -1,0 +1,212 @@
+"""The run of a network: what reaches its nodes and what its links decide, one time after another."""
+import heapq
+from typing import NamedTuple
+
+from . import host, link, router, shims
+from .trace import SEND
+
+
+class Input(NamedTuple):
+    """What reaches a node at a time: a row, or a packet on a link."""
+
+    time: int
+    node: int
+    link: int
+    packet: shims.Packet
+    row: object
+
+
+# ## what happens
+
+
+class Arrived(NamedTuple):
+    time: int
+    node: int
+    packet: shims.Packet
+    link: int
+    kind: str
+    cause: str
+    charge: router.Charge
+    outcome: str
+
+
+class Sent(NamedTuple):
+    time: int
+    node: int
+    packet: shims.Packet
+    shape: str
+    outcome: str
+
+
+class Received(NamedTuple):
+    time: int
+    node: int
+    packet: shims.Packet
+    link: int
+    receipt: host.Receipt
+    reply: Sent
+
+
+class Started(NamedTuple):
+    time: int
+    node: int
+    packet: shims.Packet
+    link: int
+    kind: str
+    end: int
+
+
+# ## nodes
+
+
+class Node:
+    """A node with its links by number. What it does depends on what reaches it, and on nothing else."""
+
+    def __init__(self, config, number):
+        self.number, self.plan = number, config.nodes[number]
+        self.names = [node.name for node in config.nodes]
+        self.plans = config.links
+        self.links = {plan.number: link.Link(plan) for plan in config.links if plan.source == number}
+
+    def queue(self, now, number, packet):
+        """Queues a packet on the link of that number, and tells the outcome."""
+        refusal = self.links[number].queue(now, packet)
+        return f"dropped:{refusal}" if refusal else f"queued:{self.names[self.links[number].plan.target]}"
+
+
+class RouterNode(Node):
+    def __init__(self, config, number):
+        super().__init__(config, number)
+        self.charges = []
+        self.made = 0
+
+    def take(self, reaching):
+        """What comes of a row, or of a packet on a link."""
+        packet = reaching.packet if reaching.row is None else self.injected(reaching.row)
+        tag = self.plan.edge_tag if reaching.link is None else self.plans[reaching.link].tag
+        if router.is_spent(packet):
+            happened = shims.class_of(packet), None, None, "dropped:hop-limit"
+        else:
+            fate = router.fate(self.plan, self.charges, reaching.time, tag, packet)
+            self.charges += [fate.charge] if fate.charge else []
+            happened = shims.class_of(fate.packet), fate.cause, fate.charge, self.pass_on(reaching.time, fate.packet)
+        return Arrived(reaching.time, self.number, packet, reaching.link, *happened)
+
+    def injected(self, row):
+        self.made += 1
+        return shims.Packet((self.number, self.made), row.flow, row.payload, row.carried)
+
+    def pass_on(self, now, packet):
+        target = router.way(self.plan, packet.flow.destination)
+        if target is None:
+            return "dropped:no-route"
+        [number] = [it for it, link in self.links.items() if link.plan.target == target]
+        return self.queue(now, number, packet)
+
+
+class HostNode(Node):
+    def __init__(self, config, number):
+        super().__init__(config, number)
+        self.host = host.Host(self.plan, number)
+        [self.uplink] = self.links
+
+    def take(self, reaching):
+        now, row = reaching.time, reaching.row
+        if row is None:
+            return self.received(now, reaching.link, reaching.packet)
+        if row.carried is SEND:
+            return self.sent(now, *self.host.intend(now, row.flow.destination, row.payload))
+        return self.sent(now, shims.Packet(self.host.identity(), row.flow, row.payload, row.carried), "trace")
+
+    def sent(self, now, packet, shape):
+        return Sent(now, self.number, packet, shape, self.queue(now, self.uplink, packet))
+
+    def received(self, now, number, packet):
+        receipt, reply = self.host.receive(packet), None
+        if receipt.answer is not None:
+            reply = self.sent(now, *self.host.prepare(now, packet.flow.source, 0, receipt.answer))
+        return Received(now, self.number, packet, number, receipt, reply)
+
+
+# ## the run
+
+
+def turn(reaching):
+    """In which order things reach a node at one time: rows first, then packets by the number of their link."""
+    return -1 if reaching.link is None else reaching.link
+
+
+class Run:
+    """A run up to a time, and the queue of what is still to reach a node, by time, node, turn and place."""
+
+    def __init__(self, config, rows):
+        self.config = config
+        makes = [RouterNode] * len(config.routers) + [HostNode] * len(config.hosts)
+        self.nodes = [make(config, number) for number, make in enumerate(makes)]
+        self.queue, self.put = [], 0
+        self.happened = []
+        for row in rows:
+            self.reach(Input(row.time, row.node, None, None, row))
+
+    def reach(self, reaching):
+        """Puts into the queue what reaches a node, unless that is past the horizon."""
+        if reaching.time <= self.config.top.horizon:
+            heapq.heappush(self.queue, (reaching.time, reaching.node, turn(reaching), self.put, reaching))
+            self.put += 1
+
+    def next_time(self):
+        """The next time at which something reaches a node or a link decides by itself, or None."""
+        times = [self.queue[0][0]] if self.queue else []
+        times += [link.decides for node in self.nodes for link in node.links.values() if link.decides is not None]
+        return min(times) if times and min(times) <= self.config.top.horizon else None
+
+    def work(self, now):
+        """What happens at the next time: at each node first what reaches it, then what its links start, by number."""
+        happened = [it for node in self.nodes for it in self.work_node(now, node)]
+        self.happened += happened
+        return happened
+
+    def work_node(self, now, node):
+        happened = [node.take(reaching) for reaching in self.reaching(now, node.number)]
+        for number in sorted(node.links):
+            link = node.links[number]
+            if decides(link, now, bool(happened)):
+                started = link.decide(now)
+                if started is not None:
+                    happened.append(self.send(now, node, number, *started))
+        return happened
+
+    def reaching(self, now, number):
+        """Takes from the queue what reaches a node now."""
+        taken = []
+        while self.queue and self.queue[0][:2] == (now, number):
+            taken.append(heapq.heappop(self.queue)[-1])
+        return taken
+
+    def send(self, now, node, number, kind, packet):
+        """A start on a link. The packet reaches the other end the link's delay after its end."""
+        link = node.links[number]
+        self.reach(Input(link.free_at + link.plan.delay_ns, link.plan.target, number, packet, None))
+        return Started(now, node.number, packet, number, kind, link.free_at)
+
+
+def decides(link, now, is_reached):
+    """Whether a link decides at a time: it is free, and its node was reached or it decides by itself."""
+    return link.free_at <= now and (is_reached or link.decides == now)
+
+
+# ## windows
+
+
+def window_length(config):
+    """The least delay, or all of the run where there is no link."""
+    return min([link.delay_ns for link in config.links], default=config.top.horizon + 1)
+
+
+def windows(run):
+    """What happens, window by window. A window begins at the next time that there is past the one before."""
+    while (begin := run.next_time()) is not None:
+        end, happened = begin + window_length(run.config), []
+        while (now := run.next_time()) is not None and now < end:
+            happened += run.work(now)
+        yield happened
