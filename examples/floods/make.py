@@ -1,11 +1,12 @@
 #!/usr/bin/env python3
 """Writes the configuration and the trace of a flood.
 
-    make.py FLOOD RATE FOLDER [--without] [--colluders K] [--shared-tag] [--one-tag] [--levels L] [--seed N]
+    make.py FLOOD RATE FOLDER [--without] [--seed N] [--colluders K] [--mix KINDS] [--forge WHAT] [--forge-every MS]
+            [--topology NAME] [--shared-tag] [--one-tag] [--levels L]
 
-FLOOD is `legacy`, `requests` or `authorised`, and RATE says how many times the bottleneck's rate the
-attackers send, all together: 0 is no flood. The files are FOLDER/NAME.toml and FOLDER/NAME.csv, and NAME,
-which is printed, says what they hold. The same words and the same seed give the same bytes.
+FLOOD is one of those below, and RATE says how many times the bottleneck's rate the attackers send, all together: 0
+is no flood. The files are FOLDER/NAME.toml, FOLDER/NAME.csv and FOLDER/NAME.json, which says what was made; NAME is
+printed. The same words and the same seed give the same bytes.
 
 Ten honest senders send 80 packets each to the server, one every 50 milliseconds from 0.5 seconds on. Ten
 attackers send from the start to the fifth second, packets with a payload of 1,500 bytes:
@@ -13,73 +14,128 @@ attackers send from the start to the fifth second, packets with a payload of 1,5
     legacy       to the server, without a shim
     requests     to the server, as requests
     authorised   to colluders, who grant all that they can: what the attackers send is authorised
+    mixed        kinds of the above in turn, an attacker each: --mix requests,legacy, or three kinds
+    forged       as in legacy, and beside it forged packets that cost the attackers next to nothing: --forge
+        notices  packets of 24 bytes under the server's address that tell each honest sender of a packet that
+                 came marked, one every --forge-every milliseconds (125)
+        grants   packets under the server's address that grant each honest sender capabilities that are none,
+                 one every --forge-every milliseconds (20), so that one comes before the true grant does
+        packets  the flood itself is of packets under the honest senders' addresses with a nonce that no router
+                 knows: the server tells the honest senders of each that comes through
 
 With --without nobody uses the defence: all packets come without a shim, at the same times and with the
 same payloads, through the same network. With --colluders there are K colluding destinations in place of
 one, to whom each attacker sends in turn. With --shared-tag the first honest sender's link into the network has
 the tag of the first attacker's. With --one-tag all senders are behind one tagged link, and the bottleneck
 comes after it. With --levels 2 the bottleneck queues its requests by two tags, the last and the one before.
+--topology is dumbbell, parking-lot (three bottlenecks in a row) or tree (nine routers with senders below a root).
 """
 import argparse
 import heapq
 import itertools
+import json
+import math
 import os
 import random
-import string
+import sys
 
 HERE = os.path.dirname(os.path.abspath(__file__))
+sys.path.insert(0, os.path.dirname(HERE))
+import topologies  # noqa: E402
+
 SECOND = 1_000_000_000
+MILLISECOND = 1_000_000
 
 HONEST = 10
 ATTACKERS = 10
 BOTTLENECK = 2_000  # nanoseconds a byte: 500,000 bytes, 4 million bits, a second
 HORIZON = 8 * SECOND
+SLOTS = 256
 
 HONEST_FROM = SECOND // 2
-HONEST_EVERY = 50_000_000
+HONEST_EVERY = 50 * MILLISECOND
 HONEST_PACKETS = 80
 HONEST_PAYLOAD = 1_000
 
 FLOOD_UNTIL = 5 * SECOND
 FLOOD_PAYLOAD = 1_500
 HEADER = 20  # bytes of a packet's header
+ROWS_MOST = 1_000_000
+ROW_MOST = 64  # no row of a flood has more bytes, and so many of the most rows fit into a trace's 64 MiB
 
 SERVER = "10.3.0.1"
+KINDS = ["legacy", "requests", "authorised"]
+FLOODS = [*KINDS, "mixed", "forged"]
+FORGED = {"notices": 125, "grants": 20, "packets": None}  # milliseconds between two to one sender
+COLLUDERS_MOST = 200
+
+# shims in hexadecimal: a request without entries; a marked one that brings a notice; one that brings a grant of 1,023
+# units within 63 seconds with two capabilities, stamped with second 0; and a nonce that nobody was given
+REQUEST = "100600"
+NOTICE = "1c060001"
+GRANT = "1c06000202" + "ffff" + "00f0f0f0f0f0f0f0" * 2
+STRANGE_NONCE = "1206" + "ffffffffffff"
+
 # two levels, with more queues behind a tag than there are senders
-TWO_LEVELS = "request_levels = 2\nrequest_inner = 32\n"
+TWO_LEVELS = dict(request_levels=2, request_inner=32)
 # limits of the links of single hosts, past which no flood needs them
-SMALL = "request_queues = 4\nregular_queues = 8\nrequest_ring = 32\nregular_ring = 64\nlegacy_ring = 64"
+SMALL = dict(request_queues=4, regular_queues=8, request_ring=32, regular_ring=64, legacy_ring=64)
 
 
-def piece(name, **words):
-    """A template of this folder with its words filled in."""
-    with open(os.path.join(HERE, name), encoding="utf-8") as file:
-        return string.Template(file.read()).substitute(words, small=SMALL)
+# ## the network
 
 
-def configuration(flood, colluders, shared_tag, one_tag, levels):
-    border, beyond = ("Border", "Border") if one_tag else ("West", "East")
-    divided = TWO_LEVELS if levels == 2 else ""
-    text = piece("network.toml.in", horizon=HORIZON, bottleneck=BOTTLENECK, border=border, beyond=beyond, levels=divided)
-    if one_tag:
-        text += piece("border.toml.in")
+def in_turn(routers, number):
+    """The router of the number-th host."""
+    return routers[(number - 1) % len(routers)]
+
+
+def join_host(network, name, router, there={}, **both):
+    """Joins a host by its router: `there` is said of its own link, `both` of both."""
+    network.join(name, router, there=there, **dict(ns_per_byte=80, delay_ns=5 * MILLISECOND, **both))
+
+
+def colluders_of(it):
+    return it.colluders if "authorised" in it.kinds else 0
+
+
+def build(it):
+    """The network of a flood, and where its hosts and bottlenecks are."""
+    network = topologies.Network(HORIZON)
+    scarce = dict(ns_per_byte=BOTTLENECK, delay_ns=10 * MILLISECOND, legacy_ring=64, **(TWO_LEVELS if it.levels == 2 else {}))
+    back = dict(ns_per_byte=BOTTLENECK, delay_ns=10 * MILLISECOND)
+    wide = dict(ns_per_byte=80, delay_ns=MILLISECOND)
+    more = dict(border=True) if it.one_tag else {}
+    layout = topologies.TOPOLOGIES[it.topology](network, SLOTS, scarce, back, wide, **more)
+    network.say("The server grants 100 units, 102,400 bytes, within 10 seconds to whoever asks.")
+    network.host("S", SERVER, policy="server", n=100, t=10)
+    join_host(network, "S", layout.servers[0])
+    network.say("An honest sender reckons that one of its packets takes up to 100 milliseconds longer to a router than another.")
     for number in range(1, HONEST + 1):
-        text += piece("honest.toml.in", number=number)
+        network.host(f"H{number}", f"10.1.0.{number}", policy="client", margin_ns=100 * MILLISECOND)
+        join_host(network, f"H{number}", in_turn(layout.senders, number), there=dict(tag=number), **SMALL)
     for number in range(1, ATTACKERS + 1):
-        tag = 1 if shared_tag and number == 1 else 100 + number
-        text += piece("attacker.toml.in", number=number, tag=tag, fast=BOTTLENECK // 200)
-    if flood == "authorised":
-        for number in range(1, colluders + 1):
-            text += piece("colluder.toml.in", number=number)
-    return text
+        tag = 1 if it.shared_tag and number == 1 else 100 + number
+        network.host(f"F{number}", f"10.2.0.{number}", policy="client", retry_ns=1_001 * MILLISECOND)
+        fast = dict(tag=tag, ns_per_byte=BOTTLENECK // 200)
+        join_host(network, f"F{number}", in_turn(layout.attackers, number), there=fast, **SMALL)
+    network.say("A colluder grants all that it can to whoever asks.")
+    for number in range(1, colluders_of(it) + 1):
+        network.host(f"C{number}", f"10.3.1.{number}", policy="server", n=1023, t=63, grants=1_000_000)
+        join_host(network, f"C{number}", in_turn(layout.colluders, number), **SMALL)
+    network.find_routes()
+    return network, layout
 
 
-def honest_rows(number, seed, without):
+# ## the trace
+
+
+def honest_rows(it, number):
     """The rows of an honest sender: (time, row)."""
-    draw = random.Random(f"{seed} honest {number}")
+    draw = random.Random(f"{it.seed} honest {number}")
     time = HONEST_FROM + int(draw.random() * HONEST_EVERY)
     for _ in range(HONEST_PACKETS):
-        if without:
+        if it.without:
             what = f"raw,10.1.0.{number},{SERVER},{HONEST_PAYLOAD},"
         else:
             what = f"send,,{SERVER},{HONEST_PAYLOAD},"
@@ -88,20 +144,35 @@ def honest_rows(number, seed, without):
         time += HONEST_EVERY
 
 
-def attacker_rows(number, flood, rate, colluders, seed, without):
+def every_of(rate):
+    """Nanoseconds between the packets of one attacker."""
+    return (HEADER + FLOOD_PAYLOAD) * BOTTLENECK * ATTACKERS / rate
+
+
+def flood_rows(it, number):
+    """What the rows of an attacker say behind time and node, in turn."""
+    kind = it.kinds[(number - 1) % len(it.kinds)]
+    own = f"10.2.0.{number}"
+    if kind == "authorised":
+        targets = [f"10.3.1.{colluder}" for colluder in range(1, it.colluders + 1)]
+        if not it.without:
+            return [f"send,,{target},{FLOOD_PAYLOAD}," for target in targets]
+        return [f"raw,{own},{target},{FLOOD_PAYLOAD}," for target in targets]
+    if it.flood == "forged" and it.forge == "packets" and not it.without:
+        victims = [(number + place - 1) % HONEST + 1 for place in range(HONEST)]
+        return [f"raw,10.1.0.{victim},{SERVER},{FLOOD_PAYLOAD},{STRANGE_NONCE}" for victim in victims]
+    shim = REQUEST if kind == "requests" and not it.without else ""
+    return [f"raw,{own},{SERVER},{FLOOD_PAYLOAD},{shim}"]
+
+
+def attacker_rows(it, number):
     """The rows of an attacker, who sends its part of so many times the bottleneck's rate."""
-    if rate == 0:
+    if it.rate == 0:
         return
-    every = (HEADER + FLOOD_PAYLOAD) * BOTTLENECK * ATTACKERS / rate
-    targets = [SERVER] if flood != "authorised" else [f"10.3.1.{colluder}" for colluder in range(1, colluders + 1)]
-    if flood == "authorised" and not without:
-        rows = [f"send,,{target},{FLOOD_PAYLOAD}," for target in targets]
-    else:
-        shim = "100600" if flood == "requests" and not without else ""
-        rows = [f"raw,10.2.0.{number},{target},{FLOOD_PAYLOAD},{shim}" for target in targets]
-    draw = random.Random(f"{seed} attacker {number}")
+    every = every_of(it.rate)
+    draw = random.Random(f"{it.seed} attacker {number}")
     time = draw.random() * every
-    for row in itertools.cycle(rows):
+    for row in itertools.cycle(flood_rows(it, number)):
         if time >= FLOOD_UNTIL:
             break
         at = int(time + draw.random() * every / 2)
@@ -109,39 +180,182 @@ def attacker_rows(number, flood, rate, colluders, seed, without):
         time += every
 
 
-def trace(flood, rate, colluders, seed, without):
-    sources = [honest_rows(number, seed, without) for number in range(1, HONEST + 1)]
-    sources += [attacker_rows(number, flood, rate, colluders, seed, without) for number in range(1, ATTACKERS + 1)]
+def forged_rows(it, number):
+    """The packets that the number-th attacker forges, under the server's address, to the number-th honest sender."""
+    if it.flood != "forged" or it.forge == "packets":
+        return
+    shim = NOTICE if it.forge == "notices" else GRANT
+    payload, shim = (len(shim) // 2, "") if it.without else (0, shim)
+    every = it.forge_every * MILLISECOND
+    draw = random.Random(f"{it.seed} forger {number}")
+    time = HONEST_FROM + draw.random() * every
+    while time < FLOOD_UNTIL:
+        yield int(time), f"{int(time)},F{number},raw,{SERVER},10.1.0.{number},{payload},{shim}"
+        time += every
+
+
+def trace(it):
+    sources = [honest_rows(it, number) for number in range(1, HONEST + 1)]
+    sources += [attacker_rows(it, number) for number in range(1, ATTACKERS + 1)]
+    sources += [forged_rows(it, number) for number in range(1, HONEST + 1)]
     yield "time,node,kind,src,dst,payload,shim\n"
     for _, row in heapq.merge(*sources, key=lambda pair: pair[0]):
         yield row + "\n"
 
 
-def name_of(flood, rate, colluders, shared_tag, one_tag, levels, seed, without):
-    several = f"-{colluders}-colluders" if flood == "authorised" and colluders > 1 else ""
-    shared = ("-shared-tag" if shared_tag else "") + ("-one-tag" if one_tag else "") + ("-two-levels" if levels == 2 else "")
-    seeded = "" if seed == 1 else f"-seed-{seed}"
-    return f"{flood}{several}{shared}-{'without' if without else 'with'}-{rate:g}{seeded}"
+def rows_most(it):
+    """No more rows than these come of the words."""
+    flood = math.ceil(FLOOD_UNTIL / every_of(it.rate)) * ATTACKERS if it.rate else 0
+    forged = math.ceil(FLOOD_UNTIL / (it.forge_every * MILLISECOND)) * HONEST if it.forge_every else 0
+    return HONEST * HONEST_PACKETS + flood + forged
 
 
-def main():
-    words = argparse.ArgumentParser(description=__doc__, formatter_class=argparse.RawDescriptionHelpFormatter)
-    words.add_argument("flood", choices=["legacy", "requests", "authorised"])
-    words.add_argument("rate", type=float)
+# ## words
+
+
+class Words(argparse.ArgumentParser):
+    """A reader of words that says in one line what is wrong with them."""
+
+    def error(self, message):
+        self.exit(2, f"{self.prog}: {message}\n")
+
+
+def rate(word):
+    """A rate: finite, not negative, of at most six digits, since it stands in names."""
+    try:
+        told = float(word)
+    except ValueError:
+        told = math.nan
+    if not 0 <= told < math.inf or float(f"{told:g}") != told:
+        raise argparse.ArgumentTypeError(f"{word!r} is no rate: a number from 0 on, of at most six digits")
+    return told
+
+
+def whole(least, most):
+    def read(word):
+        if not (word.isascii() and word.isdigit() and least <= int(word) <= most):
+            raise argparse.ArgumentTypeError(f"{word!r} is no number from {least} to {most}")
+        return int(word)
+
+    return read
+
+
+def kinds(word):
+    told = word.split(",")
+    if len(told) < 2 or any(kind not in KINDS for kind in told):
+        raise argparse.ArgumentTypeError(f"{word!r} is no mix: two or more of {', '.join(KINDS)}, joined by commas")
+    return told
+
+
+def reader(program):
+    """A reader of the words of this script."""
+    words = Words(prog=program, description=__doc__, formatter_class=argparse.RawDescriptionHelpFormatter, allow_abbrev=False)
+    words.add_argument("flood", choices=FLOODS)
+    words.add_argument("rate", type=rate)
     words.add_argument("folder")
     words.add_argument("--without", action="store_true")
-    words.add_argument("--colluders", type=int, default=1)
+    words.add_argument("--seed", type=whole(0, 10**9), default=1)
+    words.add_argument("--colluders", type=whole(1, COLLUDERS_MOST))
+    words.add_argument("--mix", type=kinds)
+    words.add_argument("--forge", choices=list(FORGED))
+    words.add_argument("--forge-every", type=whole(1, 5_000), metavar="MS")
+    words.add_argument("--topology", choices=list(topologies.TOPOLOGIES), default="dumbbell")
     words.add_argument("--shared-tag", action="store_true")
     words.add_argument("--one-tag", action="store_true")
     words.add_argument("--levels", type=int, choices=[1, 2], default=1)
-    words.add_argument("--seed", type=int, default=1)
-    it = words.parse_args()
-    name = name_of(it.flood, it.rate, it.colluders, it.shared_tag, it.one_tag, it.levels, it.seed, it.without)
-    os.makedirs(it.folder, exist_ok=True)
-    with open(os.path.join(it.folder, name + ".toml"), "w", encoding="utf-8") as file:
-        file.write(configuration(it.flood, it.colluders, it.shared_tag, it.one_tag, it.levels))
-    with open(os.path.join(it.folder, name + ".csv"), "w", encoding="utf-8") as file:
-        file.writelines(trace(it.flood, it.rate, it.colluders, it.seed, it.without))
+    return words
+
+
+def settle(words, it):
+    """What the words mean together, or what is wrong with them."""
+    it.kinds = it.mix or ["requests", "legacy"] if it.flood == "mixed" else ["legacy" if it.flood == "forged" else it.flood]
+    if it.mix and it.flood != "mixed":
+        words.error("--mix is for mixed floods")
+    if it.colluders and "authorised" not in it.kinds:
+        words.error("--colluders is for floods of authorised packets")
+    if (it.forge or it.forge_every) and it.flood != "forged":
+        words.error("--forge and --forge-every are for forged floods")
+    it.colluders = it.colluders or 1
+    it.forge = it.forge or ("notices" if it.flood == "forged" else None)
+    if it.forge == "packets" and it.forge_every:
+        words.error("--forge-every is for forged notices and grants")
+    it.forge_every = it.forge_every or FORGED.get(it.forge)
+    if it.one_tag and it.topology != "dumbbell":
+        words.error("--one-tag is for a dumbbell")
+    if it.rate and rows_most(it) > ROWS_MOST:
+        words.error(f"at rate {it.rate:g} the trace would have more than {ROWS_MOST} rows")
+    return it
+
+
+# ## names
+
+
+def series_of(it):
+    """The name of all runs that differ in rate and seed alone."""
+    name = it.flood
+    if it.flood == "mixed" and it.kinds != ["requests", "legacy"]:
+        name += "-" + "-".join(it.kinds)
+    if it.forge:
+        name += f"-{it.forge}" + (f"-{it.forge_every}" if it.forge_every != FORGED[it.forge] else "")
+    if it.colluders > 1:
+        name += f"-{it.colluders}-colluders"
+    if it.topology != "dumbbell":
+        name += f"-{it.topology}"
+    name += ("-shared-tag" if it.shared_tag else "") + ("-one-tag" if it.one_tag else "") + ("-two-levels" if it.levels == 2 else "")
+    return f"{name}-{'without' if it.without else 'with'}"
+
+
+def name_of(it):
+    return f"{series_of(it)}-{it.rate:g}" + ("" if it.seed == 1 else f"-seed-{it.seed}")
+
+
+def said_of(it):
+    """A series in words, without the defence's."""
+    names = {"legacy": "legacy packets", "requests": "requests", "authorised": "authorised packets"}
+    said = " and ".join(names[kind] for kind in it.kinds) if it.flood != "forged" else f"forged {it.forge}"
+    if "authorised" in it.kinds and it.colluders > 1:
+        said += f", {it.colluders} colluders"
+    if it.topology != "dumbbell":
+        said += f", {it.topology.replace('-', ' ')}"
+    return said + (", shared tag" if it.shared_tag else "") + (", one tag" if it.one_tag else "") + (", two levels" if it.levels == 2 else "")
+
+
+def made(it, network, layout):
+    """What draw.py and others read of a flood, so that nothing of it is wired to them."""
+    return {
+        "series": series_of(it),
+        "flood": it.flood,
+        "said": said_of(it),
+        "defence": not it.without,
+        "rate": it.rate,
+        "seed": it.seed,
+        "topology": it.topology,
+        "honest": [f"H{number}" for number in range(1, HONEST + 1)],
+        "attackers": [f"F{number}" for number in range(1, ATTACKERS + 1)],
+        "servers": ["S"],
+        "colluders": [name for name in network.hosts if name.startswith("C")],
+        "bottlenecks": [{"from": one, "to": other, "ns_per_byte": network.links[one, other]["ns_per_byte"]} for one, other in layout.bottlenecks],
+        "honest_every_ns": HONEST_EVERY,
+        "flood_until_ns": FLOOD_UNTIL,
+        "horizon_ns": HORIZON,
+    }
+
+
+def main():
+    words = reader("make.py")
+    it = settle(words, words.parse_args())
+    name, (network, layout) = name_of(it), build(it)
+    try:
+        os.makedirs(it.folder, exist_ok=True)
+        with open(os.path.join(it.folder, name + ".toml"), "w", encoding="utf-8") as file:
+            file.write(f"# {HONEST} honest senders, {ATTACKERS} attackers and a server: {name}.\n" + network.text())
+        with open(os.path.join(it.folder, name + ".csv"), "w", encoding="utf-8") as file:
+            file.writelines(trace(it))
+        with open(os.path.join(it.folder, name + ".json"), "w", encoding="utf-8") as file:
+            json.dump(made(it, network, layout), file, indent=1)
+            file.write("\n")
+    except OSError as fault:
+        words.error(f"{fault.filename or it.folder}: {fault.strerror}")
     print(name)
 
 

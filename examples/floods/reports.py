@@ -1,11 +1,15 @@
-"""Reads reports: their events, and what they say of each packet."""
+"""Reads reports: their events, what they say of each packet, and what that comes to for the honest ones."""
 import collections
+import json
+import os
+import sys
 
 Event = collections.namedtuple("Event", "time node what id length fields")
 
 CAUSES = ["no-capability", "expired", "bad-hash", "superseded", "over-n", "cache-full", "unknown-nonce", "path-full", "malformed"]
 DROPS = ["hop-limit", "no-route", "no-queue", "queue-full"]
 CLASSES = ["request", "regular", "legacy"]
+RECEIVED = ["regular", "renewal", "request", "legacy", "demoted"]
 
 CLASS_OF_SHAPE = {"request": "request", "list": "regular", "nonce": "regular", "renewal": "regular", "legacy": "legacy"}
 
@@ -23,13 +27,14 @@ def events(path):
 class Packet:
     """What a report says of one packet, from the node that made it to where it ended up."""
 
-    __slots__ = ("id", "row", "answers", "sent", "length", "kind", "cause", "marked_at", "dropped", "dropped_at", "received", "receiver", "ended")
+    __slots__ = ("id", "row", "answers", "sent", "shape", "length", "kind", "cause", "marked_at", "dropped", "dropped_at", "received", "receiver", "what", "ended")
 
     def __init__(self, name):
         self.id = name
         self.row = False  # it came of a row of the trace
         self.answers = None  # the packet to which it is the reply
         self.sent = None  # when a node made it or took it from the trace
+        self.shape = None  # in which shape a host made it, or `trace`
         self.length = 0  # as it was sent
         self.kind = None  # its class, so far as the report tells
         self.cause = None  # why a router didn't take it as what it claimed to be
@@ -38,6 +43,7 @@ class Packet:
         self.dropped_at = None  # at which node
         self.received = None  # when a host received it
         self.receiver = None  # which host
+        self.what = None  # what it was to that host: `stray`, `demoted`, `request`, `renewal`, `regular` or `legacy`
         self.ended = None  # the time of the last event that names it
 
     @property
@@ -70,7 +76,7 @@ def packets(path):
         packet.ended = event.time
         if event.what == "send":
             shape, outcome = event.fields
-            packet.row = True
+            packet.row, packet.shape = True, shape
             packet.kind = CLASS_OF_SHAPE.get(shape)
             packet._begins(event.time, event.length)
             packet._goes(outcome, event.node)
@@ -84,16 +90,66 @@ def packets(path):
                 packet.cause, packet.marked_at = cause, event.node
             packet._goes(outcome, event.node)
         elif event.what == "recv":
-            packet.received, packet.receiver = event.time, event.node
+            packet.received, packet.receiver, packet.what = event.time, event.node, event.fields[1]
             if event.fields[3] != "-":
                 name, length, shape, _, outcome = event.fields[3].split("/")
                 reply = found.setdefault(name, Packet(name))
-                reply.answers, reply.kind, reply.ended = event.id, CLASS_OF_SHAPE[shape], event.time
+                reply.answers, reply.kind, reply.shape, reply.ended = event.id, CLASS_OF_SHAPE[shape], shape, event.time
                 reply._begins(event.time, int(length))
                 reply._goes(outcome, event.node)
     return found
 
 
-def honest(found):
-    """The packets that the honest senders of the floods, H1 to H10, were to send."""
-    return [packet for packet in found.values() if packet.row and packet.id.startswith("H")]
+def refuse(text):
+    """Ends with one line and the status of wrong words."""
+    print(f"{os.path.basename(sys.argv[0])}: {text}", file=sys.stderr)
+    sys.exit(2)
+
+
+def made_of(report):
+    """What was made, by the .json that make.py wrote beside the configuration of a report."""
+    path = os.path.splitext(report)[0] + ".json"
+    try:
+        with open(path, encoding="utf-8") as file:
+            return json.load(file)
+    except (OSError, ValueError):
+        refuse(f"there is no {path} that says what was made: make.py writes it")
+
+
+def honest(found, made):
+    """The packets that the honest senders of a flood were to send."""
+    senders = set(made["honest"])
+    return [packet for packet in found.values() if packet.row and packet.sender in senders]
+
+
+def quantile(numbers, percent):
+    """The least of some numbers that so many percent of them don't exceed, or None without any."""
+    return sorted(numbers)[max(1, -(-percent * len(numbers) // 100)) - 1] if numbers else None
+
+
+def numbers_of(report, made):
+    """What a report comes to for the honest packets: how many were to be sent; how many of those a sender sent as
+    legacy by its own choice, and how many a router marked; how many arrived, and as what; and of those that arrived
+    the median delay, and the one that 95 of 100 don't exceed, in nanoseconds."""
+    those = honest(packets(report), made)
+    arrived = [packet for packet in those if packet.received is not None]
+    delays = [packet.received - packet.sent for packet in arrived]
+    return {
+        "sent": len(those),
+        "own_legacy": sum(packet.shape == "legacy" for packet in those),
+        "marked": sum(packet.cause is not None for packet in those),
+        "dropped": sum(packet.dropped is not None for packet in those),
+        "arrived": len(arrived),
+        **{f"as_{what}": sum(packet.what == what for packet in arrived) for what in RECEIVED},
+        "delay": quantile(delays, 50),
+        "late": quantile(delays, 95),
+    }
+
+
+def numbers(stem):
+    """The numbers of one run, which `one` keeps beside it in a file of its own, or else those of its report."""
+    try:
+        with open(stem + ".numbers", encoding="utf-8") as file:
+            return json.load(file)
+    except (OSError, ValueError):
+        return numbers_of(stem + ".report", made_of(stem + ".report"))
