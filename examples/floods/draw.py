@@ -1,249 +1,373 @@
 #!/usr/bin/env python3
-"""Draws pictures of floods from reports alone.
+"""Draws pictures of floods from what was made and what reports say of it.
 
-    draw.py shares FOLDER FLOOD.. PICTURE     the share of the honest packets that arrive, against the attackers' rate
-    draw.py classes REPORT.. PICTURE          how the bottleneck is filled over time, by class
+    draw.py shares FOLDER [FLOOD..] PICTURE   what becomes of the honest packets, against the attackers' rate
+    draw.py classes REPORT.. PICTURE          how the first bottleneck is filled over time, by class
     draw.py packets REPORT.. PICTURE          what became of each honest packet
-    draw.py table FOLDER FLOOD..              the numbers of the first picture, as lines of a table
+    draw.py table FOLDER [FLOOD..]            the numbers of the first picture, as lines of a table
 
-FOLDER holds the reports of a sweep, FLOOD is legacy, requests or authorised, and PICTURE is a file that
-ends in .svg or .png. It wants gnuplot: apt-get install gnuplot-nox, brew install gnuplot, or what your
-system calls it.
+FOLDER holds the runs of a sweep: FLOOD is a flood or a series (legacy-with) in it, and without any all are taken.
+Names, rates, seeds and links are those in the .json beside each report. PICTURE ends in .svg, .pdf or .png, and is as
+wide as a column of a paper, 84 mm, with letters of 8 pt; with `--columns 2` behind the first word it is 178 mm wide.
+Where there are several seeds a point is their mean, and its bar leads from the least to the greatest.
+The caption is printed. It wants gnuplot: apt-get install gnuplot-nox, brew install gnuplot, or what your system calls it.
 """
 import glob
 import itertools
+import json
 import os
-import re
 import shutil
 import subprocess
 import sys
 
+import make
 import reports
+from reports import refuse
 
 SECOND = 1_000_000_000
-BOTTLENECK = "West", "East"
-NS_PER_BYTE = 2_000
 STEP = 100_000_000  # nanoseconds of one step of the picture of classes
-SHOWN = 6  # seconds that the pictures over time show
-EVERY = 50_000_000  # nanoseconds between the packets of an honest sender
+MORE = SECOND  # how long the pictures over time go on behind the flood
 
-TITLES = {"legacy": "Flood of legacy packets", "requests": "Flood of requests", "authorised": "Flood of authorised packets"}
-WITH, FOUR, WITHOUT = "#0072B2", "#009E73", "#D55E00"
-SERIES = {
-    "legacy": [("legacy-with", "with the defence", WITH), ("legacy-without", "without the defence", WITHOUT)],
-    "requests": [("requests-with", "with the defence", WITH), ("requests-without", "without the defence", WITHOUT)],
-    "authorised": [
-        ("authorised-with", "with the defence", WITH),
-        ("authorised-4-colluders-with", "with the defence and four colluders", FOUR),
-        ("authorised-without", "without the defence", WITHOUT),
-    ],
-}
-PARTS = [("requests", "#E69F00"), ("regular, honest", "#0072B2"), ("regular, attackers", "#CC79A7"), ("legacy", "#BBBBBB")]
-FATES = [("regular", "#0072B2"), ("request", "#E69F00"), ("legacy", "#999999"), ("demoted", "#CC79A7"), ("dropped", "#D55E00")]
-
-
-# ## numbers
-
-
-def median(numbers):
-    """The middle one of some numbers, or None without any."""
-    return sorted(numbers)[len(numbers) // 2] if numbers else None
+# curves are told apart by their points and dashes, areas by their shades and hatches; colours come on top
+CURVES = [("#000000", 7, 1), ("#D55E00", 4, 2), ("#0072B2", 9, 3), ("#009E73", 13, 4), ("#CC79A7", 3, 5), ("#E69F00", 11, 6), ("#56B4E9", 6, 7)]
+PARTS = [
+    ("requests", 'fs solid 1.0 noborder lc rgb "#000000"'),
+    ("regular, honest", 'fs solid 1.0 noborder lc rgb "#0072B2"'),
+    ("regular, others", 'fs pattern 4 border rgb "#CC79A7" lc rgb "#CC79A7"'),
+    ("legacy", 'fs solid 1.0 noborder lc rgb "#CCCCCC"'),
+]
+FATES = [
+    ("regular", 'fs solid 1.0 noborder lc rgb "#0072B2"'),
+    ("request", 'fs solid 1.0 noborder lc rgb "#000000"'),
+    ("legacy", 'fs solid 1.0 noborder lc rgb "#CCCCCC"'),
+    ("demoted", 'fs pattern 4 border rgb "#CC79A7" lc rgb "#CC79A7"'),
+    ("dropped", 'fs solid 1.0 border rgb "#D55E00" lc rgb "#FFFFFF"'),
+]
+WIDTHS = {1: 84, 2: 178}  # millimetres
 
 
-class Share:
-    """What a report says of the honest packets: how many there were, arrived and were demoted, and the
-    median delay of those that arrived."""
-
-    def __init__(self, report):
-        those = reports.honest(reports.packets(report))
-        delays = [packet.received - packet.sent for packet in those if packet.received is not None]
-        self.sent, self.arrived, self.delay = len(those), len(delays), median(delays)
-        self.demoted = sum(packet.cause is not None for packet in those)
+# ## the runs of a folder
 
 
-def found_in(folder, name):
-    """The reports of a series: pairs of a rate and the share that its report says, by rising rates."""
-    found = []
-    for path in glob.glob(os.path.join(folder, name + "-*.report")):
-        rate = re.fullmatch(re.escape(name) + r"-([0-9.]+)(-seed-[0-9]+)?\.report", os.path.basename(path))
-        if rate:
-            found.append((float(rate.group(1)), Share(path)))
-    return sorted(found, key=lambda pair: pair[0])
+class Series:
+    """The runs that differ in rate and seed alone: for each rate the numbers of its seeds."""
+
+    def __init__(self, made):
+        self.name, self.flood, self.defence = made["series"], made["flood"], made["defence"]
+        self.said, self.rates = made["said"], {}
+
+    def percent(self, rate, *fields):
+        """For each seed how many of a hundred honest packets these numbers count."""
+        return [100 * sum(numbers[field] for field in fields) / max(1, numbers["sent"]) for numbers in self.rates[rate]]
+
+    def milliseconds(self, rate, field):
+        return [numbers[field] / 1e6 for numbers in self.rates[rate] if numbers[field] is not None]
+
+    def title(self):
+        return self.said + ("" if self.defence else ", without")
 
 
-def by_rate(pairs):
-    """For each rate the shares of its reports, which differ in their seeds."""
-    rates = {}
-    for rate, share in pairs:
-        rates.setdefault(rate, []).append(share)
-    return rates
+def found_in(folder, floods):
+    """The series of a folder, in the order of the floods and then of their names."""
+    if not os.path.isdir(folder):
+        refuse(f"there is no folder {folder}")
+    found = {}
+    for path in sorted(glob.glob(os.path.join(glob.escape(folder), "*.json"))):
+        stem = os.path.splitext(path)[0]
+        made = reports.made_of(stem)
+        if os.path.exists(stem + ".numbers") or os.path.exists(stem + ".report"):
+            series = found.setdefault(made["series"], Series(made))
+            series.rates.setdefault(made["rate"], []).append(reports.numbers(stem))
+    for flood in floods:
+        if not any(flood in (it.flood, it.name) for it in found.values()):
+            refuse(f"{folder} has no runs of {flood}")
+    if not found:
+        refuse(f"{folder} has no runs")
+    taken = [it for it in found.values() if not floods or it.flood in floods or it.name in floods]
+    return sorted(taken, key=lambda it: (make.FLOODS.index(it.flood), not it.defence, len(it.name), it.name))
 
 
-def percent(shares):
-    return 100 * sum(it.arrived for it in shares) / max(1, sum(it.sent for it in shares))
+def mean(numbers):
+    return sum(numbers) / len(numbers)
+
+
+def said_rate(rate):
+    return f"{rate:g}"
 
 
 # ## gnuplot
 
 
-def draw(picture, panels, key, settings):
-    """Draws panels side by side, with a key below them. A panel is a title, its blocks of data, and its
-    curves; the key has texts with their colours."""
+def gnuplot():
     if shutil.which("gnuplot") is None:
-        sys.exit("draw.py: gnuplot isn't installed: apt-get install gnuplot-nox, brew install gnuplot, or what your system calls it")
-    terminal = "pngcairo" if picture.endswith(".png") else "svg"
-    width = 100 + 340 * len(panels)
-    script = f"""
-set terminal {terminal} size {width},340 font "sans-serif,12" background rgb "white"
-set output "{picture}"
-set encoding utf8
-set border 3 lc rgb "#444444"
-set tics nomirror out
-set grid ytics lc rgb "#DDDDDD" lt 1
-unset key
-set multiplot layout 1,{len(panels)} margins {80 / width},{1 - 20 / width},0.27,0.88 spacing {50 / width},0
-{settings}
-"""
-    # the key is text, since gnuplot's own stays within a panel
-    at = 80
-    for text, colour in key:
-        script += f'set label "■ {text}" at screen {at / width:.4f},0.05 left textcolor rgb "{colour}"\n'
-        at += 50 + 7 * len(text)
-    for title, blocks, curves in panels:
-        script += blocks + f'set title "{title}" offset 0,-0.4 font ",11"\nplot ' + ", ".join(curves) + "\nunset ylabel\nunset label\n"
-    subprocess.run(["gnuplot"], input=script + "unset multiplot\n", text=True, check=True)
+        refuse("gnuplot isn't installed: apt-get install gnuplot-nox, brew install gnuplot, or what your system calls it")
+
+
+def terminal(picture, width, height):
+    """The terminal of a picture of so many millimetres, with letters of 8 pt."""
+    kind = os.path.splitext(picture)[1]
+    if kind == ".pdf":
+        return f'pdfcairo size {width / 10}cm,{height / 10}cm font "sans-serif,8" fontscale 1 linewidth 0.7'
+    dots = 96 / 25.4 * (2 if kind == ".png" else 1)
+    name, letters = ("pngcairo", 16 * 4 / 3 * 0.75) if kind == ".png" else ("svg", 8 * 4 / 3)
+    return f'{name} size {width * dots:.0f},{height * dots:.0f} font "sans-serif,{letters:g}" background rgb "white"'
 
 
 def block(name, rows):
-    return f"${name} << END\n" + "".join(" ".join(map(str, row)) + "\n" for row in rows) + "END\n"
+    return f"${name} << END\n" + "".join(" ".join(map(str, row)) + "\n" for row in rows or [("NaN",) * 6]) + "END\n"
 
 
-def shares(folder, floods, picture):
-    panels, key = [], {}
-    for number, flood in enumerate(floods):
-        blocks, curves = "", []
-        for place, (name, title, colour) in enumerate(SERIES[flood]):
-            rates = by_rate(found_in(folder, name))
-            if not rates:
-                sys.exit(f"draw.py: {folder} has no reports {name}-RATE.report")
-            blocks += block(f"d{number}_{place}", [(rate, percent(those)) for rate, those in sorted(rates.items())])
-            curves.append(f'$d{number}_{place} using 1:2 with linespoints lw 2 pt 7 ps 0.6 lc rgb "{colour}"')
-            key[title] = colour
-        panels.append((TITLES[flood], blocks, curves))
-    settings = """
-set logscale x
-set xrange [0.9:110]
-set yrange [0:104]
-set xtics (1, 2, 5, 10, 20, 50, 100)
-set xlabel "attackers' rate, in times the bottleneck's"
-set ylabel "honest packets that arrive, %"
+class Panel:
+    """A part of a picture: its title, settings, blocks of data, and curves."""
+
+    def __init__(self, title, settings):
+        self.title, self.settings, self.blocks, self.curves = title, settings, "", []
+
+    def add(self, rows, curve):
+        """A curve of these rows; `$data` in it is their name."""
+        name = f"data{len(self.curves)}"
+        self.blocks += block(name, rows)
+        self.curves.append(curve.replace("$data", "$" + name))
+
+    def script(self):
+        return self.blocks + f'set title "{self.title}" offset 0,-0.6\n{self.settings}\nplot ' + ", ".join(self.curves) + "\n"
+
+
+def draw(picture, panels, key, columns):
+    """Draws panels in so many columns, with a key below them: pairs of a text and how it is drawn."""
+    width = WIDTHS[columns]
+    rows = -(-len(panels) // columns)
+    across = columns * (2 if max(len(text) for text, _ in key) < 22 else 1)
+    foot = 5 + 4 * -(-len(key) // across)
+    height = 41 * rows + foot
+    script = f"""set terminal {terminal(picture, width, height)}
+set output "{picture}"
+set encoding utf8
+set border 3 lw 0.7
+set tics nomirror out scale 0.5
+set grid ytics lc rgb "#DDDDDD" lt 1 lw 0.5
+unset key
+set multiplot
 """
-    draw(picture, panels, key.items(), settings)
+    for place, panel in enumerate(panels):
+        row, column = divmod(place, columns)
+        left, right = (column * width / columns + 14) / width, ((column + 1) * width / columns - 3) / width
+        top, bottom = 1 - (row * 41 + 5) / height, 1 - (row * 41 + 32) / height
+        script += f"set lmargin at screen {left:.4f}\nset rmargin at screen {right:.4f}\nset tmargin at screen {top:.4f}\nset bmargin at screen {bottom:.4f}\n"
+        script += panel.script()
+    # the key is a plot of its own, of which nothing but the key is seen
+    script += f"""unset title
+unset xlabel
+unset ylabel
+unset tics
+unset border
+unset grid
+unset logscale
+set xrange [0:1]
+set yrange [0:1]
+set lmargin at screen 0
+set rmargin at screen 1
+set bmargin at screen 0
+set tmargin at screen {foot / height:.4f}
+set key at screen {4 / width:.4f},screen {(foot - 3) / height:.4f} left top maxcols {across} Left reverse samplen 3 spacing 1.1
+plot """
+    script += ", ".join(f'NaN {style} title "{text}"' for text, style in key) + "\nunset multiplot\n"
+    done = subprocess.run(["gnuplot"], input=script, text=True, stderr=subprocess.PIPE)
+    if done.returncode:
+        refuse(f"gnuplot refuses {picture}: {done.stderr.strip().splitlines()[-1] if done.stderr.strip() else done.returncode}")
 
 
-def title_of(report):
-    """A report's title by the name of its file, as make.py gave it."""
-    name = re.fullmatch(r"(\w+?)(-4-colluders)?(-shared-tag)?(-one-tag)?(-two-levels)?-(with|without)-([0-9.]+)(-seed-[0-9]+)?\.report", os.path.basename(report))
-    if not name:
-        return os.path.basename(report)
-    flood, several, shared, one, two, kind, rate, _ = name.groups()
-    said = {"legacy": "legacy packets", "requests": "requests", "authorised": "four colluders" if several else "one colluder"}[flood]
-    tags = (", shared tag" if shared else "") + (", one tag" if one else "") + (", two levels" if two else "")
-    return f"{rate} times: {said}{tags}, {kind} the defence"
+# ## what becomes of the honest packets
 
 
-def part_of(event):
+def style(number):
+    colour, point, dash = CURVES[number % len(CURVES)]
+    return f'lc rgb "{colour}" pt {point} ps 0.7 dt {dash} lw 1.4'
+
+
+def place_of(rate, rates):
+    """Where a rate stands on an axis that has no zero: 0 is half the least other one."""
+    return rate or min((it for it in rates if it), default=1) / 2
+
+
+def rates_axis(rates):
+    """The settings of the axis of rates, which has just those that were made."""
+    places = [place_of(rate, rates) for rate in rates]
+    tics = ", ".join(f'"{said_rate(rate)}" {place_of(rate, rates):g}' for rate in rates)
+    return f"""set logscale x
+set xrange [{min(places) / 1.3:g}:{max(places) * 1.3:g}]
+set xtics ({tics})
+set xlabel "attackers' rate, in times the bottleneck's" offset 0,0.6
+"""
+
+
+def spread(series, rates, numbers):
+    """Rows of a curve: where, the mean, the least and the greatest."""
+    told = [(rate, numbers(series, rate)) for rate in sorted(series.rates)]
+    return [(f"{place_of(rate, rates):g}", *(f"{it:.4g}" for it in (mean(of), min(of), max(of)))) for rate, of in told if of]
+
+
+def curve_panel(title, settings, rates, all_series, numbers):
+    panel = Panel(title, rates_axis(rates) + settings)
+    for number, series in all_series:
+        rows = spread(series, rates, numbers)
+        panel.add(rows, f"$data using 1:2 with linespoints {style(number)}")
+        panel.add(rows, f"$data using 1:2:3:4 with yerrorbars {style(number)}")
+    return panel
+
+
+def shares(folder, floods, picture, columns):
+    every = list(enumerate(found_in(folder, floods)))
+    rates = sorted({rate for _, series in every for rate in series.rates})
+    behind = [pair for pair in every if pair[1].defence]
+    bare = [pair for pair in every if not pair[1].defence]
+    percents = 'unset logscale y\nset yrange [0:100]\nset ytics 25\nset ylabel "honest packets, %" offset 1.5,0'
+    delays = 'set logscale y\nset yrange [9:1100]\nset ytics (10, 100, 1000)\nset ylabel "milliseconds" offset 1.5,0'
+    arrived = lambda series, rate: series.percent(rate, "arrived")
+    panels = [
+        curve_panel("that arrive, with the defence", percents, rates, behind, arrived),
+        curve_panel("that arrive in their own right", percents, rates, behind, lambda it, rate: it.percent(rate, *reports.RIGHTFUL)),
+        curve_panel("that arrive, without the defence", percents, rates, bare, arrived),
+        curve_panel("delay of those that arrive: median", delays, rates, every, lambda it, rate: it.milliseconds(rate, "delay")),
+    ]
+    panels = [panel for panel in panels if panel.curves]
+    draw(picture, panels, [(series.title(), f"with linespoints {style(number)}") for number, series in every], columns)
+    seeds = sorted({len(those) for _, series in every for those in series.rates.values()})
+    print(
+        "What becomes of the honest packets against the attackers' rate: the share that arrives; the share that arrives"
+        " in its own right, as a regular packet, a renewal or a request; the share that arrives without the defence;"
+        f" and the median delay. Points are means over {' or '.join(map(str, seeds))} seeds, bars go from the least to the greatest."
+    )
+
+
+def table(folder, floods):
+    print("| Flood | Rate | Defence | Arrive | In their own right | Sent as legacy | Marked | Median delay | 95 of 100 |")
+    print("|---|---|---|---|---|---|---|---|---|")
+    for series in found_in(folder, floods):
+        for rate in sorted(series.rates):
+            fields = [series.said, said_rate(rate), "with" if series.defence else "without"]
+            fields += [over(series.percent(rate, *names), "{:.1f} %") for names in (["arrived"], reports.RIGHTFUL, ["own_legacy"], ["marked"])]
+            fields += [over(series.milliseconds(rate, name), "{:.1f} ms") for name in ("delay", "late")]
+            print("| " + " | ".join(fields) + " |")
+
+
+def over(numbers, form):
+    """A mean, and where there are several seeds from where to where they go."""
+    if not numbers:
+        return "-"
+    said = form.format(mean(numbers))
+    if min(numbers) == max(numbers):
+        return said
+    least, most = (form.format(it).split()[0] for it in (min(numbers), max(numbers)))
+    return f"{said} ({least} to {most})"
+
+
+# ## pictures over time
+
+
+def title_of(made):
+    return f"{said_rate(made['rate'])} times: {made['said']}, {'with' if made['defence'] else 'without'}"
+
+
+def seconds_axis(made):
+    return f'unset logscale\nset xrange [0:{(made["flood_until_ns"] + MORE) / SECOND:g}]\nset xtics 1\nset xlabel "seconds" offset 0,0.6\n'
+
+
+def part_of(event, honest):
     """Which of the parts a start on the bottleneck belongs to."""
     kind = event.fields[1]
     if kind == "request":
         return 0
     if kind == "legacy":
         return 3
-    return 1 if event.id.startswith("H") else 2
+    return 1 if event.id.rpartition("#")[0] in honest else 2
 
 
-def classes(paths, picture):
+def filled(report, made):
+    """For each step the nanoseconds in which the bottleneck is busy with each part: a packet counts in each step in
+    which it is under way, so no step has more than there is of it."""
+    link, honest = made["bottlenecks"][0], set(made["honest"])
+    sums = [[0] * len(PARTS) for _ in range((made["flood_until_ns"] + MORE) // STEP)]
+    for event in reports.events(report):
+        if event.what == "start" and (event.node, event.fields[0]) == (link["from"], link["to"]):
+            begin, end, part = event.time, int(event.fields[2]), part_of(event, honest)
+            for step in range(begin // STEP, min(-(-end // STEP), len(sums))):
+                sums[step][part] += min(end, (step + 1) * STEP) - max(begin, step * STEP)
+    return sums
+
+
+def classes(paths, picture, columns):
     panels = []
-    for number, path in enumerate(paths):
-        sums = [[0] * len(PARTS) for _ in range(SHOWN * SECOND // STEP)]
-        for event in reports.events(path):
-            if event.what == "start" and (event.node, event.fields[0]) == BOTTLENECK and event.time < SHOWN * SECOND:
-                sums[event.time // STEP][part_of(event)] += event.length
-        rows = []
-        for step, parts in enumerate(sums):
-            heights = [100 * sum(parts[: place + 1]) * NS_PER_BYTE / STEP for place in range(len(parts))]
-            rows.append([(step + 0.5) * STEP / SECOND, *(f"{height:.2f}" for height in heights)])
-        # the highest first, so that the lower ones are drawn over it
-        curves = [
-            f'$d{number} using 1:{place + 2} with boxes lc rgb "{colour}"' for place, (_, colour) in reversed(list(enumerate(PARTS)))
-        ]
-        panels.append((title_of(path), block(f"d{number}", rows), curves))
-    settings = f"""
-set xrange [0:{SHOWN}]
-set yrange [0:104]
-set xlabel "seconds"
-set ylabel "bytes on the bottleneck, %"
-set boxwidth {STEP / SECOND}
-set style fill solid 1.0 noborder
-"""
-    draw(picture, panels, PARTS, settings)
+    for path in paths:
+        made = reports.made_of(path)
+        panel = Panel(title_of(made), seconds_axis(made) + f'set yrange [0:100]\nset ytics 25\nset ylabel "of the time, %" offset 1.5,0\nset boxwidth {STEP / SECOND}')
+        heights = [[100 * sum(parts[: place + 1]) / STEP for place in range(len(parts))] for parts in filled(path, made)]
+        # the highest first, so that the lower ones are drawn over it; hatches don't cover, so white comes before them
+        for place, (_, drawn) in reversed(list(enumerate(PARTS))):
+            rows = [(f"{(step + 0.5) * STEP / SECOND:.2f}", f"{of[place]:.2f}") for step, of in enumerate(heights)]
+            if "pattern" in drawn:
+                panel.add(rows, '$data using 1:2 with boxes fs solid 1.0 noborder lc rgb "#FFFFFF"')
+            panel.add(rows, f"$data using 1:2 with boxes {drawn}")
+        panels.append(panel)
+    draw(picture, panels, [(text, f"with boxes {drawn}") for text, drawn in PARTS], columns)
+    print("With what the bottleneck is busy, in steps of a tenth of a second, by the class of its packets; regular ones by whose they are.")
 
 
-def spans(those):
+def spans(those, every):
     """Packets by their senders and fates: (fate, sender, from, to), a span for each run of packets with one
     fate, from its first packet to the next one of the sender."""
     for sender, own in itertools.groupby(sorted(those, key=lambda packet: (packet.sender, packet.sent)), key=lambda packet: packet.sender):
         runs = [(fate, [packet.sent for packet in run]) for fate, run in itertools.groupby(own, key=reports.Packet.fate)]
-        ends = [sent[0] for _, sent in runs[1:]] + [runs[-1][1][-1] + EVERY]
+        ends = [sent[0] for _, sent in runs[1:]] + [runs[-1][1][-1] + every]
         for (fate, sent), end in zip(runs, ends):
             yield fate, sender, sent[0], end
 
 
-def packets(paths, picture):
+def packets(paths, picture, columns):
     panels = []
-    for number, path in enumerate(paths):
-        every = list(spans(reports.honest(reports.packets(path))))
-        blocks, curves = "", []
-        for place, (fate, colour) in enumerate(FATES):
-            rows = [(f"{begin / SECOND:.4f}", f"{end / SECOND:.4f}", sender[1:]) for told, sender, begin, end in every if told == fate]
-            blocks += block(f"d{number}_{place}", rows or [("NaN", "NaN", "NaN")])
-            curves.append(f'$d{number}_{place} using 1:3:1:2:($3-0.25):($3+0.25) with boxxyerror lc rgb "{colour}"')
-        panels.append((title_of(path), blocks, curves))
-    settings = f"""
-set xrange [0:{SHOWN}]
-set yrange [10.6:0.4]
-set ytics ("H1" 1, "H2" 2, "H3" 3, "H4" 4, "H5" 5, "H6" 6, "H7" 7, "H8" 8, "H9" 9, "H10" 10)
-set xlabel "sent, in seconds"
-set ylabel "honest senders"
-set style fill solid 1.0 noborder
-"""
-    draw(picture, panels, FATES, settings)
+    for path in paths:
+        made = reports.made_of(path)
+        place = {name: number for number, name in enumerate(made["honest"], 1)}
+        tics = ", ".join(f'"{name}" {number}' for name, number in place.items())
+        panel = Panel(title_of(made), seconds_axis(made) + f"set yrange [{len(place) + 0.6}:0.4]\nset ytics ({tics})\nset ylabel ''")
+        every = list(spans(reports.honest(reports.packets(path), made), made["honest_every_ns"]))
+        for fate, drawn in FATES:
+            rows = [(f"{begin / SECOND:.4f}", f"{end / SECOND:.4f}", place[sender]) for told, sender, begin, end in every if told == fate]
+            panel.add(rows, f"$data using 1:3:1:2:($3-0.35):($3+0.35) with boxxyerror {drawn}")
+        panels.append(panel)
+    draw(picture, panels, [(text, f"with boxes {drawn}") for text, drawn in FATES], columns)
+    print("What became of each packet of each honest sender, at the time at which it was sent.")
 
 
-def table(folder, floods):
-    print("| Flood | Attackers' rate | Defence | Honest packets that arrive | Median delay | Demoted |")
-    print("|---|---|---|---|---|---|")
-    for flood in floods:
-        for name, title, _ in SERIES[flood]:
-            for rate, those in sorted(by_rate(found_in(folder, name)).items()):
-                arrived, sent, demoted = (sum(getattr(it, field) for it in those) for field in ("arrived", "sent", "demoted"))
-                delay = median([it.delay for it in those if it.delay is not None])
-                said = "-" if delay is None else f"{delay / 1e6:.1f} ms"
-                print(f"| {flood} | {rate:g} | {title} | {arrived} of {sent} ({percent(those):.1f} %) | {said} | {demoted} |")
+# ## words
 
 
 def main():
-    what, words = (sys.argv[1], sys.argv[2:]) if len(sys.argv) > 1 else ("", [])
-    if what == "shares" and len(words) >= 3:
-        shares(words[0], words[1:-1], words[-1])
-    elif what == "classes" and len(words) >= 2:
-        classes(words[:-1], words[-1])
-    elif what == "packets" and len(words) >= 2:
-        packets(words[:-1], words[-1])
-    elif what == "table" and len(words) >= 2:
-        table(words[0], words[1:])
-    else:
-        sys.exit(__doc__)
+    words = sys.argv[1:]
+    if words in (["--help"], ["-h"]):
+        return print(__doc__)
+    columns = 1
+    if words[1:2] == ["--columns"]:
+        if words[2:3] not in (["1"], ["2"]):
+            refuse("--columns is 1 or 2")
+        columns, words = int(words[2]), words[:1] + words[3:]
+    what, words = (words[0], words[1:]) if words else ("", [])
+    if what == "table" and words:
+        return table(words[0], words[1:])
+    if what not in ("shares", "classes", "packets") or len(words) < 2:
+        refuse("shares FOLDER [FLOOD..] PICTURE, classes REPORT.. PICTURE, packets REPORT.. PICTURE, table FOLDER [FLOOD..]")
+    *those, picture = words
+    if os.path.splitext(picture)[1] not in (".svg", ".pdf", ".png"):
+        refuse(f"{picture} is no name of a picture: it ends in .svg, .pdf or .png")
+    if not os.path.isdir(os.path.dirname(os.path.abspath(picture))):
+        refuse(f"there is no folder {os.path.dirname(picture)}")
+    gnuplot()
+    if what == "shares":
+        return shares(those[0], those[1:], picture, columns)
+    for report in those:
+        if not os.path.isfile(report):
+            refuse(f"there is no report {report}")
+    return {"classes": classes, "packets": packets}[what](those, picture, columns)
 
 
 if __name__ == "__main__":

@@ -10,6 +10,8 @@ CAUSES = ["no-capability", "expired", "bad-hash", "superseded", "over-n", "cache
 DROPS = ["hop-limit", "no-route", "no-queue", "queue-full"]
 CLASSES = ["request", "regular", "legacy"]
 RECEIVED = ["regular", "renewal", "request", "legacy", "demoted"]
+# of the numbers of a run: what arrives as more than a legacy packet
+RIGHTFUL = ["as_regular", "as_renewal", "as_request"]
 
 CLASS_OF_SHAPE = {"request": "request", "list": "regular", "nonce": "regular", "renewal": "regular", "legacy": "legacy"}
 
