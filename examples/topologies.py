@@ -145,7 +145,7 @@ def parking_lot(network, slots, scarce, back, wide, hops=3):
 
 def tree(network, slots, scarce, back, wide, depth=2, fan=3):
     """A tree whose leaves are the senders' routers; each link towards the root has a tag of its own, and the bottleneck
-    comes behind the root."""
+    comes behind the root. The attackers are at the leaves of the first subtree, beside some of the honest senders."""
     levels = [["Root"]]
     for _ in range(depth):
         levels.append([f"{name[0] if name == 'Root' else name}{child}" for name in levels[-1] for child in range(1, fan + 1)])
@@ -160,7 +160,7 @@ def tree(network, slots, scarce, back, wide, depth=2, fan=3):
         for number, name in enumerate(below):
             tag += 1
             network.join(name, above[number // fan], there=dict(tag=tag, legacy_ring=1024), **wide)
-    return Layout(levels[-1], levels[-1], ["East"], ["East"], [("Root", "East")])
+    return Layout(levels[-1], levels[-1][: fan ** (depth - 1)], ["East"], ["East"], [("Root", "East")])
 
 
 TOPOLOGIES = {"dumbbell": dumbbell, "parking-lot": parking_lot, "tree": tree}

@@ -241,9 +241,10 @@ def shares(folder, floods, picture, columns):
 
 
 def table(folder, floods):
+    every = found_in(folder, floods)
     print("| Flood | Rate | Defence | Arrive | In their own right | Sent as legacy | Marked | Median delay | 95 of 100 |")
     print("|---|---|---|---|---|---|---|---|---|")
-    for series in found_in(folder, floods):
+    for series in every:
         for rate in sorted(series.rates):
             fields = [series.said, said_rate(rate), "with" if series.defence else "without"]
             fields += [over(series.percent(rate, *names), "{:.1f} %") for names in (["arrived"], reports.RIGHTFUL, ["own_legacy"], ["marked"])]
@@ -256,10 +257,8 @@ def over(numbers, form):
     if not numbers:
         return "-"
     said = form.format(mean(numbers))
-    if min(numbers) == max(numbers):
-        return said
     least, most = (form.format(it).split()[0] for it in (min(numbers), max(numbers)))
-    return f"{said} ({least} to {most})"
+    return said if least == most else f"{said} ({least} to {most})"
 
 
 # ## pictures over time

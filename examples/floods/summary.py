@@ -11,6 +11,7 @@ Of each: packets sent and received, the bytes of both, how many were demoted and
 times of the first sending and of the last event in nanoseconds, and the mean delay of those received.
 """
 import csv
+import os
 import sys
 
 import reports
@@ -71,8 +72,13 @@ HEADER += ["first_ns", "last_ns", "mean_delay_ns"]
 
 
 def main():
+    if sys.argv[1:] in (["--help"], ["-h"]):
+        return print(__doc__)
     if len(sys.argv) not in (2, 4):
-        sys.exit(__doc__)
+        reports.refuse("summary.py REPORT [CONFIG TRACE]")
+    for path in sys.argv[1:]:
+        if not os.path.isfile(path):
+            reports.refuse(f"there is no file {path}")
     found = reports.packets(sys.argv[1])
     rows = None
     if len(sys.argv) == 4:
