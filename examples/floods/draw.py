@@ -169,7 +169,7 @@ set lmargin at screen 0
 set rmargin at screen 1
 set bmargin at screen 0
 set tmargin at screen {foot / height:.4f}
-set key at screen {4 / width:.4f},screen {(foot - 3) / height:.4f} left top maxcols {across} Left reverse samplen 3 spacing 1.1
+set key at screen {4 / width:.4f},screen {(foot - 3) / height:.4f} left top maxrows {-(-len(key) // across)} Left reverse samplen 3 spacing 1.1
 plot """
     script += ", ".join(f'NaN {style} title "{text}"' for text, style in key) + "\nunset multiplot\n"
     done = subprocess.run(["gnuplot"], input=script, text=True, stderr=subprocess.PIPE)
@@ -221,7 +221,7 @@ def shares(folder, floods, picture, columns):
     rates = sorted({rate for _, series in every for rate in series.rates})
     behind = [pair for pair in every if pair[1].defence]
     bare = [pair for pair in every if not pair[1].defence]
-    percents = 'unset logscale y\nset yrange [0:100]\nset ytics 25\nset ylabel "honest packets, %" offset 1.5,0'
+    percents = 'unset logscale y\nset yrange [0:104]\nset ytics 25\nset ylabel "honest packets, %" offset 1.5,0'
     delays = 'set logscale y\nset yrange [9:1100]\nset ytics (10, 100, 1000)\nset ylabel "milliseconds" offset 1.5,0'
     arrived = lambda series, rate: series.percent(rate, "arrived")
     panels = [
@@ -265,7 +265,7 @@ def over(numbers, form):
 
 
 def title_of(made):
-    return f"{said_rate(made['rate'])} times: {made['said']}, {'with' if made['defence'] else 'without'}"
+    return f"{said_rate(made['rate'])} times: {made['said']}" + ("" if made["defence"] else ", without the defence")
 
 
 def seconds_axis(made):

@@ -1,8 +1,8 @@
 #!/usr/bin/env python3
 """Writes the configuration and the trace of a flood.
 
-    make.py FLOOD RATE FOLDER [--without] [--seed N] [--colluders K] [--mix KINDS] [--forge WHAT] [--forge-every MS]
-            [--topology NAME] [--shared-tag] [--one-tag] [--levels L]
+    make.py FLOOD RATE FOLDER [--without] [--seed N] [--attackers K] [--colluders K] [--mix KINDS] [--forge WHAT]
+            [--forge-every MS] [--topology NAME] [--shared-tag] [--one-tag] [--levels L]
 
 FLOOD is one of those below, and RATE says how many times the bottleneck's rate the attackers send, all together: 0
 is no flood. The files are FOLDER/NAME.toml, FOLDER/NAME.csv and FOLDER/NAME.json, which says what was made; NAME is
@@ -24,8 +24,9 @@ attackers send from the start to the fifth second, packets with a payload of 1,5
                  knows: the server tells the honest senders of each that comes through
 
 With --without nobody uses the defence: all packets come without a shim, at the same times and with the
-same payloads, through the same network. With --colluders there are K colluding destinations in place of
-one, to whom each attacker sends in turn. With --shared-tag the first honest sender's link into the network has
+same payloads, through the same network. With --attackers there are K of them, each with a tag of its own, who send as
+much together as ten would. With --colluders there are K colluding destinations in place of one, to whom each attacker
+sends in turn. With --shared-tag the first honest sender's link into the network has
 the tag of the first attacker's. With --one-tag all senders are behind one tagged link, and the bottleneck
 comes after it. With --levels 2 the bottleneck queues its requests by two tags, the last and the one before.
 --topology is dumbbell, parking-lot (three bottlenecks in a row) or tree (nine routers with senders below a root).
@@ -67,7 +68,7 @@ SERVER = "10.3.0.1"
 KINDS = ["legacy", "requests", "authorised"]
 FLOODS = [*KINDS, "mixed", "forged"]
 FORGED = {"notices": 125, "grants": 20, "packets": None}  # milliseconds between two to one sender
-COLLUDERS_MOST = 200
+ATTACKERS_MOST = COLLUDERS_MOST = 200
 
 # shims in hexadecimal: a request without entries; a marked one that brings a notice; one that brings a grant of 1,023
 # units within 63 seconds with two capabilities, stamped with second 0; and a nonce that nobody was given
@@ -114,7 +115,7 @@ def build(it):
     for number in range(1, HONEST + 1):
         network.host(f"H{number}", f"10.1.0.{number}", policy="client", margin_ns=100 * MILLISECOND)
         join_host(network, f"H{number}", in_turn(layout.senders, number), there=dict(tag=number), **SMALL)
-    for number in range(1, ATTACKERS + 1):
+    for number in range(1, it.attackers + 1):
         tag = 1 if it.shared_tag and number == 1 else 100 + number
         network.host(f"F{number}", f"10.2.0.{number}", policy="client", retry_ns=1_001 * MILLISECOND)
         fast = dict(tag=tag, ns_per_byte=BOTTLENECK // 200)
@@ -144,9 +145,9 @@ def honest_rows(it, number):
         time += HONEST_EVERY
 
 
-def every_of(rate):
+def every_of(it):
     """Nanoseconds between the packets of one attacker."""
-    return (HEADER + FLOOD_PAYLOAD) * BOTTLENECK * ATTACKERS / rate
+    return (HEADER + FLOOD_PAYLOAD) * BOTTLENECK * it.attackers / it.rate
 
 
 def flood_rows(it, number):
@@ -169,7 +170,7 @@ def attacker_rows(it, number):
     """The rows of an attacker, who sends its part of so many times the bottleneck's rate."""
     if it.rate == 0:
         return
-    every = every_of(it.rate)
+    every = every_of(it)
     draw = random.Random(f"{it.seed} attacker {number}")
     time = draw.random() * every
     for row in itertools.cycle(flood_rows(it, number)):
@@ -181,7 +182,7 @@ def attacker_rows(it, number):
 
 
 def forged_rows(it, number):
-    """The packets that the number-th attacker forges, under the server's address, to the number-th honest sender."""
+    """The packets that an attacker forges, under the server's address, to the number-th honest sender."""
     if it.flood != "forged" or it.forge == "packets":
         return
     shim = NOTICE if it.forge == "notices" else GRANT
@@ -190,13 +191,13 @@ def forged_rows(it, number):
     draw = random.Random(f"{it.seed} forger {number}")
     time = HONEST_FROM + draw.random() * every
     while time < FLOOD_UNTIL:
-        yield int(time), f"{int(time)},F{number},raw,{SERVER},10.1.0.{number},{payload},{shim}"
+        yield int(time), f"{int(time)},F{(number - 1) % it.attackers + 1},raw,{SERVER},10.1.0.{number},{payload},{shim}"
         time += every
 
 
 def trace(it):
     sources = [honest_rows(it, number) for number in range(1, HONEST + 1)]
-    sources += [attacker_rows(it, number) for number in range(1, ATTACKERS + 1)]
+    sources += [attacker_rows(it, number) for number in range(1, it.attackers + 1)]
     sources += [forged_rows(it, number) for number in range(1, HONEST + 1)]
     yield "time,node,kind,src,dst,payload,shim\n"
     for _, row in heapq.merge(*sources, key=lambda pair: pair[0]):
@@ -205,7 +206,7 @@ def trace(it):
 
 def rows_most(it):
     """No more rows than these come of the words."""
-    flood = math.ceil(FLOOD_UNTIL / every_of(it.rate)) * ATTACKERS if it.rate else 0
+    flood = math.ceil(FLOOD_UNTIL / every_of(it)) * it.attackers if it.rate else 0
     forged = math.ceil(FLOOD_UNTIL / (it.forge_every * MILLISECOND)) * HONEST if it.forge_every else 0
     return HONEST * HONEST_PACKETS + flood + forged
 
@@ -255,7 +256,8 @@ def reader(program):
     words.add_argument("folder")
     words.add_argument("--without", action="store_true")
     words.add_argument("--seed", type=whole(0, 10**9), default=1)
-    words.add_argument("--colluders", type=whole(1, COLLUDERS_MOST))
+    words.add_argument("--attackers", type=whole(1, ATTACKERS_MOST), default=ATTACKERS, metavar="K")
+    words.add_argument("--colluders", type=whole(1, COLLUDERS_MOST), metavar="K")
     words.add_argument("--mix", type=kinds)
     words.add_argument("--forge", choices=list(FORGED))
     words.add_argument("--forge-every", type=whole(1, 5_000), metavar="MS")
@@ -297,6 +299,8 @@ def series_of(it):
         name += "-" + "-".join(it.kinds)
     if it.forge:
         name += f"-{it.forge}" + (f"-{it.forge_every}" if it.forge_every != FORGED[it.forge] else "")
+    if it.attackers != ATTACKERS:
+        name += f"-{it.attackers}-attackers"
     if it.colluders > 1:
         name += f"-{it.colluders}-colluders"
     if it.topology != "dumbbell":
@@ -313,6 +317,8 @@ def said_of(it):
     """A series in words, without the defence's."""
     names = {"legacy": "legacy packets", "requests": "requests", "authorised": "authorised packets"}
     said = " and ".join(names[kind] for kind in it.kinds) if it.flood != "forged" else f"forged {it.forge}"
+    if it.attackers != ATTACKERS:
+        said += f", {it.attackers} attackers"
     if "authorised" in it.kinds and it.colluders > 1:
         said += f", {it.colluders} colluders"
     if it.topology != "dumbbell":
@@ -331,7 +337,7 @@ def made(it, network, layout):
         "seed": it.seed,
         "topology": it.topology,
         "honest": [f"H{number}" for number in range(1, HONEST + 1)],
-        "attackers": [f"F{number}" for number in range(1, ATTACKERS + 1)],
+        "attackers": [f"F{number}" for number in range(1, it.attackers + 1)],
         "servers": ["S"],
         "colluders": [name for name in network.hosts if name.startswith("C")],
         "bottlenecks": [{"from": one, "to": other, "ns_per_byte": network.links[one, other]["ns_per_byte"]} for one, other in layout.bottlenecks],
@@ -348,7 +354,7 @@ def main():
     try:
         os.makedirs(it.folder, exist_ok=True)
         with open(os.path.join(it.folder, name + ".toml"), "w", encoding="utf-8") as file:
-            file.write(f"# {HONEST} honest senders, {ATTACKERS} attackers and a server: {name}.\n" + network.text())
+            file.write(f"# {HONEST} honest senders, {it.attackers} attackers and a server: {name}.\n" + network.text())
         with open(os.path.join(it.folder, name + ".csv"), "w", encoding="utf-8") as file:
             file.writelines(trace(it))
         with open(os.path.join(it.folder, name + ".json"), "w", encoding="utf-8") as file:
