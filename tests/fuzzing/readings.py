@@ -115,11 +115,11 @@ def _(reaching):
 
 
 @reading("each-decides", "links decide after each thing that reaches their node, and not after all of a time", Run, "work_node")
-def _(self, now, node):
+def _(self, now, node, reaching):
     happened = []
-    for reaching in self.reaching(now, node.number) or [None]:
-        if reaching is not None:
-            happened.append(node.take(reaching))
+    for it in reaching or [None]:
+        if it is not None:
+            happened.append(node.take(it))
         for number in sorted(node.links):
             if run.decides(node.links[number], now, bool(happened)):
                 started = node.links[number].decide(now)

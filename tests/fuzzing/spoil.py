@@ -194,7 +194,7 @@ def config(rng, network):
     fault = count if chance(rng, 0.05) else rng.choice(CONFIG_FAULTS)
     fault(rng, network)
     if chance(rng, 0.1):
-        rng.choice(CONFIG_FAULTS)(rng, network)
+        rng.choice([unknown, missing, value])(rng, network)
     return networks.text_of(rng, network).encode()
 
 
