@@ -15,4 +15,4 @@ invariant_of-self c =
     (i.0, i.1, rw c.put-2.ensures (indexed-replace c.self.inside.slots c.self.inside.key es c.self.inside.places c.put.new.self c.self.inside.ends c.args.at c.args.entry i.2 l (rw c.bucket_of-bucket.ensures.value at c.put.ensures)))
 
 pub returns : goal.returns
-returns c = ap (λ (v : Kept). kept v.slots (set v.items c.args.at c.args.entry)) c.self.view_is
+returns c = ap (λ (v : Kept). kept v.slots v.key (set v.items c.args.at c.args.entry)) c.self.view_is
