@@ -148,7 +148,8 @@ def made_easy(rng, network):
     for told in network.router:
         told["slots"] = rng.choice([2, 8, 8])
     for told in network.host:
-        told |= {"policy": rng.choice(["client", "server", "server"]), "n": rng.choice([1, 2, 3, 4, 8, 32]), "t": rng.choice([3, 4, 5, 10, 63])}
+        told |= {"policy": rng.choice(["client", "server", "server"])}
+        told |= {"n": rng.choice([1, 2, 3, 4, 8, 32]), "t": rng.choice([3, 4, 5, 10, 63])}
         told |= {"deny": [], "deny_tags": [], "grants": rng.choice([2, 5, 1_000])}
         margin = rng.choice([0, 10**6, 10**6])
         told |= {"margin_ns": margin, "retry_ns": SECOND + margin + rng.choice([0, 1, 10**6, SECOND])}

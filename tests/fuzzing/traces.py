@@ -36,8 +36,9 @@ class Sources:
         packets = [it.packet for it in seen]
         self.packets = [it for it in packets if isinstance(it.carried, shims.Shim)]
         self.times = [it.time for it in seen] + [it.end for it in seen if hasattr(it, "end")]
-        self.charged = [(node, place) for node in run.nodes if hasattr(node, "charges") for place in range(len(node.charges))] if run else []
-        self.waits = [told for node in run.nodes for link in node.links.values() for told in waits(node, link)] if run else []
+        nodes = run.nodes if run else []
+        self.charged = [(node, place) for node in nodes for place in range(len(getattr(node, "charges", ())))]
+        self.waits = [told for node in nodes for link in node.links.values() for told in waits(node, link)]
         self.talks = False
 
     def a_flow(self):
@@ -261,7 +262,9 @@ def known(sources):
     routers = [it["name"] for it in sources.network.router if it["master"] == networks.MASTERS[0] and not it.get("clock_offset_ns")]
     second, item = rng.choice(KNOWN)
     now = (second + rng.choice([0, 0, 1, 9, 10])) * SECOND
-    return [(now, rng.choice(routers), "list", "10.0.0.1", "10.0.1.1", rng.choice(PAYLOADS), f"00000000000a/1/10/0/{item}")] if routers else []
+    if not routers:
+        return []
+    return [(now, rng.choice(routers), "list", "10.0.0.1", "10.0.1.1", rng.choice(PAYLOADS), f"00000000000a/1/10/0/{item}")]
 
 
 def twin(sources, told):
