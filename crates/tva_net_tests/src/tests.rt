@@ -1,9 +1,7 @@
 // Small networks and what must happen in each of their windows, which is worked out by hand or comes
 // from outside. An event is told as its time, its node's number and what it is.
-ghost use Rattle.std.specs.Prelude.{IfOk};
-ghost use Rattle.tva_net.specs.Nets.{IsSound};
-
 mod texts;
+mod told;
 
 use std::alloc::{AllocError, Global};
 use std::sync::atomic::{AtomicU64, Ordering};
@@ -18,7 +16,6 @@ use tva_trace::read_trace;
 
 // The network of a configuration and a trace.
 fn network(alloc: Global, config: &str, trace: &str) -> Result<Net, Fail>
-    ensures { IfOk result IsSound }
 {
     let Ok(config) = read_config(alloc, config.as_bytes()) else {
         return Err(Fail::from("no configuration"));
@@ -57,8 +54,6 @@ fn told<R: Threads + Sync, G: Gate>(
     gate: &G,
     net: &mut Net,
 ) -> Result<String, Fail>
-    requires { IsSound net.old }
-    ensures { IsSound net.new }
 {
     let mut text = String::new(alloc);
     for _ in 0..100 {
