@@ -156,7 +156,7 @@ module _ (v : NodeState) (log : List Entry) (h : StandsFor v log) where
   due_then end l n = due_same v.worked_to end (in_turn v.inbox) l (λ t a b c. quiet end n t b (a, inl c))
 
   log_then : (end : ℕ) → v.worked_to ≤ end → IsNoneBefore end (work_time v.turns v.links) → IsNodeLog v.site (in_turn v.inbox) end log
-  log_then end l n = quiet_log v.site (in_turn v.inbox) v.worked_to end log legal l (quiet end n) h.whole
+  log_then end l n = quiet_log v.site (in_turn v.inbox) v.worked_to end log l (quiet end n) h.whole
 
   -- up to the next time a link decides next when it did
   again : (end k : ℕ) (next : Option ℕ) (o : Option (ℕ × LinkLimits)) → v.worked_to ≤ end → o ≡ limits_out v.site k → IsNoneBefore end next → next ≡ option_and_then (λ x. next_decision x.1 (port_logs log k) v.worked_to) o → next ≡ option_and_then (λ x. next_decision x.1 (port_logs log k) end) o
