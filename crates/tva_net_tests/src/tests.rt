@@ -1,6 +1,7 @@
 // Small networks and what must happen in each of their windows, which is worked out by hand or comes
 // from outside. An event is told as its time, its node's number and what it is.
 mod texts;
+mod watch;
 
 use std::alloc::{AllocError, Global};
 use std::sync::atomic::{AtomicU64, Ordering};
