@@ -11,12 +11,15 @@ use std::time::{Clock, Instant};
 use tva_net::{Net, Window};
 use tva_outside::Gate;
 
-const PLAN: &str = "horizon_ns = 1000000000000\nmax_events = 100000\n[[router]]\nname = \"R1\"\nmaster = \"000102030405060708090a0b0c0d0e0f101112131415161718191a1b1c1d1e1f\"\nslots = 8\n[[router]]\nname = \"R2\"\nmaster = \"000102030405060708090a0b0c0d0e0f101112131415161718191a1b1c1d1e1f\"\nslots = 8\n[[link]]\nfrom = \"R1\"\nto = \"R2\"\nns_per_byte = 10\ndelay_ns = 1000000\ntag = 1\n[[link]]\nfrom = \"R2\"\nto = \"R1\"\nns_per_byte = 10\ndelay_ns = 1000000\ntag = 1\n";
+const PLAN: &str =
+    "horizon_ns = 1000000000000\nmax_events = 100000\n[[router]]\nname = \"R1\"\nmaster = \"000102030405060708090a0b0c0d0e0f101112131415161718191a1b1c1d1e1f\"\nslots = 8\n[[router]]\nname = \"R2\"\nmaster = \"000102030405060708090a0b0c0d0e0f101112131415161718191a1b1c1d1e1f\"\nslots = 8\n[[link]]\nfrom = \"R1\"\nto = \"R2\"\nns_per_byte = 10\ndelay_ns = 1000000\ntag = 1\n[[link]]\nfrom = \"R2\"\nto = \"R1\"\nns_per_byte = 10\ndelay_ns = 1000000\ntag = 1\n";
 
-const TRIES: u64 = 5;
-const MANY: u64 = 20_000;
+const TRIES: u64 = 3;
+
+const MANY: u64 = 4_000;
 
 // When node 0 was told, in microseconds from a start.
+#[derive(Drop)]
 struct Watch<'a, C: Clock + Sync> {
     clock: &'a C,
     start: Instant,
@@ -80,7 +83,10 @@ fn is_told_first<R: Threads + Clock + Sync>(
 #[test]
 fn the_gate_is_told_before_the_work(rt: HostRuntime) -> Result<(), Fail> {
     let alloc = rt.alloc();
-    for (name, first) in [("in parts", ""), ("quiet", "0,R1,raw,10.0.0.1,10.0.1.1,0,\n")] {
+    for (name, first) in [
+        ("in parts", ""),
+        ("quiet", "0,R1,raw,10.0.0.1,10.0.1.1,0,\n"),
+    ] {
         let trace = trace(alloc, first)?;
         let mut told = false;
         for _ in 0..TRIES {
