@@ -1,7 +1,5 @@
-use Rattle.std.proofs.Common.{◌≡◌, ◌<◌, [], ◌∷◌, ◌++◌, List, length, get_or, set, ap, sym, subst, arith}
-use Rattle.tva_flow.specs.declared.kept.Entry.{Entry}
-use Rattle.tva_flow.specs.Index.{Kept, kept, AreIndexed}
-use Rattle.tva_flow.proofs.Indexed.{indexed-push}
+use Rattle.std.proofs.Common.{[], ◌∷◌, ◌++◌, ap}
+use Rattle.tva_flow.specs.Index.{Kept, kept}
 use Rattle.tva_flow.proofs.table.Entries.push.Goals as goal
 
 pub returns : goal.returns
