@@ -86,7 +86,7 @@ def links(rng, routers, hosts):
     told = [link(rng, *pair, delays) for pair in pairs]
     for it in told:
         it["ns_per_byte"] = speed or it["ns_per_byte"]
-        if chance(rng, 0.15):
+        if chance(rng, 0.3 if it["from"] in hosts else 0.12):
             it |= some(rng, {key: [most] for key, most in SLOW.items()})
     return told
 
@@ -148,7 +148,8 @@ def made_easy(rng, network):
     for told in network.router:
         told["slots"] = rng.choice([2, 8, 8])
     for told in network.host:
-        told |= {"policy": rng.choice(["client", "server", "server"]), "n": rng.choice([1, 2, 3, 4, 8, 32]), "t": rng.choice([3, 4, 5, 10, 63])}
+        told |= {"policy": rng.choice(["client", "server", "server"])}
+        told |= {"n": rng.choice([1, 2, 3, 4, 8, 32]), "t": rng.choice([3, 4, 5, 10, 63])}
         told |= {"deny": [], "deny_tags": [], "grants": rng.choice([2, 5, 1_000])}
         margin = rng.choice([0, 10**6, 10**6])
         told |= {"margin_ns": margin, "retry_ns": SECOND + margin + rng.choice([0, 1, 10**6, SECOND])}
@@ -163,7 +164,9 @@ def made_stormy(rng, network):
     """Gives links turns and little credit, so that packets wait for each other."""
     for told in network.router:
         told |= {"edge_tag": rng.choice([0, 0, 1, 2])}
+    delay = rng.choice([1, 100, 1_000, 1_000, 5_000, 5_000, 10**6])
     for told in network.link:
+        told["delay_ns"] = delay + rng.choice([0, 0, 0, 1, delay])
         told |= {"ns_per_byte": rng.choice([1, 1, 2, 10]), "share": rng.choice([2, 2, 3, 20]), "burst": rng.choice([4_096, 4_096, 5_000])}
         for kind in ("request", "regular"):
             told |= {f"{kind}_queues": rng.choice([1, 2, 3, 4]), f"{kind}_ring": rng.choice([1, 2, 3, 4, 5])}
@@ -200,8 +203,6 @@ def value(rng, told):
         return rng.choice([hex(told), f"+{told}", f"{told:_}", f"0o{told:o}", f"0b{told:b}"])
     if isinstance(told, str) and told.isascii() and told.isprintable() and "'" not in told and chance(rng, 0.2):
         return f"'{told}'"
-    if isinstance(told, list) and told and isinstance(told[0], dict):
-        return "[" + ", ".join(inline(rng, it) for it in told) + "]"
     if isinstance(told, list):
         return "[" + ", ".join(value(rng, it) for it in told) + "]"
     return json.dumps(told) if not isinstance(told, Raw) else told.text
@@ -220,17 +221,26 @@ def inline(rng, table):
 
 def text_of(rng, network):
     """A text of a configuration, in one of many forms, with an empty line between its tables."""
-    lines, inlined = [f"{key} = {value(rng, it)}" for key, it in network.top.items()], []
+    lines, blocks = [f"{key} = {value(rng, it)}" for key, it in network.top.items()], []
     for table in TABLES:
-        entries = [shuffled(rng, it) if isinstance(it, dict) else it for it in getattr(network, table)]
-        if chance(rng, 0.15) and all(isinstance(it, dict) for it in entries):
+        entries = [shuffled(rng, it) for it in getattr(network, table)]
+        if chance(rng, 0.15):
             lines.append(f"{table} = [" + "".join(f"\n  {inline(rng, it)}," for it in entries) + "\n]")
         else:
-            inlined += [f"\n[[{table}]]" + "".join(f"\n{key} = {value(rng, it)}" for key, it in entry.items()) for entry in entries]
+            blocks.append([f"\n[[{table}]]" + "".join(f"\n{key} = {value(rng, it)}" for key, it in entry.items()) for entry in entries])
     rng.shuffle(lines)
     if chance(rng, 0.05):
         lines.insert(0, "# a comment")
-    return "\n".join(lines + inlined) + "\n"
+    return "\n".join(lines + put_together(rng, blocks)) + "\n"
+
+
+def put_together(rng, blocks):
+    """The blocks of all tables, those of one table in their order: table after table, mostly."""
+    if chance(rng, 0.9):
+        return [it for of_table in blocks for it in of_table]
+    turns = [place for place, of_table in enumerate(blocks) for _ in of_table]
+    rng.shuffle(turns)
+    return [blocks[place].pop(0) for place in turns]
 
 
 def shuffled(rng, table):

@@ -2,10 +2,9 @@
 was charged to and under which key it waits, is the model's, whose lines are the same."""
 from collections import defaultdict
 
-from model import link as links
 from model import shims
 
-UNIT = 1_024
+UNIT, PACKET_MOST = 1_024, 2_048
 
 
 def broken(run, report):
@@ -78,5 +77,24 @@ def bound(plan, waiting, entry):
         return None
     same = [it for it, _ in waiting if (it.kind, it.keys) == (entry.kind, entry.keys)]
     size = sum(shims.length(it.packet) for it in same + [entry])
-    longest = links.longest_request_wait if entry.kind == "request" else links.longest_regular_wait
+    longest = longest_request_wait if entry.kind == "request" else longest_regular_wait
     return entry.time + longest(plan, size)
+
+
+def ahead(queues, quantum, waiting):
+    """The bytes that go up to the last of the bytes that wait in one queue, and with it."""
+    turns = (waiting + quantum - 1) // quantum
+    return (queues - 1) * (turns * quantum + PACKET_MOST) + waiting
+
+
+def longest_request_wait(plan, waiting):
+    if plan.request_levels == 2:
+        waiting = ahead(plan.request_inner, plan.quantum, waiting)
+    waiting = ahead(plan.request_queues, plan.quantum, waiting)
+    return (waiting + 2 * PACKET_MOST) * plan.share * plan.ns_per_byte
+
+
+def longest_regular_wait(plan, waiting):
+    before = ahead(plan.regular_queues, plan.quantum, waiting) + PACKET_MOST + plan.burst
+    time = before * plan.ns_per_byte * plan.share
+    return (time + plan.share - 2) // (plan.share - 1)

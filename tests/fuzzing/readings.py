@@ -12,20 +12,20 @@ class Reading:
         self.name, self.says, self.replaced = name, says, []
 
 
-READINGS = []
+READINGS, BREACHES = [], []
 
 
-def reading(name, says, of, replaced):
+def reading(name, says, of, replaced, among=READINGS):
     """A wrong reading, with the function below in place of one of the model."""
-    READINGS.append(Reading(name, says))
-    return also(of, replaced)
+    among.append(Reading(name, says))
+    return also(of, replaced, among)
 
 
-def also(of, replaced):
+def also(of, replaced, among=READINGS):
     """A further function of the last reading."""
 
     def keep(function):
-        READINGS[-1].replaced.append((of, replaced, function))
+        among[-1].replaced.append((of, replaced, function))
         return function
 
     return keep
@@ -115,11 +115,11 @@ def _(reaching):
 
 
 @reading("each-decides", "links decide after each thing that reaches their node, and not after all of a time", Run, "work_node")
-def _(self, now, node):
+def _(self, now, node, reaching):
     happened = []
-    for reaching in self.reaching(now, node.number) or [None]:
-        if reaching is not None:
-            happened.append(node.take(reaching))
+    for it in reaching or [None]:
+        if it is not None:
+            happened.append(node.take(it))
         for number in sorted(node.links):
             if run.decides(node.links[number], now, bool(happened)):
                 started = node.links[number].decide(now)
@@ -302,3 +302,32 @@ def _(happened):
 @reading("places", "the places of two levels are counted once", configuration, "places_of")
 def _(plan):
     return plan.request_queues * plan.request_ring + plan.regular_queues * plan.regular_ring + plan.legacy_ring
+
+
+# ## readings whose reports break a promise, though program and model would read alike
+
+
+@reading("no-budget", "a grant lets any number of bytes through", router, "is_over", BREACHES)
+def _(charges, grant, now, packet):
+    return grant.rights.n == 0
+
+
+@reading("no-cap", "request credit has no cap", link, "debt", BREACHES)
+def _(started, now):
+    return sum(it.cost for it in started) - now if started else 0
+
+
+@reading("legacy-first", "legacy packets go before all others", Link, "decide", BREACHES)
+def _(self, now):
+    if self.legacy.first() is None:
+        return right_decide(self, now)
+    return self.start(now, "legacy", self.legacy.take(self.plan.quantum))
+
+
+@reading("requests-last", "requests go where nothing else waits", Link, "decide", BREACHES)
+def _(self, now):
+    if self.regular.first() is not None:
+        return self.start(now, "regular", self.regular.take(self.plan.quantum))
+    if self.legacy.first() is not None:
+        return self.start(now, "legacy", self.legacy.take(self.plan.quantum))
+    return right_decide(self, now)

@@ -158,10 +158,12 @@ def rings(rng, network):
 
 CONFIG_FAULTS = [unknown, missing, value, value, value, names, addresses, retry, ends, pair, uplink, owner, via, prefix, slots, rings]
 TOML_SCRAPS = [
-    *("x = ", "= 1", "[router]", "[[router]]", "[top", "horizon_ns = 1", 'a = "\\x"', "a = 'b", "a.b = 1", "a = 1 2", "\x00", "a = 08", "a = 0x"),
-    *('a = """', "a = [1,", "a = {b = 1", "a = 9223372036854775808", "a = -9223372036854775809", "a = [0x8000000000000000]", "a = 1_", "a = tru"),
-    *("a = 1979-13-01", "a = {b = 9999999999999999999}", 'a = "\\ud800"', "\r", "a = 1 # \x07", "[a]\n[a]", "a = inf", "[[host]]\n[host]"),
+    *("x = ", "= 1", "[router]", "[[router]]", "[top", "horizon_ns = 1", 'a = "\\x"', "a = 'b", "a.b = 1", "a = 1 2"),
+    *("\x00", "a = 08", "a = 0x", 'a = """', "a = [1,", "a = {b = 1", "a = 9223372036854775808", "a = -9223372036854775809"),
+    *("a = [0x8000000000000000]", "a = 1_", "a = tru", "a = 1979-13-01", "a = {b = 9999999999999999999}", 'a = "\\ud800"'),
+    *("\r", "a = 1 # \x07", "[a]\n[a]", "a = inf", "[[host]]\n[host]"),
 ]
+MARK = b"\xef\xbb\xbf"
 
 
 def damage(rng, text):
@@ -190,16 +192,23 @@ def config(rng, network):
         return damage(rng, networks.text_of(rng, network)).encode()
     if chance(rng, 0.05):
         data = networks.text_of(rng, network).encode()
-        return rng.choice([b"\xef\xbb\xbf" + data, data + b"#\xff\n", b"\xff" + data, data.replace(b"\n", b"\r\n"), b"\xef\xbb\xbf" * 2 + data])
+        return rng.choice([MARK + data, data + b"#\xff\n", b"\xff" + data, data.replace(b"\n", b"\r\n"), MARK * 2 + data])
     fault = count if chance(rng, 0.05) else rng.choice(CONFIG_FAULTS)
     fault(rng, network)
     if chance(rng, 0.1):
-        rng.choice(CONFIG_FAULTS)(rng, network)
+        rng.choice([unknown, missing, value])(rng, network)
     return networks.text_of(rng, network).encode()
 
 
 # ## traces
 
+BARE = ["x", "0", "100", "100600", "zz", "00000000000a", "0000000000a", "00" * 401, "00" * 400, "0" * 801, "0x10"]
+SHOWN = [
+    *("1/1/0/", "1/1/1/", "1/1/0", "1/1/0//", "1048576/1/0/", "1/128/0/", "1048575/127/0/", "1/1/0/R0@5", "1/1/0/H0@5", "1/1/0/R0@"),
+    *("1/1/0/R0@2000001", "1/1/0/R0@2000000", "1/1/0/@5", "1/1/0/R0@5@5", "1/1/0/R0@5;", "1/1/0/;", "01/001/0/R0@05", "1/1/2/R0@5"),
+]
+ITEMS = ["1/1/17/" + ";".join(["0" * 16] * 17), "1/1/16/" + ";".join(["0" * 16] * 16), "1/1/0/00112233445566gg"]
+NONCE = "00000000000a/"
 FIELDS = {
     "time": ["", "x", "-1", "+1", "1.0", " 1", "0x1", "1" * 21, "0" * 21, "0" * 20, "1000000000000001", "99999999999999999999"],
     "node": ["", "nobody", "r0", " R0", "R0 "],
@@ -207,14 +216,7 @@ FIELDS = {
     "src": ["", "10.0.0", "10.0.0.01", "x", "256.1.1.1", "10.0.0.1"],
     "dst": ["", "10.0.0", "10.0.0.1.1", "H0", "1.2.3.4 "],
     "payload": ["", "1601", "-1", "x", "0001600", "00000000000000000001", "000000000000000000001", "16e2"],
-    "shim": [
-        *("x", "0", "100", "100600", "zz", "00000000000a", "0000000000a", "00" * 401, "00" * 400, "0" * 801, "0x10"),
-        *("00000000000a/1/1/0/", "00000000000a/1/1/1/", "00000000000a/1/1/0", "00000000000a/1/1/0//", "00000000000a/1048576/1/0/"),
-        *("00000000000a/1/128/0/", "00000000000a/1048575/127/0/", "00000000000a/1/1/0/R0@5", "00000000000a/1/1/0/H0@5", "00000000000a/1/1/0/R0@"),
-        *("00000000000a/1/1/0/R0@2000001", "00000000000a/1/1/0/R0@2000000", "00000000000a/1/1/0/@5", "00000000000a/1/1/0/R0@5@5"),
-        *("00000000000a/1/1/0/R0@5;", "00000000000a/1/1/0/;", "00000000000a/01/001/0/R0@05", "00000000000a/1/1/2/R0@5", "0000000000/1/1/0/"),
-        *("00000000000a/1/1/17/" + ";".join(["0" * 16] * 17), "00000000000a/1/1/16/" + ";".join(["0" * 16] * 16), "00000000000a/1/1/0/00112233445566gg"),
-    ],
+    "shim": BARE + [NONCE + it for it in SHOWN] + ["0000000000/1/1/0/"] + [NONCE + it for it in ITEMS],
 }
 COLUMNS = list(FIELDS)
 
@@ -241,7 +243,8 @@ def fields(rng, lines):
 
 
 def header(rng, lines):
-    lines[0] = rng.choice(["", lines[0] + ",", lines[0].upper(), lines[0].replace("src,dst", "dst,src"), '"time",node,kind,"src",dst,payload,shim', lines[-1]])
+    changed = ["", lines[0] + ",", lines[0].upper(), lines[0].replace("src,dst", "dst,src")]
+    lines[0] = rng.choice(changed + ['"time",node,kind,"src",dst,payload,shim', lines[-1]])
 
 
 def scraps(rng, lines):
@@ -254,9 +257,9 @@ def scraps(rng, lines):
 def trace(rng, text):
     """The bytes of a trace with a fault, mostly."""
     if chance(rng, 0.03):
-        return rng.choice([b"", b"\n\n", b"\xef\xbb\xbf", b"\xff\xfe"])
+        return rng.choice([b"", b"\n\n", MARK, b"\xff\xfe"])
     if chance(rng, 0.05):
-        return rng.choice([b"\xef\xbb\xbf", b"\n\r\n", b"\xef\xbb\xbf" * 2]) + text.encode()
+        return rng.choice([MARK, b"\n\r\n", MARK * 2]) + text.encode()
     lines = text.splitlines()
     if len(lines) < 2:
         lines.append("0,R0,raw,10.0.0.1,10.0.1.1,0,")

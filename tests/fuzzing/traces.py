@@ -36,7 +36,9 @@ class Sources:
         packets = [it.packet for it in seen]
         self.packets = [it for it in packets if isinstance(it.carried, shims.Shim)]
         self.times = [it.time for it in seen] + [it.end for it in seen if hasattr(it, "end")]
-        self.charged = [(node, place) for node in run.nodes if hasattr(node, "charges") for place in range(len(node.charges))] if run else []
+        nodes = run.nodes if run else []
+        self.charged = [(node, place) for node in nodes for place in range(len(getattr(node, "charges", ())))]
+        self.waits = [told for node in nodes for link in node.links.values() for told in waits(node, link)]
         self.talks = False
 
     def a_flow(self):
@@ -107,9 +109,12 @@ def back(rng):
     return shims.Back(shims.Rights(rng.choice([0, 1, 2, 1_023]), rng.choice([0, 2, 10, 63])), tuple(rng.randbytes(8) for _ in range(count)))
 
 
-def request(rng):
-    count = rng.choice([0, 0, 1, 1, 2, 3, 14, 15, 16])
-    return tuple(shims.Entry(rng.choice([0, 0, 1, 2, 3, 65_535]), rng.randbytes(8)) for _ in range(count))
+def request(sources):
+    rng = sources.rng
+    counts, tags = ([0, 0, 1, 1, 2, 3, 14, 15, 16], [0, 0, 1, 2, 3, 65_535])
+    if sources.network.mode == "storm":
+        counts, tags = [1, 2, 3, 3, 4], [0, 1, 2, 3]
+    return tuple(shims.Entry(rng.choice(tags), rng.randbytes(8)) for _ in range(rng.choice(counts)))
 
 
 def shim(sources):
@@ -121,7 +126,7 @@ def shim(sources):
     told = shims.Shim(version, rng.choice(["request", "request", *shims.KINDS]), chance(rng, 0.2), rng.choice([6, 6, 17, 255]))
     told = told._replace(back=back(rng) if chance(rng, 0.3) else None)
     if told.kind == "request":
-        return told._replace(entries=request(rng))
+        return told._replace(entries=request(sources))
     told = told._replace(nonce=int(nonce, 16))
     if told.kind == "nonce":
         return told
@@ -221,13 +226,45 @@ def turning(sources):
     return now, node.plan.name, "list", *flow, payload, items
 
 
+def overtaking(sources):
+    """A legacy packet that a link starts while it waits for a request, so long that the wait would end on the way; and
+    something a window later."""
+    rng = sources.rng
+    node, plan, packet, until = rng.choice(sources.waits)
+    least = min(it["delay_ns"] for it in sources.network.link)
+    now = max(0, until - rng.choice([1, 10, 100, least, least + 1, least + 100, 2 * least]))
+    size = (until - now + rng.choice([1, least // 2, least])) // plan.ns_per_byte
+    flow = tuple(map(dotted, packet.flow))
+    told = [(now, node.plan.name, "raw", *flow, min(1_600, max(0, size - 20)), "")]
+    if chance(rng, 0.7):
+        later = until + least + rng.choice([0, 1, rng.randrange(least), rng.randrange(least)])
+        told.append((later, rng.choice(sources.nodes), "raw", *flow, 0, ""))
+    return told
+
+
+def waits(node, link):
+    """The requests for which a link waited, with the end of the wait."""
+    found, free = [], 0
+    queued = {}
+    for it in link.log:
+        if it.word == "queued":
+            queued[id(it.packet)] = it.time
+        else:
+            if it.kind == "request" and it.time > max(free, queued[id(it.packet)]):
+                found.append((node, link.plan, it.packet, it.time))
+            free = it.time + shims.length(it.packet) * link.plan.ns_per_byte
+    return found
+
+
 def known(sources):
     """A row with a capability that stands here, for the first of the masters and its seconds 5 and 127."""
     rng = sources.rng
     routers = [it["name"] for it in sources.network.router if it["master"] == networks.MASTERS[0] and not it.get("clock_offset_ns")]
     second, item = rng.choice(KNOWN)
     now = (second + rng.choice([0, 0, 1, 9, 10])) * SECOND
-    return [(now, rng.choice(routers), "list", "10.0.0.1", "10.0.1.1", rng.choice(PAYLOADS), f"00000000000a/1/10/0/{item}")] if routers else []
+    if not routers:
+        return []
+    return [(now, rng.choice(routers), "list", "10.0.0.1", "10.0.1.1", rng.choice(PAYLOADS), f"00000000000a/1/10/0/{item}")]
 
 
 def twin(sources, told):
@@ -239,7 +276,9 @@ def twin(sources, told):
 def times(sources, count):
     """Times that never fall: in clusters, with ties, and at times at which something happened in a run."""
     rng = sources.rng
-    found, now = [], rng.choice([0, 0, 0, 1, SECOND - 1, SECOND, 5 * SECOND, rng.randrange(3 * SECOND)])
+    least = min([it["delay_ns"] for it in sources.network.link], default=1)
+    begins = [0, 0, 0, 1, rng.randrange(least + 1), rng.randrange(least + 1), SECOND - 1, SECOND, 5 * SECOND, rng.randrange(3 * SECOND)]
+    found, now = [], rng.choice(begins)
     steps = rng.choice([STEPS, STEPS, [0, 0, 1, 20, 100], [0, 10**6, 5 * 10**8, SECOND]])
     steps = TALKS if sources.talks else STORMS if sources.network.mode == "storm" else steps
     for _ in range(count):
@@ -269,18 +308,21 @@ def rows(rng, network, run=None):
     count = count if run is None else rng.choice([1, 2, 4, 8])
     found = [] if chance(rng, 0.95) else known(sources)
     for now in times(sources, count):
-        found.append(a_row(sources, now, rng.choice(busy), kinds))
+        found += a_row(sources, now, rng.choice(busy), kinds)
         if chance(rng, 0.15) and (found[-1][2] != "send" or len(sources.hosts) > 1):
             found.append(twin(sources, found[-1]))
     return merged([], [it for it in found if it[0] <= network.top["horizon_ns"]])
 
 
 def a_row(sources, now, node, kinds):
+    """A row, or two that belong together."""
+    if sources.waits and chance(sources.rng, 0.6 if sources.network.mode == "storm" else 0.1):
+        return overtaking(sources)
     if sources.charged and chance(sources.rng, 0.4):
-        return turning(sources)
+        return [turning(sources)]
     if sources.packets and chance(sources.rng, 0.5):
-        return stolen(sources, now, node)
-    return row(sources, now, node, kinds)
+        return [stolen(sources, now, node)]
+    return [row(sources, now, node, kinds)]
 
 
 def merged(rows, others):

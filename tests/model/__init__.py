@@ -15,6 +15,7 @@ what happened and sums over them, and takes one time after another; so it is slo
 - generator: traces of a seed
 - commands: the words of the command line
 
-Each file begins with the classes and functions that the others use; `tests/fuzz readings` replaces some of them by
-name, one at a time.
+What comes to be is added where it belongs: a command to `commands`, a table of a configuration to `configuration`, a
+kind of row to `trace`, and what changes at a node in time to its class in `run`, before what reaches it at that time.
+`tests/fuzz readings` replaces functions of the model by name, one at a time.
 """

@@ -11,10 +11,11 @@ DONE, WRONG_WORDS, READ_FAULT, WRITE_FAULT, TOO_LARGE, BAD_CONFIG, BAD_TRACE, EV
 
 
 class Answer(NamedTuple):
-    """The run is for those who look at it afterwards: there is one where a replay came so far."""
+    """What is written stands piece by piece: a replay writes a piece for each window in which something happens, and
+    one for the last line. The run is for those who look at it afterwards: there is one where a replay came so far."""
 
     status: int
-    written: bytes = b""
+    written: tuple = ()
     said: str = ""
     run: object = None
 
@@ -63,12 +64,13 @@ def replay(config_name, trace_name):
 
 
 def replay_of(config, rows):
-    running, events, most = run.Run(config, rows), [], config.top.most_events
+    running, written, events, most = run.Run(config, rows), (), [], config.top.most_events
     for window in run.windows(running):
         if len(events) + len(window) > most:
-            return Answer(EVENT_LIMIT, lines(config, events), f"more than {most} events", running)
+            return Answer(EVENT_LIMIT, written, f"more than {most} events", running)
         events += window
-    return Answer(DONE, lines(config, events) + report.total(events).encode(), "", running)
+        written += (lines(config, window),) if window else ()
+    return Answer(DONE, written + (report.total(events).encode(),), "", running)
 
 
 def lines(config, events):
@@ -76,19 +78,23 @@ def lines(config, events):
 
 
 def check(name):
-    return Answer(DONE, configuration.words(read_config(name)).encode())
+    return done(configuration.words(read_config(name)))
 
 
 def shim(digits):
     data = meant(texts.hexadecimal(digits.encode()))
     meant(data if len(data) <= SHIM_MOST else None)
-    return Answer(DONE, (shims.words(data) + "\n").encode())
+    return done(shims.words(data) + "\n")
 
 
 def gen(seed, count, name):
     seed = meant(texts.decimal(seed.encode(), SEED_MOST))
     count = meant(texts.decimal(count.encode(), COUNT_MOST))
-    return Answer(DONE, generator.generate(seed, count, read_config(name)).encode())
+    return done(generator.generate(seed, count, read_config(name)))
+
+
+def done(text):
+    return Answer(DONE, (text.encode(),))
 
 
 def meant(value):
@@ -104,17 +110,17 @@ def answer(words):
     """What the words come to."""
     command, count = COMMANDS.get(words[0], (None, 0)) if words else (None, 0)
     if command is None or len(words) != 1 + count:
-        return Answer(WRONG_WORDS, b"", USAGE)
+        return Answer(WRONG_WORDS, (), USAGE)
     try:
         return command(*words[1:])
     except Refused as refused:
-        return Answer(refused.status, b"", refused.said)
+        return Answer(refused.status, (), refused.said)
 
 
 def main(words):
     given = answer(words)
     try:
-        sys.stdout.buffer.write(given.written)
+        sys.stdout.buffer.write(b"".join(given.written))
         sys.stdout.buffer.flush()
     except OSError:
         given = Answer(WRITE_FAULT, said="write fault")

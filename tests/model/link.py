@@ -190,29 +190,3 @@ def refuses_legacy(link, packet):
     waiting = link.legacy.waiting() + [packet]
     is_full = len(waiting) > link.plan.legacy_ring or size(waiting) > link.plan.legacy_bytes
     return "queue-full" if is_full else None
-
-
-# ## how long a packet waits at most
-
-
-PACKET_MOST = 2_048
-
-
-def ahead(queues, quantum, waiting):
-    """The bytes that go up to the last of the bytes that wait in one queue, and with it."""
-    turns = (waiting + quantum - 1) // quantum
-    return (queues - 1) * (turns * quantum + PACKET_MOST) + waiting
-
-
-def longest_request_wait(plan, waiting):
-    bytes_ahead = waiting
-    if plan.request_levels == 2:
-        bytes_ahead = ahead(plan.request_inner, plan.quantum, bytes_ahead)
-    bytes_ahead = ahead(plan.request_queues, plan.quantum, bytes_ahead)
-    return (bytes_ahead + 2 * PACKET_MOST) * plan.share * plan.ns_per_byte
-
-
-def longest_regular_wait(plan, waiting):
-    bytes_ahead = ahead(plan.regular_queues, plan.quantum, waiting) + PACKET_MOST + plan.burst
-    time = bytes_ahead * plan.ns_per_byte * plan.share
-    return (time + plan.share - 2) // (plan.share - 1)

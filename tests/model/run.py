@@ -162,12 +162,16 @@ class Run:
 
     def work(self, now):
         """What happens at the next time: at each node first what reaches it, then what its links start, by number."""
-        happened = [it for node in self.nodes for it in self.work_node(now, node)]
+        happened = []
+        for node in self.nodes:
+            reaching = self.reaching(now, node.number)
+            if reaching or any(link.decides == now for link in node.links.values()):
+                happened += self.work_node(now, node, reaching)
         self.happened += happened
         return happened
 
-    def work_node(self, now, node):
-        happened = [node.take(reaching) for reaching in self.reaching(now, node.number)]
+    def work_node(self, now, node, reaching):
+        happened = [node.take(it) for it in reaching]
         for number in sorted(node.links):
             link = node.links[number]
             if decides(link, now, bool(happened)):

@@ -7,14 +7,15 @@ HEXADECIMAL = b"0123456789abcdefABCDEF"
 
 
 def consists_of(text, characters):
-    return all(character in characters for character in text)
+    return not text.strip(characters)
 
 
 def decimal(text, most):
     """A number of 1 to 20 digits, with or without leading zeros, which is at most `most`."""
     if not 1 <= len(text) <= 20 or not consists_of(text, DIGITS):
         return None
-    return int(text) if int(text) <= most else None
+    number = int(text)
+    return number if number <= most else None
 
 
 def plain_decimal(text, most):

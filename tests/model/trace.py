@@ -80,10 +80,12 @@ def read_row(config, names, record, fields, last):
     node = names.index(node)
     sends = kind == b"send"
     check(kind in (b"raw", b"list", b"renew", b"nonce") or sends and node >= len(config.routers), record, "kind")
-    check(source == b"" if sends else texts.address(source) is not None, record, "src")
-    check(texts.address(destination) is not None, record, "dst")
+    check(source == b"" or not sends, record, "src")
     source = config.nodes[node].address if sends else texts.address(source)
-    flow = shims.Flow(source, texts.address(destination))
+    check(source is not None, record, "src")
+    destination = texts.address(destination)
+    check(destination is not None, record, "dst")
+    flow = shims.Flow(source, destination)
     payload = texts.decimal(payload, PAYLOAD_MOST)
     check(payload is not None, record, "payload")
     if sends:

@@ -3,7 +3,7 @@ use Rattle.std.proofs.Common.{◌≡◌, ℕ, List, ◌++◌, refl, IfSome, None
 use Rattle.std.specs.declared.option.Option.{Option}
 use Rattle.tva_base.specs.declared.event.Event.{Event}
 use Rattle.tva_run.specs.Report.{lines_of}
-use Rattle.tva.specs.Expected.{Expected, writes, shows, replays, lacks, exceeds, misconfigured, mistraced, IsText}
+use Rattle.tva.specs.Expected.{Expected, writes, shows, replays, refuses, IsText}
 use Rattle.tva.specs.Answer.{Answers, BeginsEach, IsBegunText, WroteAll, WroteEach, WroteLines, WrotePart}
 use Rattle.tva_run.specs.Shown.{AreLines, all_of}
 use Rattle.tva.specs.declared.status.Status as status
@@ -15,10 +15,7 @@ begun_of_text : (x : Expected) (text : List ℕ) → IsText x text → IsBegunTe
 begun_of_text (writes whole) text is = is
 begun_of_text (shows bytes) text is = is
 begun_of_text (replays plan trace) text (rows, are, has) = (rows, are, inl (record { told = has.told; events = has.events; whole = has.whole }))
-begun_of_text lacks text is = absurd is
-begun_of_text (exceeds k) text is = absurd is
-begun_of_text (misconfigured fault) text is = absurd is
-begun_of_text (mistraced fault) text is = absurd is
+begun_of_text (refuses r) text is = absurd is
 
 part_of_all : (old new : Option (List ℕ)) (x : Expected) → WroteAll old new x → WrotePart old new x
 part_of_all old new x (text, is, w) = inr (text, begun_of_text x text is, cut_of_whole old new text w)
@@ -30,10 +27,7 @@ part_of_lines most old new (replays plan trace) (rows, are, (same, (text, short,
     let all : List Event = all_of short.shown ++ short.passing in
     let lines : AreLines plan rows (lines_of plan all) = record { until = short.until; told = all; events = short.events; lines = refl } in
     inr (lines_of plan all, (rows, are, inr lines), cut_of_short plan rows old new text short (cut_of_whole old new text w))
-part_of_lines most old new lacks l = absurd l
-part_of_lines most old new (exceeds k) l = absurd l
-part_of_lines most old new (misconfigured fault) l = absurd l
-part_of_lines most old new (mistraced fault) l = absurd l
+part_of_lines most old new (refuses r) l = absurd l
 
 -- what an answer has written, whichever it is
 pub part_of_answer : (e : Option Expected) (r w : Type 0) (old new : Option (List ℕ)) (s : status.Status) → Answers e r w old new s → IfSome e (WrotePart old new)
@@ -52,19 +46,13 @@ begins_of_nothing : (old new : Option (List ℕ)) (x : Expected) → new ≡ old
 begins_of_nothing old new (writes whole) same = tt
 begins_of_nothing old new (shows bytes) same = tt
 begins_of_nothing old new (replays plan trace) same = λ rows text are report. cut_of_nothing old new text same
-begins_of_nothing old new lacks same = tt
-begins_of_nothing old new (exceeds k) same = tt
-begins_of_nothing old new (misconfigured fault) same = tt
-begins_of_nothing old new (mistraced fault) same = tt
+begins_of_nothing old new (refuses r) same = tt
 
 begins_of_each : (old new : Option (List ℕ)) (x : Expected) → WroteEach old new x → BeginsEach old new x
 begins_of_each old new (writes whole) each = tt
 begins_of_each old new (shows bytes) each = tt
 begins_of_each old new (replays plan trace) each = λ rows text are report. cut_of_whole old new text (each rows text are report)
-begins_of_each old new lacks each = tt
-begins_of_each old new (exceeds k) each = tt
-begins_of_each old new (misconfigured fault) each = tt
-begins_of_each old new (mistraced fault) each = tt
+begins_of_each old new (refuses r) each = tt
 
 -- and each run's report begins with it
 pub begins_of_answer : (e : Option Expected) (r w : Type 0) (old new : Option (List ℕ)) (s : status.Status) → Answers e r w old new s → IfSome e (BeginsEach old new)

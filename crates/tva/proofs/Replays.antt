@@ -16,7 +16,7 @@ use Rattle.tva_run.specs.Report.{AreEventsTo, IsReport, lines_of, report_of, tot
 use Rattle.tva_run.proofs.Runs.{are_delayed}
 use Rattle.tva_run.proofs.Reports.{events_begin, one_list}
 use Rattle.tva.specs.Command.{replay}
-use Rattle.tva.specs.Expected.{Expected, followed, lacks, of_plan, plan_at, replays, told, trace_at}
+use Rattle.tva.specs.Expected.{Expected, followed, refuses, of_plan, plan_at, replays, told, trace_at}
 use Rattle.tva.specs.Answer.{Answers}
 use Rattle.tva.specs.Parts.{IsCut, IsFound, IsReplayed}
 use Rattle.tva_run.specs.Shown.{IsBegun, IsCutShort, all_of}
@@ -116,7 +116,7 @@ with_reads x r w old new (EventLimit m) a = a
 with_reads x r w old new OutOfMemory a = a
 
 -- where the shelf tells nothing, less is said
-untold : (x : Expected) (r w : Type 0) (old new : Option (List ℕ)) (s : status.Status) → (Some x ≡ Some lacks → ⊥) → Answers (Some x) ⊥ w old new s → Answers None r w old new s
+untold : (x : Expected) (r w : Type 0) (old new : Option (List ℕ)) (s : status.Status) → (Some x ≡ Some (refuses ReadFault) → ⊥) → Answers (Some x) ⊥ w old new s → Answers None r w old new s
 untold x r w old new Done apart a = tt
 untold x r w old new Usage apart a = a
 untold x r w old new ReadFault apart a = absurd (elim a.0 [ inl none ↦ none | inr missing ↦ apart missing ])

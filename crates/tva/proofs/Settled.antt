@@ -1,7 +1,7 @@
 -- How a run ends where nothing fails.
 use Rattle.std.proofs.Common.{◌≡◌, inl, inr, ℕ, List, ◌++◌, refl, Some, None, IfSome, sym, subst}
 use Rattle.std.specs.declared.option.Option.{Option}
-use Rattle.tva.specs.Expected.{Expected, writes, shows, replays, lacks, exceeds, misconfigured, mistraced, Ends, IsText}
+use Rattle.tva.specs.Expected.{Expected, writes, shows, replays, refuses, Ends, IsText}
 use Rattle.tva.specs.Answer.{Answers, IsBegunText, WroteLines}
 use Rattle.tva_run.specs.Shown.{all_of}
 use Rattle.tva.specs.Wanted.{Settles, SettlesRefusal}
@@ -13,13 +13,10 @@ ends_with_text : (x : Expected) (text : List ℕ) → IsText x text → Ends Don
 ends_with_text (writes whole) text is = refl
 ends_with_text (shows bytes) text is = refl
 ends_with_text (replays plan trace) text (rows, are, has) = (rows, are, (text, has))
-ends_with_text lacks text is = absurd is
-ends_with_text (exceeds k) text is = absurd is
-ends_with_text (misconfigured fault) text is = absurd is
-ends_with_text (mistraced fault) text is = absurd is
+ends_with_text (refuses r) text is = absurd is
 
-ends_missing : (x : Expected) → Some x ≡ Some lacks → Ends ReadFault x
-ends_missing x missing = let is : x ≡ lacks = cc in subst (λ (y : Expected). Ends ReadFault y) (sym is) refl
+ends_missing : (x : Expected) → Some x ≡ Some (refuses ReadFault) → Ends ReadFault x
+ends_missing x missing = let is : x ≡ refuses ReadFault = cc in subst (λ (y : Expected). Ends ReadFault y) (sym is) refl
 
 -- what is cut short ends with the event limit
 ends_at_limit : (most : ℕ) (old new : Option (List ℕ)) (x : Expected) → WroteLines most old new x → Ends (EventLimit most) x
@@ -27,10 +24,7 @@ ends_at_limit most old new (writes whole) l = absurd l
 ends_at_limit most old new (shows bytes) l = absurd l
 ends_at_limit most old new (replays plan trace) (rows, are, (same, (text, short, w))) =
     (rows, are, (same, record { until = short.until; told = all_of short.shown ++ short.passing; events = short.events; more = short.more }))
-ends_at_limit most old new lacks l = absurd l
-ends_at_limit most old new (exceeds k) l = absurd l
-ends_at_limit most old new (misconfigured fault) l = absurd l
-ends_at_limit most old new (mistraced fault) l = absurd l
+ends_at_limit most old new (refuses r) l = absurd l
 
 -- a run that answers so ends as it is to, where neither count rose
 pub settles_of_answer : (e : Option Expected) (r w : Type 0) (old new : Option (List ℕ)) (s : status.Status) → Answers e r w old new s → (r → ⊥) → (w → ⊥) → IfSome e (Settles s)
@@ -50,28 +44,19 @@ refusal_of_begun : (s : status.Status) (x : Expected) (text : List ℕ) → IsBe
 refusal_of_begun s (writes whole) text is = tt
 refusal_of_begun s (shows bytes) text is = tt
 refusal_of_begun s (replays plan trace) text is = tt
-refusal_of_begun s lacks text is = absurd is
-refusal_of_begun s (exceeds k) text is = absurd is
-refusal_of_begun s (misconfigured fault) text is = absurd is
-refusal_of_begun s (mistraced fault) text is = absurd is
+refusal_of_begun s (refuses r) text is = absurd is
 
 refusal_of_text : (s : status.Status) (x : Expected) (text : List ℕ) → IsText x text → SettlesRefusal s x
 refusal_of_text s (writes whole) text is = tt
 refusal_of_text s (shows bytes) text is = tt
 refusal_of_text s (replays plan trace) text is = tt
-refusal_of_text s lacks text is = absurd is
-refusal_of_text s (exceeds k) text is = absurd is
-refusal_of_text s (misconfigured fault) text is = absurd is
-refusal_of_text s (mistraced fault) text is = absurd is
+refusal_of_text s (refuses r) text is = absurd is
 
 refusal_of_settled : (s : status.Status) (x : Expected) → Settles s x → SettlesRefusal s x
 refusal_of_settled s (writes text) e = tt
 refusal_of_settled s (shows bytes) e = tt
 refusal_of_settled s (replays plan trace) e = tt
-refusal_of_settled s lacks e = e
-refusal_of_settled s (exceeds k) e = e
-refusal_of_settled s (misconfigured fault) e = e
-refusal_of_settled s (mistraced fault) e = e
+refusal_of_settled s (refuses r) e = e
 
 -- the same for refusals of what is read, where no load failed
 pub refusal_of_answer : (e : Option Expected) (r w : Type 0) (old new : Option (List ℕ)) (s : status.Status) → Answers e r w old new s → (r → ⊥) → IfSome e (SettlesRefusal s)

@@ -5,7 +5,7 @@ use Rattle.std.specs.Io.KnownBytes.{append_known}
 use Rattle.tva_trace.specs.declared.rows.Row.{Row}
 use Rattle.tva_trace.specs.Meaning.{AreRows}
 use Rattle.tva_run.specs.Report.{IsReport}
-use Rattle.tva.specs.Expected.{Expected, replays, lacks, exceeds, misconfigured, mistraced, IsText}
+use Rattle.tva.specs.Expected.{Expected, replays, refuses, IsText}
 use Rattle.tva.specs.Parts.{IsCut, WroteCutShort}
 use Rattle.tva_run.specs.Shown.{IsBegun}
 use Rattle.tva.specs.declared.status.Status as status
@@ -58,10 +58,10 @@ BeginsEach old new x = Unit {0}
 abbrev pub Answers : Option Expected → Type 0 → Type 0 → Option (List ℕ) → Option (List ℕ) → status.Status → Type 0
 Answers e read_rose write_rose old new Done = IfSome e (λ x. WroteAll old new x × WroteEach old new x)
 Answers e read_rose write_rose old new Usage = ⊥
-Answers e read_rose write_rose old new ReadFault = (read_rose ⊎ (e ≡ Some lacks)) × (new ≡ old)
+Answers e read_rose write_rose old new ReadFault = (read_rose ⊎ (e ≡ Some (refuses ReadFault))) × (new ≡ old)
 Answers e read_rose write_rose old new WriteFault = write_rose × IfSome e (λ x. WroteCut old new x × BeginsEach old new x)
-Answers e read_rose write_rose old new (TooLarge k) = IfSome e (λ x. x ≡ exceeds k) × (new ≡ old)
-Answers e read_rose write_rose old new (BadConfig fault) = IfSome e (λ x. x ≡ misconfigured fault) × (new ≡ old)
-Answers e read_rose write_rose old new (BadTrace fault) = IfSome e (λ x. x ≡ mistraced fault) × (new ≡ old)
+Answers e read_rose write_rose old new (TooLarge k) = IfSome e (λ x. x ≡ refuses (TooLarge k)) × (new ≡ old)
+Answers e read_rose write_rose old new (BadConfig fault) = IfSome e (λ x. x ≡ refuses (BadConfig fault)) × (new ≡ old)
+Answers e read_rose write_rose old new (BadTrace fault) = IfSome e (λ x. x ≡ refuses (BadTrace fault)) × (new ≡ old)
 Answers e read_rose write_rose old new (EventLimit m) = IfSome e (λ x. WroteLines m old new x × BeginsEach old new x)
 Answers e read_rose write_rose old new OutOfMemory = IfSome e (λ x. WrotePart old new x × BeginsEach old new x)

@@ -21,36 +21,32 @@ use Rattle.tva.specs.declared.status.Status as status
 use Rattle.tva.specs.declared.status.Status.TheVariants.{Done, ReadFault, TooLarge, BadConfig, BadTrace}
 use Rattle.tva.specs.declared.status.Status.TheVariants.{EventLimit}
 
--- a text to write, the text of a shim's bytes, the report of a trace under a plan, or a refusal: nothing
--- is held under a name, a file passes its limit (with one more than that), or a fault of the
--- configuration or of the trace
+-- a text to write, the text of a shim's bytes, the report of a trace under a plan, or the status with which it is refused
 pub data Expected : Type 0 where
   writes : List ℕ → Expected
   shows : List ℕ → Expected
   replays : Config → List ℕ → Expected
-  lacks : Expected
-  exceeds : ℕ → Expected
-  misconfigured : ConfigFault → Expected
-  mistraced : TraceFault → Expected
+  refuses : status.Status → Expected
 
--- what is found, or the refusal that comes instead
+-- what is found, or the status with which it is refused
 abbrev pub Found : Type 0 → Type 0
-Found A = Result A Expected
+Found A = Result A status.Status
 
 -- what comes of what is found
 abbrev pub followed : {A : Type 0} → Found A → (A → Expected) → Expected
 followed (Ok x) next = next x
-followed (Err refusal) next = refusal
+followed (Err refusal) next = refuses refusal
 
 infixl 10 ◌>>=◌
 abbrev pub ◌>>=◌ : {A B : Type 0} → Found A → (A → Found B) → Found B
 (Ok x) >>= next = next x
 (Err refusal) >>= next = Err refusal
 
--- the bytes that are held under a name, at most so many
+-- the bytes that are held under a name, at most so many: nothing is held there, or it passes the limit, and one more than
+-- that is told
 abbrev pub within_limit : ℕ → Option (List ℕ) → Found (List ℕ)
-within_limit max None = Err lacks
-within_limit max (Some bytes) = if nat_lt max (length bytes) then Err (exceeds (max + 1)) else Ok bytes
+within_limit max None = Err ReadFault
+within_limit max (Some bytes) = if nat_lt max (length bytes) then Err (TooLarge (max + 1)) else Ok bytes
 
 abbrev pub file_at : ℕ → List ℕ → Held → Found (List ℕ)
 file_at max name files = within_limit max (bytes_at files name)
@@ -58,7 +54,7 @@ file_at max name files = within_limit max (bytes_at files name)
 -- the plan of a configuration, and the plan that is held under a name, in at most 1 MiB
 abbrev pub plan_or_fault : Result Config ConfigFault → Found Config
 plan_or_fault (Ok plan) = Ok plan
-plan_or_fault (Err fault) = Err (misconfigured fault)
+plan_or_fault (Err fault) = Err (BadConfig fault)
 
 abbrev pub plan_at : List ℕ → Held → Found Config
 plan_at name files = file_at 1048576 name files >>= λ bytes. plan_or_fault (read_of bytes)
@@ -66,7 +62,7 @@ plan_at name files = file_at 1048576 name files >>= λ bytes. plan_or_fault (rea
 -- a trace that has rows under a plan, and such a trace that is held under a name, in at most 64 MiB
 abbrev pub trace_or_fault : List ℕ → Result (List SaidRow) TraceFault → Found (List ℕ)
 trace_or_fault text (Ok said) = Ok text
-trace_or_fault text (Err fault) = Err (mistraced fault)
+trace_or_fault text (Err fault) = Err (BadTrace fault)
 
 abbrev pub trace_at : Config → List ℕ → Held → Found (List ℕ)
 trace_at plan name files = file_at 67108864 name files >>= λ text. trace_or_fault text (rows_of plan text)
@@ -96,10 +92,7 @@ abbrev pub IsText : Expected → List ℕ → Type 0
 IsText (writes whole) text = text ≡ whole
 IsText (shows bytes) text = (line : List ℕ) × IsTextOf bytes line × (text ≡ line ++ codes "\n")
 IsText (replays plan trace) text = (rows : List Row) × AreRows plan trace rows × HasReport plan rows text
-IsText lacks text = ⊥
-IsText (exceeds k) text = ⊥
-IsText (misconfigured fault) text = ⊥
-IsText (mistraced fault) text = ⊥
+IsText (refuses r) text = ⊥
 
 -- how the replay of rows ends where nothing fails
 abbrev pub EndsReplay : Config → List Row → status.Status → Type 0
@@ -112,7 +105,4 @@ abbrev pub Ends : status.Status → Expected → Type 0
 Ends s (writes text) = s ≡ Done
 Ends s (shows bytes) = s ≡ Done
 Ends s (replays plan trace) = (rows : List Row) × AreRows plan trace rows × EndsReplay plan rows s
-Ends s lacks = s ≡ ReadFault
-Ends s (exceeds k) = s ≡ TooLarge k
-Ends s (misconfigured fault) = s ≡ BadConfig fault
-Ends s (mistraced fault) = s ≡ BadTrace fault
+Ends s (refuses r) = s ≡ r

@@ -8,7 +8,7 @@ use Rattle.tva_trace.specs.declared.rows.Row.{Row}
 use Rattle.tva_trace.specs.Meaning.{AreRows}
 use Rattle.tva_net.specs.declared.kinds.NetError.{NetError}
 use Rattle.tva_net.specs.declared.kinds.NetError.TheVariants as error
-use Rattle.tva.specs.Expected.{Found, lacks, exceeds, misconfigured, mistraced}
+use Rattle.tva.specs.Expected.{Found}
 use Rattle.tva_run.specs.Shown.{HasReport, IsBegun, IsCutShort}
 use Rattle.tva.specs.declared.status.Status as status
 use Rattle.tva.specs.declared.status.Status.TheVariants.{Done, ReadFault, WriteFault, TooLarge}
@@ -24,10 +24,10 @@ AreRowsOf held search plan rows = (trace : List ℕ) × IsFound held search trac
 
 -- why it isn't found: the refusal of what is held, where that is told, or a fault of reading
 abbrev pub IsNotFound : {A : Type 0} → Option (Found A) → Type 0 → status.Status → Type 0
-IsNotFound found rose ReadFault = rose ⊎ (found ≡ Some (Err lacks))
-IsNotFound found rose (TooLarge k) = IfSome found (λ x. x ≡ Err (exceeds k))
-IsNotFound found rose (BadConfig fault) = IfSome found (λ x. x ≡ Err (misconfigured fault))
-IsNotFound found rose (BadTrace fault) = IfSome found (λ x. x ≡ Err (mistraced fault))
+IsNotFound found rose ReadFault = rose ⊎ (found ≡ Some (Err ReadFault))
+IsNotFound found rose (TooLarge k) = IfSome found (λ x. x ≡ Err (TooLarge k))
+IsNotFound found rose (BadConfig fault) = IfSome found (λ x. x ≡ Err (BadConfig fault))
+IsNotFound found rose (BadTrace fault) = IfSome found (λ x. x ≡ Err (BadTrace fault))
 IsNotFound found rose OutOfMemory = Unit {0}
 IsNotFound found rose _ = ⊥
 

@@ -9,7 +9,7 @@ ghost use Rattle.tva_trace.specs.Lines.{HasEvent, LinksJoinNodes};
 ghost use Rattle.tva_trace.specs.Valid.{AreTraceRows};
 ghost use Rattle.tva_run.specs.Report.{lines_of};
 ghost use Rattle.tva_run.specs.Windows.{Window as Span};
-ghost use Rattle.tva_net.specs.Nets.{IsSound, StandsFor};
+ghost use Rattle.tva_net.specs.Nets.{StandsFor};
 ghost use Rattle.tva_net.specs.Steps.{Gives, Refuses};
 ghost use Rattle.tva.specs.Parts.{IsReplayed, ended_by};
 
@@ -80,8 +80,6 @@ fn step_and_put<R: Threads + Sync, G: Gate>(
 ) -> (Result<Window, NetError>, Result<(), AllocError>)
     requires ends { LinksJoinNodes plan.now }
     requires known { All (HasEvent plan.now) events.now }
-    requires sound { IsSound net.old }
-    ensures sound { IsSound net.new }
     ensures gives { IfOk result.0 (λ window. (config : Config) (rows : List Row) (windows : List Span) (told : List Event)
         → StandsFor config rows windows told net.old → Gives config rows windows told window net.new) }
     ensures refuses { IfErr result.0 (λ error. (config : Config) (rows : List Row) (windows : List Span) (told : List Event)

@@ -9,6 +9,7 @@ use std::thread::Threads;
 use tva_outside::{Gate, MemoryShelf, MemorySink, OpenGate, Shelf};
 
 mod damage;
+mod loads;
 mod replaying;
 mod rows;
 mod texts;

@@ -1,14 +1,15 @@
 // The top call.
 ghost use Rattle.std.specs.Prelude.{◌≡◌, ◌≤◌, ◌⊎◌, ◌↔◌, ℕ, IfSome, length, None, Some};
+ghost use Rattle.tva_outside.specs.Held.{Held};
 ghost use Rattle.tva_outside.specs.Faults.{Rose};
 ghost use Rattle.tva_config_entries.specs.declared.faults.ConfigFault.{ConfigFault};
 ghost use Rattle.tva_trace.specs.declared.rows.TraceFault.{TraceFault};
 ghost use Rattle.tva.specs.Asked.{asked};
 ghost use Rattle.tva.specs.Command.{command_of, texts, replay, check, shim, gen};
-ghost use Rattle.tva.specs.Expected.{told, shows, lacks, exceeds, misconfigured, mistraced};
+ghost use Rattle.tva.specs.Expected.{told, shows, refuses};
 ghost use Rattle.tva.specs.Answer.{Answers, BeginsEach, WroteAll, WroteEach, WroteLines, WrotePart};
 ghost use Rattle.tva.specs.Network.{AreHonestTaken, ArePromisesKept};
-ghost use Rattle.tva.specs.Wanted.{wanted, HasOneEnd, IsRefusal, Settles, SettlesRefusal};
+ghost use Rattle.tva.specs.Wanted.{wanted, HasOneEnd, IsRefusal, NeedsNoFile, Settles, SettlesRefusal};
 
 use crate::check::put_check_line;
 use crate::command::{Command, parse};
@@ -38,14 +39,14 @@ pub fn run<R: Threads + Sync, S: Shelf, W: Sink, G: Gate>(
     // When each answer comes.
     ensures usage { result ≡ Status.Usage ↔ (command_of (texts words.now) ≡ None) }
     ensures read_fault { result ≡ Status.ReadFault → Rose (S.faults shelf.old) (S.faults shelf.new)
-        ⊎ (wanted (S.held shelf.old) (texts words.now) ≡ Some lacks) }
+        ⊎ (wanted (S.held shelf.old) (texts words.now) ≡ Some (refuses Status.ReadFault)) }
     ensures write_fault { result ≡ Status.WriteFault → Rose (W.faults out.old) (W.faults out.new) }
     ensures too_large { (k : ℕ) → result ≡ Status.TooLarge k →
-        IfSome (wanted (S.held shelf.old) (texts words.now)) (λ x. x ≡ exceeds k) }
+        IfSome (wanted (S.held shelf.old) (texts words.now)) (λ x. x ≡ refuses (Status.TooLarge k)) }
     ensures bad_config { (fault : ConfigFault) → result ≡ Status.BadConfig fault →
-        IfSome (wanted (S.held shelf.old) (texts words.now)) (λ x. x ≡ misconfigured fault) }
+        IfSome (wanted (S.held shelf.old) (texts words.now)) (λ x. x ≡ refuses (Status.BadConfig fault)) }
     ensures bad_trace { (fault : TraceFault) → result ≡ Status.BadTrace fault →
-        IfSome (wanted (S.held shelf.old) (texts words.now)) (λ x. x ≡ mistraced fault) }
+        IfSome (wanted (S.held shelf.old) (texts words.now)) (λ x. x ≡ refuses (Status.BadTrace fault)) }
 
     // What is written: the whole text, and of a replay the report of the run, which is the only one;
     // with the event limit the lines of all windows before the one that passes it; and always the
@@ -61,27 +62,31 @@ pub fn run<R: Threads + Sync, S: Shelf, W: Sink, G: Gate>(
     ensures nothing { IsRefusal result → W.written out.new ≡ W.written out.old }
 
     // Where no count rises it comes to what is wanted, unless memory runs out; and to each refusal
-    // of what is read where no load fails. There is just one way in which it is to end: the run of a
-    // trace is within its number of events, or passes it.
+    // of what is read where no load fails.
     ensures complete { ¬ Rose (S.faults shelf.old) (S.faults shelf.new) → ¬ Rose (W.faults out.old) (W.faults out.new) →
         IfSome (wanted (S.held shelf.old) (texts words.now)) (Settles result) }
     ensures refused { ¬ Rose (S.faults shelf.old) (S.faults shelf.new) →
         IfSome (wanted (S.held shelf.old) (texts words.now)) (SettlesRefusal result) }
-    ensures one_end { IfSome (wanted (S.held shelf.old) (texts words.now)) HasOneEnd }
 
-    // The network, whatever the answer: in every run of a trace that is to be replayed, up to any
-    // time, the log of each node keeps its promises at each of its places.
-    ensures network { IfSome (wanted (S.held shelf.old) (texts words.now)) ArePromisesKept }
+    // Of any files, whatever shelf and sink tell, and whatever the answer. There is just one way in
+    // which the words are to end over them: a trace that is to be replayed has rows, and their run is
+    // within its number of events, or passes it.
+    ensures one_end { (files : Held) → IfSome (wanted (Some files) (texts words.now)) HasOneEnd }
+
+    // The network: in every run of a trace that is to be replayed, up to any time, the log of each
+    // node keeps its promises at each of its places.
+    ensures network { (files : Held) → IfSome (wanted (Some files) (texts words.now)) ArePromisesKept }
 
     // Honest senders, in each such run: what shows a grant is charged and regular at each router to
     // which the path of its host is steady.
-    ensures honest { IfSome (wanted (S.held shelf.old) (texts words.now)) AreHonestTaken }
+    ensures honest { (files : Held) → IfSome (wanted (Some files) (texts words.now)) AreHonestTaken }
 
-    // What stays. Usage leaves the shelf and the sink as they were, whatever they are.
+    // What stays. Words that need no file leave the shelf as it was, and usage the sink, whatever
+    // they are.
     ensures held { S.held shelf.new ≡ S.held shelf.old }
     ensures reads { S.faults shelf.old ≤ S.faults shelf.new }
     ensures writes { W.faults out.old ≤ W.faults out.new }
-    ensures unread { result ≡ Status.Usage → shelf.new ≡ shelf.old }
+    ensures unread { NeedsNoFile (command_of (texts words.now)) → shelf.new ≡ shelf.old }
     ensures unwritten { result ≡ Status.Usage → out.new ≡ out.old }
 {
     match parse(words) {
@@ -104,6 +109,7 @@ fn run_command<R: Threads + Sync, S: Shelf, W: Sink, G: Gate>(
     ensures answer { Answers (told (S.held shelf.old) (asked command.now))
         (Rose (S.faults shelf.old) (S.faults shelf.new)) (Rose (W.faults out.old) (W.faults out.new))
         (W.written out.old) (W.written out.new) result }
+    ensures unread { NeedsNoFile (Some (asked command.now)) → shelf.new ≡ shelf.old }
 {
     match command {
         Command::Replay { config, trace } => run_replay(rt, alloc, config, trace, shelf, out, gate),

@@ -8,4 +8,4 @@ pub mod Ahead
 pub mod Code
 pub mod Slots
 pub mod Places
-pub mod Numbers
+pub mod Keys

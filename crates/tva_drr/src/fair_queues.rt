@@ -10,15 +10,15 @@ ghost use Rattle.tva_drr.specs.Order.{GoesLast, GoesFirst, IsFront};
 ghost use Rattle.tva_drr.specs.declared.offered.Offered.TheVariants.{Queued};
 
 use crate::measured::Measured;
-use crate::numbers::Numbers;
 use crate::offered::Offered;
-use crate::places::{find_slot, lacks_room, lacks_slot, number_slot, put_slot};
+use crate::places::{add_key, find_slot, lacks_room, lacks_slot, put_slot};
 use crate::slot::{Slot, slots};
-use crate::turns::{pop_slot, settle_numbers, settle_slots};
+use crate::turns::{pop_slot, settle_slots};
 use std::alloc::{AllocError, Global};
 use std::collections::VecDeque;
 use std::marker::Model;
 use tva_base::DrrLimits;
+use tva_index::KeyRing;
 
 #[cfg(test)]
 mod tests;
@@ -27,8 +27,8 @@ mod tests;
 /// limits and one list of keys, deficits and items in ring order, in which no queue is empty.
 ///
 /// As the quantum is at least the greatest length, a queue that comes to the front with the
-/// quantum covers its first item, so a take searches nothing. A key's queue is found by its number, and
-/// not by going through all queues. A deficit is below the greatest
+/// quantum covers its first item, so a take searches nothing. A key's queue is found by the key's bits,
+/// and not by going through all queues. A deficit is below the greatest
 /// length behind the front, and below that and the quantum together at the front: with both at
 /// most 2^30 it fits in 32 bits.
 #[derive(Drop)]
@@ -37,7 +37,7 @@ pub struct FairQueues<T: Measured> {
     bytes: u32,
     waiting: VecDeque<Slot<T>>,
     spare: Vec<Slot<T>>,
-    numbers: Numbers,
+    keys: KeyRing,
 }
 
 impl<T: Measured> Model for FairQueues<T> {
@@ -47,7 +47,8 @@ impl<T: Measured> Model for FairQueues<T> {
     ghost use Rattle.tva_drr.specs.Fair.{IsFair};
     ghost use Rattle.tva_drr.specs.Code.{fair_code};
     ghost use Rattle.tva_drr.specs.Slots.{queues_in, AreSlots};
-    ghost use Rattle.tva_drr.specs.Numbers.{keys_in, AreNumbers};
+    ghost use Rattle.tva_drr.specs.Keys.{keys_in};
+    ghost use Rattle.tva_index.specs.KeyRing.{ring};
 
     ghost Value = { Fair T };
 
@@ -60,8 +61,7 @@ impl<T: Measured> Model for FairQueues<T> {
         × AreSlots a.limits.queues a.limits.ring a.waiting.items a.spare.items
         × (a.limits.queues ≤ deque_capacity a.waiting)
         × (a.limits.queues ≤ vec_capacity a.spare)
-        × AreNumbers (keys_in (queues_in a.waiting.items)) a.numbers
-        × (a.limits.queues ≤ vec_capacity a.numbers.rest) };
+        × (a.keys ≡ ring a.limits.queues (keys_in (queues_in a.waiting.items))) };
 }
 
 impl<T: Measured> FairQueues<T> {
@@ -75,13 +75,13 @@ impl<T: Measured> FairQueues<T> {
     {
         let waiting = VecDeque::with_capacity(alloc, limits.queues as usize)?;
         let spare = slots(alloc, limits.queues, limits.ring)?;
-        let numbers = Numbers::with_places(alloc, limits.queues)?;
+        let keys = KeyRing::with_places(alloc, limits.queues)?;
         Ok(FairQueues {
             limits,
             bytes: 0,
             waiting,
             spare,
-            numbers,
+            keys,
         })
     }
 
@@ -98,14 +98,14 @@ impl<T: Measured> FairQueues<T> {
         ensures fair { IsFair T.measure self.new }
     {
         let length = item.length();
-        let place = find_slot(&self.numbers, &self.waiting, key);
+        let place = find_slot(&self.keys, &self.waiting, key);
         if lacks_slot(&self.limits, &place, &self.waiting) {
             return Offered::NoQueue(item);
         }
         if lacks_room(&self.limits, &place, self.bytes, length) {
             return Offered::QueueFull(item);
         }
-        number_slot(&mut self.numbers, place.at, key, self.waiting.len());
+        add_key(&mut self.keys, place.at, key);
         put_slot(
             &self.limits,
             &mut self.waiting,
@@ -123,7 +123,7 @@ impl<T: Measured> FairQueues<T> {
     pub fn takes_key(&self, key: u32) -> bool
         ensures { result ≡ not (lacks_queue self.now key) }
     {
-        let place = find_slot(&self.numbers, &self.waiting, key);
+        let place = find_slot(&self.keys, &self.waiting, key);
         !lacks_slot(&self.limits, &place, &self.waiting)
     }
 
@@ -155,8 +155,12 @@ impl<T: Measured> FairQueues<T> {
     {
         let item = pop_slot(&mut self.waiting)?;
         self.bytes -= item.length();
-        settle_numbers(&self.waiting, &mut self.numbers);
-        settle_slots(&mut self.waiting, &mut self.spare, self.limits.quantum);
+        settle_slots(
+            &mut self.waiting,
+            &mut self.spare,
+            &mut self.keys,
+            self.limits.quantum,
+        );
         Some(item)
     }
 }

@@ -11,7 +11,6 @@ mod cases;
 mod fair_queues;
 mod laws;
 mod measured;
-mod numbers;
 mod offered;
 mod places;
 mod slot;

@@ -1,17 +1,18 @@
 // Where a key's queue stands, and how an item is put there.
-ghost use Rattle.std.specs.Prelude.{◌≡◌, ℕ, ◌+◌, ◌^◌, ◌<◌, ◌≤◌, ◌==◌, if◌then◌else◌, false, List, length, vec_capacity, nat_lt, nat_le, is_none, ◌&&◌, ◌||◌};
+ghost use Rattle.std.specs.Prelude.{◌≡◌, ◌+◌, ◌^◌, ◌<◌, ◌≤◌, ◌==◌, if◌then◌else◌, false, None, length, vec_capacity, nat_lt, nat_le, is_none, ◌&&◌, ◌||◌};
 ghost use Rattle.std.specs.VecDeque.{deque_capacity};
 ghost use Rattle.tva_drr.specs.Queues.{has_key, items_of, bytes_in};
 ghost use Rattle.tva_drr.specs.Offer.{put};
 ghost use Rattle.tva_drr.specs.Slots.{queues_in, AreSlots};
 ghost use Rattle.tva_drr.specs.Places.{IsPlace};
-ghost use Rattle.tva_drr.specs.Numbers.{keys_in, keys_with, place_in, number_of, AreNumbers};
+ghost use Rattle.tva_drr.specs.Keys.{keys_in, keys_with};
+ghost use Rattle.tva_index.specs.KeyRing.{ring, place_in};
 
 use crate::measured::Measured;
-use crate::numbers::Numbers;
 use crate::slot::Slot;
 use std::collections::VecDeque;
 use tva_base::DrrLimits;
+use tva_index::KeyRing;
 
 /// Where a key's items wait, if they do, how many there are, and their bytes.
 #[derive(Drop)]
@@ -21,20 +22,15 @@ pub(crate) struct Place {
     pub bytes: u32,
 }
 
-/// The place of the key's queue, by the queues' numbers.
-pub(crate) fn find_slot<T: Measured>(
-    numbers: &Numbers,
-    waiting: &VecDeque<Slot<T>>,
-    key: u32,
-) -> Place
-    requires numbers { AreNumbers (keys_in (queues_in waiting.now.items)) numbers.now }
-    requires few { length waiting.now.items ≤ 2 ^ 30 }
+/// The place of the key's queue.
+pub(crate) fn find_slot<T: Measured>(keys: &KeyRing, waiting: &VecDeque<Slot<T>>, key: u32) -> Place
+    requires { keys.now.keys ≡ keys_in (queues_in waiting.now.items) }
     ensures at { IsPlace key (queues_in waiting.now.items) result.at }
-    ensures place { result.at ≡ place_in key (keys_in (queues_in waiting.now.items)) }
+    ensures place { result.at ≡ place_in key keys.now.keys }
     ensures items { result.items ≡ length (items_of key (queues_in waiting.now.items)) }
     ensures bytes { result.bytes ≡ bytes_in T.measure (items_of key (queues_in waiting.now.items)) }
 {
-    match numbers.place(key) {
+    match keys.place(key) {
         Some(at) => {
             let slot = &waiting[at];
             Place {
@@ -51,17 +47,15 @@ pub(crate) fn find_slot<T: Measured>(
     }
 }
 
-/// Numbers the queue that a key without one is to have, behind so many.
-pub(crate) fn number_slot(numbers: &mut Numbers, at: Option<usize>, key: u32, queues: usize)
-    requires some { 1 ≤ length numbers.old.buckets.items }
-    requires new { at ≡ None → (number_of numbers.old key ≡ None)
-        × (length numbers.old.rest.items < vec_capacity numbers.old.rest) }
-    ensures numbers { (keys : List ℕ) → AreNumbers keys numbers.old → at ≡ place_in key keys
-        → queues ≡ length keys → AreNumbers (keys_with key keys) numbers.new }
-    ensures room { vec_capacity numbers.new.rest ≡ vec_capacity numbers.old.rest }
+/// A key without a queue goes last.
+pub(crate) fn add_key(keys: &mut KeyRing, at: Option<usize>, key: u32)
+    requires at { at ≡ place_in key keys.old.keys }
+    requires room { at ≡ None → length keys.old.keys < keys.old.places }
+    ensures { keys.new ≡ ring keys.old.places (keys_with key keys.old.keys) }
 {
-    if at.is_none() {
-        numbers.add(key, queues);
+    match at {
+        Some(_) => {}
+        None => keys.push(key),
     }
 }
 

@@ -45,12 +45,6 @@ impl<T: Measured> Slot<T> {
         })
     }
 
-    pub fn key(&self) -> u32
-        ensures { result ≡ self.now.queue.key }
-    {
-        self.key
-    }
-
     pub fn bytes(&self) -> u32
         ensures { result ≡ bytes_in T.measure self.now.queue.items }
     {

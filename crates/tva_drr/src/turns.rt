@@ -5,12 +5,13 @@ ghost use Rattle.std.specs.VecDeque.{deque_capacity};
 ghost use Rattle.tva_drr.specs.Queues.{first, head};
 ghost use Rattle.tva_drr.specs.Take.{refilled, front_popped, front_settled};
 ghost use Rattle.tva_drr.specs.Slots.{queues_in, HaveRoom, AreSlots};
-ghost use Rattle.tva_drr.specs.Numbers.{keys_in, AreNumbers, IsAlone};
+ghost use Rattle.tva_drr.specs.Keys.{keys_in};
+ghost use Rattle.tva_index.specs.KeyRing.{ring};
 
 use crate::measured::Measured;
-use crate::numbers::Numbers;
 use crate::slot::Slot;
 use std::collections::VecDeque;
+use tva_index::KeyRing;
 
 /// The queue that now stands at the front gets the quantum.
 fn refill_slot<T: Measured>(waiting: &mut VecDeque<Slot<T>>, quantum: u32)
@@ -55,35 +56,12 @@ fn leave<T: Measured>(waiting: &mut VecDeque<Slot<T>>, spare: &mut Vec<Slot<T>>)
     }
 }
 
-/// Numbers the queues as they will stand once the front is settled.
-pub(crate) fn settle_numbers<T: Measured>(waiting: &VecDeque<Slot<T>>, numbers: &mut Numbers)
-    requires numbers { AreNumbers (keys_in (queues_in waiting.now.items)) numbers.old }
-    requires alone { IsAlone (queues_in waiting.now.items) }
-    requires room { length waiting.now.items ≤ vec_capacity numbers.old.rest }
-    ensures left { (quantum : ℕ)
-        → AreNumbers (keys_in (front_settled T.measure quantum (queues_in waiting.now.items))) numbers.new }
-    ensures room { vec_capacity numbers.new.rest ≡ vec_capacity numbers.old.rest }
-{
-    if waiting.is_empty() {
-        return;
-    }
-    let front = &waiting[0];
-    let key = front.key();
-    match front.head_length() {
-        None => numbers.leave(key),
-        Some(length) => {
-            if front.deficit() < length {
-                numbers.turn(key, waiting.len() - 1);
-            }
-        }
-    }
-}
-
 /// Keeps a front that can send its next item, and else gives the turn to the next queue. A turn
-/// moves one slot, however many wait.
+/// moves one slot and its key, however many wait.
 pub(crate) fn settle_slots<T: Measured>(
     waiting: &mut VecDeque<Slot<T>>,
     spare: &mut Vec<Slot<T>>,
+    keys: &mut KeyRing,
     quantum: u32,
 )
     requires deficits { All (λ q. q.deficit + quantum < 2 ^ 32) (queues_in waiting.old.items) }
@@ -91,6 +69,8 @@ pub(crate) fn settle_slots<T: Measured>(
     ensures left { queues_in waiting.new.items ≡ front_settled T.measure quantum (queues_in waiting.old.items) }
     ensures slots { (count room : ℕ) → AreSlots count room waiting.old.items spare.old.items
         → AreSlots count room waiting.new.items spare.new.items }
+    ensures keys { keys.old.keys ≡ keys_in (queues_in waiting.old.items)
+        → keys.new ≡ ring keys.old.places (keys_in (queues_in waiting.new.items)) }
     ensures same { (deque_capacity waiting.new ≡ deque_capacity waiting.old)
         × (vec_capacity spare.new ≡ vec_capacity spare.old) }
 {
@@ -100,11 +80,13 @@ pub(crate) fn settle_slots<T: Measured>(
     match waiting[0].head_length() {
         None => {
             leave(waiting, spare);
+            keys.leave();
             refill_slot(waiting, quantum);
         }
         Some(length) => {
             if waiting[0].deficit() < length {
                 waiting.rotate_left(1);
+                keys.turn();
                 refill_slot(waiting, quantum);
             }
         }

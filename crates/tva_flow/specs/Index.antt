@@ -6,13 +6,14 @@ use Rattle.tva_flow.specs.declared.hash.HashKey.{HashKey}
 use Rattle.tva_flow.specs.declared.kept.Entry.{Entry}
 use Rattle.tva_flow.specs.Hash.{bucket_of}
 
--- the entries, and how many there may be
+-- the entries, how many there may be, and the key by which they are found
 pub record Kept : Type 0 where
   pub slots : ℕ
+  pub key : HashKey
   pub items : List Entry
 
-abbrev pub kept : ℕ → List Entry → Kept
-kept slots items = record { slots = slots; items = items }
+abbrev pub kept : ℕ → HashKey → List Entry → Kept
+kept slots key items = record { slots = slots; key = key; items = items }
 
 -- each place stands in the bucket of its entry's flow, and has its entry's end
 pub record AreIndexed (slots : ℕ) (key : HashKey) (es : List Entry) (buckets : Placed) (ends : List ℕ) : Type 0 where

@@ -2,20 +2,27 @@
 use Rattle.std.specs.Prelude.{◌≡◌, ℕ, ◌≤◌, false, if◌then◌else◌, List, [], ◌∷◌, ◌++◌, length, Option, Some, None, All, MatchBool}
 use Rattle.tva_base.specs.declared.packet.Flow.{Flow}
 use Rattle.tva_base.specs.declared.packet.Grant.{Grant}
+use Rattle.tva_flow.specs.declared.hash.HashKey.{HashKey}
 use Rattle.tva_flow.specs.declared.kept.Entry.{Entry}
+use Rattle.tva_flow.specs.Hash.{fixed_key}
 use Rattle.tva_flow.specs.Charges.{Charge, same_flow, of_flow, end_of, is_living, run, bytes_of, last_charge}
 use Rattle.tva_flow.specs.Verdicts.{IsAuthorised}
 
--- a cache: its slots, how far the router's clock is ahead and the last time, both in nanoseconds,
--- and the entries that are kept
+-- a cache: the key by which it finds flows, its slots, how far the router's clock is ahead and the last
+-- time, both in nanoseconds, and the entries that are kept
 pub record Cache : Type 0 where
+  pub key : HashKey
   pub slots : ℕ
   pub offset : ℕ
   pub last : ℕ
   pub entries : List Entry
 
+abbrev pub keyed : HashKey → ℕ → ℕ → ℕ → List Entry → Cache
+keyed key slots offset last entries = record { key = key; slots = slots; offset = offset; last = last; entries = entries }
+
+-- one under the key of caches that are given none
 abbrev pub cache : ℕ → ℕ → ℕ → List Entry → Cache
-cache slots offset last entries = record { slots = slots; offset = offset; last = last; entries = entries }
+cache slots offset last entries = keyed fixed_key slots offset last entries
 
 -- the entry of a flow
 abbrev pub entry_of : Flow → List Entry → Option Entry
@@ -60,11 +67,15 @@ abbrev pub AreNext : ℕ → ℕ → List Charge → List Charge → Type 0
 AreNext slots offset before [] = Unit {0}
 AreNext slots offset before (c ∷ cs) = IsNext slots offset before c × AreNext slots offset (before ++ c ∷ []) cs
 
--- the cache stands for these charges: none is later than its last time, each is the next one after
--- those before it, each flow is kept by its one entry, and there are at most as many entries as slots
-pub record StandsFor (v : Cache) (h : List Charge) : Type 0 where
-  pub past : NoneLater v.last h
-  pub charges : AreNext v.slots v.offset [] h
-  pub kept : (f : Flow) → IsKept (entry_of f v.entries) (of_flow f h) v.last
-  pub apart : AreApart v.entries
-  pub few : length v.entries ≤ v.slots
+-- entries stand for these charges: none is later than the last time, each is the next one after those
+-- before it, each flow is kept by its one entry, and there are at most as many entries as slots
+pub record StandFor (slots offset last : ℕ) (entries : List Entry) (h : List Charge) : Type 0 where
+  pub past : NoneLater last h
+  pub charges : AreNext slots offset [] h
+  pub kept : (f : Flow) → IsKept (entry_of f entries) (of_flow f h) last
+  pub apart : AreApart entries
+  pub few : length entries ≤ slots
+
+-- the cache stands for these charges, whatever its key
+abbrev pub StandsFor : Cache → List Charge → Type 0
+StandsFor v h = StandFor v.slots v.offset v.last v.entries h

@@ -4,7 +4,7 @@ ghost use Rattle.tva_base.specs.Clock.{router_second};
 ghost use Rattle.tva_flow.specs.declared.kept.Entry.{Entry};
 ghost use Rattle.tva_flow.specs.Charges.{Charge, living_count};
 ghost use Rattle.tva_flow.specs.Verdicts.{list_verdict, nonce_verdict, charged, is_authorised};
-ghost use Rattle.tva_flow.specs.Stands.{cache, entry_of, IsChargeable, StandsFor};
+ghost use Rattle.tva_flow.specs.Stands.{cache, keyed, entry_of, IsChargeable, StandsFor};
 ghost use Rattle.tva_flow.specs.Budget.{IsWithinSeconds, AreTimely, IsWithinBudget};
 ghost use Rattle.tva_flow.specs.Steps.{AreNear, Admits};
 
@@ -19,9 +19,9 @@ use tva_base::{Flow, Grant, SECOND, Time};
 #[cfg(test)]
 mod tests;
 
-/// The flows of a router that live, each by its entry. Contracts see the number of its slots, how many
-/// nanoseconds its clock is ahead, the last time and the entries, of which there are at most as many
-/// as slots, and speak of all charges for which these stand. All memory is taken when it is made.
+/// The flows of a router that live, each by its entry. Contracts see the key by which it finds flows,
+/// the number of its slots, how many nanoseconds its clock is ahead, the last time and the entries, of
+/// which there are at most as many as slots, and speak of all charges for which these stand. All memory is taken when it is made.
 #[derive(Drop)]
 pub struct FlowCache {
     clock_offset: u64,
@@ -31,12 +31,12 @@ pub struct FlowCache {
 
 impl Model for FlowCache {
     ghost use Rattle.std.specs.Prelude.{◌≤◌, length};
-    ghost use Rattle.tva_flow.specs.Stands.{Cache, cache};
+    ghost use Rattle.tva_flow.specs.Stands.{Cache, keyed};
     ghost use Rattle.tva_flow.specs.Steps.{AreNear};
 
     ghost Value = { Cache };
 
-    ghost view = { λ a. cache a.entries.slots a.clock_offset a.last a.entries.items };
+    ghost view = { λ a. keyed a.entries.key a.entries.slots a.clock_offset a.last a.entries.items };
 
     ghost invariant = { λ a.
         (length a.entries.items ≤ a.entries.slots)
@@ -71,7 +71,7 @@ fn renew(
         → Admits s o h now nonce bytes (list_verdict s h now grant bytes) result entries.new.items }
     ensures near { AreNear now entries.new.items }
     ensures same { (length entries.new.items ≡ length entries.old.items)
-        × (entries.new.slots ≡ entries.old.slots) }
+        × (entries.new.slots ≡ entries.old.slots) × (entries.new.key ≡ entries.old.key) }
     ensures refused { is_authorised result ≡ false → entries.new.items ≡ entries.old.items }
 {
     let entry = entries.get(at);
@@ -103,7 +103,7 @@ fn renew_held(
         → Admits s o h now nonce bytes (nonce_verdict o h now f nonce bytes) result entries.new.items }
     ensures near { AreNear now entries.new.items }
     ensures same { (length entries.new.items ≡ length entries.old.items)
-        × (entries.new.slots ≡ entries.old.slots) }
+        × (entries.new.slots ≡ entries.old.slots) × (entries.new.key ≡ entries.old.key) }
     ensures refused { is_authorised result ≡ false → entries.new.items ≡ entries.old.items }
 {
     let entry = entries.get(at);
@@ -137,7 +137,7 @@ fn open(
         (list_verdict entries.old.slots h now grant bytes) result entries.new.items }
     ensures near { AreNear now entries.new.items }
     ensures room { (length entries.new.items ≤ entries.new.slots)
-        × (entries.new.slots ≡ entries.old.slots) }
+        × (entries.new.slots ≡ entries.old.slots) × (entries.new.key ≡ entries.old.key) }
     ensures refused { is_authorised result ≡ false → entries.new.items ≡ entries.old.items }
 {
     if is_over(grant.rights, 0, bytes) {
@@ -182,7 +182,7 @@ impl FlowCache {
     ) -> Result<FlowCache, AllocError>
         requires slots { slots ≤ 1000000 }
         requires clock { clock_offset ≤ 1000000000000000 }
-        ensures value { IfOk result (λ v. v ≡ cache slots clock_offset 0 []) }
+        ensures value { IfOk result (λ v. v ≡ keyed key slots clock_offset 0 []) }
         ensures stands { IfOk result (λ v. StandsFor v []) }
     {
         let entries = Entries::with_slots(alloc, slots, key)?;
@@ -211,6 +211,7 @@ impl FlowCache {
             → AreTimely self.old.offset (h ++ charged result now.0 nonce length) }
         ensures last { self.new.last ≡ now.0 }
         ensures same { (self.new.slots ≡ self.old.slots) × (self.new.offset ≡ self.old.offset) }
+        ensures key { self.new.key ≡ self.old.key }
         ensures refused { is_authorised result ≡ false → self.new.entries ≡ self.old.entries }
     {
         self.last = now.0;
@@ -239,6 +240,7 @@ impl FlowCache {
             → AreTimely self.old.offset (h ++ charged result now.0 nonce length) }
         ensures last { self.new.last ≡ now.0 }
         ensures same { (self.new.slots ≡ self.old.slots) × (self.new.offset ≡ self.old.offset) }
+        ensures key { self.new.key ≡ self.old.key }
         ensures refused { is_authorised result ≡ false → self.new.entries ≡ self.old.entries }
     {
         self.last = now.0;

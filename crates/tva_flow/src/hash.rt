@@ -5,8 +5,8 @@ ghost use Rattle.tva_flow.specs.Hash.{bucket_of};
 use tva_base::Flow;
 
 /// A key of the hash by which a cache finds the entry of a flow. Which flows share a bucket depends
-/// on it, so where senders choose addresses it is to be drawn at random, or secret.
-#[derive(Clone, Copy, Debug, PartialEq, Eq)]
+/// on it, so where senders choose addresses it is to be drawn at random, or secret. So it can't be printed.
+#[derive(Clone, Copy, PartialEq, Eq)]
 pub struct HashKey {
     pub src: u64,
     pub dst: u64,

@@ -30,7 +30,7 @@ impl Model for Entries {
 
     ghost Value = { Kept };
 
-    ghost view = { λ a. kept a.slots a.all.items };
+    ghost view = { λ a. kept a.slots a.key a.all.items };
 
     ghost invariant = { λ a. (a.slots ≤ 1000000) × (a.slots ≤ vec_capacity a.all)
         × AreIndexed a.slots a.key a.all.items a.places a.ends };
@@ -61,7 +61,7 @@ impl Entries {
     /// No entries. The error is want of memory.
     pub fn with_slots(alloc: Global, slots: u32, key: HashKey) -> Result<Entries, AllocError>
         requires { slots ≤ 1000000 }
-        ensures { IfOk result (λ v. v ≡ kept slots []) }
+        ensures { IfOk result (λ v. v ≡ kept slots key []) }
     {
         let all = Vec::with_capacity(alloc, slots as usize)?;
         let places = Buckets::with_places(alloc, slots, 2 * slots + 1)?;
@@ -132,7 +132,7 @@ impl Entries {
         requires place { at < length self.old.items }
         requires flow { (e : Entry) → e ≡ slice_index_or self.old.items at e
             → e.grant.flow ≡ renewed.grant.flow }
-        ensures { self.new ≡ kept self.old.slots (slice_set self.old.items at renewed) }
+        ensures { self.new ≡ kept self.old.slots self.old.key (slice_set self.old.items at renewed) }
     {
         self.all[at] = renewed;
         self.ends.put(at as u32, renewed.end);
@@ -141,7 +141,7 @@ impl Entries {
     /// Writes an entry of any flow at a place.
     pub fn replace(&mut self, at: usize, entry: Entry)
         requires { at < length self.old.items }
-        ensures { self.new ≡ kept self.old.slots (slice_set self.old.items at entry) }
+        ensures { self.new ≡ kept self.old.slots self.old.key (slice_set self.old.items at entry) }
     {
         let bucket = bucket_of(&self.key, 2 * self.slots + 1, &entry.grant.flow);
         self.all[at] = entry;
@@ -152,7 +152,7 @@ impl Entries {
     /// Adds an entry at a further place.
     pub fn push(&mut self, entry: Entry)
         requires { length self.old.items < self.old.slots }
-        ensures { self.new ≡ kept self.old.slots (self.old.items ++ entry ∷ []) }
+        ensures { self.new ≡ kept self.old.slots self.old.key (self.old.items ++ entry ∷ []) }
     {
         let at = self.all.len() as u32;
         let bucket = bucket_of(&self.key, 2 * self.slots + 1, &entry.grant.flow);

@@ -1,4 +1,5 @@
 pub mod GroupLists
+pub mod GroupKeys
 pub mod Keeping
 pub mod Orders
 pub mod Offering

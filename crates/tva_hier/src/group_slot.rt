@@ -45,12 +45,6 @@ impl<T: Measured> GroupSlot<T> {
         })
     }
 
-    pub fn key(&self) -> u32
-        ensures { result ≡ self.now.key }
-    {
-        self.key
-    }
-
     pub fn deficit(&self) -> u32
         ensures { result ≡ self.now.deficit }
     {

@@ -11,13 +11,13 @@ ghost use Rattle.tva_hier.specs.Order.{GoesLastUnder, GoesFirstUnder, AreFront};
 ghost use Rattle.tva_hier.specs.Places.{IsGroupPlace};
 
 use crate::group_slot::{GroupSlot, group_slots};
-use crate::places::{find_group, first_deficit};
-use crate::turns::{pop_front_item, settle_groups};
+use crate::turns::{first_deficit, pop_front_item, settle_groups};
 use std::alloc::{AllocError, Global};
 use std::collections::VecDeque;
 use std::marker::Model;
 use tva_base::DrrLimits;
 use tva_drr::{Measured, Offered};
+use tva_index::KeyRing;
 
 #[cfg(test)]
 mod tests;
@@ -27,7 +27,8 @@ mod tests;
 /// empty.
 ///
 /// The list of groups takes turns as fair queues do, and what a group sends is what its own fair queues
-/// send next. Both levels have the same quantum, and a deficit each.
+/// send next. Both levels have the same quantum, and a deficit each. An outer key's group is found by the
+/// key's bits, and not by going through all groups.
 #[derive(Drop)]
 pub struct HierQueues<T: Measured> {
     limits: DrrLimits,
@@ -35,6 +36,7 @@ pub struct HierQueues<T: Measured> {
     bytes: u32,
     waiting: VecDeque<GroupSlot<T>>,
     spare: Vec<GroupSlot<T>>,
+    keys: KeyRing,
 }
 
 impl<T: Measured> Model for HierQueues<T> {
@@ -43,7 +45,8 @@ impl<T: Measured> Model for HierQueues<T> {
     ghost use Rattle.tva_hier.specs.Groups.{Hier, hier, inner_limits, all_group_bytes};
     ghost use Rattle.tva_hier.specs.Hier.{IsHier};
     ghost use Rattle.tva_hier.specs.Code.{hier_code};
-    ghost use Rattle.tva_hier.specs.Places.{AreKept};
+    ghost use Rattle.tva_hier.specs.Places.{outer_keys, AreKept};
+    ghost use Rattle.tva_index.specs.KeyRing.{ring};
 
     ghost Value = { Hier T };
 
@@ -55,7 +58,8 @@ impl<T: Measured> Model for HierQueues<T> {
         × (a.bytes ≡ all_group_bytes T.measure a.waiting.items)
         × AreKept (inner_limits a.limits a.inner) a.limits.queues a.waiting.items a.spare.items
         × (a.limits.queues ≤ deque_capacity a.waiting)
-        × (a.limits.queues ≤ vec_capacity a.spare) };
+        × (a.limits.queues ≤ vec_capacity a.spare)
+        × (a.keys ≡ ring a.limits.queues (outer_keys a.waiting.items)) };
 }
 
 /// The limits of one group.
@@ -88,13 +92,22 @@ impl<T: Measured> HierQueues<T> {
     {
         let waiting = VecDeque::with_capacity(alloc, limits.queues as usize)?;
         let spare = group_slots(alloc, limits.queues, limits_of_group(&limits, inner))?;
+        let keys = KeyRing::with_places(alloc, limits.queues)?;
         Ok(HierQueues {
             limits,
             inner,
             bytes: 0,
             waiting,
             spare,
+            keys,
         })
+    }
+
+    /// The place of the outer key's group.
+    fn place(&self, outer: u32) -> Option<usize>
+        ensures { IsGroupPlace outer self.now.groups result }
+    {
+        self.keys.place(outer)
     }
 
     /// Whether there is no group for the outer key, or no queue in its group for the inner key.
@@ -147,6 +160,7 @@ impl<T: Measured> HierQueues<T> {
                     Offered::Queued => {
                         self.bytes += bytes;
                         self.waiting.push_back_reserved(slot);
+                        self.keys.push(outer);
                         Offered::Queued
                     }
                     Offered::NoQueue(item) => {
@@ -175,7 +189,7 @@ impl<T: Measured> HierQueues<T> {
         ensures last { result ≡ Queued → GoesLastUnder outer inner item self.old self.new }
         ensures hier { IsHier T.measure self.new }
     {
-        let at = find_group(&self.waiting, outer);
+        let at = self.place(outer);
         if self.has_no_place(at, outer, inner) {
             return Offered::NoQueue(item);
         }
@@ -216,7 +230,12 @@ impl<T: Measured> HierQueues<T> {
     {
         let item = pop_front_item(&mut self.waiting)?;
         self.bytes -= item.length();
-        settle_groups(&mut self.waiting, &mut self.spare, self.limits.quantum);
+        settle_groups(
+            &mut self.waiting,
+            &mut self.spare,
+            &mut self.keys,
+            self.limits.quantum,
+        );
         Some(item)
     }
 }

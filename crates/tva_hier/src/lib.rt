@@ -10,7 +10,6 @@
 mod group_slot;
 mod hier_queues;
 mod laws;
-mod places;
 mod turns;
 
 pub use hier_queues::HierQueues;

@@ -1,3 +1,8 @@
 pub mod Homes
 pub mod Chains
 pub mod Nodes
+pub mod Paths
+pub mod Grown
+pub mod Pruned
+pub mod Rooted
+pub mod Ringed

@@ -1,4 +1,7 @@
 pub mod Buckets
 pub mod Lowest
+pub mod KeyRing
 pub mod Links
 pub mod Tree
+pub mod Bits
+pub mod Numbers

@@ -62,4 +62,12 @@ impl Buckets {
         take_out(&mut self.links, place);
         put_in(&mut self.links, place, bucket);
     }
+
+    /// Takes a place out of its bucket, if it is in one.
+    pub fn take_out(&mut self, place: u32)
+        requires { place < length self.old.homes }
+        ensures { self.new ≡ placed self.old.count (slice_set self.old.homes place None) }
+    {
+        take_out(&mut self.links, place);
+    }
 }

@@ -1,10 +1,13 @@
 //! Fixed tables by which a router finds what it keeps without a search through all of it: places in
-//! buckets, each bucket's from the last on, and numbers at places with the place of a least one. The
+//! buckets, each bucket's from the last on, numbers at places with the place of a least one, and keys in
+//! ring order. The
 //! contracts say of each call exactly what it answers and leaves. All memory is taken when a table is
 //! made.
 #![tactic(auto)]
 
+mod bits;
 mod buckets;
+mod key_ring;
 mod links;
 mod lowest;
 #[cfg(test)]
@@ -12,4 +15,5 @@ mod tests;
 mod tree;
 
 pub use buckets::Buckets;
+pub use key_ring::KeyRing;
 pub use lowest::Lowest;

@@ -1,3 +1,5 @@
 pub mod Logs
 pub mod Ports
+pub mod Links
+pub mod Legal
 pub mod Quiet

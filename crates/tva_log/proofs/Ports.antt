@@ -1,5 +1,5 @@
 -- What a port decides while nothing more comes to it.
-use Rattle.std.proofs.Common.{◌≡◌, ℕ, suc, ◌+◌, ◌-◌, ◌<◌, ◌≤◌, false, List, Option, Some, None, refl, sym, subst, ◌∙◌, ap, arith, inl, inr, ◌⊎◌, append-nil}
+use Rattle.std.proofs.Common.{◌≡◌, ℕ, ◌+◌, ◌-◌, ◌<◌, ◌≤◌, true, false, List, Option, Some, None, refl, sym, ◌∙◌, ap, arith, inl, inr, ◌⊎◌}
 use Rattle.std.proofs.Math.Nat.{mul-le-mul_right}
 use Rattle.std.specs.Prelude.{nat_lt, nat_le, ◌&&◌}
 use Rattle.std.proofs.lemmas.Bool.{cases_lt, cases_Bool, cond-true, cond-false, le-leb, lt-leb}
@@ -12,13 +12,15 @@ use Rattle.tva_shim.specs.Packets.{PacketData, packet_length}
 use Rattle.tva_port.specs.declared.decision.Decision.{Decision}
 use Rattle.tva_port.specs.declared.decision.Decision.TheVariants.{Start, WaitUntil, Idle}
 use Rattle.tva_port.specs.Requests.{cost, cap}
-use Rattle.tva_port.specs.Log.{Entry, NoneLater, free_after}
+use Rattle.tva_port.specs.Log.{Entry, NoneLater, free_after, request_starts}
 use Rattle.tva_port.specs.Waiting.{waiting_after, next_request}
 use Rattle.tva_port.specs.Decide.{covered, wait_for, decision, is_start, credit_after, RestsAt}
 use Rattle.tva_port.specs.Legal.{IsLegal}
-use Rattle.tva_port.proofs.Deciding.{rests_is, lacking, not_covered}
+use Rattle.tva_port.proofs.Debts.{debt-later}
+use Rattle.tva_port.proofs.Deciding.{rests_is, rests_no_start, lacking, not_covered}
+use Rattle.tva_port.proofs.Logs.{starts_by}
 use Rattle.tva_port.proofs.Steady.{next_sized}
-use Rattle.tva_port.proofs.Resting.{credit-later, resting, wait_is, idle_is, rests}
+use Rattle.tva_port.proofs.Resting.{credit-later, resting, wait_is, idle_is}
 use Rattle.tva_log.specs.NodeLog.{start_of, start_after}
 use Rattle.tva_log.specs.Next.{next_by, next_decision}
 
@@ -149,17 +151,43 @@ pub next_unused : (l : LinkLimits) (log : List Entry) (from : ℕ) → free_afte
 unfolding next_decision
 next_unused l log from a = cond-false (nat_lt 0 (free_after l log) && nat_le from (free_after l log)) (Some (free_after l log)) (next_by from (decision l log from)) (grind (arith, nat_tests))
 
-quiet_by : (l : LinkLimits) (log : List Entry) (from time : ℕ) (d : Decision) → IsLegal l log → NoneLater from log → d ≡ decision l log from → from ≤ time → ((t : ℕ) → next_by from d ≡ Some t → time < t) → RestsAt l log time
-quiet_by l log from time (Start class p) g n e h k = absurd (let late : time < from = k from refl in omega arith)
-quiet_by l log from time (WaitUntil u) g n e h k = subst (λ z. RestsAt l z time) (append-nil log) (rests l log from 0 (WaitUntil u) u.0 time g n e (omega arith) h (k u.0 refl))
-quiet_by l log from time Idle g n e h k = subst (λ z. RestsAt l z time) (append-nil log) (rests l log from 0 Idle (suc time) time g n e tt h (omega arith))
+-- before a wait is over, the request for which it is isn't covered: credit grows by one each nanosecond at most
+lacks_still : (l : LinkLimits) (log : List Entry) (now time u : ℕ) (p : PacketData) → NoneLater now log → u ≡ now + (cost l (packet_length p) - credit_after l log now) → now ≤ time → time < u
+    → credit_after l log time < cost l (packet_length p)
+lacks_still l log now time u p n e h k = omega (arith, debt-later l (request_starts log) now time (starts_by now log n) h, e, k)
+
+-- so nothing starts before it is over
+waits_on : (l : LinkLimits) (log : List Entry) (now time : ℕ) (u : Time) → NoneLater now log → WaitUntil u ≡ decision l log now → now ≤ time → time < u.0 → is_start (decision l log time) ≡ false
+unfolding decision
+waits_on l log now time u n e h k =
+    let r = resting l log now (ap is_start (sym e)) in
+    let w = wait_is l (credit_after l log now) now (next_request (waiting_after l log)) u (sym r.1 ∙ sym e) in
+    rests_no_start l (waiting_after l log) (credit_after l log time) time (record {
+      requests = ap (covered l (credit_after l log time)) w.1.0 ∙ not_covered l (credit_after l log time) w.0 (lacks_still l log now time u.0 w.0 n w.1.1 h k);
+      regulars = r.0.regulars;
+      legacy = r.0.legacy;
+    })
+
+-- nor while nothing waits
+idles_on : (l : LinkLimits) (log : List Entry) (now time : ℕ) → Idle ≡ decision l log now → is_start (decision l log time) ≡ false
+unfolding decision
+idles_on l log now time e =
+    let r = resting l log now (ap is_start (sym e)) in
+    let none = idle_is l (credit_after l log now) now (next_request (waiting_after l log)) (sym r.1 ∙ sym e) in
+    rests_no_start l (waiting_after l log) (credit_after l log time) time
+    (record { requests = ap (covered l (credit_after l log time)) none; regulars = r.0.regulars; legacy = r.0.legacy })
+
+quiet_by : (l : LinkLimits) (log : List Entry) (from time : ℕ) (d : Decision) → NoneLater from log → d ≡ decision l log from → from ≤ time → ((t : ℕ) → next_by from d ≡ Some t → time < t) → RestsAt l log time
+quiet_by l log from time (Start class p) n e h k = absurd (let late : time < from = k from refl in omega arith)
+quiet_by l log from time (WaitUntil u) n e h k = inr (waits_on l log from time u n e h (k u.0 refl))
+quiet_by l log from time Idle n e h k = inr (idles_on l log from time e)
 
 -- nothing starts before the next decision
-pub quiet_starts_none : (l : LinkLimits) (log : List Entry) (from time : ℕ) → IsLegal l log → NoneLater from log → from ≤ time → ((t : ℕ) → next_decision l log from ≡ Some t → time < t) → start_after l log time ≡ None
-quiet_starts_none l log from time g n h k =
+pub quiet_starts_none : (l : LinkLimits) (log : List Entry) (from time : ℕ) → NoneLater from log → from ≤ time → ((t : ℕ) → next_decision l log from ≡ Some t → time < t) → start_after l log time ≡ None
+quiet_starts_none l log from time n h k =
     elim (by_cases l log from) [
       | inl a ↦ busy_starts_none l log time (k (free_after l log) a.1)
-      | inr a ↦ resting_starts_none l log time (quiet_by l log from time (decision l log from) g n refl h (λ t e. k t (a.1 ∙ e)))
+      | inr a ↦ resting_starts_none l log time (quiet_by l log from time (decision l log from) n refl h (λ t e. k t (a.1 ∙ e)))
     ]
 
 next_later : (l : LinkLimits) (log : List Entry) (from time : ℕ) (d : Decision) → AreLinkLimits l → IsLegal l log → NoneLater from log → d ≡ decision l log from → from ≤ time → ((t : ℕ) → next_by from d ≡ Some t → time ≤ t) → next_by time (decision l log time) ≡ next_by from (decision l log from)
@@ -210,6 +238,35 @@ wait_later l log now u e =
     let w = wait_is l (credit_after l log now) now (next_request (waiting_after l log)) u (sym r.1 ∙ sym e) in
     let short : credit_after l log now < cost l (packet_length w.0) = lacking l (credit_after l log now) w.0 (ap (λ (o : Option PacketData). covered l (credit_after l log now) o) (sym w.1.0) ∙ r.0.requests) in
     omega (arith, w.1.1)
+
+starts_at : (l : LinkLimits) (log : List Entry) (t : ℕ) (d : Decision) → d ≡ decision l log t → next_by t d ≡ Some t → is_start d ≡ true
+starts_at l log t (Start class p) e h = refl
+starts_at l log t (WaitUntil u) e h = let k = wait_later l log t u e in let same : u.0 ≡ t = cc in absurd (omega arith)
+starts_at l log t Idle e h = absurd (cc)
+
+not_none : (d : Decision) → is_start d ≡ true → start_of d ≡ None → ⊥
+not_none (Start class p) s e = cc
+not_none (WaitUntil u) s e = cc
+not_none Idle s e = cc
+
+-- before the next decision a link doesn't decide by itself
+pub none_decides : (l : LinkLimits) (log : List Entry) (from t : ℕ) → NoneLater from log → from ≤ t → ((u : ℕ) → next_decision l log from ≡ Some u → t < u) → next_decision l log t ≡ Some t → ⊥
+none_decides l log from t n h k e =
+    elim (by_cases l log t) [
+      | inl b ↦
+          let at : Some (free_after l log) ≡ Some t = sym b.1 ∙ e in
+          let free : free_after l log ≡ t = cc in
+          elim (cases_lt 0 (free_after l log)) [
+            | inl some ↦ (let late = k (free_after l log) (next_busy l log from some (omega (arith, free))) in omega (arith, free, late))
+            | inr none ↦
+                let first : from ≡ t = omega (arith, free) in
+                (let late = k t (ap (next_decision l log) first ∙ e) in omega (arith, late))
+          ]
+      | inr b ↦
+          let free : free_after l log ≤ t = elim b.0 [ inl early ↦ omega arith | inr zero ↦ omega arith ] in
+          let some = starts_at l log t (decision l log t) refl (sym b.1 ∙ e) in
+          not_none (decision l log t) some (sym (free_starts l log t free) ∙ quiet_starts_none l log from t n h k)
+    ]
 
 -- where a link that is free starts nothing, when it decides next
 pub next_rested : (l : LinkLimits) (log : List Entry) (now : ℕ) (d : Decision) → AreLinkLimits l → IsLegal l log → NoneLater now log → free_after l log ≤ now → d ≡ decision l log now → is_start d ≡ false → next_decision l log (now + 1) ≡ next_by now d

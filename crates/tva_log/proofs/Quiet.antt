@@ -5,14 +5,16 @@ use Rattle.std.specs.Option.{option_and_then}
 use Rattle.std.proofs.lemmas.List.Elements.{Contains-append_left, Contains-append_right, Contains-get_or}
 use Rattle.std.proofs.lemmas.Bool.{lt-ltb, le-ltb, cases_lt}
 use Rattle.tva_base.specs.declared.limits.LinkLimits.{LinkLimits}
+use Rattle.tva_port.specs.Log.{NoneLater}
 use Rattle.tva_joins.proofs.Joins.{filter-true, filter-false, each-weaker, cut-early}
 use Rattle.tva_log.specs.declared.kinds.Input.{Input}
 use Rattle.tva_log.specs.Sites.{Site, limits_out}
 use Rattle.tva_log.specs.Entries.{Entry, input_time, entry_time, entry_rank}
 use Rattle.tva_log.specs.Parts.{port_logs}
 use Rattle.tva_log.specs.NodeLog.{starts, start_after, due, GoesOn, IsNodeLog}
-use Rattle.tva_log.specs.Next.{next_decision, IsQuiet, AreLegal}
-use Rattle.tva_log.proofs.Ports.{quiet_starts_none, next_late}
+use Rattle.tva_log.specs.Next.{next_decision, next_on, IsQuiet}
+use Rattle.tva_log.proofs.Legal.{none_later}
+use Rattle.tva_log.proofs.Ports.{quiet_starts_none, next_late, none_decides}
 
 -- inputs none of which comes in between
 pub due_same : (from until : ℕ) (inputs : List Input) → from ≤ until → ((t : ℕ) → from ≤ t → t < until → Contains (map input_time inputs) t → ⊥) → due until inputs ≡ due from inputs
@@ -42,24 +44,40 @@ module _ (site : Site) where
         ];
   }
 
-  none_on : (log : List Entry) (from until v link : ℕ) (o : Option (ℕ × LinkLimits)) → o ≡ limits_out site link → AreLegal site from log → from ≤ v → v < until
+  none_on : (log : List Entry) (from until v link : ℕ) (o : Option (ℕ × LinkLimits)) → NoneLater from (port_logs log link) → from ≤ v → v < until
       → ((t : ℕ) → t < until → option_and_then (λ x. next_decision x.1 (port_logs log link) from) o ≡ Some t → ⊥)
       → option_and_then (λ x. start_after x.1 (port_logs log link) v) o ≡ None
-  none_on log from until v link None e a h k q = refl
-  none_on log from until v link (Some x) e a h k q =
-      let l = a link x (sym e) in
-      quiet_starts_none x.1 (port_logs log link) from v l.0 l.1 h
-      (λ t n. elim (cases_lt v t) [ inl c ↦ c | inr c ↦ absurd (q t (omega arith) n) ])
+  none_on log from until v link None n h k q = refl
+  none_on log from until v link (Some x) n h k q =
+      quiet_starts_none x.1 (port_logs log link) from v n h
+      (λ t e. elim (cases_lt v t) [ inl c ↦ c | inr c ↦ absurd (q t (omega arith) e) ])
 
   pub late_on : (log : List Entry) (from t link : ℕ) (o : Option (ℕ × LinkLimits)) → option_and_then (λ x. next_decision x.1 (port_logs log link) from) o ≡ Some t → from ≤ t
   late_on log from t link None e = absurd (cc)
   late_on log from t link (Some x) e = next_late x.1 (port_logs log link) from t e
 
   -- where nothing is to be done, a log is also the log up to then
-  pub quiet_log : (inputs : List Input) (from until : ℕ) (log : List Entry) → AreLegal site from log → from ≤ until → IsQuiet site inputs log from until → IsNodeLog site inputs from log → IsNodeLog site inputs until log
-  quiet_log inputs from until log a l q h =
+  pub quiet_log : (inputs : List Input) (from until : ℕ) (log : List Entry) → from ≤ until → IsQuiet site inputs log from until → IsNodeLog site inputs from log → IsNodeLog site inputs until log
+  quiet_log inputs from until log l q h =
       passes inputs from until log l
       (due_same from until inputs l (λ t b c d. q t c (b, inl d)))
-      (λ v link b c. none_on log from until v link (limits_out site link) refl a b c
+      (λ v link b c. none_on log from until v link (limits_out site link) (none_later site inputs from log link h) b c
       (λ t d e. q t d (late_on log from t link (limits_out site link) e, inr (link, e))))
       h
+
+  decides_on : (log : List Entry) (from t link : ℕ) (o : Option (ℕ × LinkLimits)) → NoneLater from (port_logs log link) → from ≤ t
+      → ((u : ℕ) → option_and_then (λ x. next_decision x.1 (port_logs log link) from) o ≡ Some u → t < u)
+      → option_and_then (λ x. next_decision x.1 (port_logs log link) t) o ≡ Some t → ⊥
+  decides_on log from t link None n h k e = absurd (cc)
+  decides_on log from t link (Some x) n h k e = none_decides x.1 (port_logs log link) from t n h k e
+
+  -- and no link decides by itself before then
+  pub quiet_decides_none : (inputs : List Input) (from until t link : ℕ) (log : List Entry) → from ≤ t → t < until → IsQuiet site inputs log from until → IsNodeLog site inputs from log
+      → next_on site log t link ≡ Some t → ⊥
+  quiet_decides_none inputs from until t link log a b q h e =
+      decides_on log from t link (limits_out site link) (none_later site inputs from log link h) a
+      (λ u d. elim (cases_lt t u) [
+        | inl c ↦ c
+        | inr c ↦ absurd (q u (omega arith) (late_on log from u link (limits_out site link) d, inr (link, d)))
+      ])
+      e

@@ -5,3 +5,4 @@ pub mod Contents
 pub mod NodeLog
 pub mod Told
 pub mod Next
+pub mod Legal

@@ -4,7 +4,6 @@ use Rattle.std.specs.Prelude.{List, Option, Some, None, Contains, map}
 use Rattle.std.specs.Option.{option_and_then}
 use Rattle.tva_base.specs.declared.limits.LinkLimits.{LinkLimits}
 use Rattle.tva_port.specs.Log as port
-use Rattle.tva_port.specs.Legal as ports
 use Rattle.tva_port.specs.declared.decision.Decision as decided
 use Rattle.tva_port.specs.declared.decision.Decision.TheVariants.{Start, WaitUntil, Idle}
 use Rattle.tva_port.specs.Decide.{decision}
@@ -39,8 +38,3 @@ IsWorkAt site inputs log from time =
 -- nothing is to be done from the one time on up to the other
 abbrev pub IsQuiet : Site → List Input → List Entry → ℕ → ℕ → Type 0
 IsQuiet site inputs log from until = (time : ℕ) → time < until → IsWorkAt site inputs log from time → ⊥
-
--- the log of each link's port is legal, and has nothing later than a time
-abbrev pub AreLegal : Site → ℕ → List Entry → Type 0
-AreLegal site time log = (link : ℕ) (o : ℕ × LinkLimits) → limits_out site link ≡ Some o
-    → ports.IsLegal o.1 (port_logs log link) × port.NoneLater time (port_logs log link)

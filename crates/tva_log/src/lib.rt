@@ -2,12 +2,12 @@
 //! the node's inputs. An entry is an input that is taken, with what the node makes of it, or a packet
 //! that a link starts. Its definitions say of a whole list that it is the log up to a time, and its
 //! contracts promise what a network stands on: there is one at most, it is the same over all inputs
-//! that agree up to that time, what it has before an earlier time is the log up to that, and it stays
-//! as it is while nothing is to be done.
+//! that agree up to that time, what it has before an earlier time is the log up to that, it stays as it
+//! is while nothing is to be done, and it is the log in which each link has a legal log of its own.
 #![tactic(auto)]
 
 mod kinds;
 mod laws;
 
 pub use kinds::{Input, Sending};
-pub use laws::{log_ends, log_up_to, one_log, quiet_log};
+pub use laws::{log_ends, log_up_to, node_logs_are_legal, one_log, quiet_log};

@@ -8,37 +8,41 @@ use Rattle.tva_base.specs.declared.event.Event.{Event}
 use Rattle.tva_base.specs.declared.packet.Time.{Time}
 use Rattle.tva_plan.specs.declared.config.Config.{Config}
 use Rattle.tva_trace.specs.declared.rows.Row.{Row}
-use Rattle.tva_node.specs.States.{BeginsWith, Keeps, NodeState, Stands}
+use Rattle.tva_node.specs.States.{Keeps, NodeState, Stands}
+use Rattle.tva_node.proofs.Zips.{begins_more, begins_same}
 use Rattle.tva_run.specs.Reaching.{log_at}
 use Rattle.tva_run.specs.Windows.{Window, given}
 use Rattle.tva_net.specs.Mail.{IsPostable, KeepsWork}
 use Rattle.tva_net.specs.News.{IsFirstTime, since}
-use Rattle.tva_net.specs.Nets.{IsWholeRun, WorkState, WorksFor, told_by}
+use Rattle.tva_net.specs.Nets.{GrowsFrom, IsWholeRun, WorkState, WorksFor}
 use Rattle.tva_net.specs.Places.{AreKnownElsewhere, IsElsewhere}
 use Rattle.tva_net.specs.Work.{AddsNothing, AddsWindow, AddsWindows, AreWorked, CanGoTo, CanWork, EndsWindow, IsThrough, OfEachRun, WorksOn, WorksUpTo, if_some}
-use Rattle.tva_net.proofs.Lists.{zip_both, zip_length, zip_map, zip_same}
+use Rattle.tva_net.proofs.Lists.{zip_both, zip_length, zip_same, zip_weaker}
 use Rattle.tva_net.proofs.Standing.{start_few, start_later, start_within, whole_run}
 use Rattle.tva_net.proofs.Windows as spans
 
 -- ## what is kept
 
-pub begins_same : (es : List Event) → BeginsWith es es
-begins_same es = ([], sym (append-nil es))
+pub grows_same : (v : NodeState) → GrowsFrom v v
+grows_same v = record { events = begins_same v.events; sendings = begins_same v.sendings }
 
-pub begins_more : (xs ys zs : List Event) → BeginsWith xs ys → BeginsWith ys zs → BeginsWith xs zs
-begins_more xs ys zs (a, e) (b, f) = (a ++ b, f ∙ (ap (λ (es : List Event). es ++ b) e ∙ append_assoc xs a b))
+grows_more : (u v w : NodeState) → GrowsFrom u v → GrowsFrom v w → GrowsFrom u w
+grows_more u v w a b = record { events = begins_more u.events v.events w.events a.events b.events; sendings = begins_more u.sendings v.sendings w.sendings a.sendings b.sendings }
 
-pub told_same : (nodes : List NodeState) → AllZip BeginsWith (told_by nodes) (told_by nodes)
-told_same nodes = zip_same BeginsWith begins_same (told_by nodes)
+posted_grows : (old new : NodeState) → KeepsWork old new → GrowsFrom old new
+posted_grows old new k = record { events = ([], k.events ∙ sym (append-nil old.events)); sendings = ([], k.sendings ∙ sym (append-nil old.sendings)) }
 
-pub told_more : (a b c : List (List Event)) → AllZip BeginsWith a b → AllZip BeginsWith b c → AllZip BeginsWith a c
-told_more a b c h k = zip_both BeginsWith BeginsWith BeginsWith begins_more a b c h k
+pub told_same : (nodes : List NodeState) → AllZip GrowsFrom nodes nodes
+told_same nodes = zip_same GrowsFrom grows_same nodes
 
-pub told_kept : (olds news : List NodeState) → AllZip Keeps olds news → AllZip BeginsWith (told_by olds) (told_by news)
-told_kept olds news h = zip_map Keeps BeginsWith (λ (v : NodeState). v.events) (λ (v : NodeState). v.events) (λ x y k. k.events) olds news h
+pub told_more : (a b c : List NodeState) → AllZip GrowsFrom a b → AllZip GrowsFrom b c → AllZip GrowsFrom a c
+told_more a b c h k = zip_both GrowsFrom GrowsFrom GrowsFrom grows_more a b c h k
 
-pub told_posted : (olds news : List NodeState) → AllZip KeepsWork olds news → AllZip BeginsWith (told_by olds) (told_by news)
-told_posted olds news h = zip_map KeepsWork BeginsWith (λ (v : NodeState). v.events) (λ (v : NodeState). v.events) (λ x y k. ([], k.events ∙ sym (append-nil x.events))) olds news h
+pub told_kept : (olds news : List NodeState) → AllZip Keeps olds news → AllZip GrowsFrom olds news
+told_kept olds news h = zip_weaker Keeps GrowsFrom (λ x y k. record { events = k.events; sendings = k.sendings }) olds news h
+
+pub told_posted : (olds news : List NodeState) → AllZip KeepsWork olds news → AllZip GrowsFrom olds news
+told_posted olds news h = zip_weaker KeepsWork GrowsFrom posted_grows olds news h
 
 -- ## one window
 

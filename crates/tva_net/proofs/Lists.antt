@@ -44,11 +44,11 @@ zip_length R [] (y ∷ ys) h = absurd h
 zip_length R (x ∷ xs) [] h = absurd h
 zip_length R (x ∷ xs) (y ∷ ys) h = ap suc (zip_length R xs ys h.1)
 
-pub zip_map : {X Y A B : Type 0} (R : X → Y → Type 0) (S : A → B → Type 0) (f : X → A) (g : Y → B) → ((x : X) (y : Y) → R x y → S (f x) (g y)) → (xs : List X) (ys : List Y) → AllZip R xs ys → AllZip S (map f xs) (map g ys)
-zip_map R S f g w [] [] h = tt
-zip_map R S f g w [] (y ∷ ys) h = absurd h
-zip_map R S f g w (x ∷ xs) [] h = absurd h
-zip_map R S f g w (x ∷ xs) (y ∷ ys) h = (w x y h.0, zip_map R S f g w xs ys h.1)
+pub zip_weaker : {X Y : Type 0} (R S : X → Y → Type 0) → ((x : X) (y : Y) → R x y → S x y) → (xs : List X) (ys : List Y) → AllZip R xs ys → AllZip S xs ys
+zip_weaker R S w [] [] h = tt
+zip_weaker R S w [] (y ∷ ys) h = absurd h
+zip_weaker R S w (x ∷ xs) [] h = absurd h
+zip_weaker R S w (x ∷ xs) (y ∷ ys) h = (w x y h.0, zip_weaker R S w xs ys h.1)
 
 pub zip_both : {X Y Z : Type 0} (R : X → Y → Type 0) (S : Y → Z → Type 0) (T : X → Z → Type 0) → ((x : X) (y : Y) (z : Z) → R x y → S y z → T x z) → (xs : List X) (ys : List Y) (zs : List Z) → AllZip R xs ys → AllZip S ys zs → AllZip T xs zs
 zip_both R S T w [] [] [] a b = tt

@@ -9,7 +9,7 @@ use Rattle.tva_joins.proofs.Joined.{join-put_all}
 use Rattle.tva_log.specs.declared.kinds.Input.{Input}
 use Rattle.tva_log.specs.Entries.{Entry, input_time, input_source}
 use Rattle.tva_log.specs.NodeLog.{IsNodeLog, due, in_turn}
-use Rattle.tva_log.specs.Next.{AreLegal, IsWorkAt}
+use Rattle.tva_log.specs.Next.{IsWorkAt}
 use Rattle.tva_log.proofs.Logs.{IsNodeLog-same}
 use Rattle.tva_node.specs.States.{NodeState}
 use Rattle.tva_run.specs.Reaching.{Logs, log_at, site_at, reaches}
@@ -43,12 +43,11 @@ module _ (config : Config) (rows : List Row) (sent : Logs) (place : ℕ) (node :
   }
 
   -- where it has nothing to do up to a time, it is at rest
-  pub rests : (log : List Entry) (from until : ℕ) → AreLegal node.site from log → until ≤ config.horizon.0 + 1
+  pub rests : (log : List Entry) (from until : ℕ) → until ≤ config.horizon.0 + 1
       → ((t : ℕ) → t < until → IsWorkAt node.site (in_turn node.inbox) log from t → ⊥) → IsAtRest config rows sent from until node.site log
-  rests log from until legal l none = record {
+  rests log from until l none = record {
     inputs = due until (in_turn node.inbox);
     join = joined_to until l;
-    legal = legal;
     quiet = λ t k w. none t k (
       w.0,
       elim w.1 [

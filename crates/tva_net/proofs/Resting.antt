@@ -8,7 +8,7 @@ use Rattle.tva_log.specs.declared.kinds.Input.{Input}
 use Rattle.tva_log.specs.Sites.{limits_out}
 use Rattle.tva_log.specs.Entries.{Entry, input_time}
 use Rattle.tva_log.specs.NodeLog.{IsNodeLog, due, in_turn}
-use Rattle.tva_log.specs.Next.{AreLegal, IsQuiet, IsWorkAt, next_decision, next_on}
+use Rattle.tva_log.specs.Next.{IsQuiet, IsWorkAt, next_decision, next_on}
 use Rattle.tva_log.specs.Parts.{port_logs}
 use Rattle.tva_log.proofs.Ports.{next_again, next_late}
 use Rattle.tva_node.specs.States.{NodeState, StandsFor}
@@ -33,9 +33,6 @@ module _ (v : NodeState) (log : List Entry) (h : StandsFor v log) (until : ℕ) 
 
   caught_up : StandsFor (record v { worked_to = until }) log
   caught_up = rests_until v log h until within late (none_early (work_time v.turns v.links) refl)
-
-  pub legal_then : AreLegal v.site until log
-  legal_then = legal (record v { worked_to = until }) log caught_up
 
   pub log_then : IsNodeLog v.site (in_turn v.inbox) until log
   log_then = caught_up.whole

@@ -15,8 +15,11 @@ use Rattle.tva_trace.specs.declared.rows.Row.{Row}
 use Rattle.tva_log.specs.Sites.{Site, site_of}
 use Rattle.tva_log.specs.NodeLog.{in_turn}
 use Rattle.tva_log.specs.Next.{IsWorkAt}
+use Rattle.tva_log.specs.Legal.{AreShort}
 use Rattle.tva_log.specs.Told.{events}
+use Rattle.tva_log.proofs.Legal.{legal_short}
 use Rattle.tva_node.specs.States.{NodeState}
+use Rattle.tva_node.proofs.Works.{legal}
 use Rattle.tva_run.specs.Reaching.{Logs, log_at, links_out, site_at}
 use Rattle.tva_run.specs.Report.{events_at}
 use Rattle.tva_run.specs.Run.{IsRunTo}
@@ -28,7 +31,7 @@ use Rattle.tva_net.specs.News.{HasNone, IsFirstTime}
 use Rattle.tva_net.specs.Nets.{IsNodeAt, IsRunSoFar, IsWholeRun, TellOf, WorkState, WorksFor}
 use Rattle.tva_net.proofs.Lists.{some_same}
 use Rattle.tva_net.proofs.Nodes.{rests, has_work}
-use Rattle.tva_net.proofs.Resting.{legal_then, work_back, work_then}
+use Rattle.tva_net.proofs.Resting.{work_back, work_then}
 use Rattle.tva_net.proofs.Rises.{reaches_rise}
 
 -- ## windows
@@ -117,9 +120,16 @@ module _ (config : Config) (rows : List Row) (windows : List Window) (told : Lis
       let log = log_at h.logs n in
       let bound : w.worked_to ≤ v.horizon + 1 = let e = a.horizon in omega (arith, e, run_within) in
       subst (λ (s : Site). IsAtRest config rows h.logs w.worked_to until s log) same
-      (rests config rows h.logs n v a.site a.mail (reaches_rise config rows w.worked_to h.logs h.valid h.trace.order h.run n) log w.worked_to until
-      (legal_then v log a.stands w.worked_to bound a.worked_to a.rests) l
+      (rests config rows h.logs n v a.site a.mail (reaches_rise config rows w.worked_to h.logs h.valid h.trace.order h.run n) log w.worked_to until l
       (λ t m x. none n d k t m (work_back v log a.stands w.worked_to bound a.worked_to a.rests t x)))
+
+  -- no packet that was queued is too long
+  pub short_logs : (n : ℕ) (site : Site) → site_at config n ≡ Some site → AreShort site (log_at h.logs n)
+  short_logs n site e =
+      let (d, k, same) = place_of n site e in
+      let v = get_or w.nodes n d in
+      let log = log_at h.logs n in
+      subst (λ (s : Site). AreShort s log) same (legal_short v.site v.worked_to log (legal v log (h.nodes n d k).stands))
 
   -- ## where no node has anything left to do
 

@@ -46,7 +46,7 @@ use Rattle.tva_net.proofs.Nodes.{has_log}
 use Rattle.tva_net.proofs.Resting.{comes_early, log_then}
 use Rattle.tva_net.proofs.Rises.{reaches_rise}
 use Rattle.tva_net.proofs.Senders.{HasLink, IsSentFrom, arrive_no_rows, each_since, goes_linked, mail_none, mail_on, out_is, sends_none, sent_from, since_one}
-use Rattle.tva_net.proofs.Standing.{events_there, first_ends, first_push, length_some, place_of, rest_start, run_start, start_later, start_within, work_starts}
+use Rattle.tva_net.proofs.Standing.{events_there, first_ends, first_push, length_some, place_of, rest_start, run_start, short_logs, start_later, start_within, work_starts}
 
 -- ## the nodes' logs once they are worked
 
@@ -429,7 +429,7 @@ module _ (config : Config) (rows : List Row) (windows : List Window) (told : Lis
   windows_on : EachBeginsWith config rows (windows ++ window ∷ []) until
   windows_on far logs l run =
       let near : w.worked_to ≤ far = omega (arith, later, ordered, l) in
-      let next = window_next config rows w.worked_to start.0 far h.logs logs h.valid h.run run later (omega (arith, ordered, l)) (rest_start config rows windows told w h start first) within (work_starts config rows windows told w h start first) in
+      let next = window_next config rows w.worked_to start.0 far h.logs logs h.valid h.run run later (omega (arith, ordered, l)) (rest_start config rows windows told w h start first) within (short_logs config rows windows told w h) (work_starts config rows windows told w h start first) in
       first_push config rows logs 0 windows w.worked_to window (h.begins far logs near run)
       (subst (λ (t : ℕ). let x : Window = (start.0, t) in IsNextWindow config rows logs w.worked_to x) (sym ends_is) next)
 

@@ -5,32 +5,21 @@ use Rattle.std.proofs.lemmas.List.{get_or_default, get_or-set_other, length-set}
 use Rattle.std.proofs.lemmas.List.Elements.{All-from_recursion, All-head, All-set, All-tail, recursion_from_All}
 use Rattle.std.proofs.lemmas.List.Sums.{sum_by-set}
 use Rattle.tva_node.specs.States.{IsAdvanced, Keeps, NodeState, Stands}
+use Rattle.tva_node.proofs.Zips.{keeps_on, keeps_same}
 use Rattle.tva_net.specs.News.{HasNoneBefore}
 use Rattle.tva_net.specs.Places.{AreAllPlaces, IsElsewhere, IsPutAmong, Rises}
 use Rattle.tva_net.specs.Times.{HasWorkBefore}
 use Rattle.tva_net.specs.Work.{AreThrough, CanGoTo, IsThrough, IsWorkedAt}
-use Rattle.tva_net.proofs.Ends.{begins_more, begins_same}
 use Rattle.tva_net.proofs.Lists.{zip_both, zip_same}
 use Rattle.tva_net.proofs.Mails.{zip_set}
 
 -- ## what is kept
 
-pub nothing_lost : (v : NodeState) → Keeps v v
-nothing_lost v = record { site = refl; horizon = refl; inbox = refl; events = begins_same v.events }
-
-keeps_more : (u v w : NodeState) → Keeps u v → Keeps v w → Keeps u w
-keeps_more u v w a b = record {
-  site = b.site ∙ a.site;
-  horizon = b.horizon ∙ a.horizon;
-  inbox = b.inbox ∙ a.inbox;
-  events = begins_more u.events v.events w.events a.events b.events;
-}
-
 pub kept_more : (a b c : List NodeState) → AllZip Keeps a b → AllZip Keeps b c → AllZip Keeps a c
-kept_more a b c h k = zip_both Keeps Keeps Keeps keeps_more a b c h k
+kept_more a b c h k = zip_both Keeps Keeps Keeps keeps_on a b c h k
 
 pub kept_set : (nodes : List NodeState) (place : ℕ) (v : NodeState) → ((d : NodeState) → Keeps (get_or nodes place d) v) → AllZip Keeps nodes (set nodes place v)
-kept_set nodes place v k = zip_set Keeps nothing_lost nodes place v (k v)
+kept_set nodes place v k = zip_set Keeps keeps_same nodes place v (k v)
 
 pub kept_at : (nodes : List NodeState) (place : ℕ) (u v : NodeState) → place < length nodes → Keeps (get_or nodes place u) v → AllZip Keeps nodes (set nodes place v)
 kept_at nodes place u v l k = kept_set nodes place v (λ d. subst (λ x. Keeps x v) (get_or_default nodes place u d l) k)
@@ -59,7 +48,7 @@ pub none_worked : (until : ℕ) (nodes : List NodeState) (places : List ℕ) →
 none_worked until nodes places none stand reach = subst (AreWorkedSoFar until nodes nodes) (sym none) (record {
   stand = stand;
   reach = reach;
-  kept = zip_same Keeps nothing_lost nodes;
+  kept = zip_same Keeps keeps_same nodes;
   count = refl;
   rises = tt;
   within = tt;

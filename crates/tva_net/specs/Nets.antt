@@ -1,5 +1,5 @@
 -- What a network keeps between two windows, and for which run it stands.
-use Rattle.std.specs.Prelude.{◌≡◌, ℕ, ◌+◌, ◌<◌, ◌≤◌, List, [], ◌∷◌, length, map, slice_index_or}
+use Rattle.std.specs.Prelude.{◌≡◌, ℕ, ◌+◌, ◌<◌, ◌≤◌, List, length, map, slice_index_or}
 use Rattle.std.specs.Prelude.{Option, Some, None}
 use Rattle.std.specs.List.{flat_map}
 use Rattle.tva_base.specs.declared.event.Event.{Event}
@@ -31,9 +31,10 @@ use Rattle.tva_net.specs.Sums.{AreWithin}
 abbrev pub ByPlace : (ℕ → NodeState → Type 0) → List NodeState → Type 0
 ByPlace P nodes = (place : ℕ) (d : NodeState) → place < length nodes → P place (slice_index_or nodes place d)
 
--- what happened at each node
-abbrev pub told_by : List NodeState → List (List Event)
-told_by nodes = map (λ node. node.events) nodes
+-- a node's events begin with those that it had, and so does what it sent
+pub record GrowsFrom (old new : NodeState) : Type 0 where
+  pub events : states.BeginsWith old.events new.events
+  pub sendings : states.BeginsWith old.sendings new.sendings
 
 -- the nodes, as many as the configuration's, tell what happened in these logs
 pub record TellOf (config : Config) (logs : Logs) (nodes : List NodeState) : Type 0 where

@@ -7,8 +7,7 @@ ghost use Rattle.tva_plan.specs.Valid.{IsConfig};
 ghost use Rattle.tva_trace.specs.declared.rows.Row.{Row};
 ghost use Rattle.tva_trace.specs.Valid.{AreTraceRows};
 ghost use Rattle.tva_run.specs.Windows.{Window as Span};
-ghost use Rattle.tva_node.specs.States.{BeginsWith};
-ghost use Rattle.tva_net.specs.Nets.{IsSound, StandsFor, told_by};
+ghost use Rattle.tva_net.specs.Nets.{GrowsFrom, StandsFor};
 ghost use Rattle.tva_net.specs.Steps.{Gives, Refuses};
 
 use crate::kinds::{NetError, Window};
@@ -30,7 +29,7 @@ pub struct Net {
 }
 
 impl Model for Net {
-    ghost use Rattle.tva_net.specs.Nets.{NetState, state_of};
+    ghost use Rattle.tva_net.specs.Nets.{IsSound, NetState, state_of};
 
     ghost Value = { NetState };
 
@@ -38,7 +37,7 @@ impl Model for Net {
 
     ghost view = { λ n. state_of n.parts };
 
-    ghost invariant = { λ n. KnowsTimes n.parts };
+    ghost invariant = { λ n. IsSound (state_of n.parts) × KnowsTimes n.parts };
 }
 
 impl Net {
@@ -55,23 +54,22 @@ impl Net {
     }
 
     /// Works the next window of the run in which something happens, and gives that. The gate is told
-    /// of each node before it is worked in a window. After an error each later call answers the same
-    /// error and changes nothing.
+    /// of each node before it is worked in a window. An error leaves the sums as they were; after it each
+    /// later call answers the same error and changes nothing.
     pub fn step_window<R: Threads + Sync, G: Gate>(
         &mut self,
         rt: &R,
         alloc: Global,
         gate: &G,
     ) -> Result<Window, NetError>
-        requires { IsSound self.old }
-        ensures sound { IsSound self.new }
         ensures again { IfSome self.old.failed (λ error. (result ≡ Err error) × (self.new ≡ self.old)) }
         ensures failed { IfErr result (λ error. self.new.failed ≡ Some error) }
         ensures gives { IfOk result (λ window. (config : Config) (rows : List Row) (windows : List Span) (told : List Event)
             → StandsFor config rows windows told self.old → Gives config rows windows told window self.new) }
         ensures refuses { IfErr result (λ error. (config : Config) (rows : List Row) (windows : List Span) (told : List Event)
             → StandsFor config rows windows told self.old → Refuses config rows windows told error self.old self.new) }
-        ensures kept { AllZip BeginsWith (told_by self.old.work.nodes) (told_by self.new.work.nodes) }
+        ensures totals { IfErr result (λ error. self.new.totals ≡ self.old.totals) }
+        ensures kept { AllZip GrowsFrom self.old.work.nodes self.new.work.nodes }
     {
         let (window, ()) = self.parts.step(rt, alloc, gate, &mut || -> () {});
         window
@@ -85,16 +83,15 @@ impl Net {
         gate: &G,
         other: &mut F,
     ) -> (Result<Window, NetError>, A)
-        requires sound { IsSound self.old }
         requires other { F.pre other.old }
-        ensures sound { IsSound self.new }
         ensures again { IfSome self.old.failed (λ error. (result.0 ≡ Err error) × (self.new ≡ self.old)) }
         ensures failed { IfErr result.0 (λ error. self.new.failed ≡ Some error) }
         ensures gives { IfOk result.0 (λ window. (config : Config) (rows : List Row) (windows : List Span) (told : List Event)
             → StandsFor config rows windows told self.old → Gives config rows windows told window self.new) }
         ensures refuses { IfErr result.0 (λ error. (config : Config) (rows : List Row) (windows : List Span) (told : List Event)
             → StandsFor config rows windows told self.old → Refuses config rows windows told error self.old self.new) }
-        ensures kept { AllZip BeginsWith (told_by self.old.work.nodes) (told_by self.new.work.nodes) }
+        ensures totals { IfErr result.0 (λ error. self.new.totals ≡ self.old.totals) }
+        ensures kept { AllZip GrowsFrom self.old.work.nodes self.new.work.nodes }
         ensures other { F.step other.old result.1 other.new }
     {
         self.parts.step(rt, alloc, gate, other)

@@ -8,8 +8,7 @@ ghost use Rattle.tva_trace.specs.declared.rows.Row.{Row};
 ghost use Rattle.tva_trace.specs.Valid.{AreTraceRows};
 ghost use Rattle.tva_run.specs.Report.{totals_of};
 ghost use Rattle.tva_run.specs.Windows.{Window as Span};
-ghost use Rattle.tva_node.specs.States.{BeginsWith};
-ghost use Rattle.tva_net.specs.Nets.{IsSound, StandsFor, state_of, told_by};
+ghost use Rattle.tva_net.specs.Nets.{GrowsFrom, IsSound, StandsFor, state_of};
 ghost use Rattle.tva_net.specs.Steps.{Gives, Refuses};
 ghost use Rattle.tva_net.specs.Sums.{AreWithin};
 ghost use Rattle.tva_net.specs.Times.{KnowsTimes};
@@ -78,8 +77,9 @@ impl Parts {
         ensures refuses { IfErr result.0 (λ error. (config : Config) (rows : List Row) (windows : List Span) (told : List Event)
             → StandsFor config rows windows told (state_of self.old)
             → Refuses config rows windows told error (state_of self.old) (state_of self.new)) }
+        ensures totals { IfErr result.0 (λ error. self.new.totals ≡ self.old.totals) }
         ensures times { KnowsTimes self.new }
-        ensures kept { AllZip BeginsWith (told_by self.old.works.nodes.items) (told_by self.new.works.nodes.items) }
+        ensures kept { AllZip GrowsFrom self.old.works.nodes.items self.new.works.nodes.items }
         ensures other { F.step other.old result.1 other.new }
     {
         if let Some(error) = self.failed {

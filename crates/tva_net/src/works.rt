@@ -4,8 +4,7 @@ ghost use Rattle.std.specs.Option.{option_map};
 ghost use Rattle.std.specs.List.{AllZip};
 ghost use Rattle.tva_plan.specs.Valid.{IsConfig};
 ghost use Rattle.tva_trace.specs.Valid.{AreTraceRows};
-ghost use Rattle.tva_node.specs.States.{BeginsWith};
-ghost use Rattle.tva_net.specs.Nets.{WorksFor, told_by, work_of};
+ghost use Rattle.tva_net.specs.Nets.{GrowsFrom, WorksFor, work_of};
 ghost use Rattle.tva_net.specs.Times.{AreNoted};
 ghost use Rattle.tva_net.specs.Work.{AreWorked, CanBeWorked, CanWork, WorksOn, WorksUpTo};
 
@@ -81,7 +80,7 @@ impl Works {
         requires other { F.pre other.old }
         ensures works { IfOk result.0 (λ some. WorksUpTo (work_of self.old) (option_map (λ events. events.items) some) (work_of self.new)) }
         ensures noted { OnOk result.0 (AreNoted self.new.times self.new.nodes.items) }
-        ensures kept { AllZip BeginsWith (told_by self.old.nodes.items) (told_by self.new.nodes.items) }
+        ensures kept { AllZip GrowsFrom self.old.nodes.items self.new.nodes.items }
         ensures other { F.step other.old result.1 other.new }
     {
         let (first, done) = self.work_next(rt, alloc, gate, other);
@@ -108,7 +107,7 @@ impl Works {
         requires noted { AreNoted self.old.times self.old.nodes.items }
         ensures works { IfOk result (λ some. WorksUpTo (work_of self.old) (option_map (λ events. events.items) some) (work_of self.new)) }
         ensures noted { OnOk result (AreNoted self.new.times self.new.nodes.items) }
-        ensures kept { AllZip BeginsWith (told_by self.old.nodes.items) (told_by self.new.nodes.items) }
+        ensures kept { AllZip GrowsFrom self.old.nodes.items self.new.nodes.items }
     {
         while let Some(events) = self.work_alone(rt, alloc, gate)? {
             if !events.is_empty() {
@@ -129,7 +128,7 @@ impl Works {
         requires noted { AreNoted self.old.times self.old.nodes.items }
         ensures works { IfOk result (λ some. WorksOn (work_of self.old) (option_map (λ events. events.items) some) (work_of self.new)) }
         ensures noted { OnOk result (AreNoted self.new.times self.new.nodes.items) }
-        ensures kept { AllZip BeginsWith (told_by self.old.nodes.items) (told_by self.new.nodes.items) }
+        ensures kept { AllZip GrowsFrom self.old.nodes.items self.new.nodes.items }
     {
         let (events, ()) = self.work_next(rt, alloc, gate, &mut || -> () {});
         events
@@ -148,7 +147,7 @@ impl Works {
         requires other { F.pre other.old }
         ensures works { IfOk result.0 (λ some. WorksOn (work_of self.old) (option_map (λ events. events.items) some) (work_of self.new)) }
         ensures noted { OnOk result.0 (AreNoted self.new.times self.new.nodes.items) }
-        ensures kept { AllZip BeginsWith (told_by self.old.nodes.items) (told_by self.new.nodes.items) }
+        ensures kept { AllZip GrowsFrom self.old.nodes.items self.new.nodes.items }
         ensures other { F.step other.old result.1 other.new }
     {
         let Some(start) = first_time(&self.times, self.nodes.as_slice()) else {
@@ -201,7 +200,7 @@ fn work_nodes<R: Threads + Sync, G: Gate, F: FnMut() -> A + Send, A: Send>(
     requires other { F.pre other.old }
     ensures worked { IfOk result.0 (λ list. AreWorked until.0 horizon.0 links.now posted.old shown.old nodes.old list.items posted.new shown.new nodes.new) }
     ensures noted { OnOk result.0 (AreNoted times.new nodes.new) }
-    ensures kept { AllZip BeginsWith (told_by nodes.old) (told_by nodes.new) }
+    ensures kept { AllZip GrowsFrom nodes.old nodes.new }
     ensures other { F.step other.old result.1 other.new }
 {
     let places = match advance(rt, alloc, gate, pace, times, until, nodes) {

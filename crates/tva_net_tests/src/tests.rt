@@ -1,9 +1,7 @@
 // Small networks and what must happen in each of their windows, which is worked out by hand or comes
 // from outside. An event is told as its time, its node's number and what it is.
-ghost use Rattle.std.specs.Prelude.{IfOk};
-ghost use Rattle.tva_net.specs.Nets.{IsSound};
-
 mod texts;
+mod watch;
 
 use std::alloc::{AllocError, Global};
 use std::sync::atomic::{AtomicU64, Ordering};
@@ -17,9 +15,7 @@ use tva_outside::{Gate, OpenGate};
 use tva_trace::read_trace;
 
 // The network of a configuration and a trace.
-fn network(alloc: Global, config: &str, trace: &str) -> Result<Net, Fail>
-    ensures { IfOk result IsSound }
-{
+fn network(alloc: Global, config: &str, trace: &str) -> Result<Net, Fail> {
     let Ok(config) = read_config(alloc, config.as_bytes()) else {
         return Err(Fail::from("no configuration"));
     };
@@ -56,10 +52,7 @@ fn told<R: Threads + Sync, G: Gate>(
     alloc: Global,
     gate: &G,
     net: &mut Net,
-) -> Result<String, Fail>
-    requires { IsSound net.old }
-    ensures { IsSound net.new }
-{
+) -> Result<String, Fail> {
     let mut text = String::new(alloc);
     for _ in 0..100 {
         match net.step_window(rt, alloc, gate) {

@@ -55,7 +55,7 @@ use Rattle.tva_log.specs.Entries as entry
 use Rattle.tva_log.specs.Parts.{call_of, call_of_input, call_of_row, reply_at, calls, charge_of, charged, charges, content_at, is_row, port_entry, port_logs, queued_at, rows_in}
 use Rattle.tva_log.specs.Contents.{arrived, content_by, goes_out, hosted, made_for, routed}
 use Rattle.tva_log.specs.Told.{content_told, reply_told}
-use Rattle.tva_log.specs.Next.{AreLegal}
+use Rattle.tva_log.proofs.Legal.{AreLegal}
 use Rattle.tva_node.specs.declared.role.Role.{Role}
 use Rattle.tva_node.specs.declared.role.Role.TheVariants as roles
 use Rattle.tva_node.specs.declared.role.Routed.{Routed}

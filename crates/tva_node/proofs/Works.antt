@@ -22,7 +22,8 @@ use Rattle.tva_log.specs.Entries.{Entry, Took, Started, input_time, input_source
 use Rattle.tva_log.specs.Parts.{port_logs}
 use Rattle.tva_log.specs.NodeLog.{IsNodeLog, in_turn, due, starts, start_after}
 use Rattle.tva_log.specs.Told.{sendings, event_of, sending_of, at_time}
-use Rattle.tva_log.specs.Next.{next_decision, next_on, IsQuiet, AreLegal}
+use Rattle.tva_log.specs.Next.{next_decision, next_on, IsQuiet}
+use Rattle.tva_log.proofs.Legal.{AreLegal}
 use Rattle.tva_log.proofs.Logs.{logs-other}
 use Rattle.tva_log.proofs.Ports.{next_again, quiet_starts_none}
 use Rattle.tva_log.proofs.Quiet.{due_same, quiet_log, late_on}
@@ -155,7 +156,7 @@ module _ (v : NodeState) (log : List Entry) (h : StandsFor v log) where
   due_then end l n = due_same v.worked_to end (in_turn v.inbox) l (λ t a b c. quiet end n t b (a, inl c))
 
   log_then : (end : ℕ) → v.worked_to ≤ end → IsNoneBefore end (work_time v.turns v.links) → IsNodeLog v.site (in_turn v.inbox) end log
-  log_then end l n = quiet_log v.site (in_turn v.inbox) v.worked_to end log legal l (quiet end n) h.whole
+  log_then end l n = quiet_log v.site (in_turn v.inbox) v.worked_to end log l (quiet end n) h.whole
 
   -- up to the next time a link decides next when it did
   again : (end k : ℕ) (next : Option ℕ) (o : Option (ℕ × LinkLimits)) → v.worked_to ≤ end → o ≡ limits_out v.site k → IsNoneBefore end next → next ≡ option_and_then (λ x. next_decision x.1 (port_logs log k) v.worked_to) o → next ≡ option_and_then (λ x. next_decision x.1 (port_logs log k) end) o
@@ -457,7 +458,7 @@ module _ (v : NodeState) (now place rank : ℕ) (log : List Entry) (d : Link) (r
       let legal = role_legal v.site v.role log now st.site st.plan st.role st.past link.number (link.number, limits) found in
       let valid = (link_valid v.site link.number (link.number, limits) st.site found).0 in
       let none : starts v.site log link.number now ≡ None =
-      ap (option_and_then (λ o. start_after o.1 (port_logs log link.number) now)) found ∙ quiet_starts_none limits ports now now legal.0 legal.1 (omega arith) late in
+      ap (option_and_then (λ o. start_after o.1 (port_logs log link.number) now)) found ∙ quiet_starts_none limits ports now now legal.1 (omega arith) late in
       let again : next_decision limits ports (now + 1) ≡ next_decision limits ports now =
       next_again limits ports now (now + 1) valid legal.0 legal.1 (omega arith) (λ t f. let k = late t f in omega arith) in
       let next_there : next_on v.site log (now + 1) link.number ≡ next_decision limits ports (now + 1) = ap (option_and_then (λ o. next_decision o.1 (port_logs log link.number) (now + 1))) found in

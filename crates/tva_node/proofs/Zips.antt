@@ -2,8 +2,7 @@
 use Rattle.std.proofs.Common.{◌≡◌, ℕ, zero, suc, ◌+◌, ◌<◌, List, [], ◌∷◌, ◌++◌, length, get_or, take, drop, set, refl, sym, subst, ◌∙◌, ap, arith, append-nil, append_assoc}
 use Rattle.std.specs.List.{AllByRecursion, AllZip}
 use Rattle.std.proofs.lemmas.List.{drop_more, take_more, take_more_set, take-append-drop, drop-set-lt}
-use Rattle.tva_base.specs.declared.event.Event.{Event}
-use Rattle.tva_node.specs.States.{NodeState, Keeps}
+use Rattle.tva_node.specs.States.{BeginsWith, NodeState, Keeps}
 
 pub AllZip-append : {X Y : Type 0} (R : X → Y → Type 0) (xs zs : List X) (ys ws : List Y) → AllZip R xs ys → AllZip R zs ws → AllZip R (xs ++ zs) (ys ++ ws)
 AllZip-append R [] zs [] ws a b = b
@@ -24,9 +23,15 @@ each_at P [] i d a h = absurd (omega arith)
 each_at P (x ∷ xs) zero d a h = a.0
 each_at P (x ∷ xs) (suc i) d a h = each_at P xs i d a.1 (omega arith)
 
+pub begins_same : {X : Type 0} (xs : List X) → BeginsWith xs xs
+begins_same xs = ([], sym (append-nil xs))
+
+pub begins_more : {X : Type 0} (xs ys zs : List X) → BeginsWith xs ys → BeginsWith ys zs → BeginsWith xs zs
+begins_more {X = X} xs ys zs (a, e) (b, f) = (a ++ b, f ∙ (ap (λ (es : List X). es ++ b) e ∙ append_assoc xs a b))
+
 -- a node that nothing was done to keeps all
 pub keeps_same : (v : NodeState) → Keeps v v
-keeps_same v = record { site = refl; horizon = refl; inbox = refl; events = ([], sym (append-nil v.events)) }
+keeps_same v = record { site = refl; horizon = refl; inbox = refl; events = begins_same v.events; sendings = begins_same v.sendings }
 
 -- what two calls one after the other leave
 pub keeps_on : (a b c : NodeState) → Keeps a b → Keeps b c → Keeps a c
@@ -34,7 +39,8 @@ keeps_on a b c h k = record {
   site = k.site ∙ h.site;
   horizon = k.horizon ∙ h.horizon;
   inbox = k.inbox ∙ h.inbox;
-  events = (h.events.0 ++ k.events.0, k.events.1 ∙ (ap (λ (es : List Event). es ++ k.events.0) h.events.1 ∙ append_assoc a.events h.events.0 k.events.0));
+  events = begins_more a.events b.events c.events h.events k.events;
+  sendings = begins_more a.sendings b.sendings c.sendings h.sendings k.sendings;
 }
 
 -- ## a list that is gone through

@@ -125,9 +125,9 @@ pub record StandsFor (v : NodeState) (log : List Entry) : Type 0 where
 abbrev pub Stands : NodeState → Type 0
 Stands v = (log : List Entry) × StandsFor v log
 
--- a log of events begins with another
-abbrev pub BeginsWith : List Event → List Event → Type 0
-BeginsWith old new = (more : List Event) × (new ≡ old ++ more)
+-- a list begins with another
+abbrev pub BeginsWith : {X : Type 0} → List X → List X → Type 0
+BeginsWith {X = X} old new = (more : List X) × (new ≡ old ++ more)
 
 -- what a call leaves of a node, whatever it answers
 pub record Keeps (old new : NodeState) : Type 0 where
@@ -135,6 +135,7 @@ pub record Keeps (old new : NodeState) : Type 0 where
   pub horizon : new.horizon ≡ old.horizon
   pub inbox : new.inbox ≡ old.inbox
   pub events : BeginsWith old.events new.events
+  pub sendings : BeginsWith old.sendings new.sendings
 
 -- a node that was worked up to a time, and no further than the horizon
 pub record IsAdvanced (until : ℕ) (old new : NodeState) : Type 0 where

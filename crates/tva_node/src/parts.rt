@@ -228,6 +228,7 @@ impl Parts {
         ensures outbox { (d : Link) → OnOk result (self.new.outbox.items
             ≡ self.old.outbox.items ++ start_sending (get_or self.old.links place d) now packet ∷ []) }
         ensures more { BeginsWith self.old.log.items self.new.log.items }
+        ensures sent { BeginsWith self.old.outbox.items self.new.outbox.items }
         ensures same { (self.new.role ≡ self.old.role) × (self.new.inbox ≡ self.old.inbox) × (self.new.turns ≡ self.old.turns)
             × (self.new.number ≡ self.old.number) × (self.new.horizon ≡ self.old.horizon) × (self.new.worked_to ≡ self.old.worked_to) }
     {

@@ -31,9 +31,9 @@ pub fn packets_have_origins()
 {}
 
 /// In every run up to a time, in nanoseconds, of a configuration and the rows of a trace, each packet that
-/// shows a grant is charged at a router to the last grant that its host took, and goes on as regular, where the
-/// path from its host is steady up to it. That senders who keep to their grants are not demoted is what TVA promises; the rules of the
-/// sender and the words of this law are this project's own.
+/// shows a grant is charged at a router to the last grant that its host took, and goes on as regular, where
+/// the path from its host is steady up to it. That senders who keep to their grants are not demoted is what
+/// TVA promises; the rules of the sender and the words of this law are this project's own.
 pub fn honest_senders_are_regular()
     ensures { (config : Config) (rows : List Row) (until : ℕ) (logs : Logs) → IsConfig config
         → AreTraceRows config rows → IsRunTo config rows until logs → AreHonestRegular config logs }

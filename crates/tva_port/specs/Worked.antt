@@ -8,7 +8,7 @@ use Rattle.tva_shim.specs.declared.kinds.Kind.TheVariants as kinds
 use Rattle.tva_shim.specs.declared.kinds.ReturnInfo.TheVariants as backs
 use Rattle.tva_shim.specs.declared.packets.Carried.{Carried}
 use Rattle.tva_shim.specs.declared.packets.Carried.TheVariants as carried
-use Rattle.tva_shim.specs.Packets.{PacketData}
+use Rattle.tva_shim.specs.Packets.{PacketData, made_packet}
 use Rattle.tva_port.specs.declared.requests.RequestQueues.{RequestQueues}
 use Rattle.tva_port.specs.declared.requests.RequestQueues.TheVariants.{OneLevel, TwoLevels}
 use Rattle.tva_port.specs.Log.{Entry, Queued, Started}
@@ -32,13 +32,8 @@ worked_link queues inner = record {
 }
 
 abbrev pub numbered : ℕ → ℕ → Carried → PacketData
-numbered ordinal payload carries = record {
-  id = record { node = 1; ordinal = ordinal };
-  flow = record { src = record { 0 = 1 }; dst = record { 0 = 2 } };
-  hops = 0;
-  payload = payload;
-  carried = carries;
-}
+numbered ordinal payload carries =
+    made_packet (record { node = 1; ordinal = ordinal }) (record { src = record { 0 = 1 }; dst = record { 0 = 2 } }) payload carries
 
 -- ## three queues of regular packets
 

@@ -17,7 +17,7 @@ use Rattle.tva_joins.proofs.Joins.{filter-true, filter-false, in_order-filter, i
 use Rattle.tva_joins.proofs.Putting.{each_from_sources}
 use Rattle.tva_log.specs.Sites.{Site, site_of}
 use Rattle.tva_log.specs.Entries.{input_time, input_source, entry_time}
-use Rattle.tva_log.specs.NodeLog.{due}
+use Rattle.tva_log.specs.NodeLog.{IsNodeLog, due}
 use Rattle.tva_log.proofs.Logs.{IsNodeLog-cut, IsNodeLog-same, IsNodeLog-unique}
 use Rattle.tva_log.proofs.Quiet.{quiet_log}
 use Rattle.tva_run.specs.Reaching.{Logs, log_at, links_out, site_at, reaches}
@@ -125,25 +125,31 @@ module _ (config : Config) (rows : List Row) (from until : ℕ) (logs longer : L
 
 -- ## where nothing is to be done
 
+-- a node's log of the run is its log over the inputs that it has at rest
+pub at_rest : (config : Config) (rows : List Row) (from until : ℕ) (logs : Logs) → from ≤ until → IsRunTo config rows from logs → (node : ℕ) (site : Site) (there : site_at config node ≡ Some site)
+    → (q : IsAtRest config rows logs from until site (log_at logs node)) → IsNodeLog site q.inputs from (log_at logs node)
+at_rest config rows from until logs later run node site there q =
+    let r = run.each node site there in
+    let same : due from r.inputs ≡ due from q.inputs =
+    join_unique input_time input_source (due from r.inputs) (due from q.inputs)
+    (in_order-filter input_time input_source (λ i. nat_lt (input_time i) from) r.inputs r.join.in_order)
+    (in_order-filter input_time input_source (λ i. nat_lt (input_time i) from) q.inputs q.join.in_order)
+    (λ s.
+    source_due config rows from from logs site.number s r.inputs (omega arith) r.join
+    ∙ sym (source_due config rows until from logs site.number s q.inputs later q.join)) in
+    IsNodeLog-same site r.inputs q.inputs from (log_at logs node) same r.is_log
+
 pub run_rests : (config : Config) (rows : List Row) (from until : ℕ) (logs : Logs) → from ≤ until → until ≤ config.horizon.0 + 1 → IsRunTo config rows from logs
     → ((node : ℕ) (site : Site) → site_at config node ≡ Some site → IsAtRest config rows logs from until site (log_at logs node)) → IsRunTo config rows until logs
 run_rests config rows from until logs later within run rest = record {
   within = within;
   count = run.count;
   each = λ node site there.
-      let r = run.each node site there in
       let q = rest node site there in
-      let same : due from r.inputs ≡ due from q.inputs =
-      join_unique input_time input_source (due from r.inputs) (due from q.inputs)
-      (in_order-filter input_time input_source (λ i. nat_lt (input_time i) from) r.inputs r.join.in_order)
-      (in_order-filter input_time input_source (λ i. nat_lt (input_time i) from) q.inputs q.join.in_order)
-      (λ s.
-      source_due config rows from from logs site.number s r.inputs (omega arith) r.join
-      ∙ sym (source_due config rows until from logs site.number s q.inputs later q.join)) in
       record {
         inputs = q.inputs;
         join = q.join;
-        is_log = quiet_log site q.inputs from until (log_at logs node) q.legal later q.quiet (IsNodeLog-same site r.inputs q.inputs from (log_at logs node) same r.is_log);
+        is_log = quiet_log site q.inputs from until (log_at logs node) later q.quiet (at_rest config rows from until logs later run node site there q);
       };
 }
 

@@ -17,15 +17,17 @@ use Rattle.tva_log.specs.declared.kinds.Input.{Input}
 use Rattle.tva_log.specs.Sites.{Site, limits_out, IsLinkOut, IsSite}
 use Rattle.tva_log.specs.Entries.{Entry, input_time, input_source, entry_time, entry_rank}
 use Rattle.tva_log.specs.Parts.{port_logs}
-use Rattle.tva_log.specs.NodeLog.{due}
-use Rattle.tva_log.specs.Next.{next_decision, next_on, IsQuiet, AreLegal}
+use Rattle.tva_log.specs.NodeLog.{IsNodeLog, due}
+use Rattle.tva_log.specs.Next.{next_decision, next_on, IsQuiet}
+use Rattle.tva_log.specs.Legal.{AreShort}
+use Rattle.tva_log.proofs.Legal.{AreLegal, node_log_legal}
 use Rattle.tva_log.proofs.Ports.{next_again}
-use Rattle.tva_log.proofs.Quiet.{late_on}
+use Rattle.tva_log.proofs.Quiet.{late_on, quiet_decides_none}
 use Rattle.tva_run.specs.Reaching.{Logs, log_at, site_at, reaches}
 use Rattle.tva_run.specs.Run.{IsRunTo, logs_before}
 use Rattle.tva_run.specs.Windows.{IsWork, IsNextWindow, IsAtRest, HasWork, window_length}
 use Rattle.tva_run.proofs.Runs.{are_delayed, reaches_same, source_due, log_at-before, one_run_is, IsRunTo-cut}
-use Rattle.tva_run.proofs.Going.{run_rests}
+use Rattle.tva_run.proofs.Going.{at_rest, run_rests}
 use Rattle.tva_run.proofs.Sites.{site_is}
 
 -- ## times of inputs
@@ -122,6 +124,10 @@ module _ (site : Site) (inputs : List Input) (log : List Entry) (from until : �
 
 module _ (config : Config) (rows : List Row) (from start until : ℕ) (logs whole : Logs) (valid : IsConfig config) (run : IsRunTo config rows from logs) (later : IsRunTo config rows until whole) (order : from ≤ start) (within : start ≤ until)
     (rest : (node : ℕ) (site : Site) → site_at config node ≡ Some site → IsAtRest config rows logs from start site (log_at logs node)) where
+  -- a node's log over the inputs that it has at rest
+  log_then : (node : ℕ) (site : Site) (there : site_at config node ≡ Some site) → IsNodeLog site (rest node site there).inputs from (log_at logs node)
+  log_then node site there = at_rest config rows from start logs order run node site there (rest node site there)
+
   -- up to the window's start, the run has what it had
   stays : (t : ℕ) → from ≤ t → t ≤ start → logs ≡ logs_before t whole
   stays t a b =
@@ -135,7 +141,6 @@ module _ (config : Config) (rows : List Row) (from start until : ℕ) (logs whol
           in_order = in_order-filter input_time input_source (λ i. nat_lt (input_time i) t) q.inputs q.join.in_order;
           each = λ s. source_due config rows start t logs site.number s q.inputs b q.join;
         };
-        legal = q.legal;
         quiet = λ u l w. q.quiet u (omega arith) (
           w.0,
           elim w.1 [
@@ -160,30 +165,28 @@ module _ (config : Config) (rows : List Row) (from start until : ℕ) (logs whol
       let q = rest w.node w.site w.is_node in
       let (number, is_site) = site_is config w.node w.site valid w.is_node in
       let early : t ≤ start = omega arith in
-      q.quiet t b (
-        a,
-        elim w.work.1 [
-          | inl c ↦
-              let here : Contains (map input_time (reaches config rows logs w.node w.source)) t =
-              contains_due t (reaches config rows whole w.node w.source) (reaches config rows logs w.node w.source) (reached_stays t w.node w.source a early) c in
-              let due_early : Contains (map input_time (due start (reaches config rows logs w.node w.source))) t =
-              contains_passes input_time (λ i. nat_lt (input_time i) start) t (λ i same. lt-ltb (input_time i) start (omega arith)) (reaches config rows logs w.node w.source) here in
-              let joined : filter (λ i. input_source i == w.source) q.inputs ≡ due start (reaches config rows logs w.node w.source) =
-              q.join.each w.source ∙ ap (λ (n : ℕ). due start (reaches config rows logs n w.source)) number in
-              inl (contains_filter input_time (λ i. input_source i == w.source) t q.inputs (subst (λ (is : List Input). Contains (map input_time is) t) (sym joined) due_early))
-          | inr d ↦
-              let link = d.0 in
-              let same : next_on w.site (log_at logs w.node) t link ≡ Some t = ap (λ (l : List Entry). next_on w.site l t link) (sym (log_stays t w.node a early)) ∙ d.1 in
-              inr (link, sym (next_stays w.site q.inputs (log_at logs w.node) from start is_site q.legal q.quiet t link a early) ∙ same)
-        ],
-      )
+      elim w.work.1 [
+        | inl c ↦
+            let here : Contains (map input_time (reaches config rows logs w.node w.source)) t =
+            contains_due t (reaches config rows whole w.node w.source) (reaches config rows logs w.node w.source) (reached_stays t w.node w.source a early) c in
+            let due_early : Contains (map input_time (due start (reaches config rows logs w.node w.source))) t =
+            contains_passes input_time (λ i. nat_lt (input_time i) start) t (λ i same. lt-ltb (input_time i) start (omega arith)) (reaches config rows logs w.node w.source) here in
+            let joined : filter (λ i. input_source i == w.source) q.inputs ≡ due start (reaches config rows logs w.node w.source) =
+            q.join.each w.source ∙ ap (λ (n : ℕ). due start (reaches config rows logs n w.source)) number in
+            q.quiet t b (a, inl (contains_filter input_time (λ i. input_source i == w.source) t q.inputs (subst (λ (is : List Input). Contains (map input_time is) t) (sym joined) due_early)))
+        | inr d ↦
+            let same : next_on w.site (log_at logs w.node) t d.0 ≡ Some t = ap (λ (l : List Entry). next_on w.site l t d.0) (sym (log_stays t w.node a early)) ∙ d.1 in
+            quiet_decides_none w.site q.inputs from start t d.0 (log_at logs w.node) a b q.quiet (log_then w.node w.site w.is_node) same
+      ]
 
   -- where there is something to do next, there is in the run
-  pub work_there : HasWork config rows logs from start → IsWork config rows whole start
-  work_there h =
+  pub work_there : ((node : ℕ) (site : Site) → site_at config node ≡ Some site → AreShort site (log_at logs node)) → HasWork config rows logs from start → IsWork config rows whole start
+  work_there short h =
       let q = rest h.node h.site h.is_node in
       let (number, is_site) = site_is config h.node h.site valid h.is_node in
       let now : start ≤ start = omega arith in
+      let legal : AreLegal h.site from (log_at logs h.node) =
+      node_log_legal h.site q.inputs from (log_at logs h.node) is_site (short h.node h.site h.is_node) (log_then h.node h.site h.is_node) in
       record {
         node = h.node;
         site = h.site;
@@ -198,11 +201,12 @@ module _ (config : Config) (rows : List Row) (from start until : ℕ) (logs whol
                 inr (
                   link,
                   ap (λ (l : List Entry). next_on h.site l start link) (log_stays start h.node order now)
-                      ∙ (next_stays h.site q.inputs (log_at logs h.node) from start is_site q.legal q.quiet start link order now ∙ d.1),
+                      ∙ (next_stays h.site q.inputs (log_at logs h.node) from start is_site legal q.quiet start link order now ∙ d.1),
                 )
           ],
         );
       }
 
-  pub window_next : start ≤ config.horizon.0 → HasWork config rows logs from start → IsNextWindow config rows whole from (start, min (start + window_length config) (config.horizon.0 + 1))
-  window_next early h = record { later = order; within = early; work = work_there h; first = none_before; ends = refl }
+  pub window_next : start ≤ config.horizon.0 → ((node : ℕ) (site : Site) → site_at config node ≡ Some site → AreShort site (log_at logs node)) → HasWork config rows logs from start
+      → IsNextWindow config rows whole from (start, min (start + window_length config) (config.horizon.0 + 1))
+  window_next early short h = record { later = order; within = early; work = work_there short h; first = none_before; ends = refl }

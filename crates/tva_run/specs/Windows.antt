@@ -10,7 +10,7 @@ use Rattle.tva_log.specs.Sites.{Site}
 use Rattle.tva_log.specs.declared.kinds.Input.{Input}
 use Rattle.tva_log.specs.Entries.{Entry, input_time, input_source, entry_time}
 use Rattle.tva_log.specs.NodeLog.{due}
-use Rattle.tva_log.specs.Next.{AreLegal, IsQuiet, IsWorkAt}
+use Rattle.tva_log.specs.Next.{IsQuiet, IsWorkAt}
 use Rattle.tva_run.specs.Reaching.{Logs, log_at, site_at, reaches}
 use Rattle.tva_run.specs.Report.{event_time}
 use Rattle.tva_run.specs.Run.{IsRunTo}
@@ -85,7 +85,6 @@ pub record IsAtRest (config : Config) (rows : List Row) (sent : Logs) (from unti
     : Type 0 where
   pub inputs : List Input
   pub join : IsJoin input_time input_source (λ source. due until (reaches config rows sent site.number source)) inputs
-  pub legal : AreLegal site from log
   pub quiet : IsQuiet site inputs log from until
 
 -- at that time, no earlier than `from`, a node has something to do, where so much was sent

@@ -10,6 +10,7 @@ ghost use Rattle.tva_trace.specs.Lines.{HasEvent};
 ghost use Rattle.tva_joins.specs.Joins.{IsJoin, NeverFalls};
 ghost use Rattle.tva_log.specs.Sites.{IsSite, Site};
 ghost use Rattle.tva_log.specs.Entries.{Entry, input_time};
+ghost use Rattle.tva_log.specs.Legal.{AreShort};
 ghost use Rattle.tva_log.specs.Told.{sendings};
 ghost use Rattle.tva_run.specs.Reaching.{Logs, arrival, arrivals, log_at, site_at};
 ghost use Rattle.tva_run.specs.Run.{HasLog, IsRun, IsRunTo, logs_before};
@@ -105,13 +106,16 @@ pub fn sites_are_valid()
 {}
 
 /// Where, over the run up to a time, no node has anything to do before a later time, and one has then,
-/// the next window starts then. Times are in nanoseconds.
+/// the next window starts then. The packets that were queued so far have at most 2,048 bytes each, as
+/// those of an accepted trace have: a request that no burst pays for would wait once more as its wait
+/// ends. Times are in nanoseconds.
 pub fn window_is_next()
     ensures { (config : Config) (rows : List Row) (from start until : ℕ) (logs whole : Logs) → IsConfig config
         → IsRunTo config rows from logs → IsRunTo config rows until whole
         → from ≤ start → start ≤ until → start ≤ config.horizon.0
         → ((node : ℕ) (site : Site) → site_at config node ≡ Some site
         → IsAtRest config rows logs from start site (log_at logs node))
+        → ((node : ℕ) (site : Site) → site_at config node ≡ Some site → AreShort site (log_at logs node))
         → HasWork config rows logs from start
         → IsNextWindow config rows whole from (start, min (start + window_length config) (config.horizon.0 + 1)) }
 {}

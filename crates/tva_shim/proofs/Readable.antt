@@ -87,13 +87,16 @@ module _ {A : Type 0} {Is : A → Type 0} {bytes_of : A → List ℕ} {bytes : L
     (one : (part : A) (rest : List ℕ) → Is part → bytes ≡ bytes_of part ++ rest → (x ≡ part) × (after ≡ rest)) where
   by_known : IsKnown (Is x × (bytes ≡ bytes_of x ++ after)) → IsReadable Is bytes_of bytes
   by_known (inl h) = (Some (x, after), record { found = h; only = λ part rest is begins. let same = one part rest is begins in let first = same.0 in let rest = same.1 in cc })
-  by_known (inr n) = (None, record {
-    found = tt;
-    only = λ part rest is begins.
-        let same = one part rest is begins in
-        let there : Is x = subst Is (sym same.0) is in
-        absurd (n (there, begins ∙ ap (λ p. bytes_of p ++ rest) (sym same.0) ∙ ap (λ r. bytes_of x ++ r) (sym same.1)));
-  })
+  by_known (inr n) = (
+    None,
+    record {
+      found = tt;
+      only = λ part rest is begins.
+          let same = one part rest is begins in
+          let there : Is x = subst Is (sym same.0) is in
+          absurd (n (there, begins ∙ ap (λ p. bytes_of p ++ rest) (sym same.0) ∙ ap (λ r. bytes_of x ++ r) (sym same.1)));
+    },
+  )
 
   -- where the one that can stand there is one of those that are known
   only_readable : IsKnown (Is x) → IsReadable Is bytes_of bytes
@@ -110,8 +113,7 @@ number_readable : (n limit : ℕ) (bytes_of : ℕ → List ℕ) → ((x : ℕ) �
 number_readable n limit bytes_of are top bytes =
     only_readable (big_number n bytes) (drop n bytes)
     (λ x rest below begins.
-    let start : bytes ≡ big_bytes n x ++ rest = begins ∙ ap (λ ys. ys ++ rest) (are x) in
-    (
+    let start : bytes ≡ big_bytes n x ++ rest = begins ∙ ap (λ ys. ys ++ rest) (are x) in (
       ap (big_number n) start ∙ big_number-reads_back n x rest (omega arith),
       ap (drop n) start ∙ drop_at (big_bytes n x) rest n (length-bytes_high_first n x),
     ))
@@ -141,8 +143,7 @@ rights_readable version bytes =
     let weight : ℕ = seconds_max version + 1 in
     only_readable (rights_from (number / weight) (number % weight)) (drop size bytes)
     (λ r rest are begins.
-    let begun : bytes ≡ big_bytes size (rights_number version r) ++ rest = begins ∙ ap (λ ys. ys ++ rest) (number_bytes-is version (rights_number version r)) in
-    (
+    let begun : bytes ≡ big_bytes size (rights_number version r) ++ rest = begins ∙ ap (λ ys. ys ++ rest) (number_bytes-is version (rights_number version r)) in (
       same_rights version number weight r refl are (ap (big_number size) begun ∙ big_number-reads_back size (rights_number version r) rest (number_fits version r are)),
       ap (drop size) begun ∙ drop_at (big_bytes size (rights_number version r)) rest size (length-bytes_high_first size (rights_number version r)),
     ))
@@ -207,9 +208,10 @@ grant_there : (version : ℕ) (p : GrantParts) → AreGrantParts version p → I
 unfolding both
 grant_there version p are =
     let count : length p.1.1 ≡ p.0 = are.second.second.1 in
-    let few : p.0 ≤ 16 = are.first in
-    ((are.second.first, record { few = omega arith; each = are.second.second.0 }),
-    ap (λ n. n ∷ (rights_bytes version p.1.0 ++ flat_map eight_bytes p.1.1)) (sym count))
+    let few : p.0 ≤ 16 = are.first in (
+      (are.second.first, record { few = omega arith; each = are.second.second.0 }),
+      ap (λ n. n ∷ (rights_bytes version p.1.0 ++ flat_map eight_bytes p.1.1)) (sym count),
+    )
 
 grant_back : (version : ℕ) (grant : Rights × List ℕ) → IsGrant version grant → (p : GrantParts) × AreGrantParts version p × (grant_bytes version grant ≡ grant_parts version p) × (p.1 ≡ grant)
 unfolding both
@@ -238,9 +240,10 @@ request_there : (version : ℕ) (p : RequestParts) → AreRequestParts p → IsK
 unfolding both
 request_there version p are =
     let count : length p.1 ≡ p.0 = are.second.1 in
-    let few : p.0 ≤ 16 = are.first in
-    (record { kind = tt; entries = record { few = omega arith; each = are.second.0 }; caps = record { few = omega arith; each = All-nil IsCap }; code = refl },
-    ap (λ n. n ∷ flat_map entry_bytes p.1) (sym count))
+    let few : p.0 ≤ 16 = are.first in (
+      record { kind = tt; entries = record { few = omega arith; each = are.second.0 }; caps = record { few = omega arith; each = All-nil IsCap }; code = refl },
+      ap (λ n. n ∷ flat_map entry_bytes p.1) (sym count),
+    )
 
 request_back : (version : ℕ) (k : Kind) → IsKindPart version 0 k → (p : RequestParts) × AreRequestParts p × (kind_bytes version k ≡ request_parts p) × (kinds.Request p.1 ≡ k)
 unfolding both
@@ -326,9 +329,9 @@ form_readable version form mid =
       | inl one ↦ only_readable backs.Notice mid (notice_only version form mid one.1)
           (inl (record { back = tt; granted = record { few = omega arith; each = All-nil IsCap }; bit = refl }))
       | inr other ↦ elim (eqb_tells form 2) [
-          | inl two ↦ (let g = grant_readable version mid in granted_by version form mid two.1 g.0 g.1)
-          | inr more ↦ (None, record { found = tt; only = λ part rest is begins. absurd (no_form version form mid other.1 more.1 part rest is begins) })
-        ]
+        | inl two ↦ (let g = grant_readable version mid in granted_by version form mid two.1 g.0 g.1)
+        | inr more ↦ (None, record { found = tt; only = λ part rest is begins. absurd (no_form version form mid other.1 more.1 part rest is begins) })
+      ]
     ]
 
 return_readable : (version : ℕ) (returns : Bool) (bytes : List ℕ) → IsReadable (IsReturnPart version (returns_bit returns)) (return_bytes version) bytes

@@ -3,10 +3,10 @@ use Rattle.tva.proofs.Wants.{kept_of_wanted, honest_of_wanted, one_end_of_wanted
 use Rattle.tva.proofs.top.run.Goals as goal
 
 pub returns-in-Some-clause-one_end : goal.returns-in-Some-clause-one_end
-returns-in-Some-clause-one_end g c = one_end_of_wanted (g.S.Shelf.held c.args.shelf.now) (texts c.args.words.now)
+returns-in-Some-clause-one_end g c = one_end_of_wanted (texts c.args.words.now)
 
 pub returns-in-Some-clause-network : goal.returns-in-Some-clause-network
-returns-in-Some-clause-network g c = kept_of_wanted (g.S.Shelf.held c.args.shelf.now) (texts c.args.words.now)
+returns-in-Some-clause-network g c = kept_of_wanted (texts c.args.words.now)
 
 pub returns-in-Some-clause-honest : goal.returns-in-Some-clause-honest
-returns-in-Some-clause-honest g c = honest_of_wanted (g.S.Shelf.held c.args.shelf.now) (texts c.args.words.now)
+returns-in-Some-clause-honest g c = honest_of_wanted (texts c.args.words.now)

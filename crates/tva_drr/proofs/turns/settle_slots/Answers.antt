@@ -1,6 +1,10 @@
-use Rattle.std.proofs.Common.{◌≡◌, ◌+◌, ◌^◌, ◌<◌, [], arith, sym, ◌∙◌, ap, length}
+use Rattle.std.proofs.Common.{◌≡◌, ◌+◌, ◌^◌, ◌<◌, List, [], arith, sym, ◌∙◌, ap, length}
 use Rattle.std.proofs.lemmas.Bool.Decides.{nat_tests}
+use Rattle.tva_index.specs.KeyRing.{ring}
 use Rattle.tva_drr.specs.Queues.{Queue}
+use Rattle.tva_drr.specs.Slots.{SlotOf, queues_in}
+use Rattle.tva_drr.specs.Take.{refilled}
+use Rattle.tva_drr.proofs.Keys.{keys-left, keys-turned}
 use Rattle.tva_drr.proofs.SlotLists.{next_after_leaving, next_after_turn, slots-left, slots-turned, none_measured}
 use Rattle.tva_drr.proofs.turns.settle_slots.Goals as goal
 
@@ -24,3 +28,14 @@ returns-then-deficit-length-clause-slots g c count room a =
     let n : 0 < length c.args.waiting.now.items = grind (arith, nat_tests) in
     let r = c.refill_slot-then-deficit-length.ensures in
     slots-turned count room c.args.waiting.now.items c.args.spare.now.items c.refill_slot-then-deficit-length.new.waiting.items n (λ k h. r.room k (rw c.rotate_left.ensures.items h)) (r.same.0 ∙ ap length c.rotate_left.ensures.items) a
+
+pub returns-in-None-clause-keys : goal.returns-in-None-clause-keys
+returns-in-None-clause-keys g c k =
+    let e = c.refill_slot.ensures.left ∙ ap (λ (z : List (SlotOf g.row.T.Denot)). refilled c.args.quantum (queues_in z)) c.leave.ensures.waiting in
+    c.leave-in-None.ensures ∙ ap (ring c.args.keys.now.places) (keys-left c.args.quantum c.args.waiting.now.items c.refill_slot.new.waiting.items c.args.keys.now.keys e k)
+
+pub returns-then-deficit-length-clause-keys : goal.returns-then-deficit-length-clause-keys
+returns-then-deficit-length-clause-keys g c k =
+    let r = c.refill_slot-then-deficit-length in
+    let e = r.ensures.left ∙ ap (λ (z : List (SlotOf g.row.T.Denot)). refilled c.args.quantum (queues_in z)) c.rotate_left.ensures.items in
+    c.turn.ensures ∙ ap (ring c.args.keys.now.places) (keys-turned c.args.quantum c.args.waiting.now.items r.new.waiting.items c.args.keys.now.keys e k)

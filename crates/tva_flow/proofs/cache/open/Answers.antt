@@ -1,6 +1,5 @@
-use Rattle.std.proofs.Common.{◌≡◌, ℕ, ◌+◌, ◌<◌, ◌≤◌, Bool, true, false, not, ltb, leb, length, arith}
+use Rattle.std.proofs.Common.{◌≡◌, ℕ, ◌+◌, ◌<◌, ◌≤◌, Bool, true, false, ltb, leb, arith}
 use Rattle.std.proofs.lemmas.Bool.Decides.{nat_tests}
-use Rattle.std.proofs.lemmas.List.{length-set, length_push}
 use Rattle.tva_flow.specs.Steps.{opened}
 use Rattle.tva_flow.proofs.Admit.{admits-over_at, admits-full, admits-opened_own, admits-opened_over, admits-opened_next}
 use Rattle.tva_flow.proofs.Near.{near-set, near-push, near-opened}

@@ -1,8 +1,10 @@
 use Rattle.std.proofs.Common.{◌+◌, ◌^◌, ◌<◌, arith, sym, ◌∙◌, ap, length, subst, IsNone, refl}
 use Rattle.std.proofs.lemmas.Bool.Decides.{nat_tests}
+use Rattle.tva_index.specs.KeyRing.{ring}
 use Rattle.tva_hier.specs.Groups.{Group}
 use Rattle.tva_hier.specs.Take.{group_refilled}
 use Rattle.tva_hier.proofs.GroupLists.{kept-left, kept-same}
+use Rattle.tva_hier.proofs.GroupKeys.{keys-left, keys-turned}
 use Rattle.tva_hier.proofs.Keeping.{group_first, next_after_leaving, next_after_turn, length-turned, settled_empty, settled_last, empty_is, same_front}
 use Rattle.tva_hier.proofs.turns.settle_groups.Goals as goal
 
@@ -52,3 +54,14 @@ returns-then-deficit-length-clause-kept g c l count limits kept =
     let n : 0 < length ws = grind (arith, nat_tests) in
     kept-same l count ws c.args.spare.now.items c.refill_front-then-deficit-length.new.waiting.items
     (c.refill_front-then-deficit-length.ensures.same.0 ∙ (ap length c.rotate_left.ensures.items ∙ length-turned ws)) kept
+
+pub returns-in-None-clause-keys : goal.returns-in-None-clause-keys
+returns-in-None-clause-keys g c k =
+    let e = c.refill_front.ensures.left ∙ ap (λ z. group_refilled c.args.quantum z) c.leave.ensures.waiting in
+    c.leave-in-None.ensures ∙ ap (ring c.args.keys.now.places) (keys-left c.args.quantum c.args.waiting.now.items c.refill_front.new.waiting.items c.args.keys.now.keys e k)
+
+pub returns-then-deficit-length-clause-keys : goal.returns-then-deficit-length-clause-keys
+returns-then-deficit-length-clause-keys g c k =
+    let r = c.refill_front-then-deficit-length in
+    let e = r.ensures.left ∙ ap (λ z. group_refilled c.args.quantum z) c.rotate_left.ensures.items in
+    c.turn.ensures ∙ ap (ring c.args.keys.now.places) (keys-turned c.args.quantum c.args.waiting.now.items r.new.waiting.items c.args.keys.now.keys e k)

@@ -1,5 +1,4 @@
 use Rattle.std.proofs.Common.{ℕ, List, length, subst, sym}
-use Rattle.tva_net.specs.Nets.{told_by}
 use Rattle.tva_net.specs.Places.{AreKnownElsewhere, ArePlaces}
 use Rattle.tva_net.proofs.Ends.{all_stand, few, mids_few, mids_numbered, mids_stand, postable, posted_elsewhere, posted_known, reach, shown_elsewhere, shown_known, told_kept, told_more, told_posted}
 use Rattle.tva_net.proofs.works.work_nodes.Goals as goal
@@ -57,13 +56,13 @@ returns-in-Err-gather-clause-kept g c = told_kept c.args.nodes.now c.advance.new
 
 pub returns-clause-kept : goal.returns-clause-kept
 returns-clause-kept g c =
-    told_more (told_by c.args.nodes.now) (told_by c.advance.new.nodes) (told_by c.post_beside-result.new.nodes)
+    told_more c.args.nodes.now c.advance.new.nodes c.post_beside-result.new.nodes
     (told_kept c.args.nodes.now c.advance.new.nodes c.in-Ok.ensures.kept)
     (told_posted c.advance.new.nodes c.post_beside-result.new.nodes c.post_beside-result.ensures.keeps)
 
 pub returns-in-Ok-result-clause-kept : goal.returns-in-Ok-result-clause-kept
 returns-in-Ok-result-clause-kept g c =
-    told_more (told_by c.args.nodes.now) (told_by c.advance.new.nodes) (told_by c.post_beside-result.new.nodes)
+    told_more c.args.nodes.now c.advance.new.nodes c.post_beside-result.new.nodes
     (told_kept c.args.nodes.now c.advance.new.nodes c.in-Ok.ensures.kept)
     (told_posted c.advance.new.nodes c.post_beside-result.new.nodes c.post_beside-result.ensures.keeps)
 

@@ -1,4 +1,4 @@
-use Rattle.std.proofs.Common.{◌≡◌, ℕ, ◌+◌, ◌%◌, ◌^◌, ◌≤◌, true, false, List, Option, sym, ◌∙◌, ap, arith, subst}
+use Rattle.std.proofs.Common.{◌≡◌, ℕ, ◌≤◌, true, false, Option, length, sym, ◌∙◌, ap, arith, subst}
 use Rattle.tva_drr.specs.declared.offered.Offered.TheVariants.{Queued, QueueFull}
 use Rattle.tva_drr.specs.Queues.{Fair, fair}
 use Rattle.tva_drr.specs.Offer.{lacks_queue, lacks_room, offer_answer, offer_leaves}
@@ -9,28 +9,24 @@ use Rattle.tva_drr.proofs.OrderLaws.{goes_last}
 use Rattle.tva_drr.proofs.Lists.{room_lacked, answer_full, answer_queued, leaves_queued, room_for}
 use Rattle.tva_drr.proofs.Keeps.{items-within, keeps-offer}
 use Rattle.tva_drr.proofs.SlotLists.{length-queues, queue_lacked}
-use Rattle.std.specs.Option.{option_map}
 use Rattle.tva_drr.specs.Queues.{has_key}
 use Rattle.tva_drr.specs.Places.{IsPlace}
-use Rattle.tva_drr.specs.Numbers.{keys_in, AreNumbers}
-use Rattle.tva_drr.proofs.Numbering.{place_none, keys_in-put, length-keys}
+use Rattle.tva_index.specs.KeyRing.{Ring, ring}
+use Rattle.tva_drr.specs.Keys.{keys_with}
+use Rattle.tva_drr.proofs.Keys.{keys_in-put, length-keys}
 use Rattle.tva_drr.proofs.fair_queues.FairQueues.offer.Goals as goal
 
-pub find_slot-place-requires-clause-few : goal.find_slot-place-requires-clause-few
-find_slot-place-requires-clause-few g c =
-    omega (arith, c.self.invariant.0.queues.few, c.self.invariant.0.limits.queues, length-queues c.self.inside.waiting.items)
+pub find_slot-place-requires : goal.find_slot-place-requires
+find_slot-place-requires g c = ap (λ (r : Ring). r.keys) c.self.invariant.5
 
-pub number_slot-requires-clause-new : goal.number_slot-requires-clause-new
-number_slot-requires-clause-new g c none =
+pub add_key-requires-clause-room : goal.add_key-requires-clause-room
+add_key-requires-clause-room g c none =
     let l = c.self.inside.limits in
     let ws = c.self.inside.waiting.items in
     let p = c.find_slot-place in
-    let n = c.self.invariant.5 in
     let has_queue : lacks_queue (fair l (queues_in ws)) c.args.key ≡ false = queue_lacked l c.args.key ws p.result.at false p.ensures.at (sym c.if-lacks_slot.false ∙ c.lacks_slot.ensures) in
-    let absent : has_key c.args.key (queues_in ws) ≡ false = subst (λ (o : Option ℕ). IsPlace c.args.key (queues_in ws) o) none p.ensures.at in (
-      n.numbered c.args.key ∙ ap (λ (o : Option ℕ). option_map (λ (at : ℕ). (c.self.inside.numbers.first + at) % 2 ^ 64) o) (place_none c.args.key (queues_in ws) absent),
-      omega (arith, n.few, c.self.invariant.6, room_for l c.args.key (queues_in ws) has_queue absent, length-keys (queues_in ws)),
-    )
+    let absent : has_key c.args.key (queues_in ws) ≡ false = subst (λ (o : Option ℕ). IsPlace c.args.key (queues_in ws) o) none p.ensures.at in
+    omega (arith, room_for l c.args.key (queues_in ws) has_queue absent, length-keys (queues_in ws), ap (λ (r : Ring). length r.keys) c.self.invariant.5, ap (λ (r : Ring). r.places) c.self.invariant.5)
 
 pub lacks_room-requires : goal.lacks_room-requires
 lacks_room-requires g c =
@@ -74,9 +70,7 @@ invariant_of-self g c =
       c.put_slot.ensures.slots,
       omega (arith, c.self.invariant.3, same.0),
       omega (arith, c.self.invariant.4, same.1),
-      subst (λ (z : List ℕ). AreNumbers z c.number_slot.new.numbers) (sym (keys_in-put l.quantum c.args.key c.args.item (queues_in ws)))
-          (c.number_slot.ensures.numbers (keys_in (queues_in ws)) c.self.invariant.5 p.ensures.place (omega (arith, length-keys (queues_in ws), length-queues ws))),
-      omega (arith, c.self.invariant.6, c.number_slot.ensures.room),
+      c.add_key.ensures ∙ (ap (λ (r : Ring). ring r.places (keys_with c.args.key r.keys)) c.self.invariant.5 ∙ ap (ring l.queues) (sym (keys_in-put l.quantum c.args.key c.args.item (queues_in ws)))),
     )
 
 pub returns-clause-fair : goal.returns-clause-fair

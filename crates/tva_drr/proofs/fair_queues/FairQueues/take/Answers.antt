@@ -1,31 +1,32 @@
-use Rattle.std.proofs.Common.{ℕ, ◌+◌, List, length, arith, ap, sym, ◌∙◌, subst}
+use Rattle.std.proofs.Common.{◌≡◌, ◌+◌, length, arith, ap, sym, ◌∙◌, subst}
 use Rattle.tva_drr.specs.Queues.{Fair, fair}
 use Rattle.tva_drr.specs.Order.{GoesFirst, IsFront}
 use Rattle.tva_drr.proofs.OrderLaws.{goes_first}
-use Rattle.tva_drr.specs.Take.{front_settled}
+use Rattle.tva_drr.specs.Take.{front_settled, taken}
 use Rattle.tva_drr.specs.Fair.{IsFair}
 use Rattle.tva_drr.specs.Slots.{queues_in, AreSlots}
-use Rattle.tva_drr.proofs.Keeps.{all_room-popped, keeps-taken}
-use Rattle.tva_drr.specs.Numbers.{keys_in, AreNumbers}
-use Rattle.tva_drr.proofs.SlotLists.{length-queues}
-use Rattle.tva_drr.proofs.Numbering.{keys_in-popped, alone_popped}
+use Rattle.tva_drr.proofs.Keeps.{all_room-popped, keeps-taken, none_popped}
+use Rattle.tva_index.specs.KeyRing.{Ring, ring}
+use Rattle.tva_drr.specs.Keys.{keys_in}
+use Rattle.tva_drr.proofs.Keys.{keys_in-popped}
 use Rattle.tva_drr.proofs.fair_queues.FairQueues.take.Goals as goal
-
-pub settle_numbers-requires-clause-numbers : goal.settle_numbers-requires-clause-numbers
-settle_numbers-requires-clause-numbers g c =
-    subst (λ (z : List ℕ). AreNumbers z c.self.inside.numbers)
-    (sym (ap keys_in c.pop_slot.ensures.left ∙ keys_in-popped g.T.Measured.measure (queues_in c.self.inside.waiting.items))) c.self.invariant.5
-
-pub settle_numbers-requires-clause-alone : goal.settle_numbers-requires-clause-alone
-settle_numbers-requires-clause-alone g c =
-    rw c.pop_slot.ensures.left (alone_popped g.T.Measured.measure c.self.inside.limits.quantum c.self.inside.limits (queues_in c.self.inside.waiting.items) c.self.invariant.0.queues.each)
-
-pub settle_numbers-requires-clause-room : goal.settle_numbers-requires-clause-room
-settle_numbers-requires-clause-room g c =
-    omega (arith, c.pop_slot.ensures.same.0, c.self.invariant.0.queues.few, length-queues c.self.inside.waiting.items, c.self.invariant.6)
 
 pub settle_slots-requires-clause-deficits : goal.settle_slots-requires-clause-deficits
 settle_slots-requires-clause-deficits g c = rw c.pop_slot.ensures.left (all_room-popped g.T.Measured.measure c.self.inside.limits (queues_in c.self.inside.waiting.items) c.self.invariant.0.limits c.self.invariant.0.queues)
+
+pub invariant_of-self : goal.invariant_of-self
+invariant_of-self g c =
+    let i = c.self.invariant in
+    let s = i.2 in
+    let p = c.pop_slot.ensures in
+    let a : AreSlots c.self.inside.limits.queues c.self.inside.limits.ring c.pop_slot.new.waiting.items c.self.inside.spare.items = record {
+      total = ap (λ n. n + length c.self.inside.spare.items) p.same.0 ∙ s.total;
+      waiting_room = p.room c.self.inside.limits.ring s.waiting_room;
+      spare_room = s.spare_room;
+      empty = s.empty;
+    } in
+    let same = p.left ∙ none_popped g.T.Measured.measure c.self.inside.limits (queues_in c.self.inside.waiting.items) i.0.queues.each (sym p.value ∙ c.in_err-item.was) in
+    rw same (i.0, i.1, a, omega (arith, i.3, p.same.1), i.4, i.5)
 
 pub invariant_of-self-2 : goal.invariant_of-self-2
 invariant_of-self-2 g c =
@@ -38,14 +39,17 @@ invariant_of-self-2 g c =
       spare_room = s.spare_room;
       empty = s.empty;
     } in
+    let keys = ap (λ (r : Ring). r.keys) c.self.invariant.5 ∙ sym (ap keys_in p.left ∙ keys_in-popped g.T.Measured.measure (queues_in c.self.inside.waiting.items)) in
+    let after : c.settle_slots.new.keys ≡ ring c.self.inside.limits.queues (keys_in (taken g.T.Measured.measure c.self.inside.limits.quantum (queues_in c.self.inside.waiting.items))) =
+    c.settle_slots.ensures.keys keys ∙ (ap (λ (r : Ring). ring r.places (keys_in (queues_in c.settle_slots.new.waiting.items))) c.self.invariant.5
+    ∙ ap (λ qs. ring c.self.inside.limits.queues (keys_in qs)) (c.settle_slots.ensures.left ∙ ap (front_settled g.T.Measured.measure c.self.inside.limits.quantum) p.left)) in
     rw (c.settle_slots.ensures.left, p.left, c.length.ensures) (
       k.0,
       k.1,
       c.settle_slots.ensures.slots c.self.inside.limits.queues c.self.inside.limits.ring a,
       omega (arith, c.self.invariant.3, p.same.1, c.settle_slots.ensures.same.0),
       omega (arith, c.self.invariant.4, c.settle_slots.ensures.same.1),
-      rw p.left at (c.settle_numbers.ensures.left c.self.inside.limits.quantum),
-      omega (arith, c.self.invariant.6, c.settle_numbers.ensures.room),
+      after,
     )
 
 pub returns-clause-fair : goal.returns-clause-fair

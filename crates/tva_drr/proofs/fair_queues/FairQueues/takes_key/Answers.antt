@@ -1,12 +1,12 @@
-use Rattle.std.proofs.Common.{◌≡◌, not, ap, sym, subst, arith}
+use Rattle.std.proofs.Common.{◌≡◌, not, ap, sym, subst}
+use Rattle.tva_index.specs.KeyRing.{Ring}
 use Rattle.tva_drr.specs.Queues.{Fair}
 use Rattle.tva_drr.specs.Offer.{lacks_queue}
-use Rattle.tva_drr.proofs.SlotLists.{queue_lacked, length-queues}
+use Rattle.tva_drr.proofs.SlotLists.{queue_lacked}
 use Rattle.tva_drr.proofs.fair_queues.FairQueues.takes_key.Goals as goal
 
-pub find_slot-place-requires-clause-few : goal.find_slot-place-requires-clause-few
-find_slot-place-requires-clause-few g c =
-    omega (arith, c.self.invariant.0.queues.few, c.self.invariant.0.limits.queues, length-queues c.self.inside.waiting.items)
+pub find_slot-place-requires : goal.find_slot-place-requires
+find_slot-place-requires g c = ap (λ (r : Ring). r.keys) c.self.invariant.5
 
 pub returns : goal.returns
 returns g c =

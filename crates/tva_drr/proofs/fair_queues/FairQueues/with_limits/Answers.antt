@@ -11,4 +11,4 @@ invariant_of-result g c =
     let s = c.in_ok-spare.ensures in
     let r = all_new c.args.limits.ring c.in_ok-spare.spare.items (recursion_from_All (λ (x : SlotOf g.row.T.Denot). x ≡ slot (queue 0 0 []) c.args.limits.ring) c.in_ok-spare.spare.items s.empty) in
     let a : AreSlots c.args.limits.queues c.args.limits.ring [] c.in_ok-spare.spare.items = record { total = omega (arith, s.count); waiting_room = tt; spare_room = r.0; empty = r.1 } in
-    rw w (record { limits = c.requires; queues = record { few = omega arith; each = tt; turn = tt; bytes = omega arith } }, refl, a, omega (arith, c.in_ok-waiting.ensures.exact), s.capacity, c.in_ok-numbers.ensures.numbers, c.in_ok-numbers.ensures.room)
+    rw w (record { limits = c.requires; queues = record { few = omega arith; each = tt; turn = tt; bytes = omega arith } }, refl, a, omega (arith, c.in_ok-waiting.ensures.exact), s.capacity, c.in_ok-keys.ensures)

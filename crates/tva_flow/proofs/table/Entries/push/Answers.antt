@@ -1,8 +1,6 @@
-use Rattle.std.proofs.Common.{◌≡◌, ◌<◌, [], ◌∷◌, ◌++◌, List, length, get_or, set, ap, sym, subst, arith}
-use Rattle.tva_flow.specs.declared.kept.Entry.{Entry}
-use Rattle.tva_flow.specs.Index.{Kept, kept, AreIndexed}
-use Rattle.tva_flow.proofs.Indexed.{indexed-push}
+use Rattle.std.proofs.Common.{[], ◌∷◌, ◌++◌, ap}
+use Rattle.tva_flow.specs.Index.{Kept, kept}
 use Rattle.tva_flow.proofs.table.Entries.push.Goals as goal
 
 pub returns : goal.returns
-returns c = rw c.push_reserved.ensures.items (ap (λ (v : Kept). kept v.slots (v.items ++ c.args.entry ∷ [])) c.self.view_is)
+returns c = rw c.push_reserved.ensures.items (ap (λ (v : Kept). kept v.slots v.key (v.items ++ c.args.entry ∷ [])) c.self.view_is)

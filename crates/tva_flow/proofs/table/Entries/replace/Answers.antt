@@ -1,6 +1,5 @@
-use Rattle.std.proofs.Common.{◌≡◌, ◌<◌, List, length, get_or, set, ap, sym, subst, arith}
-use Rattle.tva_flow.specs.declared.kept.Entry.{Entry}
-use Rattle.tva_flow.specs.Index.{Kept, kept, AreIndexed}
+use Rattle.std.proofs.Common.{◌<◌, length, set, ap, arith}
+use Rattle.tva_flow.specs.Index.{Kept, kept}
 use Rattle.tva_flow.proofs.Indexed.{indexed-replace}
 use Rattle.tva_flow.proofs.table.Entries.replace.Goals as goal
 
@@ -15,4 +14,4 @@ invariant_of-self c =
     (i.0, i.1, rw c.put-2.ensures (indexed-replace c.self.inside.slots c.self.inside.key es c.self.inside.places c.put.new.self c.self.inside.ends c.args.at c.args.entry i.2 l (rw c.bucket_of-bucket.ensures.value at c.put.ensures)))
 
 pub returns : goal.returns
-returns c = ap (λ (v : Kept). kept v.slots (set v.items c.args.at c.args.entry)) c.self.view_is
+returns c = ap (λ (v : Kept). kept v.slots v.key (set v.items c.args.at c.args.entry)) c.self.view_is

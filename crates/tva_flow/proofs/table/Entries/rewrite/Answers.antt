@@ -1,6 +1,5 @@
-use Rattle.std.proofs.Common.{◌≡◌, ◌<◌, List, length, get_or, set, ap, sym, subst, arith}
-use Rattle.tva_flow.specs.declared.kept.Entry.{Entry}
-use Rattle.tva_flow.specs.Index.{Kept, kept, AreIndexed}
+use Rattle.std.proofs.Common.{◌≡◌, ◌<◌, length, get_or, set, ap, subst, arith}
+use Rattle.tva_flow.specs.Index.{Kept, kept}
 use Rattle.tva_flow.proofs.Indexed.{indexed-rewrite, some_place}
 use Rattle.tva_flow.proofs.table.Entries.rewrite.Goals as goal
 
@@ -20,4 +19,4 @@ invariant_of-self c =
     (i.0, i.1, rw c.put.ensures (indexed-rewrite c.self.inside.slots c.self.inside.key es c.self.inside.places c.self.inside.ends c.args.at e.0 c.args.renewed i.2 l e.1 f))
 
 pub returns : goal.returns
-returns c = ap (λ (v : Kept). kept v.slots (set v.items c.args.at c.args.renewed)) c.self.view_is
+returns c = ap (λ (v : Kept). kept v.slots v.key (set v.items c.args.at c.args.renewed)) c.self.view_is

@@ -1,6 +1,8 @@
 use Rattle.std.proofs.Common.{◌+◌, ◌≤◌, Some, sym, ap, ◌∙◌, subst, arith}
-use Rattle.tva_hier.specs.Groups.{Hier}
+use Rattle.tva_index.specs.KeyRing.{ring}
+use Rattle.tva_hier.specs.Groups.{Group, Hier}
 use Rattle.tva_hier.specs.Places.{IsGroupPlace}
+use Rattle.tva_hier.proofs.GroupKeys.{keys-set}
 use Rattle.tva_hier.proofs.Offering.{added, at_kept, limits_at, within_group}
 use Rattle.tva_hier.proofs.hier_queues.HierQueues.offer_at.Goals as goal
 
@@ -32,6 +34,8 @@ invariant_of-self g c =
       k.4,
       omega (arith, c.self.invariant.3),
       c.self.invariant.4,
+      c.self.invariant.5 ∙ ap (ring i.limits.queues) (sym (keys-set i.waiting.items c.args.at c.index_mut.result.now c.offer.new.self c.index_mut.ensures.value
+          (ap (λ (z : Group g.row.T.Denot). z.key) c.offer.ensures.left))),
     )
 
 pub returns-in-NoQueue-clause-answer : goal.returns-in-NoQueue-clause-answer
@@ -65,6 +69,8 @@ invariant_of-self-in-NoQueue g c =
       k.4,
       omega (arith, c.self.invariant.3),
       c.self.invariant.4,
+      c.self.invariant.5 ∙ ap (ring i.limits.queues) (sym (keys-set i.waiting.items c.args.at c.index_mut.result.now c.offer.new.self c.index_mut.ensures.value
+          (ap (λ (z : Group g.row.T.Denot). z.key) c.offer.ensures.left))),
     )
 
 pub returns-in-QueueFull-clause-answer : goal.returns-in-QueueFull-clause-answer
@@ -98,6 +104,8 @@ invariant_of-self-in-QueueFull g c =
       k.4,
       omega (arith, c.self.invariant.3),
       c.self.invariant.4,
+      c.self.invariant.5 ∙ ap (ring i.limits.queues) (sym (keys-set i.waiting.items c.args.at c.index_mut.result.now c.offer.new.self c.index_mut.ensures.value
+          (ap (λ (z : Group g.row.T.Denot). z.key) c.offer.ensures.left))),
     )
 
 pub offer-requires : goal.offer-requires

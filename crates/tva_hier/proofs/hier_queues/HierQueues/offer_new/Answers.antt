@@ -1,10 +1,13 @@
-use Rattle.std.proofs.Common.{◌+◌, ◌≤◌, sym, ap, ◌∙◌, subst, arith}
+use Rattle.std.proofs.Common.{◌≡◌, ℕ, false, length, [], ◌∷◌, ◌++◌, ◌+◌, ◌≤◌, sym, ap, ◌∙◌, subst, arith}
+use Rattle.tva_index.specs.KeyRing.{Ring, ring, place_in}
 use Rattle.tva_drr.specs.Queues.{Fair}
 use Rattle.tva_drr.specs.Offer.{offer_answer, offer_leaves}
-use Rattle.tva_hier.specs.Groups.{Group, Hier, group, hier, inner_limits, all_group_bytes}
+use Rattle.tva_hier.specs.Groups.{Group, Hier, group, hier, inner_limits, has_group, all_group_bytes}
 use Rattle.tva_hier.specs.Hier.{IsHier}
 use Rattle.tva_hier.proofs.Offering.{new_kept, back_kept, never_new, spare_there, within_group}
+use Rattle.tva_hier.specs.Places.{outer_keys}
 use Rattle.tva_hier.proofs.GroupLists.{kept_taken}
+use Rattle.tva_hier.proofs.GroupKeys.{no_place, length-keys, keys-push}
 use Rattle.tva_hier.proofs.hier_queues.HierQueues.offer_new.Goals as goal
 
 pub returns-in-Queued-clause-answer : goal.returns-in-Queued-clause-answer
@@ -52,13 +55,17 @@ invariant_of-self-in-Queued g c =
     let k = new_kept g.T.Measured.measure i.limits i.inner i.bytes c.args.outer c.args.inner i.waiting.items i.spare.items
     c.pop.new.self.items slot c.offer.new.self x c.args.self.now c.self.view_is c.self.invariant.0 c.self.invariant.1 c.self.invariant.2
     c.requires.length c.requires.group c.requires.place c.requires.bytes c.in-Some.ensures.items
-    (c.offer.ensures.left ∙ (given ∙ deficit)) (sym answered ∙ (sym c.offer.ensures.answer ∙ c.in-Queued.is)) in (
+    (c.offer.ensures.left ∙ (given ∙ deficit)) (sym answered ∙ (sym c.offer.ensures.answer ∙ c.in-Queued.is)) in
+    let own : c.offer.new.self.key ≡ c.args.outer = ap (λ (z : Group g.row.T.Denot). z.key) (c.offer.ensures.left ∙ given) in (
       subst (λ z. IsHier g.T.Measured.measure (hier i.limits i.inner z)) (sym c.push_back_reserved.ensures.items) k.2,
       ap (λ z. i.bytes + z) c.length-bytes.ensures ∙ (sym k.3 ∙ ap (λ z. all_group_bytes g.T.Measured.measure z)
           (sym c.push_back_reserved.ensures.items)),
       rw c.push_back_reserved.ensures.items k.4,
       omega (arith, c.self.invariant.3),
       omega (arith, c.self.invariant.4),
+      c.push.ensures ∙ (ap (λ (r : Ring). ring r.places (r.keys ++ c.args.outer ∷ [])) c.self.invariant.5
+          ∙ ap (ring i.limits.queues) (ap (λ (z : ℕ). outer_keys i.waiting.items ++ z ∷ []) (sym own)
+          ∙ sym (ap outer_keys c.push_back_reserved.ensures.items ∙ keys-push i.waiting.items c.offer.new.self))),
     )
 
 pub returns-in-QueueFull-clause-answer : goal.returns-in-QueueFull-clause-answer
@@ -112,6 +119,7 @@ invariant_of-self-in-QueueFull g c =
         arith,
         c.self.invariant.4,
       ),
+      c.self.invariant.5,
     )
 
 pub returns-in-NoQueue-clause-answer : goal.returns-in-NoQueue-clause-answer
@@ -180,3 +188,17 @@ offer-requires g c =
         within_group g.T.Measured.measure i.limits (g.T.Measured.measure c.args.item) c.give.new.self.queues i.inner limits most,
       );
     }
+
+pub push-requires-clause-new : goal.push-requires-clause-new
+push-requires-clause-new g c =
+    let i = c.self.inside in
+    let none = subst (λ (v : Hier g.row.T.Denot). has_group c.args.outer v.groups ≡ false) (sym c.self.view_is) c.requires.group in
+    ap (λ (r : Ring). place_in c.args.outer r.keys) c.self.invariant.5 ∙ no_place c.args.outer i.waiting.items none
+
+pub push-requires-clause-room : goal.push-requires-clause-room
+push-requires-clause-room g c =
+    let i = c.self.inside in
+    let some = spare_there g.T.Measured.measure i.limits i.inner c.args.outer c.args.inner i.waiting.items i.spare.items c.args.self.now
+    c.self.view_is
+    c.self.invariant.0.inner.0 c.self.invariant.2 c.requires.group c.requires.place in
+    omega (arith, some, c.self.invariant.2.total, length-keys i.waiting.items, ap (λ (r : Ring). length r.keys) c.self.invariant.5, ap (λ (r : Ring). r.places) c.self.invariant.5)

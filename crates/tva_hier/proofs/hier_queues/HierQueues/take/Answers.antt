@@ -1,10 +1,13 @@
 use Rattle.std.proofs.Common.{◌≡◌, ◌-◌, slice_get, arith, ap, sym, ◌∙◌, subst}
 use Rattle.std.specs.Option.{ForSome}
+use Rattle.tva_index.specs.KeyRing.{Ring, ring}
 use Rattle.tva_hier.specs.Groups.{Group, Hier, hier, inner_limits, all_group_bytes}
 use Rattle.tva_hier.specs.Take.{front_settled, groups_taken}
 use Rattle.tva_hier.specs.Hier.{IsHier}
 use Rattle.tva_hier.specs.Order.{GoesFirstUnder, AreFront}
+use Rattle.tva_hier.specs.Places.{outer_keys}
 use Rattle.tva_hier.proofs.GroupLists.{kept-same}
+use Rattle.tva_hier.proofs.GroupKeys.{keys-popped, none_popped}
 use Rattle.tva_hier.proofs.Keeping.{all_groups_room, keeps-groups_taken, front_covers, popped_limits}
 use Rattle.tva_hier.proofs.Orders.{goes_first_under}
 use Rattle.tva_hier.proofs.hier_queues.HierQueues.take.Goals as goal
@@ -19,6 +22,13 @@ settle_groups-requires-clause-deficits g c =
     rw c.pop_front_item.ensures.left
     (all_groups_room g.T.Measured.measure i.limits i.inner i.waiting.items c.self.invariant.0.limits c.self.invariant.0.groups)
 
+pub invariant_of-self : goal.invariant_of-self
+invariant_of-self g c =
+    let i = c.self.inside in
+    let p = c.pop_front_item.ensures in
+    let same = p.left ∙ none_popped g.T.Measured.measure i.limits i.inner i.waiting.items c.self.invariant.0.groups.each (sym p.value ∙ c.in_err-item.was) in
+    rw same (c.self.invariant.0, c.self.invariant.1, c.self.invariant.2, omega (arith, c.self.invariant.3, p.same.1), c.self.invariant.4, c.self.invariant.5)
+
 pub invariant_of-self-2 : goal.invariant_of-self-2
 invariant_of-self-2 g c =
     let i = c.self.inside in
@@ -29,6 +39,7 @@ invariant_of-self-2 g c =
     c.settle_groups.ensures.left ∙ ap (front_settled g.T.Measured.measure i.limits.quantum) p.left in
     let kept = kept-same (inner_limits i.limits i.inner) i.limits.queues i.waiting.items i.spare.items c.pop_front_item.new.waiting.items
     p.same.0 c.self.invariant.2 in
+    let keys = ap (λ (r : Ring). r.keys) c.self.invariant.5 ∙ sym (ap outer_keys p.left ∙ keys-popped g.T.Measured.measure i.waiting.items) in
     let front : ForSome (slice_get c.pop_front_item.new.waiting.items 0)
     (λ (x : Group g.row.T.Denot). x.queues.limits ≡ inner_limits i.limits i.inner) =
     rw p.left (popped_limits g.T.Measured.measure i.limits i.inner i.waiting.items c.self.invariant.0.groups.each) in (
@@ -37,6 +48,7 @@ invariant_of-self-2 g c =
       c.settle_groups.ensures.kept (inner_limits i.limits i.inner) i.limits.queues front kept,
       omega (arith, c.self.invariant.3, p.same.1, c.settle_groups.ensures.same.0),
       omega (arith, c.self.invariant.4, c.settle_groups.ensures.same.1),
+      c.settle_groups.ensures.keys keys ∙ ap (λ (r : Ring). ring r.places (outer_keys c.settle_groups.new.waiting.items)) c.self.invariant.5,
     )
 
 pub returns-clause-left : goal.returns-clause-left

@@ -25,4 +25,5 @@ invariant_of-result g c =
       a,
       omega (arith, c.in_ok-waiting.ensures.exact),
       s.capacity,
+      c.in_ok-keys.ensures,
     )

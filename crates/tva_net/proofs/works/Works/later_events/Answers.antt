@@ -1,6 +1,6 @@
 use Rattle.std.proofs.Common.{rules, ◌≡◌, ◌<◌, List, [], length, arith}
 use Rattle.tva_base.specs.declared.event.Event.{Event}
-use Rattle.tva_net.specs.Nets.{told_by, work_of}
+use Rattle.tva_net.specs.Nets.{work_of}
 use Rattle.tva_net.proofs.Lists.{nothing_in}
 use Rattle.tva_net.proofs.Ends.{can_still, passes_none, passes_one, passes_to_none, passes_to_some, told_more, told_same}
 use Rattle.tva_net.proofs.works.Works.later_events.Goals as goal
@@ -10,7 +10,7 @@ loop-events-init g c = record { can = c.requires.works; noted = c.requires.noted
 
 pub returns-in_err-events-clause-kept : goal.returns-in_err-events-clause-kept
 returns-in_err-events-clause-kept g c =
-    told_more (told_by c.args.self.now.nodes.items) (told_by c.loop-events.self.nodes.items) (told_by c.work_alone.new.self.nodes.items)
+    told_more c.args.self.now.nodes.items c.loop-events.self.nodes.items c.work_alone.new.self.nodes.items
     c.loop-events.invariant.kept c.in_err-events.ensures.kept
 
 pub returns-then-not-is_empty-clause-works : goal.returns-then-not-is_empty-clause-works
@@ -22,7 +22,7 @@ returns-then-not-is_empty-clause-works g c =
 
 pub returns-then-not-is_empty-clause-kept : goal.returns-then-not-is_empty-clause-kept
 returns-then-not-is_empty-clause-kept g c =
-    told_more (told_by c.args.self.now.nodes.items) (told_by c.loop-events.self.nodes.items) (told_by c.work_alone.new.self.nodes.items)
+    told_more c.args.self.now.nodes.items c.loop-events.self.nodes.items c.work_alone.new.self.nodes.items
     c.loop-events.invariant.kept c.in_ok-events.ensures.kept
 
 pub loop-events-preserved : goal.loop-events-preserved
@@ -35,7 +35,7 @@ loop-events-preserved g c =
       noted = c.in_ok-events.ensures.noted;
       can = can_still (work_of c.loop-events.self) (work_of c.work_alone.new.self) list c.loop-events.invariant.can on;
       passes = passes_one (work_of c.args.self.now) (work_of c.loop-events.self) (work_of c.work_alone.new.self) list empty c.loop-events.invariant.passes on;
-      kept = told_more (told_by c.args.self.now.nodes.items) (told_by c.loop-events.self.nodes.items) (told_by c.work_alone.new.self.nodes.items)
+      kept = told_more c.args.self.now.nodes.items c.loop-events.self.nodes.items c.work_alone.new.self.nodes.items
           c.loop-events.invariant.kept c.in_ok-events.ensures.kept;
     }
 

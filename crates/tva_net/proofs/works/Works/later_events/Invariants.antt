@@ -1,7 +1,6 @@
 use Rattle.std.proofs.Common.{◌+◌, ◌-◌}
 use Rattle.std.specs.List.{AllZip}
-use Rattle.tva_node.specs.States.{BeginsWith}
-use Rattle.tva_net.specs.Nets.{told_by, work_of}
+use Rattle.tva_net.specs.Nets.{GrowsFrom, work_of}
 use Rattle.tva_net.specs.Times.{AreNoted}
 use Rattle.tva_net.specs.Work.{AddsNothing, CanWork, OfEachRun}
 use Rattle.tva_net.proofs.works.Works.later_events.Given as goal
@@ -11,7 +10,7 @@ invariant-loop-events g l = record {
   can : CanWork (work_of l.self);
   noted : AreNoted l.self.times l.self.nodes.items;
   passes : OfEachRun (λ config rows windows told. AddsNothing config rows windows told (work_of l.self)) (work_of l.initial.self);
-  kept : AllZip BeginsWith (told_by l.initial.self.nodes.items) (told_by l.self.nodes.items);
+  kept : AllZip GrowsFrom l.initial.self.nodes.items l.self.nodes.items;
 }
 
 abbrev pub decreases-loop-events : goal.decreases-loop-events

@@ -1,6 +1,6 @@
 use Rattle.std.proofs.Common.{rules, ◌≡◌, ◌<◌, List, length, arith}
 use Rattle.tva_base.specs.declared.event.Event.{Event}
-use Rattle.tva_net.specs.Nets.{told_by, work_of}
+use Rattle.tva_net.specs.Nets.{work_of}
 use Rattle.tva_net.proofs.Lists.{nothing_in}
 use Rattle.tva_net.proofs.Ends.{can_still, first_then, passes_none, passes_one, passes_to_none, passes_to_some, told_more}
 use Rattle.tva_net.proofs.works.Works.next_events.Goals as goal
@@ -21,7 +21,7 @@ returns-then-is_empty-clause-works g c =
 
 pub returns-then-is_empty-clause-kept : goal.returns-then-is_empty-clause-kept
 returns-then-is_empty-clause-kept g c =
-    told_more (told_by c.args.self.now.nodes.items) (told_by c.work_next-first.new.self.nodes.items) (told_by c.later_events.new.self.nodes.items)
+    told_more c.args.self.now.nodes.items c.work_next-first.new.self.nodes.items c.later_events.new.self.nodes.items
     c.work_next-first.ensures.kept c.later_events.ensures.kept
 
 pub returns-else-is_empty-clause-works : goal.returns-else-is_empty-clause-works

@@ -36,6 +36,7 @@ returns-then-free-now-clause-keeps c =
       horizon = refl;
       inbox = refl;
       events = ([], sym (append-nil p.log.items));
+      sendings = ([], sym (append-nil p.outbox.items));
     }
 
 pub decide-requires-clause-out : goal.decide-requires-clause-out
@@ -90,6 +91,7 @@ returns-in-Start-clause-keeps c =
       horizon = same.4;
       inbox = ap (λ v. v.items) same.1;
       events = c.note_start.ensures.more;
+      sendings = c.note_start.ensures.sent;
     }
 
 pub returns-in-WaitUntil-clause-stands : goal.returns-in-WaitUntil-clause-stands
@@ -117,6 +119,7 @@ returns-in-WaitUntil-clause-keeps c =
       horizon = refl;
       inbox = refl;
       events = ([], sym (append-nil p.log.items));
+      sendings = ([], sym (append-nil p.outbox.items));
     }
 
 pub returns-in-Idle-clause-stands : goal.returns-in-Idle-clause-stands
@@ -144,4 +147,5 @@ returns-in-Idle-clause-keeps c =
       horizon = refl;
       inbox = refl;
       events = ([], sym (append-nil p.log.items));
+      sendings = ([], sym (append-nil p.outbox.items));
     }

@@ -10,6 +10,7 @@ use Rattle.tva_node.specs.Work.{TakesAt, is_due, queued_on}
 use Rattle.tva_node.proofs.Left.{slice_within, some_due}
 use Rattle.tva_node.proofs.Waits.{asked_pairs}
 use Rattle.tva_node.proofs.Works.{input_next, read_next, took_one}
+use Rattle.tva_node.proofs.Zips.{begins_same}
 use Rattle.tva_node.proofs.parts.Parts.take_one.Goals as goal
 
 pub returns-in_default-clause-fewer : goal.returns-in_default-clause-fewer
@@ -75,4 +76,5 @@ returns-clause-keeps c =
       horizon = refl;
       inbox = refl;
       events = (record { time = record { 0 = c.args.now }; node = p.number; happened = happened } ∷ [], c.in_ok-push.ensures.items);
+      sendings = begins_same p.outbox.items;
     }
