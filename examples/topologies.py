@@ -33,6 +33,11 @@ def value(of):
     return str(of)
 
 
+def inline(keys):
+    """A table of these keys within a line."""
+    return "{" + ",".join(f"{key}={value(of)}" for key, of in keys.items()) + "}"
+
+
 def master_of(name):
     """A router's master, which comes of its name."""
     return hashlib.sha256(f"master of {name}".encode()).hexdigest()
@@ -73,7 +78,7 @@ class Network:
         self.link(other, one, **both)
 
     def route(self, router, prefix, via):
-        self._add("route", dict(router=router, prefix=prefix, via=via))
+        return self._add("route", dict(router=router, prefix=prefix, via=via))
 
     def find_routes(self):
         """At each router a route to each host that can be reached from it, by fewest links; of ways alike that by the
@@ -105,8 +110,7 @@ class Network:
         """The same configuration in few bytes, without comments: an array a line."""
         lines = [f"{key}={value(of)}" for key, of in self.keys.items()]
         for table in ("router", "host", "link", "route"):
-            told = [",".join(f"{key}={value(of)}" for key, of in keys.items()) for _, kind, keys in self.tables if kind == table]
-            lines.append(f"{table}=[" + ",".join("{" + it + "}" for it in told) + "]")
+            lines.append(f"{table}=[" + ",".join(inline(keys) for _, kind, keys in self.tables if kind == table) + "]")
         return "\n".join(lines) + "\n"
 
 
