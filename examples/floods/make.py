@@ -300,7 +300,7 @@ def series_of(it):
     if it.forge:
         name += f"-{it.forge}" + (f"-{it.forge_every}" if it.forge_every != FORGED[it.forge] else "")
     if it.attackers != ATTACKERS:
-        name += f"-{it.attackers}-attackers"
+        name += f"-{it.attackers}-attacker" + ("s" if it.attackers > 1 else "")
     if it.colluders > 1:
         name += f"-{it.colluders}-colluders"
     if it.topology != "dumbbell":
@@ -318,7 +318,7 @@ def said_of(it):
     names = {"legacy": "legacy packets", "requests": "requests", "authorised": "authorised packets"}
     said = " and ".join(names[kind] for kind in it.kinds) if it.flood != "forged" else f"forged {it.forge}"
     if it.attackers != ATTACKERS:
-        said += f", {it.attackers} attackers"
+        said += f", {it.attackers} attacker" + ("s" if it.attackers > 1 else "")
     if "authorised" in it.kinds and it.colluders > 1:
         said += f", {it.colluders} colluders"
     if it.topology != "dumbbell":
