@@ -17,6 +17,7 @@ pub guard-later : (plan : RouterPlan) (last now : ℕ) (g : Guard) → last ≤ 
 guard-later plan last now g le k = record {
   master = k.master;
   clock = k.clock;
+  key = k.key;
   slots = k.slots;
   offset = k.offset;
   minted = omega (arith, le, k.minted);

@@ -1,3 +1,4 @@
+pub mod Key
 pub mod Routes
 pub mod Judging
 pub mod Handling

@@ -10,6 +10,7 @@ use Rattle.tva_flow.specs.Stands as flows
 use Rattle.tva_port.specs.declared.decision.Decision.{Decision}
 use Rattle.tva_port.specs.Decide.{started_by}
 use Rattle.tva_port.specs.Stands as port
+use Rattle.tva_router.specs.Key.{flow_key}
 use Rattle.tva_router.specs.Handling.{Logs}
 
 -- a router: the plan by which it was built and the plan in force, its last time in nanoseconds, its minter,
@@ -26,13 +27,14 @@ abbrev pub router_data : (built plan : RouterPlan) → ℕ → MinterState → f
 router_data built plan last minter cache ports =
     record { built = built; plan = plan; last = last; minter = minter; cache = cache; ports = ports }
 
--- the plan of the router is valid and is the one in force, the minter and the cache are that plan's, and neither
--- the cache nor a port was called later than the router
+-- the plan of the router is valid and is the one in force, the minter and the cache with its key are that plan's, and
+-- neither the cache nor a port was called later than the router
 pub record IsByPlan (v : RouterData) : Type 0 where
   pub valid : IsRouterPlan v.built
   pub in_force : v.plan ≡ v.built
   pub master : v.minter.master ≡ v.plan.master
   pub clock : v.minter.clock_offset ≡ v.plan.clock_offset
+  pub key : v.cache.key ≡ flow_key v.plan.master
   pub slots : v.cache.slots ≡ v.plan.slots
   pub offset : v.cache.offset ≡ v.plan.clock_offset
   pub charged : v.cache.last ≤ v.last

@@ -16,6 +16,7 @@ use Rattle.tva_router.specs.declared.judged.Judged.{Judged}
 use Rattle.tva_router.specs.declared.judged.Judgement.{Judgement}
 use Rattle.tva_router.specs.declared.guard.Guard.{Guard}
 use Rattle.tva_router.specs.declared.finding.Ways.{Ways}
+use Rattle.tva_router.specs.Key.{flow_key}
 use Rattle.tva_router.specs.Tables.{ArePlaces, AreWays}
 use Rattle.tva_router.specs.Judging.{Answer, judged}
 use Rattle.tva_router.specs.Handling.{charged_by}
@@ -25,6 +26,7 @@ use Rattle.tva_router.specs.Handling.{charged_by}
 pub record IsGuard (plan : RouterPlan) (last : ℕ) (g : Guard) : Type 0 where
   pub master : g.minter.master ≡ plan.master
   pub clock : g.minter.clock_offset ≡ plan.clock_offset
+  pub key : g.cache.key ≡ flow_key plan.master
   pub slots : g.cache.slots ≡ plan.slots
   pub offset : g.cache.offset ≡ plan.clock_offset
   pub minted : g.minter.last ≤ last

@@ -14,6 +14,7 @@ mod routes;
 mod sending;
 
 pub use judged::{Arrival, Judged};
+pub use key::flow_key;
 pub use laws::{
     charges_keep_slots, fates_tell_entries, links_keep_limits, marks_have_causes,
     verdicts_need_no_logs, verdicts_need_no_routes, ways_lead,

@@ -19,7 +19,7 @@ use tva_base::{
 };
 use tva_caps::precap_at;
 use tva_port::Decision;
-use tva_router::Router;
+use tva_router::{Router, flow_key};
 use tva_shim::{Carried, Entries, Entry, HOPS_MAX, Kind, Packet, ReturnInfo, Shim, length};
 
 fn crosses<T: Send + Sync>() {}
@@ -28,6 +28,15 @@ fn crosses<T: Send + Sync>() {}
 #[test]
 fn routers_cross_threads() {
     crosses::<Router>();
+}
+
+/// The first 24 bytes of the digest of the master and the word `flows`, by another program.
+#[test]
+fn the_key_of_flows(rt: HostRuntime) {
+    let key = flow_key(&MASTER);
+    assert_eq!(rt; key.src, 0x61e2_aa0d_1f98_5561);
+    assert_eq!(rt; key.dst, 0x109c_240a_e2a9_d836);
+    assert_eq!(rt; key.plus, 0x6f8c_e076_58f1_61ca);
 }
 
 fn class_word(class: Class) -> &'static str {

@@ -5,7 +5,6 @@ mod plain;
 mod random;
 mod times;
 
-use tva_sender::{Held, Sender, Shape};
 use budgets::BUDGETS;
 use greater::GREATER;
 use random::{RUNS, compare};
@@ -14,6 +13,7 @@ use std::process::Abort;
 use std::test::Fail;
 use times::TIMES;
 use tva_base::{Address, Caps, Rights, Time};
+use tva_sender::{Held, Sender, Shape};
 
 const ONE: u32 = 0x0a00_0101;
 

@@ -1,11 +1,11 @@
-use tva_shim::{
-    Carried, Entries, Entry, Kind, Packet, PathFull, ReturnInfo, Shim, Shown, class_of, decode,
-    encode, inner_queue_key, length, queue_key, return_shown,
-};
 use arrayvec::ArrayVec;
 use std::alloc::{AllocError, Global};
 use std::test::Fail;
 use tva_base::{Address, Caps, Class, Flow, PacketId, Rights};
+use tva_shim::{
+    Carried, Entries, Entry, Kind, Packet, PathFull, ReturnInfo, Shim, Shown, class_of, decode,
+    encode, inner_queue_key, length, queue_key, return_shown,
+};
 
 const ID: PacketId = PacketId {
     node: 0,

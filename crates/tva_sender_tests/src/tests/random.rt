@@ -3,10 +3,10 @@ ghost use Rattle.std.specs.Prelude.{◌≤◌, ◌<◌};
 
 use super::caps_of;
 use super::plain::{Contact, Rules, Shown, length_of, of_peer, shape_of, takes};
-use tva_sender::{Sender, Shape};
 use std::alloc::{AllocError, Global};
 use std::process::Abort;
 use tva_base::{Address, Caps, Rights, Time};
+use tva_sender::{Sender, Shape};
 
 /// The rules of a sender, and the seed of the calls on it.
 pub struct Run {

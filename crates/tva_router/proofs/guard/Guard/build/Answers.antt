@@ -1,4 +1,4 @@
-use Rattle.std.proofs.Common.{ℕ, List, ap, subst, arith}
+use Rattle.std.proofs.Common.{ℕ, List, ap, ◌∙◌, subst, arith}
 use Rattle.tva_caps.specs.Minting.{MinterState}
 use Rattle.tva_flow.specs.Stands.{Cache}
 use Rattle.tva_router.specs.Tables.{ArePlaces}
@@ -8,6 +8,7 @@ pub returns-clause-guard : goal.returns-clause-guard
 returns-clause-guard c = record {
   master = ap (λ (z : MinterState). z.master) c.new.ensures;
   clock = ap (λ (z : MinterState). z.clock_offset) c.new.ensures;
+  key = ap (λ (z : Cache). z.key) c.in_ok-with_slots_keyed.ensures.value ∙ c.flow_key-key.ensures;
   slots = ap (λ (z : Cache). z.slots) c.in_ok-with_slots_keyed.ensures.value;
   offset = ap (λ (z : Cache). z.offset) c.in_ok-with_slots_keyed.ensures.value;
   minted = omega (arith, ap (λ (z : MinterState). z.last) c.new.ensures);
