@@ -19,6 +19,10 @@ import collections
 import hashlib
 
 EVENTS_MOST = 4_000_000
+# the keys of a link that have a default
+LINK_KEYS = ["tag", "share", "burst", "quantum", "request_queues", "regular_queues", "request_ring", "regular_ring"]
+LINK_KEYS += ["request_queue_bytes", "regular_queue_bytes", "request_bytes", "regular_bytes", "legacy_ring", "legacy_bytes"]
+LINK_KEYS += ["request_levels", "request_inner"]
 
 # Where the hosts of a flood belong, each a list of routers that are taken in turn, and the links that are scarce.
 Layout = collections.namedtuple("Layout", "senders attackers servers colluders bottlenecks")

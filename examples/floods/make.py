@@ -2,7 +2,7 @@
 """Writes the configuration and the trace of a flood.
 
     make.py FLOOD RATE FOLDER [--without] [--seed N] [--attackers K] [--colluders K] [--mix KINDS] [--forge WHAT]
-            [--forge-every MS] [--topology NAME] [--shared-tag] [--one-tag] [--levels L]
+            [--forge-every MS] [--topology NAME] [--shared-tag] [--one-tag] [--levels L] [--set KEY=NUMBER]..
 
 FLOOD is one of those below, and RATE says how many times the bottleneck's rate the attackers send, all together: 0
 is no flood. The files are FOLDER/NAME.toml, FOLDER/NAME.csv and FOLDER/NAME.json, which says what was made; NAME is
@@ -29,7 +29,8 @@ much together as ten would. With --colluders there are K colluding destinations 
 sends in turn. With --shared-tag the first honest sender's link into the network has
 the tag of the first attacker's. With --one-tag all senders are behind one tagged link, and the bottleneck
 comes after it. With --levels 2 the bottleneck queues its requests by two tags, the last and the one before.
---topology is dumbbell, parking-lot (three bottlenecks in a row) or tree (nine routers with senders below a root).
+--topology is dumbbell, parking-lot (three bottlenecks in a row) or tree (nine routers with senders below a root). Each
+--set gives the bottlenecks another number for a key of links, as request_queues=128.
 """
 import argparse
 import heapq
@@ -104,6 +105,7 @@ def build(it):
     """The network of a flood, and where its hosts and bottlenecks are."""
     network = topologies.Network(HORIZON)
     scarce = dict(ns_per_byte=BOTTLENECK, delay_ns=10 * MILLISECOND, legacy_ring=64, **(TWO_LEVELS if it.levels == 2 else {}))
+    scarce.update(it.set)
     back = dict(ns_per_byte=BOTTLENECK, delay_ns=10 * MILLISECOND)
     wide = dict(ns_per_byte=80, delay_ns=MILLISECOND)
     more = dict(border=True) if it.one_tag else {}
@@ -248,6 +250,13 @@ def kinds(word):
     return told
 
 
+def setting(word):
+    key, _, number = word.partition("=")
+    if key not in topologies.LINK_KEYS or not (number.isascii() and number.isdigit()):
+        raise argparse.ArgumentTypeError(f"{word!r} sets no number of a link: KEY=NUMBER, where KEY is one of {', '.join(topologies.LINK_KEYS)}")
+    return key, int(number)
+
+
 def reader(program):
     """A reader of the words of this script."""
     words = Words(prog=program, description=__doc__, formatter_class=argparse.RawDescriptionHelpFormatter, allow_abbrev=False)
@@ -265,6 +274,7 @@ def reader(program):
     words.add_argument("--shared-tag", action="store_true")
     words.add_argument("--one-tag", action="store_true")
     words.add_argument("--levels", type=int, choices=[1, 2], default=1)
+    words.add_argument("--set", type=setting, action="append", default=[], metavar="KEY=NUMBER")
     return words
 
 
@@ -306,6 +316,7 @@ def series_of(it):
     if it.topology != "dumbbell":
         name += f"-{it.topology}"
     name += ("-shared-tag" if it.shared_tag else "") + ("-one-tag" if it.one_tag else "") + ("-two-levels" if it.levels == 2 else "")
+    name += "".join(f"-{key}-{number}" for key, number in it.set)
     return f"{name}-{'without' if it.without else 'with'}"
 
 
@@ -323,7 +334,8 @@ def said_of(it):
         said += f", {it.colluders} colluders"
     if it.topology != "dumbbell":
         said += f", {it.topology.replace('-', ' ')}"
-    return said + (", shared tag" if it.shared_tag else "") + (", one tag" if it.one_tag else "") + (", two levels" if it.levels == 2 else "")
+    said += (", shared tag" if it.shared_tag else "") + (", one tag" if it.one_tag else "") + (", two levels" if it.levels == 2 else "")
+    return said + "".join(f", {key} {number}" for key, number in it.set)
 
 
 def made(it, network, layout):
