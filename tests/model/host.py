@@ -39,12 +39,6 @@ def asks(entries):
     return [entry for entry in entries if is_prepared(entry, "request", "renewal")]
 
 
-def last(entries, kind):
-    """The entries up to the last of a kind, and those behind it, or None."""
-    places = [place for place, entry in enumerate(entries) if isinstance(entry, kind)]
-    return (entries[: places[-1] + 1], entries[places[-1] + 1 :]) if places else None
-
-
 def is_answered(entries):
     """Whether a grant was taken after the last ask."""
     places = [place for place, entry in enumerate(entries) if is_prepared(entry, "request", "renewal")]
@@ -68,10 +62,9 @@ class Held(NamedTuple):
 
 def held(entries):
     """The last grant that was taken, unless two notices came since."""
-    if last(entries, Taken) is None:
-        return None
-    before, since = last(entries, Taken)
-    if is_given_up(since):
+    places = [place for place, entry in enumerate(entries) if isinstance(entry, Taken)]
+    before, since = (entries[: places[-1] + 1], entries[places[-1] + 1 :]) if places else ([], [])
+    if not before or is_given_up(since):
         return None
     rights, capabilities = before[-1]
     shown = [entry for entry in since if is_prepared(entry, "renewal", "list", "nonce")]
