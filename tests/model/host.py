@@ -4,7 +4,6 @@ from typing import NamedTuple
 from . import hashes, router, shims
 from .shims import Back, Rights, Shim, length
 
-HALVES = 2
 NONCES = 1 << 48
 
 
@@ -103,8 +102,8 @@ def fits(plan, grant, now, size):
 
 def is_half_gone(grant, now, size):
     """Whether more than half of the units are used with this, or more than half of the seconds are over."""
-    units_gone = HALVES * (grant.used + size) > router.UNIT * grant.rights.n
-    return units_gone or HALVES * (now - grant.asked) > grant.rights.t * hashes.SECOND
+    units_gone = 2 * (grant.used + size) > router.UNIT * grant.rights.n
+    return units_gone or 2 * (now - grant.asked) > grant.rights.t * hashes.SECOND
 
 
 def shape(plan, entries, now, body):
