@@ -52,7 +52,7 @@ def as_before(text):
             token = re.sub(r"\\(x[0-9A-Fa-f]{2}|[^x])", old_escape, token, flags=re.DOTALL)
         elif match["mark"]:
             token = old_mark(match, was_inside, opened[-1:] == ["{"], written[-1][-1:])
-        elif match["other"]:
+        elif match["other"] and (":" in token or "0000-" in token):
             token = old_times(token)
         dots = 0 if bracket or match["end"] else dots + (match["other"] or "").count(".")
         if len(opened) > DEEP_MOST or dots >= DEEP_MOST:
