@@ -216,7 +216,8 @@ class Raw:
 
 
 def inline(rng, table):
-    return "{ " + ", ".join(f"{key} = {value(rng, it)}" for key, it in table.items()) + " }"
+    parted, ended = rng.choice([(", ", " }")] * 4 + [(",\n    ", "\n  }"), (", # so\n", ", }"), (" ,", "# end\n}")])
+    return "{ " + parted.join(f"{key} = {value(rng, it)}" for key, it in table.items()) + ended
 
 
 def text_of(rng, network):

@@ -261,8 +261,8 @@ def _(plan, grant, now, size):
 
 @reading("half", "a renewal is due where just half of the units are used", host, "is_half_gone")
 def _(grant, now, size):
-    units_gone = host.HALVES * (grant.used + size) >= router.UNIT * grant.rights.n
-    return units_gone or host.HALVES * (now - grant.asked) > grant.rights.t * hashes.SECOND
+    units_gone = 2 * (grant.used + size) >= router.UNIT * grant.rights.n
+    return units_gone or 2 * (now - grant.asked) > grant.rights.t * hashes.SECOND
 
 
 @reading("nonces", "a host's nonces count only the packets that show one", Host, "offered")

@@ -6,7 +6,7 @@ what happened and sums over them, and takes one time after another; so it is slo
 - texts: numbers, addresses and digits
 - shims: what is sent, its bytes and its words
 - hashes: secrets, pre-capabilities, capabilities, and their check
-- configuration, trace: the readers, with the first fault
+- toml, configuration, trace: the readers, with the first fault
 - router: charges, verdicts, and what becomes of an arrival
 - link: fair queues, request credit, and what a link starts next
 - host: senders, policies and receipts

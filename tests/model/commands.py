@@ -69,12 +69,8 @@ def replay_of(config, rows):
         if len(events) + len(window) > most:
             return Answer(EVENT_LIMIT, written, f"more than {most} events", running)
         events += window
-        written += (lines(config, window),) if window else ()
+        written += ("".join(report.line(config, it) for it in window).encode(),) if window else ()
     return Answer(DONE, written + (report.total(events).encode(),), "", running)
-
-
-def lines(config, events):
-    return "".join(report.line(config, happened) for happened in events).encode()
 
 
 def check(name):

@@ -1,13 +1,11 @@
 """Reads a configuration: what it lays down, or its first fault."""
-import tomllib
 from types import SimpleNamespace
 
-from . import shims, texts
+from . import shims, texts, toml
 
 REQUIRED = object()
 NODES_MOST, LINKS_MOST, ROUTES_MOST = 1_024, 4_096, 65_536
 SLOTS_MOST = PLACES_MOST = 1_000_000
-INTEGERS = range(-(1 << 63), 1 << 63)
 SECOND = 1_000_000_000
 
 
@@ -140,23 +138,12 @@ def read_table(told, keys, table, entry):
 # ## the text
 
 
-def integers_in(value):
-    if isinstance(value, dict):
-        value = list(value.values())
-    if isinstance(value, list):
-        return [it for part in value for it in integers_in(part)]
-    return [value] if type(value) is int else []
-
-
 def parsed(data):
     """The table of a text."""
     try:
-        told = tomllib.loads(data.decode().removeprefix("\ufeff"))
+        return toml.read(data.decode().removeprefix("\ufeff"))
     except (ValueError, RecursionError):
         raise Fault("syntax", "top", 0, "-") from None
-    if any(it not in INTEGERS for it in integers_in(told)):
-        raise Fault("syntax", "top", 0, "-")
-    return told
 
 
 def read(data):

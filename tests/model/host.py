@@ -4,7 +4,6 @@ from typing import NamedTuple
 from . import hashes, router, shims
 from .shims import Back, Rights, Shim, length
 
-HALVES = 2
 NONCES = 1 << 48
 
 
@@ -39,12 +38,6 @@ def asks(entries):
     return [entry for entry in entries if is_prepared(entry, "request", "renewal")]
 
 
-def last(entries, kind):
-    """The entries up to the last of a kind, and those behind it, or None."""
-    places = [place for place, entry in enumerate(entries) if isinstance(entry, kind)]
-    return (entries[: places[-1] + 1], entries[places[-1] + 1 :]) if places else None
-
-
 def is_answered(entries):
     """Whether a grant was taken after the last ask."""
     places = [place for place, entry in enumerate(entries) if is_prepared(entry, "request", "renewal")]
@@ -68,10 +61,9 @@ class Held(NamedTuple):
 
 def held(entries):
     """The last grant that was taken, unless two notices came since."""
-    if last(entries, Taken) is None:
-        return None
-    before, since = last(entries, Taken)
-    if is_given_up(since):
+    places = [place for place, entry in enumerate(entries) if isinstance(entry, Taken)]
+    before, since = (entries[: places[-1] + 1], entries[places[-1] + 1 :]) if places else ([], [])
+    if not before or is_given_up(since):
         return None
     rights, capabilities = before[-1]
     shown = [entry for entry in since if is_prepared(entry, "renewal", "list", "nonce")]
@@ -110,8 +102,8 @@ def fits(plan, grant, now, size):
 
 def is_half_gone(grant, now, size):
     """Whether more than half of the units are used with this, or more than half of the seconds are over."""
-    units_gone = HALVES * (grant.used + size) > router.UNIT * grant.rights.n
-    return units_gone or HALVES * (now - grant.asked) > grant.rights.t * hashes.SECOND
+    units_gone = 2 * (grant.used + size) > router.UNIT * grant.rights.n
+    return units_gone or 2 * (now - grant.asked) > grant.rights.t * hashes.SECOND
 
 
 def shape(plan, entries, now, body):

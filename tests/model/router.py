@@ -167,11 +167,7 @@ def passed(plan, now, packet):
 def way(plan, destination):
     """The number of the next node, by the longest prefix that holds the destination, or None."""
     holding = [route for route in plan.routes if holds(route.prefix, destination)]
-    return max(holding, key=prefix_bits).target if holding else None
-
-
-def prefix_bits(route):
-    return route.prefix[1]
+    return max(holding, key=lambda route: route.prefix[1]).target if holding else None
 
 
 def holds(prefix, destination):

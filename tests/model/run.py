@@ -162,10 +162,10 @@ class Run:
 
     def work(self, now):
         """What happens at the next time: at each node first what reaches it, then what its links start, by number."""
-        happened = []
+        reached, happened = self.reached(now), []
         for node in self.nodes:
-            reaching = self.reaching(now, node.number)
-            if reaching or any(link.decides == now for link in node.links.values()):
+            reaching = reached.get(node.number, [])
+            if reaching or now in [link.decides for link in node.links.values()]:
                 happened += self.work_node(now, node, reaching)
         self.happened += happened
         return happened
@@ -180,12 +180,13 @@ class Run:
                     happened.append(self.send(now, node, number, *started))
         return happened
 
-    def reaching(self, now, number):
-        """Takes from the queue what reaches a node now."""
-        taken = []
-        while self.queue and self.queue[0][:2] == (now, number):
-            taken.append(heapq.heappop(self.queue)[-1])
-        return taken
+    def reached(self, now):
+        """Takes from the queue what reaches the nodes now, by their numbers."""
+        reached = {}
+        while self.queue and self.queue[0][0] == now:
+            reaching = heapq.heappop(self.queue)[-1]
+            reached.setdefault(reaching.node, []).append(reaching)
+        return reached
 
     def send(self, now, node, number, kind, packet):
         """A start on a link. The packet reaches the other end the link's delay after its end."""
@@ -209,8 +210,10 @@ def window_length(config):
 
 def windows(run):
     """What happens, window by window. A window begins at the next time that there is past the one before."""
-    while (begin := run.next_time()) is not None:
-        end, happened = begin + window_length(run.config), []
-        while (now := run.next_time()) is not None and now < end:
+    now = run.next_time()
+    while now is not None:
+        end, happened = now + window_length(run.config), []
+        while now is not None and now < end:
             happened += run.work(now)
+            now = run.next_time()
         yield happened

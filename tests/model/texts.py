@@ -1,9 +1,12 @@
 """Numbers, addresses and digits as they stand in texts. Each reader takes bytes, and gives None where they aren't
 such a text."""
 
+import re
+
 LETTERS = b"ABCDEFGHIJKLMNOPQRSTUVWXYZabcdefghijklmnopqrstuvwxyz"
 DIGITS = b"0123456789"
 HEXADECIMAL = b"0123456789abcdefABCDEF"
+ADDRESS = re.compile(rb"\.".join([b"(0|[1-9][0-9]{0,2})"] * 4))
 
 
 def consists_of(text, characters):
@@ -16,11 +19,6 @@ def decimal(text, most):
         return None
     number = int(text)
     return number if number <= most else None
-
-
-def plain_decimal(text, most):
-    """A number without leading zeros."""
-    return None if len(text) > 1 and text.startswith(b"0") else decimal(text, most)
 
 
 def hexadecimal(text, size=None):
@@ -38,8 +36,9 @@ def name(text):
 
 def address(text):
     """A number of 32 bits."""
-    parts = [plain_decimal(part, 255) for part in text.split(b".")]
-    return int.from_bytes(bytes(parts), "big") if len(parts) == 4 and None not in parts else None
+    found = ADDRESS.fullmatch(text)
+    parts = [int(part) for part in found.groups()] if found else [256]
+    return int.from_bytes(bytes(parts), "big") if max(parts) <= 255 else None
 
 
 def front(number, bits):
@@ -49,8 +48,6 @@ def front(number, bits):
 
 def prefix(text):
     """The front of an address, and its number of bits."""
-    parts = text.split(b"/")
-    if len(parts) != 2:
-        return None
-    number, bits = address(parts[0]), plain_decimal(parts[1], 32)
+    told, _, bits = text.partition(b"/")
+    number, bits = address(told), decimal(bits, 32) if not bits.startswith(b"0") or bits == b"0" else None
     return None if number is None or bits is None else (front(number, bits), bits)

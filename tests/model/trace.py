@@ -37,8 +37,11 @@ SEND = "send"
 
 
 def records(data):
-    """The records of the text, as lists of fields."""
+    """The records of the text, as lists of fields. Without quotes they are lines, and their fields have no commas."""
     data = data.removeprefix(MARK)
+    if b'"' not in data:
+        yield from (line.split(b",") for line in re.split(rb"[\r\n]+", data) if line)
+        return
     place, fields = LINE_ENDS.match(data).end(), []
     while place < len(data) or fields:
         found = FIELD.match(data, place)
