@@ -1,4 +1,5 @@
 pub mod Addresses
+pub mod Changes
 pub mod Clock
 pub mod Credit
 pub mod Decimal

@@ -5,6 +5,7 @@ use Rattle.tva_base.specs.declared.limits.DrrLimits.{DrrLimits}
 use Rattle.tva_base.specs.declared.limits.LinkLimits.{LinkLimits}
 use Rattle.tva_base.specs.declared.plan.RouterPlan.{RouterPlan}
 use Rattle.tva_base.specs.declared.plan.HostPlan.{HostPlan}
+use Rattle.tva_base.specs.Changes.{of_prefix}
 use Rattle.tva_base.specs.Versions.{AreRights, IsVersion}
 
 -- limits under which there may be fair queues
@@ -50,6 +51,11 @@ AreDistinct (x ∷ xs) = (Contains xs x → ⊥) × AreDistinct xs
 abbrev pub links_of : {A : Type 0} → List (ℕ × A) → List ℕ
 links_of pairs = map (λ p. p.0) pairs
 
+-- the numbers rise
+abbrev pub AreRising : List ℕ → Type 0
+AreRising [] = Unit {0}
+AreRising (n ∷ ns) = All (λ m. n < m) ns × AreRising ns
+
 -- a plan that a router can be built from
 pub record IsRouterPlan (p : RouterPlan) : Type 0 where
   pub clock_offset : p.clock_offset ≤ 1000000000000000
@@ -60,6 +66,10 @@ pub record IsRouterPlan (p : RouterPlan) : Type 0 where
   pub links : All (λ r. Contains (links_of p.outgoing) r.link) p.routes
   pub prefixes : All (λ r. IsPrefix r.prefix) p.routes
   pub apart : AreDistinct (map (λ r. r.prefix) p.routes)
+  pub boots : AreRising (map (λ c. c.0.0) p.restarts)
+  pub moved : All (λ c. Contains (map (λ r. r.prefix) p.routes) c.1) p.reroutes
+  pub ways : All (λ c. Contains (links_of p.outgoing) c.2) p.reroutes
+  pub turns : (prefix : Prefix) → AreRising (map (λ c. c.0.0) (of_prefix prefix p.reroutes))
 
 -- a plan that a host can be built from
 pub record IsHostPlan (p : HostPlan) : Type 0 where

@@ -2,7 +2,7 @@
 use crate::addresses::{Address, Prefix};
 use crate::limits::LinkLimits;
 use crate::listed::Listed;
-use crate::packet::Rights;
+use crate::packet::{Rights, Time};
 use crate::texts::Name;
 
 /// One direction of a link, between two nodes. The delay is in nanoseconds; the tag is 0 where
@@ -25,7 +25,10 @@ pub struct Route {
 
 /// A router: its name, the master that its secrets come from, the nanoseconds that its clock is
 /// ahead, the places of its flow cache, the tag of packets from the trace, its incoming links
-/// with their tags, its outgoing links with their limits, and its routes.
+/// with their tags, its outgoing links with their limits, and its routes; the times at which it
+/// restarts, with the master that it then has, and those at which the route of a prefix takes another
+/// outgoing link. Times are in nanoseconds. Those of restarts rise, and so do those of the changes of
+/// one prefix.
 #[derive(Debug, Drop)]
 pub struct RouterPlan {
     pub name: Name,
@@ -36,6 +39,8 @@ pub struct RouterPlan {
     pub incoming: Listed<(u16, u16)>,
     pub outgoing: Listed<(u16, LinkLimits)>,
     pub routes: Listed<Route>,
+    pub restarts: Listed<(Time, [u8; 32])>,
+    pub reroutes: Listed<(Time, Prefix, u16)>,
 }
 
 /// Whom a host grants at all: nobody, whom it sent to before, or everybody.

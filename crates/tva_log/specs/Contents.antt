@@ -7,7 +7,9 @@ use Rattle.tva_base.specs.declared.plan.RouterPlan.{RouterPlan}
 use Rattle.tva_base.specs.declared.plan.HostPlan.{HostPlan}
 use Rattle.tva_base.specs.declared.event.ShapeKind.TheVariants as shape
 use Rattle.tva_shim.specs.Packets.{PacketData, class_by_shim, made_packet}
-use Rattle.tva_router.specs.Handling.{handle, sent}
+use Rattle.tva_base.specs.Changes.{in_force}
+use Rattle.tva_router.specs.Handling.{Handled, handle, sent}
+use Rattle.tva_router.specs.Boots.{charges_at}
 use Rattle.tva_host.specs.declared.made.Made.{Made}
 use Rattle.tva_host.specs.declared.made.Receipt.{Receipt}
 use Rattle.tva_base.specs.Ordinals.{ordinal_behind}
@@ -36,11 +38,15 @@ packet_of_row id (Inject flow payload carried) = Some (made_packet id flow paylo
 abbrev pub next_id : ℕ → List Entry → PacketId
 next_id number before = record { node = number; ordinal = ordinal_behind (rows_in before) }
 
--- what a router makes of a packet that comes in on a link, or from the trace
+-- what becomes of a packet that comes in on a link, or from the trace: by the plan in force, over the charges of the boot
+abbrev pub handled : RouterPlan → List Entry → ℕ → Option ℕ → PacketData → Handled
+handled plan before now from packet =
+    handle (in_force plan now) (charges_at plan now (charges before)) (port_logs before) now from packet
+
+-- what a router makes of it
 unfoldable pub arrived : RouterPlan → List Entry → ℕ → Option ℕ → PacketData → Content
 arrived plan before now from packet =
-    Arrived from packet (handle plan (charges before) (port_logs before) now from packet).fate
-    (handle plan (charges before) (port_logs before) now from packet).onward
+    Arrived from packet (handled plan before now from packet).fate (handled plan before now from packet).onward
 
 abbrev pub routed : ℕ → RouterPlan → List Entry → Input → Option Content
 routed number plan before (FromTrace row) =

@@ -88,6 +88,8 @@ walk_router = record {
   incoming = (0, 1) ∷ (3, 2) ∷ [];
   outgoing = (1, walk_limits) ∷ (2, walk_limits) ∷ [];
   routes = walk_route 167772160 1 ∷ walk_route 167772416 2 ∷ [];
+  restarts = [];
+  reroutes = [];
 }
 
 -- A is node 1, and B node 2

@@ -2,6 +2,8 @@
 use Rattle.std.specs.Prelude.{◌≡◌, ℕ, ◌<◌, ◌≤◌, List, [], ◌∷◌, ◌++◌, Some}
 use Rattle.tva_base.specs.declared.limits.LinkLimits.{LinkLimits}
 use Rattle.tva_base.specs.declared.plan.RouterPlan.{RouterPlan}
+use Rattle.tva_base.specs.Changes.{in_force}
+use Rattle.tva_router.specs.Boots.{charges_of_boot, charges_at}
 use Rattle.tva_flow.specs.Charges.{Charge, living_count}
 use Rattle.tva_flow.specs.Stands.{NoneLater, AreNext}
 use Rattle.tva_flow.specs.Budget.{AreTimely, IsWithinBudget}
@@ -38,21 +40,22 @@ pub record KeepsService (limits : LinkLimits) (until : ℕ) (log : List port.Ent
   pub regulars : (now : ℕ) → now < until → AreRegularsServed limits now log
   pub alike : ServesAlike limits log
 
--- a router handles each input
+-- a router handles each input by the plan in force, over the charges of the boot
 abbrev pub IsHandled : RouterPlan → List Entry → Input → Content → Type 0
 IsHandled plan before input (Arrived from packet fate onward) =
-    IsFate plan (charges before) (port_logs before) (input_time input) from packet fate onward
+    IsFate (in_force plan (input_time input)) (charges_at plan (input_time input) (charges before)) (port_logs before)
+    (input_time input) from packet fate onward
 IsHandled plan before input (Sent made outcome) = ⊥
 IsHandled plan before input (Received from packet receipt went) = ⊥
 
 -- a node's log up to a time: at each place an input became what the node makes of it over what stands before it, a
--- router's charges keep their grants, the log of each link out of the node keeps its service, and each arrival at a
+-- router's charges of each boot keep their grants, the log of each link out of the node keeps its service, and each arrival at a
 -- router has its fate
 pub record KeepsPromises (site : Site) (until : ℕ) (log : List Entry) : Type 0 where
   pub contents : (before : List Entry) (input : Input) (made : Content) (rest : List Entry)
       → log ≡ before ++ Took input made ∷ rest → content site before input ≡ Some made
   pub grants : (plan : RouterPlan) → site.plan ≡ Router plan → (before rest : List Entry) → log ≡ before ++ rest
-      → KeepsGrants plan (charges before)
+      → (boot : ℕ) → KeepsGrants plan (charges_of_boot plan boot (charges before))
   pub links : (link : ℕ) (limits : LinkLimits) → limits_out site link ≡ Some (link, limits)
       → KeepsService limits until (port_logs log link)
   pub fates : (plan : RouterPlan) → site.plan ≡ Router plan

@@ -2,6 +2,7 @@ pub mod Key
 pub mod Routes
 pub mod Judging
 pub mod Handling
+pub mod Boots
 pub mod Marks
 pub mod Stands
 pub mod Tables

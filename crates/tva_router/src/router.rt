@@ -225,6 +225,8 @@ fn copied(alloc: Global, plan: &RouterPlan) -> Result<RouterPlan, AllocError>
         incoming: Listed::new(plan.incoming.as_slice().to_vec(alloc)?),
         outgoing: Listed::new(plan.outgoing.as_slice().to_vec(alloc)?),
         routes: Listed::new(plan.routes.as_slice().to_vec(alloc)?),
+        restarts: Listed::new(plan.restarts.as_slice().to_vec(alloc)?),
+        reroutes: Listed::new(plan.reroutes.as_slice().to_vec(alloc)?),
     })
 }
 

@@ -31,6 +31,8 @@ fn router(alloc: Global) -> NodePlan {
         incoming: Listed::new(Vec::new(alloc)),
         outgoing: Listed::new(Vec::new(alloc)),
         routes: Listed::new(Vec::new(alloc)),
+        restarts: Listed::new(Vec::new(alloc)),
+        reroutes: Listed::new(Vec::new(alloc)),
     })
 }
 

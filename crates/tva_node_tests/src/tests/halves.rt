@@ -80,6 +80,8 @@ fn edge(alloc: Global, number: u16) -> Result<Node, AllocError>
         incoming: Listed::new(Vec::new(alloc)),
         outgoing: Listed::new(Vec::new(alloc)),
         routes: Listed::new(Vec::new(alloc)),
+        restarts: Listed::new(Vec::new(alloc)),
+        reroutes: Listed::new(Vec::new(alloc)),
     });
     Node::build(alloc, Time(1000), number, &plan, &[])
 }

@@ -131,6 +131,8 @@ pub fn router(alloc: Global) -> Result<Node, AllocError>
         incoming: Listed::new(vec![in alloc; (0, 1), (3, 2)]?),
         outgoing: Listed::new(vec![in alloc; (1, back.limits), (2, on.limits)]?),
         routes: Listed::new(vec![in alloc; route(0x0a00_0000, 1), route(0x0a00_0100, 2)]?),
+        restarts: Listed::new(Vec::new(alloc)),
+        reroutes: Listed::new(Vec::new(alloc)),
     });
     Node::build(alloc, HORIZON, 0, &plan, &[(1, back), (2, on)])
 }

@@ -115,6 +115,8 @@ pub fn edge(alloc: Global, line: &str) -> RouterPlan
         incoming: Listed::new(Vec::new(alloc)),
         outgoing: Listed::new(Vec::new(alloc)),
         routes: Listed::new(Vec::new(alloc)),
+        restarts: Listed::new(Vec::new(alloc)),
+        reroutes: Listed::new(Vec::new(alloc)),
     }
 }
 
