@@ -238,7 +238,7 @@ def config(rng, network):
     if chance(rng, 0.05):
         data = networks.text_of(rng, network).encode()
         return rng.choice([MARK + data, data + b"#\xff\n", b"\xff" + data, data.replace(b"\n", b"\r\n"), MARK * 2 + data])
-    fault = count if chance(rng, 0.05) else rng.choice(CONFIG_FAULTS)
+    fault = count if chance(rng, 0.07) else rng.choice(CONFIG_FAULTS)
     fault(rng, network)
     if chance(rng, 0.1):
         rng.choice([unknown, missing, value])(rng, network)

@@ -7,7 +7,8 @@ from .readings import also, reading, right_next, right_work
 
 # the functions of the model that readings call
 Run = run.Run
-right_charges_of_boot, right_in_force, right_take = router.charges_of_boot, router.in_force, run.RouterNode.take
+right_router, right_take = run.RouterNode.__init__, run.RouterNode.take
+right_charges_of_boot, right_in_force = router.charges_of_boot, router.in_force
 right_used, right_living, right_check = router.used, router.living, hashes.check
 right_row, right_item = trace.read_row, trace.read_item
 right_time, right_reroutes = configuration.check_time, configuration.check_reroutes
@@ -91,6 +92,37 @@ reading("restart-slots", "the flows of earlier boots keep their slots", router, 
 @also(router, "living")
 def _(charges, now):
     return right_living(charges.every, now)
+
+
+@reading("restart-of-all", "a restart of one router empties the caches of all", run.RouterNode, "__init__")
+def _(self, config, number):
+    right_router(self, config, number)
+    self.plan.every = [it for plan in config.routers for it in plan.restarts]
+
+
+@also(router, "boot")
+def _(plan, now):
+    return len(router.come(plan.every, now))
+
+
+@reading("restart-due", "of the restarts between two arrivals the first one's master stays", run.RouterNode, "__init__")
+def _(self, config, number):
+    right_router(self, config, number)
+    self.plan.before, self.plan.held = -1, self.plan.master
+
+
+@also(run.RouterNode, "take")
+def _(self, reaching):
+    taken = right_take(self, reaching)
+    self.plan.before = reaching.time
+    return taken
+
+
+@also(router, "master_in_force")
+def _(plan, now):
+    due = [it for it in router.come(plan.restarts, now) if it.at_ns > plan.before]
+    plan.held = due[0].master if due else plan.held
+    return plan.held
 
 
 @reading("restart-mints", "what is minted is still of the first master", router, "in_force")
