@@ -1,11 +1,16 @@
-"""How often each cause, outcome, shape, word of a receipt, fault and status came."""
+"""How often each cause, outcome, shape, word of a receipt, fault and status came, and when restarts and reroutes did."""
 from collections import Counter
+
+from model import run as runs
 
 CONFIG_FAULTS = """syntax top, unknown top, unknown router, unknown host, unknown link, unknown route, missing top, missing router,
 missing host, missing link, missing route, value top, value router, value host, value link, value route, count host, count link,
 count route, names router, names host, addresses host, retry host, ends link, pair link, uplink host, owner route, via route,
-prefix route, slots router, rings link"""
+prefix route, slots router, rings link, unknown restart, unknown reroute, missing restart, missing reroute, value restart,
+value reroute, count restart, count reroute, owner restart, times restart, owner reroute, via reroute, prefix reroute,
+times reroute"""
 OUTCOMES = "queued, dropped:hop-limit, dropped:no-route, dropped:no-queue, dropped:queue-full"
+WHEN = "at an arrival, between arrivals, before all arrivals, behind all arrivals"
 
 # all that is to come, by what is counted
 EXPECTED = {
@@ -21,6 +26,8 @@ EXPECTED = {
     "reply": "notice, grant",
     "outcome of a reply": "queued, dropped:no-queue, dropped:queue-full",
     "start": "request, regular, legacy",
+    "restart": WHEN,
+    "reroute": WHEN,
     "fault of a configuration": CONFIG_FAULTS,
     "fault of a trace": "header, rows, fields, time, order, node, kind, src, dst, payload, shim",
     "word of shim": "v1 request, v1 list, v1 nonce, v1 renewal, v2 request, v2 list, v2 nonce, v2 renewal, malformed",
@@ -29,6 +36,15 @@ EXPECTED = {
 
 def outcome(word):
     return "queued" if word.startswith("queued:") else word
+
+
+def when(now, arrivals):
+    """When a change comes, beside what arrives at its router."""
+    if now in arrivals:
+        return "at an arrival"
+    if all(it > now for it in arrivals):
+        return "before all arrivals" if arrivals else "behind all arrivals"
+    return "between arrivals" if any(it > now for it in arrivals) else "behind all arrivals"
 
 
 class Coverage:
@@ -72,6 +88,14 @@ class Coverage:
                     self.add("outcome of a reply", outcome(way))
             case [_, _, "start", _, _, _, kind, _]:
                 self.add("start", kind)
+
+    def see_changes(self, run):
+        """The changes of a run of the model."""
+        for router in run.config.routers:
+            arrivals = {it.time for it in run.happened if isinstance(it, runs.Arrived) and run.nodes[it.node].plan is router}
+            for group, changes in (("restart", router.restarts), ("reroute", router.reroutes)):
+                for it in changes:
+                    self.add(group, when(it.at_ns, arrivals))
 
     def table(self):
         """A line for each group, with what came seldom at its front."""

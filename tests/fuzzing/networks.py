@@ -5,7 +5,7 @@ from types import SimpleNamespace
 SECOND = 10**9
 ADDRESSES = ["10.0.0.1", "10.0.0.2", "10.0.1.1", "10.1.0.1", "192.168.0.1", "0.0.0.0", "255.255.255.255"]
 MASTERS = ["000102030405060708090a0b0c0d0e0f101112131415161718191a1b1c1d1e1f", "00" * 32, "FF" * 32, "8badf00dcafebabe" * 4]
-TABLES = ["router", "host", "link", "route"]
+TABLES = ["router", "host", "link", "route", "restart", "reroute"]
 
 
 def chance(rng, share):
@@ -174,7 +174,8 @@ def made_stormy(rng, network):
 
 
 def network(rng):
-    """A configuration, as tables of keys, with its mode: what its hosts and its traces are made for."""
+    """A configuration, as tables of keys, with its mode: what its hosts and its traces are made for. Nothing changes in
+    it in time; `changes` puts in what does."""
     version = rng.choice([1, 1, 2])
     routers = [router(rng, number) for number in range(rng.choice([0, 1, 1, 1, 2, 2, 2, 3, 3, 4]))]
     count = rng.choice([0, 1, 2, 2, 2, 3, 3, 4]) if routers else rng.choice([0, 2, 2, 3])
@@ -187,7 +188,7 @@ def network(rng):
         top["horizon_ns"] = 30 * SECOND
     told, mode = links(rng, *names), rng.choice(["talk"] * 4 + ["storm"] * 2 + ["mixed"] * 4)
     told_routes = routes(rng, names[0], hosts, told, mode == "mixed" and chance(rng, 0.3))
-    made = SimpleNamespace(top=top, router=routers, host=hosts, link=told, route=told_routes, mode=mode)
+    made = SimpleNamespace(top=top, router=routers, host=hosts, link=told, route=told_routes, restart=[], reroute=[], mode=mode)
     if mode == "talk":
         made_easy(rng, made)
     elif mode == "storm":

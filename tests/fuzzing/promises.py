@@ -21,15 +21,18 @@ def broken(run, report):
 
 
 def budgets(node, lines):
-    """The regular packets of each grant are less than twice its units. One at the hop limit is regular, and not charged."""
+    """The regular packets of each grant between two restarts are less than twice its units. One at the hop limit is
+    regular, and not charged."""
     regular = [line for line in lines if line[2] == "in" and line[6] == "regular" and line[8] != "dropped:hop-limit"]
     told = [(int(line[0]), int(line[4])) for line in regular]
     if told != [(it.time, it.length) for it in node.charges][: len(told)]:
         return [f"{node.plan.name}: what is regular isn't what is charged"]
     sums = defaultdict(int)
-    for (_, length), charge in zip(told, node.charges):
-        sums[charge.grant] += length
-    return [f"{node.plan.name}: {grant} has {had} bytes" for grant, had in sums.items() if had >= 2 * UNIT * grant.rights.n]
+    for (now, length), charge in zip(told, node.charges):
+        boot = sum(restart.at_ns <= now for restart in node.plan.restarts)
+        sums[boot, charge.grant] += length
+    over = [(*of, had) for of, had in sums.items() if had >= 2 * UNIT * of[1].rights.n]
+    return [f"{node.plan.name}: {grant} has {had} bytes in boot {boot}" for boot, grant, had in over]
 
 
 def rates(run, link, lines):

@@ -1,5 +1,5 @@
 """Wrong readings of the rules. Each puts other functions into the model in place of some of its own, by name, and is to
-be found by a difference from the program within some minutes."""
+be found by a difference from the program within some minutes. Those of restarts and reroutes stand in `turns`."""
 from contextlib import contextmanager
 
 from model import configuration, hashes, host, link, report, router, run, shims
@@ -132,12 +132,13 @@ def _(self, now, node, reaching):
 
 @reading("hop-limit", "the hop limit is looked at last: the cause and the charge come before", run.RouterNode, "take")
 def _(self, reaching):
+    now, plan = reaching.time, router.in_force(self.plan, reaching.time)
     packet = reaching.packet if reaching.row is None else self.injected(reaching.row)
     tag = self.plan.edge_tag if reaching.link is None else self.plans[reaching.link].tag
-    fate = router.fate(self.plan, self.charges, reaching.time, tag, packet)
+    fate = router.fate(plan, self.charges_at(now), now, tag, packet)
     self.charges += [fate.charge] if fate.charge else []
-    way = "dropped:hop-limit" if router.is_spent(packet) else self.pass_on(reaching.time, fate.packet)
-    return run.Arrived(reaching.time, self.number, packet, reaching.link, shims.class_of(fate.packet), fate.cause, fate.charge, way)
+    way = "dropped:hop-limit" if router.is_spent(packet) else self.pass_on(plan, now, fate.packet)
+    return run.Arrived(now, self.number, packet, reaching.link, shims.class_of(fate.packet), fate.cause, fate.charge, way)
 
 
 @reading("hops", "a packet passes 31 routers", router, "is_spent")

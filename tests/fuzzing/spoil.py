@@ -10,6 +10,8 @@ REQUIRED = {
     "host": ["name", "address"],
     "link": ["from", "to", "ns_per_byte", "delay_ns"],
     "route": ["router", "prefix", "via"],
+    "restart": ["router", "at_ns", "master"],
+    "reroute": ["router", "at_ns", "prefix", "via"],
 }
 BOUNDS = {
     "top": {"horizon_ns": (0, 10**15), "max_events": (1, 4_000_000), "version": (1, 2)},
@@ -28,6 +30,8 @@ BOUNDS = {
     | {f"{kind}_{key}": (1, 65_536) for kind in ("request", "regular") for key in ("queues", "ring")}
     | {f"{kind}_{key}": (2_048, 1 << 30) for kind in ("request", "regular") for key in ("queue_bytes", "bytes")}
     | {"legacy_ring": (1, 65_536), "legacy_bytes": (2_048, 1 << 30)},
+    "restart": {"at_ns": (0, 10**15)},
+    "reroute": {"at_ns": (0, 10**15)},
 }
 TEXTS = {
     "router": {"name": ["", "x" * 16, "a.b", "ö"], "master": ["0" * 63, "g" * 64, "0" * 66]},
@@ -41,7 +45,16 @@ TEXTS = {
     },
     "link": {"from": ["", "x" * 17], "to": ["", "a.b"]},
     "route": {"router": [""], "prefix": ["10.0.0.0", "10.0.0.0/33", "10.0.0.0/08", "10.0.0.0/", "/8", "1.2.3.4/8/8"], "via": ["-" * 17]},
-    "top": {"router": [1, [1], Raw("{}"), "x"], "host": [[[]], Raw("{ a = 1 }")], "link": [False], "route": [Raw("[{}, 1]")]},
+    "restart": {"router": ["", "x" * 17], "master": ["0" * 63, "g" * 64, "0" * 66]},
+    "reroute": {"router": ["a.b"], "prefix": ["10.0.0.0", "10.0.0.0/33", "10.0.0.0/-1", "/0"], "via": ["", 1]},
+    "top": {
+        "router": [1, [1], Raw("{}"), "x"],
+        "host": [[[]], Raw("{ a = 1 }")],
+        "link": [False],
+        "route": [Raw("[{}, 1]")],
+        "restart": [5, Raw("{}"), [5]],
+        "reroute": ["", Raw("[{}, []]")],
+    },
 }
 
 
@@ -55,8 +68,20 @@ def an_entry(rng, network, *tables):
     if not entries(network, table):
         made = {"router": lambda: networks.router(rng, 9), "host": lambda: networks.host(rng, 9, "10.9.9.9", 1)}
         made |= {"link": lambda: networks.link(rng, "R0", "R1", [1]), "route": lambda: {"router": "R0", "prefix": "1.2.3.4/5", "via": "R1"}}
+        made |= {"restart": lambda: a_restart(rng, network), "reroute": lambda: a_reroute(rng, network)}
         entries(network, table).append(made[table]())
     return rng.choice(entries(network, table)), table
+
+
+def a_restart(rng, network):
+    name = network.router[0]["name"] if network.router else "R0"
+    return {"router": name, "at_ns": rng.choice([0, 5, 10**15]), "master": rng.choice(networks.MASTERS)}
+
+
+def a_reroute(rng, network):
+    """The change of a route that there is, or one without a route."""
+    routes = network.route or [{"router": "R0", "prefix": "1.2.3.4/5", "via": "R1"}]
+    return dict(rng.choice(routes)) | {"at_ns": rng.choice([0, 5, 10**15])}
 
 
 def unknown(rng, network):
@@ -85,7 +110,8 @@ def value(rng, network):
 
 
 def count(rng, network):
-    table, most = rng.choice([("router", 1_025), ("host", 1_025), ("link", 4_097), ("route", 65_537)])
+    several = [("route", 65_537), ("restart", 65_537), ("reroute", 65_537)]
+    table, most = rng.choice([("router", 1_025), ("host", 1_025), ("link", 4_097), *several])
     number = most - rng.choice([0, 0, 0, 1])
     setattr(network, table, [])
     network.top[table] = Raw("[" + "{}," * number + "]")
@@ -126,12 +152,12 @@ def uplink(rng, network):
 
 
 def owner(rng, network):
-    one, _ = an_entry(rng, network, "route")
+    one, _ = an_entry(rng, network, "route", "restart", "reroute")
     one["router"] = rng.choice(["nobody"] + [it["name"] for it in network.host])
 
 
 def via(rng, network):
-    one, _ = an_entry(rng, network, "route")
+    one, _ = an_entry(rng, network, "route", "reroute")
     one["via"] = rng.choice(["nobody", one["router"]] + [it["name"] for it in network.router + network.host])
 
 
@@ -140,6 +166,22 @@ def prefix(rng, network):
     address, bits = one["prefix"].split("/")
     address = address[:-1] + "7" if bits != "32" and address[-2] == "." else address
     network.route.append(dict(one) | {"prefix": f"{address}/{bits}"})
+
+
+def prefix_of_none(rng, network):
+    """A change of a prefix that its router has no route of, mostly."""
+    one, _ = an_entry(rng, network, "reroute")
+    address, bits = one["prefix"].split("/")
+    others = [it["prefix"] for it in network.route if it["router"] != one["router"]]
+    one["prefix"] = rng.choice([f"{address}/{max(0, int(bits) - 1)}", f"{address}/{min(32, int(bits) + 1)}", "9.9.9.9/32", *others])
+
+
+def times(rng, network):
+    """A further change at the time of an earlier one, before it, or behind it, alone or before the others."""
+    one, table = an_entry(rng, network, "restart", "reroute")
+    told = entries(network, table)
+    further = dict(one) | {"at_ns": max(0, one["at_ns"] + rng.choice([0, 0, 0, -1, 1, -(10**9)]))}
+    told.insert(rng.choice([len(told), len(told), rng.randrange(len(told) + 1)]), further)
 
 
 def slots(rng, network):
@@ -157,6 +199,7 @@ def rings(rng, network):
 
 
 CONFIG_FAULTS = [unknown, missing, value, value, value, names, addresses, retry, ends, pair, uplink, owner, via, prefix, slots, rings]
+CONFIG_FAULTS += [unknown, missing, value, owner, via, prefix_of_none, prefix_of_none, times, times, times]
 TOML_SCRAPS = [
     *("x = ", "= 1", "[router]", "[[router]]", "[top", "horizon_ns = 1", 'a = "\\x"', "a = 'b", "a.b = 1", "a = 1 2"),
     *("\x00", "a = 08", "a = 0x", 'a = """', "a = [1,", "a = {b = 1", "a = 9223372036854775808", "a = -9223372036854775809"),
@@ -195,7 +238,7 @@ def config(rng, network):
     if chance(rng, 0.05):
         data = networks.text_of(rng, network).encode()
         return rng.choice([MARK + data, data + b"#\xff\n", b"\xff" + data, data.replace(b"\n", b"\r\n"), MARK * 2 + data])
-    fault = count if chance(rng, 0.05) else rng.choice(CONFIG_FAULTS)
+    fault = count if chance(rng, 0.07) else rng.choice(CONFIG_FAULTS)
     fault(rng, network)
     if chance(rng, 0.1):
         rng.choice([unknown, missing, value])(rng, network)

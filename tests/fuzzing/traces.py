@@ -1,9 +1,9 @@
 """Random traces over a network: honest rows, forged ones, and what was seen in a run of the same network before, shown
 again by those who own it, by others, and too late."""
-from . import networks
+from . import changes, networks
 from .networks import SECOND, chance
 
-from model import router, shims
+from model import hashes, router, shims
 
 HEADER = "time,node,kind,src,dst,payload,shim"
 NONCES = ["00000000000a", "00000000000b", "000000000001", "000000000002", "000000000003", "ffffffffffff", "000000000000"]
@@ -39,6 +39,8 @@ class Sources:
         nodes = run.nodes if run else []
         self.charged = [(node, place) for node in nodes for place in range(len(getattr(node, "charges", ())))]
         self.waits = [told for node in nodes for link in node.links.values() for told in waits(node, link)]
+        self.changes = changes.all_times(network)
+        self.restarted = [(node, place, it) for node, place in self.charged for it in later_restarts(node, place)]
         self.talks = False
 
     def a_flow(self):
@@ -61,15 +63,23 @@ class Sources:
         return self.rng.choice(PAYLOADS) if chance(self.rng, 0.9) else self.rng.randrange(1_601)
 
 
-def path(network, node, destination):
-    """The routers on the way from a node, as far as five."""
-    names, found = [it["name"] for it in network.router], []
-    address = int.from_bytes(bytes(map(int, destination.split("."))), "big")
+def later_restarts(node, place):
+    """The restarts of a router behind one of its charges."""
+    return [it for it in node.plan.restarts if it.at_ns > node.charges[place].time]
+
+
+def number(address):
+    return int.from_bytes(bytes(map(int, address.split("."))), "big")
+
+
+def path(network, node, destination, now):
+    """The routers on the way from a node, as far as five, as ways lead at a time."""
+    names, found, address = [it["name"] for it in network.router], [], number(destination)
     if node not in names:
         node = [it["to"] for it in network.link if it["from"] == node][0]
     while node in names and len(found) < 5:
         found.append(node)
-        ways = [(networks.front(it["prefix"]), it["via"]) for it in network.route if it["router"] == node]
+        ways = changes.ways(network, node, now).items()
         ways = [(bits, via) for (bits, front), via in ways if address >> (32 - bits) == front]
         node = max(ways)[1] if ways else None
     return found
@@ -78,13 +88,23 @@ def path(network, node, destination):
 # ## shims
 
 
-def capabilities(sources, now, node, flow):
+def item(sources, name, now, flow, rights, second):
+    """What a router gives in a second. By its name it is of its first master, and by its digits of the one at that time."""
+    first, at_now = sources.routers[name]["master"], changes.master(sources.network, name, now)
+    if first == at_now or chance(sources.rng, 0.3):
+        return f"{name}@{second}"
+    flow = shims.Flow(*map(number, flow))
+    return hashes.capability(hashes.precapability(bytes.fromhex(at_now), flow, second), shims.Rights(*rights)).hex()
+
+
+def capabilities(sources, now, node, flow, rights):
     """The items of a list: honest, late, early, forged."""
     rng, items = sources.rng, []
-    for name in path(sources.network, node, flow[1]) or [rng.choice([*sources.routers, "00"])]:
+    for name in path(sources.network, node, flow[1], now) or [rng.choice([*sources.routers, "00"])]:
         second = (now + sources.routers.get(name, {}).get("clock_offset_ns", 0)) // SECOND
         second = max(0, second - rng.choice([0, 0, 0, 1, 1, 2, 3, 256, rng.randrange(70)]))
-        items.append(f"{name}@{second}" if name in sources.routers and second <= 2_000_000 else f"{rng.getrandbits(64):016x}")
+        is_known = name in sources.routers and second <= 2_000_000
+        items.append(item(sources, name, now, flow, rights, second) if is_known else f"{rng.getrandbits(64):016x}")
     if chance(rng, 0.1):
         items.insert(rng.randrange(len(items) + 1), f"{rng.getrandbits(64):016X}")
     if chance(rng, 0.05):
@@ -97,7 +117,7 @@ def capabilities(sources, now, node, flow):
 def shown(sources, now, node, flow):
     """The field of a list or a renewal."""
     (units, seconds), nonce = sources.a_grant()
-    items = capabilities(sources, now, node, flow)
+    items = capabilities(sources, now, node, flow, (units, seconds))
     pointer = 0 if chance(sources.rng, 0.85) else sources.rng.randrange(len(items) + 1)
     return f"{nonce}/{units}/{seconds}/{pointer}/{';'.join(items)}"
 
@@ -215,15 +235,27 @@ def turning(sources):
     node, place = rng.choice(sources.charged)
     charge = node.charges[place]
     grant, offset = charge.grant, node.plan.clock_offset_ns
-    end = router.end_of(router.charges_of(node.charges[: place + 1], grant.flow))
+    charges = router.charges_of_boot(node.plan, node.charges[: place + 1], router.boot(node.plan, charge.time))
+    end = router.end_of(router.charges_of(charges, grant.flow))
     expiry = (grant.second + grant.rights.t) * SECOND - offset
-    now = max(0, rng.choice([end, end, end, expiry]) + rng.choice([0, 0, -1, -1, 1]))
+    return charged(sources, node, charge, max(0, rng.choice([end, end, end, expiry]) + rng.choice([0, 0, -1, -1, 1])))
+
+
+def rebooting(sources):
+    """A row at a router that shows what was charged there before, just when it restarts, or next to it."""
+    node, place, restart = sources.rng.choice(sources.restarted)
+    return charged(sources, node, node.charges[place], max(0, restart.at_ns + sources.rng.choice([0, 0, 0, -1, 1, 10**6])))
+
+
+def charged(sources, node, charge, now):
+    """A row that shows the grant of a charge again."""
+    rng, grant = sources.rng, charge.grant
     flow, payload = tuple(map(dotted, grant.flow)), rng.choice([0, 0, 1, 100, 1_024 * grant.rights.n % 1_600])
     nonce = f"{charge.nonce:012x}"
     if chance(rng, 0.6):
         return now, node.plan.name, "nonce", *flow, payload, nonce
-    items = f"{nonce}/{grant.rights.n}/{grant.rights.t}/0/{node.plan.name}@{grant.second}"
-    return now, node.plan.name, "list", *flow, payload, items
+    told = item(sources, node.plan.name, now, flow, grant.rights, grant.second)
+    return now, node.plan.name, "list", *flow, payload, f"{nonce}/{grant.rights.n}/{grant.rights.t}/0/{told}"
 
 
 def overtaking(sources):
@@ -283,7 +315,9 @@ def times(sources, count):
     steps = TALKS if sources.talks else STORMS if sources.network.mode == "storm" else steps
     for _ in range(count):
         now += rng.choice(steps)
-        if sources.times and chance(rng, 0.4):
+        if sources.changes and chance(rng, 0.25):
+            found.append(max(0, rng.choice(sources.changes) + rng.choice([0, 0, 0, 1, -1, 10**6])))
+        elif sources.times and chance(rng, 0.4):
             found.append(max(0, rng.choice(sources.times) + rng.choice([0, 0, 0, 0, 1, -1, SECOND])))
         else:
             found.append(now)
@@ -318,6 +352,8 @@ def a_row(sources, now, node, kinds):
     """A row, or two that belong together."""
     if sources.waits and chance(sources.rng, 0.6 if sources.network.mode == "storm" else 0.1):
         return overtaking(sources)
+    if sources.restarted and chance(sources.rng, 0.3):
+        return [rebooting(sources)]
     if sources.charged and chance(sources.rng, 0.4):
         return [turning(sources)]
     if sources.packets and chance(sources.rng, 0.5):

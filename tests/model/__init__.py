@@ -7,7 +7,7 @@ what happened and sums over them, and takes one time after another; so it is slo
 - shims: what is sent, its bytes and its words
 - hashes: secrets, pre-capabilities, capabilities, and their check
 - toml, configuration, trace: the readers, with the first fault
-- router: charges, verdicts, and what becomes of an arrival
+- router: what changes in time, charges, verdicts, and what becomes of an arrival
 - link: fair queues, request credit, and what a link starts next
 - host: senders, policies and receipts
 - run: the nodes of a network, time after time
@@ -16,6 +16,6 @@ what happened and sums over them, and takes one time after another; so it is slo
 - commands: the words of the command line
 
 What comes to be is added where it belongs: a command to `commands`, a table of a configuration to `configuration`, a
-kind of row to `trace`, and what changes at a node in time to its class in `run`, before what reaches it at that time.
+kind of row to `trace`, and what changes at a router in time to its plan in force in `router`.
 `tests/fuzz readings` replaces functions of the model by name, one at a time.
 """

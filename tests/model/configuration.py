@@ -5,6 +5,7 @@ from . import shims, texts, toml
 
 REQUIRED = object()
 NODES_MOST, LINKS_MOST, ROUTES_MOST = 1_024, 4_096, 65_536
+CHANGES_MOST = 65_536
 SLOTS_MOST = PLACES_MOST = 1_000_000
 SECOND = 1_000_000_000
 
@@ -59,6 +60,8 @@ def top_keys():
         ("host", tables, []),
         ("link", tables, []),
         ("route", tables, []),
+        ("restart", tables, []),
+        ("reroute", tables, []),
     ]
 
 
@@ -122,6 +125,23 @@ def route_keys():
     ]
 
 
+def restart_keys():
+    return [
+        ("router", text(texts.name), REQUIRED),
+        ("at_ns", whole(0, 10**15), REQUIRED),
+        ("master", bytes_of(32), REQUIRED),
+    ]
+
+
+def reroute_keys():
+    return [
+        ("router", text(texts.name), REQUIRED),
+        ("at_ns", whole(0, 10**15), REQUIRED),
+        ("prefix", text(texts.prefix), REQUIRED),
+        ("via", text(texts.name), REQUIRED),
+    ]
+
+
 def read_table(told, keys, table, entry):
     if not set(told) <= {key for key, _, _ in keys}:
         raise Fault("unknown", table, entry, "-")
@@ -151,14 +171,17 @@ def read(data):
     top = read_table(parsed(data), top_keys(), "top", 0)
     check_counts(top)
     keys = {"router": router_keys(), "host": host_keys(top.version), "link": link_keys(), "route": route_keys()}
+    keys |= {"restart": restart_keys(), "reroute": reroute_keys()}
     read_all = lambda table: [read_table(told, keys[table], table, entry) for entry, told in enumerate(getattr(top, table))]
-    routers, hosts, links, routes = [read_all(table) for table in keys]
+    routers, hosts, links, routes, restarts, reroutes = [read_all(table) for table in keys]
     check_nodes(routers, hosts)
     check_links(routers + hosts, links)
     check_uplinks(hosts, links)
     check_routes(routers, links, routes)
+    check_restarts(routers, restarts)
+    check_reroutes(routers, links, routes, reroutes)
     check_sums(routers, links)
-    return lay_down(top, routers, hosts, links, routes)
+    return lay_down(top, routers, hosts, links, routes, restarts, reroutes)
 
 
 # ## faults that more than one entry has a part in
@@ -169,6 +192,8 @@ def check_counts(top):
         ("host", len(top.router) + len(top.host), NODES_MOST),
         ("link", len(top.link), LINKS_MOST),
         ("route", len(top.route), ROUTES_MOST),
+        ("restart", len(top.restart), CHANGES_MOST),
+        ("reroute", len(top.reroute), CHANGES_MOST),
     ]:
         if count > most:
             raise Fault("count", table, 0, "-")
@@ -213,12 +238,44 @@ def check_uplinks(hosts, links):
 
 def check_routes(routers, links, routes):
     for entry, route in enumerate(routes):
-        if route.router not in [router.name for router in routers]:
-            raise Fault("owner", "route", entry, "router")
-        if (route.router, route.via) not in [ends(link) for link in links]:
-            raise Fault("via", "route", entry, "via")
+        check_owner(routers, route, "route", entry)
+        check_via(links, route, "route", entry)
         if (route.router, route.prefix) in [(earlier.router, earlier.prefix) for earlier in routes[:entry]]:
             raise Fault("prefix", "route", entry, "prefix")
+
+
+def check_owner(routers, told, table, entry):
+    if told.router not in [router.name for router in routers]:
+        raise Fault("owner", table, entry, "router")
+
+
+def check_via(links, told, table, entry):
+    if (told.router, told.via) not in [ends(link) for link in links]:
+        raise Fault("via", table, entry, "via")
+
+
+def check_time(last, key, told, table, entry):
+    """Whether a change comes later than the last one with its key, whose time is noted."""
+    if key in last and last[key] >= told.at_ns:
+        raise Fault("times", table, entry, "at_ns")
+    last[key] = told.at_ns
+
+
+def check_restarts(routers, restarts):
+    last = {}
+    for entry, restart in enumerate(restarts):
+        check_owner(routers, restart, "restart", entry)
+        check_time(last, restart.router, restart, "restart", entry)
+
+
+def check_reroutes(routers, links, routes, reroutes):
+    last, known = {}, {(route.router, route.prefix) for route in routes}
+    for entry, reroute in enumerate(reroutes):
+        check_owner(routers, reroute, "reroute", entry)
+        check_via(links, reroute, "reroute", entry)
+        if (reroute.router, reroute.prefix) not in known:
+            raise Fault("prefix", "reroute", entry, "prefix")
+        check_time(last, (reroute.router, reroute.prefix), reroute, "reroute", entry)
 
 
 def places_of(link):
@@ -237,7 +294,7 @@ def check_sums(routers, links):
 # ## what is laid down
 
 
-def lay_down(top, routers, hosts, links, routes):
+def lay_down(top, routers, hosts, links, routes, restarts, reroutes):
     """The nodes by number, with the links by number, each of which knows the numbers of its ends."""
     nodes = routers + hosts
     names = [node.name for node in nodes]
@@ -250,8 +307,10 @@ def lay_down(top, routers, hosts, links, routes):
         host.rights = shims.Rights(host.n, host.t)
     for router in routers:
         router.routes = [route for route in routes if route.router == router.name]
-        for route in router.routes:
-            route.target = names.index(route.via)
+        router.restarts = [restart for restart in restarts if restart.router == router.name]
+        router.reroutes = [reroute for reroute in reroutes if reroute.router == router.name]
+        for way in router.routes + router.reroutes:
+            way.target = names.index(way.via)
     top = SimpleNamespace(horizon=top.horizon_ns, most_events=top.max_events)
     return SimpleNamespace(top=top, routers=routers, hosts=hosts, nodes=nodes, links=links, routes=routes)
 

@@ -1,4 +1,5 @@
-"""A router: its charges, its verdicts, and what becomes of an arrival."""
+"""A router: its charges, its verdicts, and what becomes of an arrival; and what changes at it in time."""
+from types import SimpleNamespace
 from typing import NamedTuple
 
 from . import hashes, shims
@@ -26,7 +27,41 @@ class Fate(NamedTuple):
     charge: Charge = None
 
 
-# ## what is said of a list of charges
+# ## what changes in time: restarts, and links of routes
+
+
+def come(changes, now):
+    """Those that have come by a time."""
+    return [change for change in changes if change.at_ns <= now]
+
+
+def boot(plan, now):
+    """How many restarts have come."""
+    return len(come(plan.restarts, now))
+
+
+def master_in_force(plan, now):
+    """That of the last restart, or that of the router's table."""
+    return ([plan.master] + [restart.master for restart in come(plan.restarts, now)])[-1]
+
+
+def target_in_force(plan, route, now):
+    """Where the last change of the prefix leads, or the route itself. Changes of a prefix stand in order of time."""
+    changed = [reroute.target for reroute in come(plan.reroutes, now) if reroute.prefix == route.prefix]
+    return ([route.target] + changed)[-1]
+
+
+def in_force(plan, now):
+    """The plan as it is at a time: the master and the links of the routes are those in force."""
+    routes = [SimpleNamespace(prefix=route.prefix, target=target_in_force(plan, route, now)) for route in plan.routes]
+    return SimpleNamespace(**vars(plan) | {"master": master_in_force(plan, now), "routes": routes})
+
+
+def charges_of_boot(plan, charges, number):
+    return [charge for charge in charges if boot(plan, charge.time) == number]
+
+
+# ## what is said of a list of charges, those of one boot
 
 
 def credit(size, rights):

@@ -75,6 +75,8 @@ class Node:
 
 
 class RouterNode(Node):
+    """A router. It keeps the charges of all boots; what it takes is judged by the plan and the charges in force then."""
+
     def __init__(self, config, number):
         super().__init__(config, number)
         self.charges = []
@@ -82,22 +84,27 @@ class RouterNode(Node):
 
     def take(self, reaching):
         """What comes of a row, or of a packet on a link."""
+        now, plan = reaching.time, router.in_force(self.plan, reaching.time)
         packet = reaching.packet if reaching.row is None else self.injected(reaching.row)
         tag = self.plan.edge_tag if reaching.link is None else self.plans[reaching.link].tag
         if router.is_spent(packet):
             happened = shims.class_of(packet), None, None, "dropped:hop-limit"
         else:
-            fate = router.fate(self.plan, self.charges, reaching.time, tag, packet)
+            fate = router.fate(plan, self.charges_at(now), now, tag, packet)
             self.charges += [fate.charge] if fate.charge else []
-            happened = shims.class_of(fate.packet), fate.cause, fate.charge, self.pass_on(reaching.time, fate.packet)
-        return Arrived(reaching.time, self.number, packet, reaching.link, *happened)
+            happened = shims.class_of(fate.packet), fate.cause, fate.charge, self.pass_on(plan, now, fate.packet)
+        return Arrived(now, self.number, packet, reaching.link, *happened)
 
     def injected(self, row):
         self.made += 1
         return shims.Packet((self.number, self.made), row.flow, row.payload, row.carried)
 
-    def pass_on(self, now, packet):
-        target = router.way(self.plan, packet.flow.destination)
+    def charges_at(self, now):
+        """The charges of the boot in force."""
+        return router.charges_of_boot(self.plan, self.charges, router.boot(self.plan, now))
+
+    def pass_on(self, plan, now, packet):
+        target = router.way(plan, packet.flow.destination)
         if target is None:
             return "dropped:no-route"
         [number] = [it for it, link in self.links.items() if link.plan.target == target]
