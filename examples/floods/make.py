@@ -3,7 +3,7 @@
 
     make.py FLOOD RATE FOLDER [--without] [--seed N] [--attackers K] [--colluders K] [--mix KINDS] [--forge WHAT]
             [--forge-every MS] [--topology NAME] [--shared-tag] [--one-tag] [--levels L] [--restart SECONDS]
-            [--set KEY=NUMBER]..
+            [--same-master] [--set KEY=NUMBER]..
 
 FLOOD is one of those below, and RATE says how many times the bottleneck's rate the attackers send, all together: 0
 is no flood. The files are FOLDER/NAME.toml, FOLDER/NAME.csv and FOLDER/NAME.json, which says what was made; NAME is
@@ -30,7 +30,8 @@ much together as ten would. With --colluders there are K colluding destinations 
 sends in turn. With --shared-tag the first honest sender's link into the network has
 the tag of the first attacker's. With --one-tag all senders are behind one tagged link, and the bottleneck
 comes after it. With --levels 2 the bottleneck queues its requests by two tags, the last and the one before.
-With --restart all routers restart at that time, each with a new master; there may be several times, joined by commas.
+With --restart all routers restart at that time, each with a new master, or with --same-master with its
+own; there may be several times, joined by commas.
 --topology is dumbbell, parking-lot (three bottlenecks in a row) or tree (nine routers with senders below a root). Each
 --set gives the bottlenecks another number for a key of links, as request_queues=128.
 """
@@ -131,9 +132,9 @@ def build(it):
         join_host(network, f"C{number}", in_turn(layout.colluders, number), **SMALL)
     network.find_routes()
     for at in it.restart:
-        network.say(f"At {at / SECOND:g} seconds each router restarts with a new master.")
-        for router in network.routers:
-            network.restart(router, at)
+        network.say(f"At {at / SECOND:g} seconds each router restarts with {'its own' if it.same_master else 'a new'} master.")
+        for router, keys in network.routers.items():
+            network.restart(router, at, keys["master"] if it.same_master else None)
     return network, layout
 
 
@@ -293,6 +294,7 @@ def reader(program):
     words.add_argument("--one-tag", action="store_true")
     words.add_argument("--levels", type=int, choices=[1, 2], default=1)
     words.add_argument("--restart", type=restarts, default=[], metavar="SECONDS")
+    words.add_argument("--same-master", action="store_true")
     words.add_argument("--set", type=setting, action="append", default=[], metavar="KEY=NUMBER")
     return words
 
@@ -311,6 +313,8 @@ def settle(words, it):
     if it.forge == "packets" and it.forge_every:
         words.error("--forge-every is for forged notices and grants")
     it.forge_every = it.forge_every or FORGED.get(it.forge)
+    if it.same_master and not it.restart:
+        words.error("--same-master is for restarts")
     if it.one_tag and it.topology != "dumbbell":
         words.error("--one-tag is for a dumbbell")
     if it.rate and rows_most(it) > ROWS_MOST:
@@ -335,7 +339,7 @@ def series_of(it):
     if it.topology != "dumbbell":
         name += f"-{it.topology}"
     name += ("-shared-tag" if it.shared_tag else "") + ("-one-tag" if it.one_tag else "") + ("-two-levels" if it.levels == 2 else "")
-    name += "-restart" * bool(it.restart) + "".join(f"-{at / SECOND:g}" for at in it.restart)
+    name += "-restart" * bool(it.restart) + "".join(f"-{at / SECOND:g}" for at in it.restart) + ("-same-master" if it.same_master else "")
     name += "".join(f"-{key}-{number}" for key, number in it.set)
     return f"{name}-{'without' if it.without else 'with'}"
 
@@ -356,6 +360,7 @@ def said_of(it):
         said += f", {it.topology.replace('-', ' ')}"
     said += (", shared tag" if it.shared_tag else "") + (", one tag" if it.one_tag else "") + (", two levels" if it.levels == 2 else "")
     said += f", restart at {', '.join(f'{at / SECOND:g}' for at in it.restart)} s" if it.restart else ""
+    said += " with the same masters" if it.same_master else ""
     return said + "".join(f", {key} {number}" for key, number in it.set)
 
 
