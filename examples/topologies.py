@@ -84,6 +84,14 @@ class Network:
     def route(self, router, prefix, via):
         return self._add("route", dict(router=router, prefix=prefix, via=via))
 
+    def restart(self, router, at_ns, master=None):
+        """From that time on the router has this master, or one that comes of its name and the time, and an empty cache."""
+        return self._add("restart", dict(router=router, at_ns=at_ns, master=master or master_of(f"{router} at {at_ns}")))
+
+    def reroute(self, router, at_ns, prefix, via):
+        """From that time on the router's route of this prefix leads to another node."""
+        return self._add("reroute", dict(router=router, at_ns=at_ns, prefix=prefix, via=via))
+
     def find_routes(self):
         """At each router a route to each host that can be reached from it, by fewest links; of ways alike that by the
         link that was added first."""
@@ -113,8 +121,9 @@ class Network:
     def packed(self):
         """The same configuration in few bytes, without comments: an array a line."""
         lines = [f"{key}={value(of)}" for key, of in self.keys.items()]
-        for table in ("router", "host", "link", "route"):
-            lines.append(f"{table}=[" + ",".join(inline(keys) for _, kind, keys in self.tables if kind == table) + "]")
+        for table in ("router", "host", "link", "route", "restart", "reroute"):
+            told = [inline(keys) for _, kind, keys in self.tables if kind == table]
+            lines += [f"{table}=[" + ",".join(told) + "]"] if told else []
         return "\n".join(lines) + "\n"
 
 

@@ -74,7 +74,7 @@ def found_in(folder, floods):
     found = {}
     for path in sorted(glob.glob(os.path.join(glob.escape(folder), "*.json"))):
         stem = os.path.splitext(path)[0]
-        made = reports.made_of(stem)
+        made = reports.made_of(path)
         if os.path.exists(stem + ".numbers") or os.path.exists(stem + ".report"):
             series = found.setdefault(made["series"], Series(made))
             series.rates.setdefault(made["rate"], []).append(reports.numbers(stem))

@@ -2,7 +2,8 @@
 """Writes the configuration and the trace of a flood.
 
     make.py FLOOD RATE FOLDER [--without] [--seed N] [--attackers K] [--colluders K] [--mix KINDS] [--forge WHAT]
-            [--forge-every MS] [--topology NAME] [--shared-tag] [--one-tag] [--levels L] [--set KEY=NUMBER]..
+            [--forge-every MS] [--topology NAME] [--shared-tag] [--one-tag] [--levels L] [--restart SECONDS]
+            [--same-master] [--set KEY=NUMBER]..
 
 FLOOD is one of those below, and RATE says how many times the bottleneck's rate the attackers send, all together: 0
 is no flood. The files are FOLDER/NAME.toml, FOLDER/NAME.csv and FOLDER/NAME.json, which says what was made; NAME is
@@ -29,6 +30,8 @@ much together as ten would. With --colluders there are K colluding destinations 
 sends in turn. With --shared-tag the first honest sender's link into the network has
 the tag of the first attacker's. With --one-tag all senders are behind one tagged link, and the bottleneck
 comes after it. With --levels 2 the bottleneck queues its requests by two tags, the last and the one before.
+With --restart all routers restart at that time, each with a new master, or with --same-master with its
+own; there may be several times, joined by commas.
 --topology is dumbbell, parking-lot (three bottlenecks in a row) or tree (nine routers with senders below a root). Each
 --set gives the bottlenecks another number for a key of links, as request_queues=128.
 """
@@ -70,6 +73,7 @@ KINDS = ["legacy", "requests", "authorised"]
 FLOODS = [*KINDS, "mixed", "forged"]
 FORGED = {"notices": 125, "grants": 20, "packets": None}  # milliseconds between two to one sender
 ATTACKERS_MOST = COLLUDERS_MOST = 200
+RESTARTS_MOST = 32
 
 # shims in hexadecimal: a request without entries; a marked one that brings a notice; one that brings a grant of 1,023
 # units within 63 seconds with two capabilities, stamped with second 0; and a nonce that nobody was given
@@ -127,6 +131,10 @@ def build(it):
         network.host(f"C{number}", f"10.3.1.{number}", policy="server", n=1023, t=63, grants=1_000_000)
         join_host(network, f"C{number}", in_turn(layout.colluders, number), **SMALL)
     network.find_routes()
+    for at in it.restart:
+        network.say(f"At {at / SECOND:g} seconds each router restarts with {'its own' if it.same_master else 'a new'} master.")
+        for router, keys in network.routers.items():
+            network.restart(router, at, keys["master"] if it.same_master else None)
     return network, layout
 
 
@@ -257,6 +265,17 @@ def setting(word):
     return key, int(number)
 
 
+def restarts(word):
+    """Rising times in nanoseconds, of a word that has them in seconds."""
+    try:
+        told = [round(float(part) * SECOND) for part in word.split(",")]
+    except (ValueError, OverflowError):
+        told = []
+    if not told or len(told) > RESTARTS_MOST or not 0 <= told[0] or told[-1] > HORIZON or any(one >= other for one, other in zip(told, told[1:])):
+        raise argparse.ArgumentTypeError(f"{word!r} is no time of restarts: rising seconds up to {HORIZON // SECOND}, at most {RESTARTS_MOST}, joined by commas")
+    return told
+
+
 def reader(program):
     """A reader of the words of this script."""
     words = Words(prog=program, description=__doc__, formatter_class=argparse.RawDescriptionHelpFormatter, allow_abbrev=False)
@@ -274,6 +293,8 @@ def reader(program):
     words.add_argument("--shared-tag", action="store_true")
     words.add_argument("--one-tag", action="store_true")
     words.add_argument("--levels", type=int, choices=[1, 2], default=1)
+    words.add_argument("--restart", type=restarts, default=[], metavar="SECONDS")
+    words.add_argument("--same-master", action="store_true")
     words.add_argument("--set", type=setting, action="append", default=[], metavar="KEY=NUMBER")
     return words
 
@@ -292,6 +313,8 @@ def settle(words, it):
     if it.forge == "packets" and it.forge_every:
         words.error("--forge-every is for forged notices and grants")
     it.forge_every = it.forge_every or FORGED.get(it.forge)
+    if it.same_master and not it.restart:
+        words.error("--same-master is for restarts")
     if it.one_tag and it.topology != "dumbbell":
         words.error("--one-tag is for a dumbbell")
     if it.rate and rows_most(it) > ROWS_MOST:
@@ -316,6 +339,7 @@ def series_of(it):
     if it.topology != "dumbbell":
         name += f"-{it.topology}"
     name += ("-shared-tag" if it.shared_tag else "") + ("-one-tag" if it.one_tag else "") + ("-two-levels" if it.levels == 2 else "")
+    name += "-restart" * bool(it.restart) + "".join(f"-{at / SECOND:g}" for at in it.restart) + ("-same-master" if it.same_master else "")
     name += "".join(f"-{key}-{number}" for key, number in it.set)
     return f"{name}-{'without' if it.without else 'with'}"
 
@@ -335,6 +359,8 @@ def said_of(it):
     if it.topology != "dumbbell":
         said += f", {it.topology.replace('-', ' ')}"
     said += (", shared tag" if it.shared_tag else "") + (", one tag" if it.one_tag else "") + (", two levels" if it.levels == 2 else "")
+    said += f", restart at {', '.join(f'{at / SECOND:g}' for at in it.restart)} s" if it.restart else ""
+    said += " with the same masters" if it.same_master else ""
     return said + "".join(f", {key} {number}" for key, number in it.set)
 
 
@@ -355,6 +381,7 @@ def made(it, network, layout):
         "bottlenecks": [{"from": one, "to": other, "ns_per_byte": network.links[one, other]["ns_per_byte"]} for one, other in layout.bottlenecks],
         "honest_every_ns": HONEST_EVERY,
         "flood_until_ns": FLOOD_UNTIL,
+        "restarts_ns": it.restart,
         "horizon_ns": HORIZON,
     }
 

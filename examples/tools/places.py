@@ -4,7 +4,7 @@ import os
 import re
 
 TOP = os.path.dirname(os.path.dirname(os.path.dirname(os.path.abspath(__file__))))
-TABLES = ("router", "host", "link", "route")
+TABLES = ("router", "host", "link", "route", "restart", "reroute")
 
 Key = collections.namedtuple("Key", "said default")
 
