@@ -1,6 +1,7 @@
 """Networks as configurations: a builder, and three topologies that floods, tests and benches share.
 
-A `Network` takes routers, hosts and links, finds the routes, and gives the text of a configuration:
+A `Network` takes routers, hosts and links, finds the routes, takes restarts and changed routes where there are to be any,
+and gives the text of a configuration:
 
     network = Network(horizon_ns=10**9)
     network.router("R", slots=8)
