@@ -247,6 +247,22 @@ def rebooting(sources):
     return charged(sources, node, node.charges[place], max(0, restart.at_ns + sources.rng.choice([0, 0, 0, -1, 1, 10**6])))
 
 
+def spending(sources):
+    """Rows at a router that use one grant up in each of some boots: before a restart, and at it or behind it."""
+    rng, network = sources.rng, sources.network
+    name = rng.choice(network.restart)["router"]
+    restarts = [it["at_ns"] for it in network.restart if it["router"] == name][: rng.choice([1, 2, 2, 4])]
+    begin = max(0, restarts[0] - rng.choice([1, 1, 1_000, 10**6, 10**8]))
+    times = [begin] + [at + rng.choice([0, 0, 0, 1, 10]) for at in restarts]
+    second = (begin + sources.routers[name].get("clock_offset_ns", 0)) // SECOND
+    flow, rights, nonce = sources.a_flow(), (1, rng.choice([2, 4, 10, 63])), sources.a_grant()[1]
+    found = []
+    for now in times:
+        told = f"{nonce}/1/{rights[1]}/0/{item(sources, name, now, flow, rights, second)}"
+        found.append((now, name, "list", *flow, rng.choice([984, 984, 983, 500]), told))
+    return found
+
+
 def charged(sources, node, charge, now):
     """A row that shows the grant of a charge again."""
     rng, grant = sources.rng, charge.grant
@@ -341,6 +357,7 @@ def rows(rng, network, run=None):
         busy = busy[:2]
     count = count if run is None else rng.choice([1, 2, 4, 8])
     found = [] if chance(rng, 0.95) else known(sources)
+    found += spending(sources) if network.restart and chance(rng, 0.3) else []
     for now in times(sources, count):
         found += a_row(sources, now, rng.choice(busy), kinds)
         if chance(rng, 0.15) and (found[-1][2] != "send" or len(sources.hosts) > 1):
