@@ -3,6 +3,9 @@ pub mod Ports
 pub mod Answers
 pub mod Queueing
 pub mod Handled
+pub mod Changed
+pub mod Copies
+pub mod InForce
 pub mod Known
 pub mod Ways
 pub mod Tables
