@@ -1,6 +1,9 @@
-use super::*;
 use std::cmp::Ordering;
-use std::collections::BTreeMap;
+use tva_base::{
+    Address, Caps, Event, Flow, Grant, HostPlan, Key, Line, Listed, Name, Rights, Route, RouterPlan,
+    Totals, address, carries, credit, decimal, grants_are_ordered, prefix, rights_in,
+    rights_number, rights_size, version_for,
+};
 
 // Lengths, rights and credits in nanoseconds.
 const CREDITS: [(u32, u32, u8, u64); 32] = [
@@ -285,9 +288,14 @@ fn granted(src: u32, dst: u32, n: u32, t: u8, second: u64) -> Grant {
     }
 }
 
-// Grants can be sorted, and be the keys of a map.
+fn sorts<T: Ord>() {}
+
+// Flows, rights and grants can be sorted, and be the keys of a map.
 #[test]
-fn grants_stand_in_order(rt: HostRuntime) -> Result<(), std::test::Fail> {
+fn grants_stand_in_order(rt: HostRuntime) {
+    sorts::<Flow>();
+    sorts::<Rights>();
+    sorts::<Grant>();
     let order = [
         granted(1, 7, 5, 5, 5),
         granted(2, 1, 9, 9, 9),
@@ -296,16 +304,16 @@ fn grants_stand_in_order(rt: HostRuntime) -> Result<(), std::test::Fail> {
         granted(2, 3, 5, 7, 1),
         granted(2, 3, 5, 7, 2),
     ];
-    let mut grants = order;
-    grants.reverse();
-    grants.sort_unstable();
-    assert_eq!(rt; grants.as_slice(), order.as_slice());
-    let mut sums = BTreeMap::new(rt.alloc());
-    for (place, grant) in grants.iter().enumerate() {
-        sums.insert(*grant, place)?;
+    for (a, b) in order.iter().zip(order.iter().skip(1)) {
+        assert_eq!(rt; grants_are_ordered(a, b), Ordering::Less, "{b:?}");
+        assert_eq!(rt; grants_are_ordered(b, a), Ordering::Greater, "{b:?}");
+        assert_eq!(rt; grants_are_ordered(a, a), Ordering::Equal, "{a:?}");
+        assert!(rt; a < b, "{b:?}");
+        assert!(rt; a.flow <= b.flow, "{b:?}");
+        assert_eq!(rt;
+            a.rights.cmp(&b.rights),
+            (a.rights.n, a.rights.t).cmp(&(b.rights.n, b.rights.t)),
+            "{b:?}"
+        );
     }
-    assert_eq!(rt; sums.len(), 6);
-    assert_eq!(rt; sums.get(&granted(2, 3, 5, 7, 1)).copied(), Some(4));
-    assert_eq!(rt; grants_are_ordered(&order[1], &order[0]), Ordering::Greater);
-    Ok(())
 }
