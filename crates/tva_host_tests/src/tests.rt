@@ -2,16 +2,20 @@ ghost use Rattle.std.specs.Prelude.{◌≡◌, ◌≤◌, IfOk};
 ghost use Rattle.tva_base.specs.Plan.{IsHostPlan};
 ghost use Rattle.tva_shim.specs.Packets.{IsCarried};
 
-use super::*;
-use crate::cases::CASES;
 use arrayvec::ArrayVec;
+use std::alloc::{AllocError, Global};
 use std::process::Abort;
 use std::test::Fail;
 use tva_base::{
-    Listed, Name, PolicyKind, PolicyPlan, Rights, ShapeKind, WhatKind, address, decimal,
-    seconds_max, units_max,
+    Address, BackKind, Flow, HostPlan, Listed, Name, PacketId, PolicyKind, PolicyPlan, Rights,
+    ShapeKind, Time, WhatKind, address, decimal, seconds_max, units_max,
 };
-use tva_shim::{decode, encode, length};
+use tva_host::{Host, Made, Receipt};
+use tva_shim::{Carried, Packet, decode, encode, length};
+
+mod cases;
+
+use cases::CASES;
 
 fn crosses<T: Send + Sync>() {}
 
@@ -45,28 +49,6 @@ fn kind_named(word: Option<&str>) -> PolicyKind {
     }
 }
 
-/// The denied address of a word, where it names one.
-fn denied_address(
-    rt: &impl Abort,
-    alloc: Global,
-    word: Option<&str>,
-) -> Result<Vec<Address>, AllocError> {
-    let mut denied = Vec::new(alloc);
-    if word != Some("-") {
-        denied.push(address_of(rt, word))?;
-    }
-    Ok(denied)
-}
-
-/// The denied tag of a word, where it names one.
-fn denied_tag(alloc: Global, word: Option<&str>) -> Result<Vec<u16>, AllocError> {
-    let mut denied = Vec::new(alloc);
-    if word != Some("-") {
-        denied.push(number(word, 65535) as u16)?;
-    }
-    Ok(denied)
-}
-
 /// The plan of a host in a line.
 fn plan_of(rt: &impl Abort, alloc: Global, line: &str) -> Result<HostPlan, AllocError>
     ensures { IfOk result IsHostPlan }
@@ -86,8 +68,15 @@ fn plan_of(rt: &impl Abort, alloc: Global, line: &str) -> Result<HostPlan, Alloc
         t: number(Some(t), u64::from(seconds_max(version))) as u8,
     };
     let grants = number(words.next(), 1_000_000) as u32;
-    let deny = Listed::new(denied_address(rt, alloc, words.next())?);
-    let deny_tags = Listed::new(denied_tag(alloc, words.next())?);
+    let (mut deny, mut deny_tags) = (Vec::new(alloc), Vec::new(alloc));
+    let source = words.next();
+    if source != Some("-") {
+        deny.push(address_of(rt, source))?;
+    }
+    let tag = words.next();
+    if tag != Some("-") {
+        deny_tags.push(number(tag, 65535) as u16)?;
+    }
     Ok(HostPlan {
         name: Name::new("A"),
         address,
@@ -99,8 +88,8 @@ fn plan_of(rt: &impl Abort, alloc: Global, line: &str) -> Result<HostPlan, Alloc
             kind,
             rights,
             grants,
-            deny,
-            deny_tags,
+            deny: Listed::new(deny),
+            deny_tags: Listed::new(deny_tags),
         },
         uplink: 0,
     })
@@ -183,31 +172,28 @@ fn digits_of(alloc: Global, carried: &Carried) -> Result<String, AllocError> {
     }
 }
 
-/// A packet that the host made for a peer, in words.
+/// A packet that the host of a node and an address made for a peer, in words.
 fn made_words(
     rt: &impl Abort,
     alloc: Global,
-    host: &Host,
+    from: (u16, Address),
     made: &Made,
     dst: Address,
 ) -> Result<String, Fail> {
     let packet = &made.packet;
-    assert_eq!(rt; (packet.hops, packet.id.node), (0, host.node));
-    assert_eq!(rt;
-        (packet.flow.src, packet.flow.dst),
-        (host.plan.address, dst)
-    );
-    let ordinal = packet.id.ordinal;
-    let bytes = length(packet);
+    assert_eq!(rt; (packet.hops, packet.id.node), (0, from.0));
+    assert_eq!(rt; (packet.flow.src, packet.flow.dst), (from.1, dst));
+    let (ordinal, bytes) = (packet.id.ordinal, length(packet));
     let shape = shape_word(made.shape);
     let digits = digits_of(alloc, &packet.carried)?;
     Ok(format!(in alloc; "#{ordinal} {bytes} {shape} {digits}")?)
 }
 
-/// The packet of a send row, in words.
-fn send(
+/// What the host answers at a time to a send row, or to a packet that it receives, in words.
+fn answer(
     rt: &impl Abort,
     alloc: Global,
+    from: (u16, Address),
     host: &mut Host,
     now: u64,
     call: &str,
@@ -215,79 +201,46 @@ fn send(
     requires { host.old.last ≤ now }
     ensures { IfOk result (λ told. host.new.last ≤ now) }
 {
-    let mut words = call.split(' ').skip(2);
-    let dst = address_of(rt, words.next());
-    let payload = number(words.next(), 1600) as u16;
-    assert!(rt; host.next <= 1 << 63);
-    let made = host.intend(alloc, Time(now), dst, payload)?;
-    assert_eq!(rt; made.packet.payload, payload);
-    made_words(rt, alloc, host, &made, dst)
-}
-
-/// The packet of a row that injects it, in words.
-fn inject(rt: &impl Abort, alloc: Global, host: &mut Host, call: &str) -> Result<String, Fail>
-    ensures { IfOk result (λ told. host.new.last ≡ host.old.last) }
-{
-    let (flow, payload, carried) = parts_of(rt, alloc, call, 1)?;
-    assert!(rt; host.next <= 1 << 63);
-    let packet = host.inject(flow, payload, carried);
-    assert_eq!(rt; (packet.hops, packet.id.node), (0, host.node));
-    assert_eq!(rt; (packet.flow, packet.payload), (flow, payload));
-    let ordinal = packet.id.ordinal;
-    let bytes = length(&packet);
-    let digits = digits_of(alloc, &packet.carried)?;
-    Ok(format!(in alloc; "#{ordinal} {bytes} {digits}")?)
-}
-
-/// What the host makes of a packet, in words.
-fn receive(
-    rt: &impl Abort,
-    alloc: Global,
-    host: &mut Host,
-    now: u64,
-    call: &str,
-) -> Result<String, Fail>
-    requires { host.old.last ≤ now }
-    ensures { IfOk result (λ told. host.new.last ≤ now) }
-{
+    if call.starts_with("send") {
+        let mut words = call.split(' ').skip(2);
+        let dst = address_of(rt, words.next());
+        let payload = number(words.next(), 1600) as u16;
+        let made = host.intend(alloc, Time(now), dst, payload)?;
+        assert_eq!(rt; made.packet.payload, payload);
+        return made_words(rt, alloc, from, &made, dst);
+    }
     let (flow, payload, carried) = parts_of(rt, alloc, call, 2)?;
     let id = PacketId {
         node: 0,
         ordinal: 1,
     };
     let packet = Packet::new(id, flow, 1, payload, carried);
-    assert!(rt; host.next <= 1 << 63);
     let receipt = host.receive(alloc, Time(now), packet)?;
-    let what = what_word(receipt.what);
-    let back = back_word(receipt.back);
+    let (what, back) = (what_word(receipt.what), back_word(receipt.back));
     let reply = match &receipt.reply {
         None => String::from_str(alloc, "-")?,
-        Some(made) => made_words(rt, alloc, host, made, flow.src)?,
+        Some(made) => made_words(rt, alloc, from, made, flow.src)?,
     };
     Ok(format!(in alloc; "{what} {back} {reply}")?)
 }
 
-/// What the host answers to a call, in words. The last time is kept.
-fn answer(
+/// The packet of a row that injects it, in words.
+fn inject(
     rt: &impl Abort,
     alloc: Global,
+    node: u16,
     host: &mut Host,
-    last: &mut u64,
     call: &str,
 ) -> Result<String, Fail>
-    requires { host.old.last ≤ last.old }
-    ensures { IfOk result (λ told. host.new.last ≤ last.new) }
+    ensures { IfOk result (λ told. host.new.last ≡ host.old.last) }
 {
-    if call.starts_with("inject") {
-        return inject(rt, alloc, host, call);
-    }
-    let now = number(call.split(' ').nth(1), 1_000_000_000_000_000);
-    assert!(rt; *last <= now);
-    *last = now;
-    if call.starts_with("send") {
-        return send(rt, alloc, host, now, call);
-    }
-    receive(rt, alloc, host, now, call)
+    let (flow, payload, carried) = parts_of(rt, alloc, call, 1)?;
+    let packet = host.inject(flow, payload, carried);
+    assert_eq!(rt; (packet.hops, packet.id.node), (0, node));
+    assert_eq!(rt; (packet.flow, packet.payload), (flow, payload));
+    let (ordinal, bytes) = (packet.id.ordinal, length(&packet));
+    let digits = digits_of(alloc, &packet.carried)?;
+    Ok(format!(in alloc; "#{ordinal} {bytes} {digits}")?)
 }
 
 /// Plays the calls of a case, and counts them.
@@ -297,14 +250,22 @@ fn play(rt: &impl Abort, alloc: Global, case: &str) -> Result<u64, Fail> {
         return Ok(0);
     };
     let node = number(line.split(' ').nth(1), 65535) as u16;
-    let mut host = Host::build(alloc, node, &plan_of(rt, alloc, line)?)?;
-    let mut last = 0u64;
-    let mut calls = 0u64;
+    let plan = plan_of(rt, alloc, line)?;
+    let from = (node, plan.address);
+    let mut host = Host::build(alloc, node, &plan)?;
+    let (mut last, mut calls) = (0u64, 0u64);
     for line in lines {
         let Some((call, wanted)) = line.split_once(" -> ") else {
             continue;
         };
-        let told = answer(rt, alloc, &mut host, &mut last, call)?;
+        let told = if call.starts_with("inject") {
+            inject(rt, alloc, node, &mut host, call)?
+        } else {
+            let now = number(call.split(' ').nth(1), 1_000_000_000_000_000);
+            assert!(rt; last <= now);
+            last = now;
+            answer(rt, alloc, from, &mut host, now, call)?
+        };
         assert_eq!(rt; told.as_str(), wanted, "{line}");
         calls = calls.wrapping_add(1);
     }

@@ -3,7 +3,7 @@
 // and for regular packets QUEUES/RING/QUEUE_BYTES/CLASS_BYTES, and for legacy packets RING/BYTES. Then
 // come its calls, each with its answer: `queue TIME CLASS KEY LENGTH`, whose packets are numbered from
 // 1, refused ones too, and `decide TIME`, whose starts tell when the link is free again.
-pub(crate) const CASES: &str = "\
+pub const CASES: &str = "\
 case nothing waits
 port ns_per_byte=10 share=20 burst=4096 quantum=2048 request=64/32/65536/1048576 regular=64/32/65536/1048576 legacy=256/262144
 decide 0 -> Idle

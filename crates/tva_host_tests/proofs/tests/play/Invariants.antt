@@ -1,5 +1,5 @@
 use Rattle.std.proofs.Common.{◌≤◌}
-use Rattle.tva_host.proofs.host.tests.play.Given as goal
+use Rattle.tva_host_tests.proofs.tests.play.Given as goal
 
 -- no call was later than the last time
 abbrev pub invariant-loop-line : goal.invariant-loop-line

@@ -1,14 +1,19 @@
 ghost use Rattle.std.specs.Prelude.{◌≡◌, ◌≤◌, IfOk, IfSome};
 ghost use Rattle.tva_base.specs.Plan.{AreClassLimits, AreLinkLimits};
 
-use super::*;
-use crate::bounds::{longest_regular_wait, longest_request_wait};
-use crate::cases::CASES;
-use crate::level_cases::LEVEL_CASES;
+use std::alloc::{AllocError, Global};
 use std::process::Abort;
 use std::test::Fail;
-use tva_base::{Address, DrrLimits, Flow, PacketId};
-use tva_shim::{Carried, Entries, Entry, Kind, ReturnInfo, Shim, length};
+use tva_base::{Address, Class, DrrLimits, Flow, LinkLimits, PacketId, Time};
+use tva_drr::Offered;
+use tva_port::{Decision, Port, longest_regular_wait, longest_request_wait};
+use tva_shim::{Carried, Entries, Entry, Kind, Packet, ReturnInfo, Shim, length};
+
+mod cases;
+mod level_cases;
+
+use cases::CASES;
+use level_cases::LEVEL_CASES;
 
 fn crosses<T: Send + Sync>() {}
 
@@ -29,10 +34,7 @@ fn number(word: Option<&str>) -> u64 {
 }
 
 fn small_number(word: Option<&str>) -> u32 {
-    let Some(word) = word else {
-        return 0;
-    };
-    word.parse::<u32>().unwrap_or(0)
+    u32::try_from(number(word)).unwrap_or(0)
 }
 
 /// What stands behind the sign of a word as `share=20`.
@@ -161,19 +163,13 @@ fn class_named(word: Option<&str>) -> Class {
     }
 }
 
-fn class_name(class: Class) -> &'static str {
-    match class {
-        Class::Request => "request",
-        Class::Regular => "regular",
-        Class::Legacy => "legacy",
-    }
-}
-
 /// Queues a packet, and gives the answer in words. A refused packet is handed back.
-fn queue(rt: &impl Abort, port: &mut Port, ordinal: u64, call: &str) -> &'static str {
-    let mut words = call.split_whitespace();
-    let _queue = words.next();
-    let now = number(words.next());
+fn queue(rt: &impl Abort, port: &mut Port, now: u64, ordinal: u64, call: &str) -> &'static str
+    requires { port.old.last ≤ now }
+    requires { now ≤ 1000000000000000 }
+    ensures { port.new.last ≡ now }
+{
+    let mut words = call.split_whitespace().skip(2);
     let class = class_named(words.next());
     let key = small_number(words.next());
     let bytes = small_number(words.next());
@@ -181,7 +177,6 @@ fn queue(rt: &impl Abort, port: &mut Port, ordinal: u64, call: &str) -> &'static
         None => packet(rt, ordinal, bytes),
         Some(inner) => request(rt, ordinal, bytes, key, small_number(Some(inner))),
     };
-    assert!(rt; port.last <= now && now <= 1_000_000_000_000_000);
     match port.queue(Time(now), class, key, packet) {
         Offered::Queued => "Queued",
         Offered::NoQueue(packet) => {
@@ -196,49 +191,48 @@ fn queue(rt: &impl Abort, port: &mut Port, ordinal: u64, call: &str) -> &'static
 }
 
 /// Decides at a time, and gives the answer in words.
-fn decide(rt: &impl Abort, alloc: Global, port: &mut Port, call: &str) -> Result<String, Fail> {
-    let mut words = call.split_whitespace();
-    let _decide = words.next();
-    let now = number(words.next());
-    assert!(rt; port.last <= now && now <= 1_000_000_000_000_000);
-    assert!(rt; port.free_at <= now);
+fn decide(rt: &impl Abort, alloc: Global, port: &mut Port, now: u64) -> Result<String, AllocError>
+    requires { port.old.last ≤ now }
+    requires { now ≤ 1000000000000000 }
+    ensures { port.new.last ≡ now }
+{
+    assert!(rt; port.free_at().0 <= now);
     match port.decide(Time(now)) {
         Decision::Start(class, packet) => {
-            let name = class_name(class);
-            let ordinal = packet.id.ordinal;
-            let bytes = length(&packet);
-            let end = port.free_at().0;
-            Ok(format!(in alloc; "Start {name} #{ordinal} {bytes} free_at {end}")?)
+            let name = match class {
+                Class::Request => "request",
+                Class::Regular => "regular",
+                Class::Legacy => "legacy",
+            };
+            let (ordinal, bytes, end) = (packet.id.ordinal, length(&packet), port.free_at().0);
+            format!(in alloc; "Start {name} #{ordinal} {bytes} free_at {end}")
         }
-        Decision::WaitUntil(time) => {
-            let time = time.0;
-            Ok(format!(in alloc; "WaitUntil {time}")?)
-        }
-        Decision::Idle => Ok(format!(in alloc; "Idle")?),
+        Decision::WaitUntil(time) => format!(in alloc; "WaitUntil {}", time.0),
+        Decision::Idle => String::from_str(alloc, "Idle"),
     }
 }
 
-/// Makes the calls of some cases, compares their answers, and gives the number of calls.
-fn calls_of(rt: &impl Abort, alloc: Global, cases: &str) -> Result<u64, Fail> {
-    let mut port: Option<Port> = None;
-    let mut ordinal = 0u64;
-    let mut calls = 0u64;
-    for line in cases.lines() {
-        if line.starts_with("port") {
-            port = Some(Port::build(alloc, limits_of(rt, line))?);
-            ordinal = 0;
-        }
+/// Makes the calls of a case, compares their answers, and gives the number of calls.
+fn play(rt: &impl Abort, alloc: Global, case: &str) -> Result<u64, Fail> {
+    let mut lines = case.lines().skip(1);
+    let Some(line) = lines.next() else {
+        return Ok(0);
+    };
+    let mut port = Port::build(alloc, limits_of(rt, line))?;
+    let (mut last, mut ordinal, mut calls) = (0u64, 0u64, 0u64);
+    for line in lines {
         let Some((call, wanted)) = line.split_once(" -> ") else {
             continue;
         };
-        let Some(port) = &mut port else {
-            continue;
-        };
+        let now = number(call.split(' ').nth(1));
+        assert!(rt; last <= now && now <= 1_000_000_000_000_000);
+        last = now;
         if call.starts_with("queue") {
             ordinal = ordinal.wrapping_add(1);
-            assert_eq!(rt; queue(rt, port, ordinal, call), wanted, "{line}");
+            let answer = queue(rt, &mut port, now, ordinal, call);
+            assert_eq!(rt; answer, wanted, "{line}");
         } else {
-            let answer = decide(rt, alloc, port, call)?;
+            let answer = decide(rt, alloc, &mut port, now)?;
             assert_eq!(rt; answer.as_str(), wanted, "{line}");
         }
         calls = calls.wrapping_add(1);
@@ -246,61 +240,87 @@ fn calls_of(rt: &impl Abort, alloc: Global, cases: &str) -> Result<u64, Fail> {
     Ok(calls)
 }
 
+/// On links with two levels, whose cases come last, the neighbours behind one tag take turns.
 #[test]
 fn sequences_of_queueings_and_decisions(rt: HostRuntime) -> Result<(), Fail> {
-    let calls = calls_of(&rt, rt.alloc(), CASES)?;
-    assert_eq!(rt; calls, 559);
+    let mut calls = 0u64;
+    for case in CASES.split("case ").chain(LEVEL_CASES.split("case ")) {
+        calls = calls.wrapping_add(play(&rt, rt.alloc(), case)?);
+    }
+    assert_eq!(rt; calls, 738);
     Ok(())
 }
 
-/// On a link with two levels the neighbours behind one tag take turns.
-#[test]
-fn sequences_on_two_levels(rt: HostRuntime) -> Result<(), Fail> {
-    let calls = calls_of(&rt, rt.alloc(), LEVEL_CASES)?;
-    assert_eq!(rt; calls, 179);
-    Ok(())
-}
+/// Limits, a class, the bytes in its queue up to a packet and with it, and the bound in nanoseconds.
+///
+/// In the two floods W, the most bytes up to a packet of 1,000 bytes, is 63 * (2,048 + 2,048) + 1,000 =
+/// 259,048, and such a packet starts at 20,000. The next two logs are the least of their kind, found by
+/// search, in which the last packet waits nine tenths of its bound: 38,321,979 of 42,476,000 ns for a
+/// request, and 20,199 of 22,327 ns for a regular packet. Among three queues a regular packet waits 8,479
+/// of 15,972 ns.
+///
+/// Of a request of 1,000 bytes behind 64 tags with 4 queues each: of its tag's requests at most
+/// 3 * (2,048 + 2,048) + 1,000 = 13,288 bytes go up to it, and of all 63 * (14,336 + 2,048) + 13,288.
+/// Behind two tags with 2 queues each a request waits 12,939,999 of 25,814,000 ns.
+const BOUNDS: [(&str, Class, u32, u128); 8] = [
+    (
+        "port ns_per_byte=10 share=20 burst=4096 quantum=2048 request=64/32/65536/1048576 regular=64/32/65536/1048576 legacy=256/262144",
+        Class::Request,
+        1_000,
+        52_628_800,
+    ),
+    (
+        "port ns_per_byte=10 share=20 burst=4096 quantum=2048 request=64/32/65536/1048576 regular=64/32/65536/1048576 legacy=256/262144",
+        Class::Regular,
+        1_000,
+        2_791_495,
+    ),
+    (
+        "port ns_per_byte=1 share=1000 burst=4096 quantum=2048 request=1/64/65536/131072 regular=1/64/65536/131072 legacy=9/20000",
+        Class::Request,
+        38_380,
+        42_476_000,
+    ),
+    (
+        "port ns_per_byte=1 share=1000 burst=4096 quantum=2048 request=1/64/65536/131072 regular=1/64/65536/131072 legacy=9/20000",
+        Class::Regular,
+        16_160,
+        22_327,
+    ),
+    (
+        "port ns_per_byte=1 share=1000 burst=4096 quantum=2048 request=3/64/65536/131072 regular=3/64/65536/131072 legacy=9/20000",
+        Class::Regular,
+        1_620,
+        15_972,
+    ),
+    (
+        "port ns_per_byte=10 share=20 burst=4096 quantum=2048 request=64/32/65536/1048576 regular=64/32/65536/1048576 legacy=256/262144 inner=4",
+        Class::Request,
+        1_000,
+        209_915_200,
+    ),
+    (
+        "port ns_per_byte=10 share=20 burst=4096 quantum=2048 request=64/32/65536/1048576 regular=64/32/65536/1048576 legacy=256/262144 inner=4",
+        Class::Regular,
+        1_000,
+        2_791_495,
+    ),
+    (
+        "port ns_per_byte=1 share=1000 burst=4096 quantum=2048 request=2/64/65536/131072 regular=2/64/65536/131072 legacy=9/20000 inner=2",
+        Class::Request,
+        3_286,
+        25_814_000,
+    ),
+];
 
-/// The bounds of packets in the cases above. In the two floods W, the most bytes up to a packet of 1,000
-/// bytes, is 63 * (2,048 + 2,048) + 1,000 = 259,048, and such a packet starts at 20,000. The other two
-/// logs are the least of their kind, found by search, in which the last packet waits nine tenths of its
-/// bound: 38,321,979 of 42,476,000 ns for a request, and 20,199 of 22,327 ns for a regular packet. Among
-/// three queues a regular packet waits 8,479 of 15,972 ns.
 #[test]
 fn bounds_of_the_cases(rt: HostRuntime) {
-    let flood = limits_of(
-        &rt,
-        "port ns_per_byte=10 share=20 burst=4096 quantum=2048 request=64/32/65536/1048576 regular=64/32/65536/1048576 legacy=256/262144",
-    );
-    assert_eq!(rt; longest_request_wait(&flood, 1000), 52_628_800);
-    assert_eq!(rt; longest_regular_wait(&flood, 1000), 2_791_495);
-    let near = limits_of(
-        &rt,
-        "port ns_per_byte=1 share=1000 burst=4096 quantum=2048 request=1/64/65536/131072 regular=1/64/65536/131072 legacy=9/20000",
-    );
-    assert_eq!(rt; longest_request_wait(&near, 38_380), 42_476_000);
-    assert_eq!(rt; longest_regular_wait(&near, 16_160), 22_327);
-    let turns = limits_of(
-        &rt,
-        "port ns_per_byte=1 share=1000 burst=4096 quantum=2048 request=3/64/65536/131072 regular=3/64/65536/131072 legacy=9/20000",
-    );
-    assert_eq!(rt; longest_regular_wait(&turns, 1620), 15_972);
-}
-
-/// The bound of a request of 1,000 bytes behind 64 tags with 4 queues each: of its tag's requests
-/// at most 3 * (2,048 + 2,048) + 1,000 = 13,288 bytes go up to it, and of all 63 * (14,336 +
-/// 2,048) + 13,288. Behind two tags with 2 queues each a request waits 12,939,999 of 25,814,000 ns.
-#[test]
-fn bound_on_two_levels(rt: HostRuntime) {
-    let levels = limits_of(
-        &rt,
-        "port ns_per_byte=10 share=20 burst=4096 quantum=2048 request=64/32/65536/1048576 regular=64/32/65536/1048576 legacy=256/262144 inner=4",
-    );
-    assert_eq!(rt; longest_request_wait(&levels, 1000), 209_915_200);
-    assert_eq!(rt; longest_regular_wait(&levels, 1000), 2_791_495);
-    let few = limits_of(
-        &rt,
-        "port ns_per_byte=1 share=1000 burst=4096 quantum=2048 request=2/64/65536/131072 regular=2/64/65536/131072 legacy=9/20000 inner=2",
-    );
-    assert_eq!(rt; longest_request_wait(&few, 3286), 25_814_000);
+    for (line, class, bytes, bound) in BOUNDS {
+        let limits = limits_of(&rt, line);
+        let wait = match class {
+            Class::Request => longest_request_wait(&limits, bytes),
+            _ => longest_regular_wait(&limits, bytes),
+        };
+        assert_eq!(rt; wait, bound, "{bytes} {line}");
+    }
 }

@@ -1,7 +1,7 @@
 // Calls on one port of a link with two levels, worked out apart from this code by a program over
 // the definitions. A `port` has the number of queues behind a key as its last word; a request has
 // its inner key as its last word, and all else is as in the cases of links with one level.
-pub(crate) const LEVEL_CASES: &str = "\
+pub const LEVEL_CASES: &str = "\
 case requests of two paths behind one tag
 port ns_per_byte=10 share=20 burst=4096 quantum=2048 request=64/32/65536/1048576 regular=64/32/65536/1048576 legacy=256/262144 inner=4
 queue 0 request 1 1000 1 -> Queued
