@@ -1,23 +1,65 @@
-// What the program answers, over files and a sink in memory.
-use crate::status::{Status, status_text};
+// What no script shows of the program: what it answers over files and a sink in memory, which files it
+// loads and which nodes it tells the gate of, that both halves of a network run at once, and what comes of
+// a replay where its own files and its sink want memory too. Whole replays, words and texts are shown by
+// `tests/replays` and `tests/commands`, and damage at each place by `tests/damage`.
 use crate::top::run;
-use arrayvec::ArrayString;
-use std::process::Abort;
-use std::sync::atomic::{AtomicU64, Ordering};
+use std::alloc::AllocError;
 use std::test::Fail;
-use std::thread::Threads;
-use tva_outside::{Gate, MemoryShelf, MemorySink, OpenGate, Shelf};
+use tva_outside::{MemoryShelf, MemorySink, OpenGate};
 
 mod damage;
-mod loads;
-mod replaying;
-mod rows;
-mod texts;
+mod gates;
 
-use texts::{files, report, runs};
+// Files by their names.
+static FILES: [(&str, &str); 10] = [
+    (
+        "edge",
+        "horizon_ns = 1000000000000\nmax_events = 1000\n[[router]]\nname = \"R1\"\nmaster = \"000102030405060708090a0b0c0d0e0f101112131415161718191a1b1c1d1e1f\"\nslots = 8\n",
+    ),
+    (
+        "walk",
+        "horizon_ns = 1000000000\nmax_events = 1000\n[[router]]\nname = \"R1\"\nmaster = \"000102030405060708090a0b0c0d0e0f101112131415161718191a1b1c1d1e1f\"\nslots = 8\n[[host]]\nname = \"A\"\naddress = \"10.0.0.1\"\npolicy = \"client\"\n[[host]]\nname = \"B\"\naddress = \"10.0.1.1\"\npolicy = \"server\"\n[[link]]\nfrom = \"A\"\nto = \"R1\"\nns_per_byte = 10\ndelay_ns = 1000000\ntag = 1\n[[link]]\nfrom = \"R1\"\nto = \"A\"\nns_per_byte = 10\ndelay_ns = 1000000\n[[link]]\nfrom = \"R1\"\nto = \"B\"\nns_per_byte = 10\ndelay_ns = 1000000\n[[link]]\nfrom = \"B\"\nto = \"R1\"\nns_per_byte = 10\ndelay_ns = 1000000\ntag = 2\n[[route]]\nrouter = \"R1\"\nprefix = \"10.0.0.0/24\"\nvia = \"A\"\n[[route]]\nrouter = \"R1\"\nprefix = \"10.0.1.0/24\"\nvia = \"B\"\n",
+    ),
+    (
+        "trace",
+        "time,node,kind,src,dst,payload,shim\n5000000000,R1,list,10.0.0.1,10.0.1.1,472,00000000000a/1/10/0/R1@5\n5000000000,R1,list,10.0.0.1,10.0.1.1,472,00000000000a/1/10/0/0500112233445566\n7000000000,R1,list,10.0.0.1,10.0.1.1,472,00000000000a/1/2/0/R1@5\n",
+    ),
+    (
+        "header",
+        "time,node,kind,src,dst,payload,shim\n",
+    ),
+    (
+        "two",
+        "horizon_ns = 1000000000000\nmax_events = 2\n[[router]]\nname = \"R1\"\nmaster = \"000102030405060708090a0b0c0d0e0f101112131415161718191a1b1c1d1e1f\"\nslots = 8\n",
+    ),
+    (
+        "pair",
+        "horizon_ns = 1000000000000\nmax_events = 1000\n[[router]]\nname = \"R1\"\nmaster = \"000102030405060708090a0b0c0d0e0f101112131415161718191a1b1c1d1e1f\"\nslots = 8\n[[router]]\nname = \"R2\"\nmaster = \"000102030405060708090a0b0c0d0e0f101112131415161718191a1b1c1d1e1f\"\nslots = 8\n",
+    ),
+    (
+        "both",
+        "time,node,kind,src,dst,payload,shim\n5000000000,R2,list,10.0.0.1,10.0.1.1,472,00000000000a/1/10/0/R1@5\n5000000000,R1,list,10.0.0.1,10.0.1.1,472,00000000000a/1/10/0/R1@5\n5000000001,R2,list,10.0.0.1,10.0.1.1,472,00000000000a/1/10/0/R2@5\n",
+    ),
+    (
+        "ends",
+        "horizon_ns = 1000000000\nmax_events = 1000\n[[router]]\nname = \"R1\"\nmaster = \"000102030405060708090a0b0c0d0e0f101112131415161718191a1b1c1d1e1f\"\nslots = 8\n[[host]]\nname = \"A\"\naddress = \"10.0.0.1\"\npolicy = \"client\"\n[[host]]\nname = \"B\"\naddress = \"10.0.1.1\"\npolicy = \"server\"\n[[link]]\nfrom = \"A\"\nto = \"R2\"\nns_per_byte = 10\ndelay_ns = 1000000\ntag = 1\n[[link]]\nfrom = \"R1\"\nto = \"A\"\nns_per_byte = 10\ndelay_ns = 1000000\n[[link]]\nfrom = \"R1\"\nto = \"B\"\nns_per_byte = 10\ndelay_ns = 1000000\n[[link]]\nfrom = \"B\"\nto = \"R1\"\nns_per_byte = 10\ndelay_ns = 1000000\ntag = 2\n[[route]]\nrouter = \"R1\"\nprefix = \"10.0.0.0/24\"\nvia = \"A\"\n[[route]]\nrouter = \"R1\"\nprefix = \"10.0.1.0/24\"\nvia = \"B\"\n",
+    ),
+    (
+        "falling",
+        "time,node,kind,src,dst,payload,shim\n5000000000,R1,list,10.0.0.1,10.0.1.1,472,00000000000a/1/10/0/R1@5\n5000000000,R1,list,10.0.0.1,10.0.1.1,472,00000000000a/1/10/0/R1@5\n4999999999,R1,list,10.0.0.1,10.0.1.1,472,00000000000a/1/10/0/R1@5\n",
+    ),
+    (
+        "steps",
+        "time,node,kind,src,dst,payload,shim\n0,A,send,,10.0.1.1,77,\n10000000,A,send,,10.0.1.1,1000,\n",
+    ),
+];
+
+// The report of a replay of `walk` and `steps`.
+const REPORT: &str =
+    "0 A send A#1 100 request queued:R1\n0 A start A#1 100 R1 request 1000\n1001000 R1 in A#1 100 A request - queued:B\n1001000 R1 start A#1 110 B request 1002100\n2002100 B recv A#1 110 R1 request - B#1/35/request/grant/queued:R1\n2002100 B start B#1 35 R1 request 2002450\n3002450 R1 in B#1 35 B request - queued:A\n3002450 R1 start B#1 45 A request 3002900\n4002900 A recv B#1 45 R1 request grant A#2/52/list/grant/queued:R1\n4002900 A start A#2 52 R1 regular 4003420\n5003420 R1 in A#2 52 A regular - queued:B\n5003420 R1 start A#2 52 B regular 5003940\n6003940 B recv A#2 52 R1 regular grant -\n10000000 A send A#3 1028 nonce queued:R1\n10000000 A start A#3 1028 R1 regular 10010280\n11010280 R1 in A#3 1028 A regular - queued:B\n11010280 R1 start A#3 1028 B regular 11020560\n12020560 B recv A#3 1028 R1 regular - -\ntotal events=18 routed=4 authorised=2 demoted=0 dropped=0 started=8 received=4 bytes=1077\n";
 
 // The words of a line, parted by single blanks.
-fn words(rt: &impl AllocGlobal, line: &str) -> Result<Vec<String>, Fail> {
+fn words(rt: &impl AllocGlobal, line: &str) -> Result<Vec<String>, AllocError> {
     let mut words = Vec::new(rt.alloc());
     for word in line.split(' ') {
         words.push(String::from_str(rt.alloc(), word)?)?;
@@ -25,225 +67,40 @@ fn words(rt: &impl AllocGlobal, line: &str) -> Result<Vec<String>, Fail> {
     Ok(words)
 }
 
-// How a command of these words ends.
-pub fn ended<R: Threads + Sync + AllocGlobal, G: Gate>(
-    rt: &R,
-    words: &[String],
-    shelf: &mut MemoryShelf,
-    out: &mut MemorySink,
-    gate: &G,
-) -> Status {
-    run(rt, rt.alloc(), words, shelf, out, gate)
-}
-
-fn shelf(rt: &impl AllocGlobal) -> Result<MemoryShelf, Fail> {
+fn shelf(rt: &impl AllocGlobal) -> Result<MemoryShelf, AllocError> {
     let mut shelf = MemoryShelf::new(rt.alloc());
-    for (name, text) in files() {
+    for (name, text) in &FILES {
         shelf.put(*name, text.as_bytes())?;
     }
-    shelf.put("huge", vec![in rt.alloc(); b'#'; 1_048_577]?.as_slice())?;
     Ok(shelf)
 }
 
-fn text_of(status: &Status) -> ArrayString<128> {
-    let mut text = ArrayString::new();
-    status_text(status, &mut text);
-    text
-}
+// Words, and what is written where there is memory.
+const WRITTEN: [(&str, &str); 4] = [
+    ("replay walk steps", REPORT),
+    (
+        "check walk",
+        "config nodes=3 links=4 routes=2 slots=8\n",
+    ),
+    (
+        "shim 100600",
+        "v1 request demoted=0 protocol=6 entries=- return=-\n",
+    ),
+    (
+        "gen 7 1 walk",
+        "time,node,kind,src,dst,payload,shim\n83850,A,send,,10.0.0.1,269,\n",
+    ),
+];
 
-// A line of words ends with the status of that number, and shows this: what is written where the status
-// is done, and else its text.
-fn end_as<R: Threads + Sync + AllocGlobal + Abort>(
-    rt: &R,
-    shelf: &mut MemoryShelf,
-    line: &str,
-    number: u8,
-    shown: &str,
-) -> Result<(), Fail> {
-    let mut out = MemorySink::new(rt.alloc(), 4096);
-    let status = ended(rt, &words(rt, line)?, shelf, &mut out, &OpenGate);
-    let text = text_of(&status);
-    let (said, written) = if number == 0 {
-        ("", shown)
-    } else {
-        (shown, "")
-    };
-    assert_eq!(rt;
-        (status.number(), text.as_bytes(), out.bytes()),
-        (number, said.as_bytes(), written.as_bytes()),
-        "{line}"
-    );
-    Ok(())
-}
-
+// The commands end well where there is memory, and not with want of it.
 #[test]
-fn commands_end_as_they_are_to(rt: HostRuntime) -> Result<(), Fail> {
-    let mut shelf = shelf(&rt)?;
-    for (line, number, shown) in runs() {
-        end_as(&rt, &mut shelf, line, *number, shown)?;
-    }
-    Ok(())
-}
-
-// A file of just its limit is read, a configuration without keys and a trace without records; one of
-// a byte more isn't.
-#[test]
-fn files_are_taken_up_to_their_limits(rt: HostRuntime) -> Result<(), Fail> {
-    let loads = [
-        (
-            "check lines",
-            1_048_576,
-            "bad config: missing top 0 horizon_ns",
-        ),
-        ("check lines", 1_048_577, "too large: 1048577"),
-        (
-            "replay edge lines",
-            67_108_864,
-            "bad trace: record 1: header",
-        ),
-        ("replay edge lines", 67_108_865, "too large: 67108865"),
-    ];
-    for (line, size, said) in loads {
-        let mut shelf = shelf(&rt)?;
-        shelf.put("lines", vec![in rt.alloc(); b'\n'; size]?.as_slice())?;
+fn answers_with_memory(rt: HostRuntime) -> Result<(), Fail> {
+    for (line, written) in WRITTEN {
         let mut out = MemorySink::new(rt.alloc(), 4096);
-        let words = words(&rt, line)?;
-        let status = ended(&rt, &words, &mut shelf, &mut out, &OpenGate);
-        assert_eq!(rt; text_of(&status).as_str(), said, "{line} {size}");
+        let (words, mut shelf) = (words(&rt, line)?, shelf(&rt)?);
+        let status = run(&rt, rt.alloc(), &words, &mut shelf, &mut out, &OpenGate);
+        assert_eq!(rt; status.number(), 0, "{line}");
+        assert_eq!(rt; out.bytes(), written.as_bytes(), "{line}");
     }
     Ok(())
-}
-
-// How often the first node, the second and any other were told.
-#[derive(Drop)]
-struct Starts {
-    first: AtomicU64,
-    second: AtomicU64,
-    others: AtomicU64,
-}
-
-impl Starts {
-    fn counts(&self) -> [u64; 3] {
-        [
-            self.first.load(Ordering::SeqCst),
-            self.second.load(Ordering::SeqCst),
-            self.others.load(Ordering::SeqCst),
-        ]
-    }
-}
-
-impl Gate for Starts {
-    fn at_start(&self, node: u16) {
-        let count = match node {
-            0 => &self.first,
-            1 => &self.second,
-            _ => &self.others,
-        };
-        count.fetch_add(1, Ordering::SeqCst);
-    }
-}
-
-// Each node is told once a window, and no node where nothing is to come.
-#[test]
-fn each_node_is_told_to_the_gate(rt: HostRuntime) -> Result<(), Fail> {
-    let replays = [
-        ("replay pair both", 1, 1),
-        ("replay edge trace", 1, 0),
-        ("replay pair header", 0, 0),
-        ("replay two trace", 1, 0),
-        ("replay edge falling", 0, 0),
-        ("check pair", 0, 0),
-    ];
-    for (line, first, second) in replays {
-        let gate = Starts {
-            first: AtomicU64::new(0),
-            second: AtomicU64::new(0),
-            others: AtomicU64::new(0),
-        };
-        let mut out = MemorySink::new(rt.alloc(), 4096);
-        let words = words(&rt, line)?;
-        let _ = ended(&rt, &words, &mut shelf(&rt)?, &mut out, &gate);
-        assert_eq!(rt; gate.counts(), [first, second, 0], "{line}");
-    }
-    Ok(())
-}
-
-// A load that fails ends the run with its status, and nothing is written.
-fn fail_a_load<R: Threads + Sync + AllocGlobal + Abort>(
-    rt: &R,
-    replay: &[String],
-    call: u32,
-) -> Result<(), Fail> {
-    let mut shelf = shelf(rt)?;
-    shelf.fail_at(call)?;
-    let mut out = MemorySink::new(rt.alloc(), 4096);
-    let status = ended(rt, replay, &mut shelf, &mut out, &OpenGate);
-    assert_eq!(rt;
-        (
-            status.number(),
-            text_of(&status).as_str(),
-            out.bytes().len()
-        ),
-        (3, "read fault", 0)
-    );
-    Ok(())
-}
-
-// A write that fails ends it behind what was written before.
-fn fail_a_write<R: Threads + Sync + AllocGlobal + Abort>(
-    rt: &R,
-    replay: &[String],
-    call: u32,
-    written: usize,
-) -> Result<(), Fail> {
-    let mut out = MemorySink::new(rt.alloc(), 4096);
-    out.fail_at(call)?;
-    let status = ended(rt, replay, &mut shelf(rt)?, &mut out, &OpenGate);
-    assert_eq!(rt;
-        (
-            status.number(),
-            text_of(&status).as_str(),
-            out.bytes().len()
-        ),
-        (4, "write fault", written)
-    );
-    assert!(rt; report().as_bytes().starts_with(out.bytes()));
-    Ok(())
-}
-
-// Words that are no command load nothing.
-fn load_nothing<R: Threads + Sync + AllocGlobal + Abort>(rt: &R) -> Result<(), Fail> {
-    let mut untouched = shelf(rt)?;
-    untouched.fail_at(1)?;
-    let mut out = MemorySink::new(rt.alloc(), 1);
-    let words = words(rt, "replay edge")?;
-    let status = ended(rt, &words, &mut untouched, &mut out, &OpenGate);
-    assert_eq!(rt; status.number(), 2);
-    assert!(rt;
-        is_failed(&untouched.load(rt.alloc(), "edge", 1 << 20)),
-        "no load was made before"
-    );
-    Ok(())
-}
-
-// A load or a write that fails ends the run with its status, behind what was written before.
-#[test]
-fn faults_outside_end_a_run(rt: HostRuntime) -> Result<(), Fail> {
-    let replay = words(&rt, "replay edge trace")?;
-    for call in 1..3 {
-        fail_a_load(&rt, &replay, call)?;
-    }
-    let lines = report().len().saturating_sub(86);
-    for (call, written) in [(1, 0), (2, lines)] {
-        fail_a_write(&rt, &replay, call, written)?;
-    }
-    let none = Vec::new(rt.alloc());
-    let mut out = MemorySink::new(rt.alloc(), 1);
-    let status = ended(&rt, &none, &mut shelf(&rt)?, &mut out, &OpenGate);
-    assert_eq!(rt; status.number(), 2);
-    load_nothing(&rt)
-}
-
-fn is_failed(loaded: &tva_outside::Loaded) -> bool {
-    matches!(loaded, tva_outside::Loaded::Failed)
 }

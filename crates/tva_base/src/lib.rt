@@ -33,6 +33,3 @@ pub use texts::{Key, Line, Name};
 pub use versions::{
     carries, rights_in, rights_number, rights_size, seconds_max, units_max, version_for,
 };
-
-#[cfg(test)]
-mod tests;

@@ -104,14 +104,6 @@ impl<T: Measured> GroupSlot<T> {
     }
 }
 
-#[cfg(test)]
-impl<T: Measured> GroupSlot<T> {
-    /// Writes the group as a blank and KEY/DEFICIT.
-    pub fn show(&self, alloc: Global, text: &mut String) -> Result<(), AllocError> {
-        text.push_str(format!(in alloc; " {}/{}", self.key, self.deficit)?.as_str())
-    }
-}
-
 /// All groups that the limits allow, each with these limits of its own.
 pub(crate) fn group_slots<T: Measured>(
     alloc: Global,

@@ -23,9 +23,6 @@ use tva_policy::Policy;
 use tva_sender::{Sender, Shape};
 use tva_shim::{Carried, Packet, ReturnInfo};
 
-#[cfg(test)]
-mod tests;
-
 /// How many nonces there are: they have 48 bits.
 const NONCES: u64 = 1 << 48;
 

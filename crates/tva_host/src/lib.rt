@@ -4,8 +4,6 @@
 //! added; and that want of memory changes nothing but the room for peers.
 #![tactic(auto)]
 
-#[cfg(test)]
-mod cases;
 mod host;
 mod laws;
 mod made;

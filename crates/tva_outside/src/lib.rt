@@ -13,8 +13,6 @@ mod memory_sink;
 mod shelf;
 mod sink;
 mod std_sink;
-#[cfg(test)]
-mod tests;
 
 pub use file_shelf::FileShelf;
 pub use gate::{Gate, OpenGate};

@@ -7,16 +7,12 @@
 #![tactic(auto)]
 
 mod bounds;
-#[cfg(test)]
-mod cases;
 mod credits;
 mod decision;
 mod fair;
 mod held;
 mod laws;
 mod legacy;
-#[cfg(test)]
-mod level_cases;
 mod parts;
 mod port;
 mod requests;

@@ -25,9 +25,6 @@ use tva_base::{Class, LinkLimits, Time};
 use tva_drr::{FairQueues, Offered};
 use tva_shim::Packet;
 
-#[cfg(test)]
-mod tests;
-
 /// What waits for a link, and what it starts. Contracts see the limits, the last time, the credit of
 /// requests then, when the link is free, and what waits; and they speak of all packets queued and
 /// started so far, for which these stand. All memory is taken when it is built.

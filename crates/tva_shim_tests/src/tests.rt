@@ -1,5 +1,4 @@
 use arrayvec::ArrayVec;
-use std::alloc::{AllocError, Global};
 use std::test::Fail;
 use tva_base::{Address, Caps, Class, Flow, PacketId, Rights};
 use tva_shim::{
@@ -18,8 +17,8 @@ const FLOW: Flow = Flow {
 };
 
 /// Layouts: requests, lists, nonce packets and renewals, with and without entries or capabilities,
-/// the mark, a notice and a grant, in both versions.
-const LAYOUTS: [&str; 34] = [
+/// the mark, a notice and a grant, in both versions; last those of sixteen entries and capabilities.
+const LAYOUTS: [&str; 36] = [
     "100600",
     "180600",
     "10ff00",
@@ -54,46 +53,8 @@ const LAYOUTS: [&str; 34] = [
     "230600000000000b02010000100a05001122334455660600112233445566",
     "24060002010000100a0511223344556677",
     "250600000000000a01000000100a0500112233445566020007ffffff",
-];
-
-/// Bytes that are no layout: another version, a reserved return byte, a pointer above its count,
-/// too few bytes and spare ones, rights past their widths, and those of the other version.
-const OTHERS: [&str; 35] = [
-    "",
-    "10",
-    "1006",
-    "10060000",
-    "100602000105aabbccddeeff00000006000000000000",
-    "100602000105aabbccddeeff000000060000000000000100",
-    "14060003",
-    "14060000",
-    "140600",
-    "1406000100",
-    "1406000201080a",
-    "110600000000000a0100080a05001122334455",
-    "110600000000000a0100080a050011223344556600",
-    "110600000000000a010200400500112233445566",
-    "110600000000000a00010000",
-    "110600000000000a",
-    "11060000000000",
-    "150600000000000a0100080a0500112233445566",
-    "1206ffffffffff",
-    "1206ffffffffffff00",
-    "1606000000000001",
-    "16060000000000010102",
-    "130600000000000b0203084005001122334455660500112233445566",
-    "000600",
-    "f00600",
-    "180601",
-    "1506",
-    "1f06abcdefabcdef0000080a0101",
-    "300600",
-    "210600000000000a0100080200400500112233445566",
-    "210600000000000a0100080a0500112233445566",
-    "210600000000000a0000080a",
-    "24060002000000100a00",
-    "240600020008000000",
-    "110600000000000a0100000200400500112233445566",
+    "140610000105001122334455660001050011223344556600010500112233445566000105001122334455660001050011223344556600010500112233445566000105001122334455660001050011223344556600010500112233445566000105001122334455660001050011223344556600010500112233445566000105001122334455660001050011223344556600010500112233445566000105001122334455660210080a0500112233445566050011223344556605001122334455660500112233445566050011223344556605001122334455660500112233445566050011223344556605001122334455660500112233445566050011223344556605001122334455660500112233445566050011223344556605001122334455660500112233445566",
+    "2406100001050011223344556600010500112233445566000105001122334455660001050011223344556600010500112233445566000105001122334455660001050011223344556600010500112233445566000105001122334455660001050011223344556600010500112233445566000105001122334455660001050011223344556600010500112233445566000105001122334455660001050011223344556602100000100a0500112233445566050011223344556605001122334455660500112233445566050011223344556605001122334455660500112233445566050011223344556605001122334455660500112233445566050011223344556605001122334455660500112233445566050011223344556605001122334455660500112233445566",
 ];
 
 #[test]
@@ -111,101 +72,6 @@ fn layouts_are_read_and_written(rt: HostRuntime) -> Result<(), Fail> {
             "at {text}"
         );
     }
-    Ok(())
-}
-
-#[test]
-fn other_bytes_are_malformed(rt: HostRuntime) -> Result<(), Fail> {
-    for text in OTHERS {
-        let bytes = hex::decode(rt.alloc(), text).ok().ok_or(text)?;
-        assert!(rt; decode(&bytes).is_none(), "at {text}");
-    }
-    let list = hex::decode(rt.alloc(), "110600000000000a0100080a0500112233445566")
-        .ok()
-        .ok_or("list")?;
-    for end in 0..list.len() {
-        assert!(rt; decode(&list[..end]).is_none(), "before {end}");
-    }
-    Ok(())
-}
-
-// a request with so many entries and a grant of so many capabilities, whose rights have these bytes
-fn request_with_grant(
-    alloc: Global,
-    first: u8,
-    rights: &[u8],
-    entries: u8,
-    caps: u8,
-) -> Result<Vec<u8>, AllocError> {
-    let mut bytes = Vec::new(alloc);
-    bytes.extend_from_slice(&[first, 6, entries])?;
-    for _ in 0..entries {
-        bytes.extend_from_slice(&[0, 1, 5, 0, 0x11, 0x22, 0x33, 0x44, 0x55, 0x66])?;
-    }
-    bytes.extend_from_slice(&[2, caps])?;
-    bytes.extend_from_slice(rights)?;
-    for _ in 0..caps {
-        bytes.extend_from_slice(&[5, 0, 0x11, 0x22, 0x33, 0x44, 0x55, 0x66])?;
-    }
-    Ok(bytes)
-}
-
-/// Of a version, the first byte of such a request, the bytes of rights and the most bytes.
-const LONGEST: [(u8, &[u8], usize); 2] = [(0x14, &[8, 10], 295), (0x24, &[0, 0, 16, 10], 297)];
-
-#[test]
-fn sixteen_is_the_most(rt: HostRuntime) -> Result<(), Fail> {
-    for (first, rights, most) in LONGEST {
-        let longest = request_with_grant(rt.alloc(), first, rights, 16, 16)?;
-        assert_eq!(rt; longest.len(), most);
-        let shim = decode(&longest).ok_or("16 entries and 16 capabilities")?;
-        let mut written = ArrayVec::new();
-        encode(&shim, &mut written);
-        assert_eq!(rt; written.as_slice(), longest.as_slice());
-        for (entries, caps) in [(17, 0), (0, 17)] {
-            let bytes = request_with_grant(rt.alloc(), first, rights, entries, caps)?;
-            assert!(rt;
-                decode(&bytes).is_none(),
-                "{entries} entries, {caps} capabilities"
-            );
-        }
-    }
-    Ok(())
-}
-
-#[test]
-fn a_list_says_what_it_shows(rt: HostRuntime) -> Result<(), Fail> {
-    let text = "150600000000000a0100080a05001122334455660201004205ffffffffffffff";
-    let bytes = hex::decode(rt.alloc(), text).ok().ok_or("hexadecimal")?;
-    let shim = decode(&bytes).ok_or("a list with a grant")?;
-    assert!(rt; !shim.demoted);
-    assert_eq!(rt; shim.protocol, 6);
-    let Kind::List(shown) = &shim.kind else {
-        return Err(Fail::from("not a list"));
-    };
-    assert_eq!(rt; shown.nonce, 10);
-    assert_eq!(rt; shown.pointer, 0);
-    assert_eq!(rt; shown.rights, Rights { n: 32, t: 10 });
-    assert_eq!(rt; shown.caps.as_slice(), [0x0500_1122_3344_5566].as_slice());
-    let ReturnInfo::Grant { rights, caps } = &shim.back else {
-        return Err(Fail::from("no grant"));
-    };
-    assert_eq!(rt; *rights, Rights { n: 1, t: 2 });
-    assert_eq!(rt; caps.as_slice(), [0x05ff_ffff_ffff_ffff].as_slice());
-    Ok(())
-}
-
-#[test]
-fn a_list_of_version_2_says_more(rt: HostRuntime) -> Result<(), Fail> {
-    let text = "210600000000000a0100000200400500112233445566";
-    let bytes = hex::decode(rt.alloc(), text).ok().ok_or("hexadecimal")?;
-    let shim = decode(&bytes).ok_or("a list of version 2")?;
-    assert_eq!(rt; shim.version, 2);
-    let Kind::List(shown) = &shim.kind else {
-        return Err(Fail::from("not a list"));
-    };
-    assert_eq!(rt; shown.rights, Rights { n: 1_024, t: 64 });
-    assert_eq!(rt; shown.caps.as_slice(), [0x0500_1122_3344_5566].as_slice());
     Ok(())
 }
 

@@ -1,11 +1,7 @@
 // The networks of the tests.
 ghost use Rattle.std.specs.Prelude.{◌≤◌, length};
 
-mod lines;
-mod many;
 mod rows;
-mod shims;
-mod traces;
 
 use std::alloc::{AllocError, Global};
 use std::process::Abort;

@@ -1,10 +1,10 @@
-ghost use Rattle.std.specs.Prelude.{IfSome};
-
-mod plain;
-
 use super::*;
 use std::process::Abort;
 use std::test::Fail;
+
+mod calls;
+
+use calls::CALLS;
 
 /// A parcel of so many bytes, with the two keys under which it was offered.
 #[derive(Drop)]
@@ -22,15 +22,6 @@ impl Measured for Parcel {
     }
 }
 
-const WORKED: DrrLimits = DrrLimits {
-    queues: 2,
-    ring: 8,
-    queue_bytes: 4000,
-    class_bytes: 10000,
-    quantum: 2048,
-    max: 2048,
-};
-
 fn crosses<T: Send + Sync>() {}
 
 /// Two-level queues may be moved to and shared with another thread.
@@ -39,89 +30,94 @@ fn hier_queues_cross_threads() {
     crosses::<HierQueues<Parcel>>();
 }
 
-/// Makes an offer of so many bytes, and gives its answer in words.
-fn offer(
+fn number(word: Option<&str>) -> u32 {
+    let Some(word) = word else {
+        return 0;
+    };
+    word.parse::<u32>().unwrap_or(0)
+}
+
+/// Queues with the limits QUEUES/RING/QUEUE_BYTES/CLASS_BYTES/QUANTUM/MAX/INNER.
+fn queues_of(
     rt: &impl Abort,
-    queues: &mut HierQueues<Parcel>,
-    outer: u32,
-    inner: u32,
-    bytes: u32,
-) -> &'static str {
+    alloc: Global,
+    words: &str,
+) -> Result<HierQueues<Parcel>, AllocError> {
+    let mut words = words.split("/");
+    let limits = DrrLimits {
+        queues: number(words.next()),
+        ring: number(words.next()),
+        queue_bytes: number(words.next()),
+        class_bytes: number(words.next()),
+        quantum: number(words.next()),
+        max: number(words.next()),
+    };
+    let inner = number(words.next());
+    assert!(rt; 1 <= limits.queues && limits.queues <= 1 << 30);
+    assert!(rt; 1 <= limits.ring && limits.ring <= 1 << 30);
+    assert!(rt; limits.queue_bytes <= 1 << 30 && limits.class_bytes <= 1 << 30);
+    assert!(rt; 1 <= limits.max && limits.max <= limits.quantum && limits.quantum <= 1 << 30);
+    assert!(rt; 1 <= inner && inner <= 1 << 30);
+    HierQueues::with_limits(alloc, limits, inner)
+}
+
+/// Makes the offer OUTER/INNER/BYTES, and gives its answer in a letter.
+fn offer(rt: &impl Abort, queues: &mut HierQueues<Parcel>, words: &str) -> &'static str {
+    let mut words = words.split("/");
+    let (outer, inner) = (number(words.next()), number(words.next()));
+    let bytes = number(words.next());
     assert!(rt; 1 <= bytes && bytes <= queues.limits.max);
-    match queues.offer(
+    let parcel = Parcel {
         outer,
         inner,
-        Parcel {
-            outer,
-            inner,
-            bytes,
-        },
-    ) {
-        Offered::Queued => "Queued",
+        bytes,
+    };
+    match queues.offer(outer, inner, parcel) {
+        Offered::Queued => "Q",
         Offered::NoQueue(parcel) => {
             assert_eq!(rt; parcel.bytes, bytes);
-            "NoQueue"
+            "N"
         }
         Offered::QueueFull(parcel) => {
             assert_eq!(rt; parcel.bytes, bytes);
-            "QueueFull"
+            "F"
         }
     }
 }
 
-/// Takes an item, whose length was said before, and gives its two keys.
-fn take(rt: &impl Abort, queues: &mut HierQueues<Parcel>) -> Option<(u32, u32)> {
+/// Takes an item, whose length was said before, and gives it as OUTER/INNER/BYTES.
+fn take(
+    rt: &impl Abort,
+    alloc: Global,
+    queues: &mut HierQueues<Parcel>,
+) -> Result<String, AllocError> {
     let length = queues.head_length();
-    let taken = queues.take()?;
-    assert_eq!(rt; length, Some(taken.bytes));
-    Some((taken.outer, taken.inner))
-}
-
-/// The offers of four items of 2,000 bytes, with which the worked row begins.
-const FOUR: [(u32, u32, u32, &str); 4] = [
-    (1, 1, 2000, "Queued"),
-    (1, 1, 2000, "Queued"),
-    (1, 2, 2000, "Queued"),
-    (2, 1, 2000, "Queued"),
-];
-
-/// Makes offers of so many bytes under two keys, and compares their answers.
-fn offers(rt: &impl Abort, queues: &mut HierQueues<Parcel>, table: &[(u32, u32, u32, &str)]) {
-    for row in table.iter() {
-        let (outer, inner, bytes, wanted) = *row;
-        let given = offer(rt, queues, outer, inner, bytes);
-        assert_eq!(rt; given, wanted, "{outer} {inner} {bytes}");
+    let taken = queues.take();
+    assert_eq!(rt; length, taken.as_ref().map(|parcel| parcel.bytes));
+    match taken {
+        Some(parcel) => format!(in alloc; "{}/{}/{}", parcel.outer, parcel.inner, parcel.bytes),
+        None => String::from_str(alloc, "none"),
     }
 }
 
-/// Takes all items, and compares their keys.
-fn takes(rt: &impl Abort, queues: &mut HierQueues<Parcel>, table: &[(u32, u32)]) {
-    for keys in table.iter() {
-        assert_eq!(rt; take(rt, queues), Some(*keys));
-    }
-    assert_eq!(rt; take(rt, queues), None);
-}
-
+/// Each call has its answer.
 #[test]
-fn groups_take_turns(rt: HostRuntime) -> Result<(), Fail> {
-    let mut queues = HierQueues::with_limits(rt.alloc(), WORKED, 2)?;
-    offers(&rt, &mut queues, &FOUR);
-    let refused = [
-        (1, 3, 1, "NoQueue"),
-        (3, 1, 1, "NoQueue"),
-        (1, 1, 1, "QueueFull"),
-    ];
-    offers(&rt, &mut queues, &refused);
-    takes(&rt, &mut queues, &[(1, 1), (2, 1), (1, 2), (1, 1)]);
-    // Of 10,000 bytes one is left: what has no place is refused for that, and not for the bytes.
-    offers(&rt, &mut queues, &FOUR);
-    let full = [
-        (2, 2, 1999, "Queued"),
-        (2, 1, 2, "QueueFull"),
-        (2, 3, 2, "NoQueue"),
-        (3, 1, 2, "NoQueue"),
-    ];
-    offers(&rt, &mut queues, &full);
-    takes(&rt, &mut queues, &[(1, 1), (2, 1), (1, 2), (2, 2), (1, 1)]);
+fn sequences_of_offers_and_takes(rt: HostRuntime) -> Result<(), Fail> {
+    let mut queues = queues_of(&rt, rt.alloc(), "1/1/1/1/1/1/1")?;
+    let mut calls = 0u32;
+    for word in CALLS.split_whitespace() {
+        let (call, wanted) = word.split_once("=").unwrap_or((word, ""));
+        if call == "limits" {
+            queues = queues_of(&rt, rt.alloc(), wanted)?;
+        } else if call == "take" {
+            let taken = take(&rt, rt.alloc(), &mut queues)?;
+            assert_eq!(rt; taken.as_str(), wanted, "{calls} {word}");
+        } else {
+            let given = offer(&rt, &mut queues, call);
+            assert_eq!(rt; given, wanted, "{calls} {word}");
+        }
+        calls = calls.wrapping_add(1);
+    }
+    assert_eq!(rt; calls, 647);
     Ok(())
 }
