@@ -7,7 +7,7 @@ use Rattle.std.proofs.lemmas.List.Folds.{list_any-append}
 use Rattle.tva_base.specs.declared.addresses.Prefix.{Prefix}
 use Rattle.tva_config.specs.declared.joined.OwnedRestart.{OwnedRestart}
 use Rattle.tva_config.specs.declared.joined.OwnedReroute.{OwnedReroute}
-use Rattle.tva_config.specs.Changes.{restarts, is_late_restart, reroutes, is_late_reroute}
+use Rattle.tva_config.specs.Changes.{is_late_restart, is_late_reroute}
 use Rattle.tva_config.specs.Views.{is_late, Restarted, IsRestarted, Rerouted, same_route, IsRerouted}
 use Rattle.tva_config.proofs.Rising.{pushed_late}
 

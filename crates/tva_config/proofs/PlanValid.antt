@@ -18,7 +18,7 @@ use Rattle.tva_config.specs.declared.joined.OwnedReroute.{OwnedReroute}
 use Rattle.tva_plan.specs.Wiring.{picked, tagged_to, incoming_of, limited_from, outgoing_of}
 use Rattle.tva_config.specs.Read.{Owned, if_owned, routes_at, if_restart, restarts_at, if_reroute, reroutes_at, router_plan, host_plan}
 use Rattle.tva_config.specs.Routes.{is_for}
-use Rattle.tva_config.specs.Changes.{restarts, reroutes}
+use Rattle.tva_config.specs.Changes.{is_restart_of, is_reroute_of}
 use Rattle.tva_config_entries.proofs.Ranges.{IsRouterEntry, IsHostEntry}
 use Rattle.tva_plan.specs.Valid.{IsLinkPlan}
 use Rattle.tva_config_entries.proofs.Turns.{all_cons}
@@ -143,9 +143,9 @@ boots_at : (r : OwnedRestart) (b : Bool) (rest : List OwnedRestart) (more : List
 boots_at r true rest more same = ap (λ l. r.time.0 ∷ l) same
 boots_at r false rest more same = same
 
-boots_from : (n : ℕ) (rs : List OwnedRestart) → map (λ c. c.0.0) (filter_map (if_restart n) rs) ≡ map (λ x. x.time.0) (filter (restarts n) rs)
+boots_from : (n : ℕ) (rs : List OwnedRestart) → map (λ c. c.0.0) (filter_map (if_restart n) rs) ≡ map (λ x. x.time.0) (filter (is_restart_of n) rs)
 boots_from n [] = refl
-boots_from n (r ∷ rs) = boots_at r (r.router == n) (filter (restarts n) rs) (filter_map (if_restart n) rs) (boots_from n rs)
+boots_from n (r ∷ rs) = boots_at r (r.router == n) (filter (is_restart_of n) rs) (filter_map (if_restart n) rs) (boots_from n rs)
 
 restarts_rise : (n : ℕ) (rs : List OwnedRestart) → AreRestarts rs → AreRising (map (λ c. c.0.0) (restarts_at n rs))
 unfolding restarts_at
@@ -162,11 +162,11 @@ turns_at r p true true false rest more a b same = rw (a, b) same
 turns_at r p true false true rest more a b same = rw (a, b) same
 turns_at r p true false false rest more a b same = rw (a, b) same
 
-turns_from : (n : ℕ) (p : Prefix) (rs : List OwnedReroute) → map (λ c. c.0.0) (of_prefix p (filter_map (if_reroute n) rs)) ≡ map (λ x. x.time.0) (filter (reroutes n p) rs)
+turns_from : (n : ℕ) (p : Prefix) (rs : List OwnedReroute) → map (λ c. c.0.0) (of_prefix p (filter_map (if_reroute n) rs)) ≡ map (λ x. x.time.0) (filter (is_reroute_of n p) rs)
 turns_from n p [] = refl
 turns_from n p (r ∷ rs) =
     turns_at r p (r.owned.router == n) (r.owned.route.prefix.address.0 == p.address.0) (r.owned.route.prefix.bits == p.bits)
-    (filter (reroutes n p) rs) (filter_map (if_reroute n) rs) refl refl (turns_from n p rs)
+    (filter (is_reroute_of n p) rs) (filter_map (if_reroute n) rs) refl refl (turns_from n p rs)
 
 reroutes_rise : (links : List LinkPlan) (routes : List OwnedRoute) (n : ℕ) (p : Prefix) (rs : List OwnedReroute) → AreReroutes links routes rs
     → AreRising (map (λ c. c.0.0) (of_prefix p (reroutes_at n rs)))

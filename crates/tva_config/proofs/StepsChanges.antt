@@ -17,7 +17,7 @@ use Rattle.tva_config_entries.specs.Faults.{at, fault_at, unless, found}
 use Rattle.tva_config.specs.Links.{link_between}
 use Rattle.tva_plan.specs.Wiring.{outgoing_of}
 use Rattle.tva_config.specs.Routes.{router_named, is_for, resolved}
-use Rattle.tva_config.specs.Changes.{restarts, is_late_restart, restart_step, restarts_of, reroutes, is_late_reroute, reroute_step, reroutes_of}
+use Rattle.tva_config.specs.Changes.{is_restart_of, is_late_restart, restart_step, restarts_of, is_reroute_of, is_late_reroute, reroute_step, reroutes_of}
 use Rattle.tva_config_entries.proofs.Turns.{first_gave, unless_gave, in_turn_keeps, all_push}
 use Rattle.tva_config.proofs.Numbered.{untrue}
 use Rattle.tva_config.proofs.Rising.{rising_more}
@@ -25,7 +25,7 @@ use Rattle.tva_config.proofs.StepsRoutes.{resolved_shows}
 
 -- the times of a router's restarts rise
 abbrev pub AreRestarts : List OwnedRestart → Type 0
-AreRestarts rs = (router : ℕ) → AreRising (map (λ r. r.time.0) (filter (restarts router) rs))
+AreRestarts rs = (router : ℕ) → AreRising (map (λ r. r.time.0) (filter (is_restart_of router) rs))
 
 restart_more : (routers : ℕ) (node : List ℕ → Option ℕ) (done : List OwnedRestart) (x : RestartEntry) (y : OwnedRestart)
     → AreRestarts done → restart_step routers node done x ≡ Ok y → AreRestarts (done ++ y ∷ [])
@@ -35,7 +35,7 @@ restart_more routers node done x y rising gave =
     let made : OwnedRestart = record { router = router; time = record { 0 = x.at }; master = x.master } in
     let is : made ≡ y = cc in
     let new : list_any (is_late_restart router x.at) done ≡ false = unless_gave _ _ u after in
-    subst (λ z. AreRestarts (done ++ z ∷ [])) is (λ n. rising_more (restarts n) (λ r. r.time.0) done made (rising n) (λ same.
+    subst (λ z. AreRestarts (done ++ z ∷ [])) is (λ n. rising_more (is_restart_of n) (λ r. r.time.0) done made (rising n) (λ same.
     let e : router ≡ n = eqb-true router n same in
     rw e at new))
 
@@ -52,7 +52,7 @@ pub record IsMoved (links : List LinkPlan) (routes : List OwnedRoute) (r : Owned
 -- and the times of a router's changes for a prefix rise
 pub record AreReroutes (links : List LinkPlan) (routes : List OwnedRoute) (rs : List OwnedReroute) : Type 0 where
   pub each : All (IsMoved links routes) rs
-  pub rising : (router : ℕ) (prefix : Prefix) → AreRising (map (λ r. r.time.0) (filter (reroutes router prefix) rs))
+  pub rising : (router : ℕ) (prefix : Prefix) → AreRising (map (λ r. r.time.0) (filter (is_reroute_of router prefix) rs))
 
 same_changes : (o : OwnedRoute) (n : ℕ) (p : Prefix) (time : ℕ) (done : List OwnedReroute) → is_for n p o ≡ true
     → list_any (is_late_reroute o.router o.route.prefix time) done ≡ false → list_any (is_late_reroute n p time) done ≡ false
@@ -79,7 +79,7 @@ reroute_more routers node links routes done x y known gave =
     } in
     let all : AreReroutes links routes (done ++ made ∷ []) = record {
       each = all_push (IsMoved links routes) done made known.each here;
-      rising = λ n p. rising_more (reroutes n p) (λ r. r.time.0) done made (known.rising n p) (λ same. same_changes owned n p x.at done same new);
+      rising = λ n p. rising_more (is_reroute_of n p) (λ r. r.time.0) done made (known.rising n p) (λ same. same_changes owned n p x.at done same new);
     } in
     subst (λ z. AreReroutes links routes (done ++ z ∷ [])) is all
 

@@ -13,12 +13,12 @@ use Rattle.tva_config_entries.specs.Faults.{Read, ◌>>=◌, at, fault_at, unles
 use Rattle.tva_config.specs.Routes.{router_named, is_for, resolved}
 
 -- the restart is one of this router
-abbrev pub restarts : ℕ → OwnedRestart → Bool
-restarts router r = r.router == router
+abbrev pub is_restart_of : ℕ → OwnedRestart → Bool
+is_restart_of router r = r.router == router
 
 -- the restart is one of this router, at no smaller time
 abbrev pub is_late_restart : ℕ → ℕ → OwnedRestart → Bool
-is_late_restart router time r = restarts router r && nat_le time r.time.0
+is_late_restart router time r = is_restart_of router r && nat_le time r.time.0
 
 -- its router is one, and no earlier restart of the router is at a time that isn't smaller
 abbrev pub restart_step : ℕ → (List ℕ → Option ℕ) → List OwnedRestart → RestartEntry → Read OwnedRestart
@@ -33,12 +33,12 @@ unfoldable pub restarts_of : ℕ → (List ℕ → Option ℕ) → List RestartE
 restarts_of routers node restarts = in_turn (restart_step routers node) [] restarts
 
 -- the change is one of this router for this prefix
-abbrev pub reroutes : ℕ → Prefix → OwnedReroute → Bool
-reroutes router prefix r = is_for router prefix r.owned
+abbrev pub is_reroute_of : ℕ → Prefix → OwnedReroute → Bool
+is_reroute_of router prefix r = is_for router prefix r.owned
 
 -- the change is one of this router for this prefix, at no smaller time
 abbrev pub is_late_reroute : ℕ → Prefix → ℕ → OwnedReroute → Bool
-is_late_reroute router prefix time r = reroutes router prefix r && nat_le time r.time.0
+is_late_reroute router prefix time r = is_reroute_of router prefix r && nat_le time r.time.0
 
 -- its router is one, which has a link to the next node and a route of the prefix, and no earlier change
 -- of the router for the prefix is at a time that isn't smaller

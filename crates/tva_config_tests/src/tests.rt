@@ -85,6 +85,10 @@ fn texts_have_their_answers(rt: HostRuntime) {
 #[test]
 fn texts_with_many_entries_have_their_answers(rt: HostRuntime) {
     check(&rt, rt.alloc(), sizes::CASES);
+}
+
+#[test]
+fn texts_with_many_changes_have_their_answers(rt: HostRuntime) {
     check(&rt, rt.alloc(), changes::MANY);
 }
 
