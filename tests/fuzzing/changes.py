@@ -41,7 +41,8 @@ def restarts(rng, network, seen):
     for it in network.router:
         if chance(rng, 0.6):
             masters = [it["master"]] * 4 + MASTERS
-            told.append([{"router": it["name"], "at_ns": at, "master": rng.choice(masters)} for at in times(rng, seen)])
+            own = times(rng, seen.get(it["name"]))
+            told.append([{"router": it["name"], "at_ns": at, "master": rng.choice(masters)} for at in own])
     return together(rng, told)
 
 
@@ -50,7 +51,7 @@ def reroutes(rng, network, seen):
     for it in network.route:
         near = [link["to"] for link in network.link if link["from"] == it["router"]]
         if chance(rng, 0.5):
-            told.append([reroute(rng, it, at, near) for at in times(rng, seen)])
+            told.append([reroute(rng, it, at, near) for at in times(rng, seen.get(it["router"]))])
     return together(rng, told)
 
 
@@ -66,9 +67,9 @@ def rewritten(rng, prefix):
     return rng.choice(others) if others and chance(rng, 0.2) else prefix
 
 
-def put(rng, network, seen=()):
-    """Puts changes into a network, in place of those that it has. `seen` are times at which something happens in it."""
-    seen = list(seen)
+def put(rng, network, seen):
+    """Puts changes into a network, in place of those that it has. `seen` has by name of a router times at which something
+    happens there."""
     network.restart = restarts(rng, network, seen) if chance(rng, 0.75) else []
     network.reroute = reroutes(rng, network, seen) if chance(rng, 0.75) else []
 

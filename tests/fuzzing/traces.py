@@ -251,7 +251,8 @@ def spending(sources):
     """Rows at a router that use one grant up in each of some boots: before a restart, and at it or behind it."""
     rng, network = sources.rng, sources.network
     name = rng.choice(network.restart)["router"]
-    restarts = [it["at_ns"] for it in network.restart if it["router"] == name][: rng.choice([1, 2, 2, 4])]
+    restarts = [it["at_ns"] for it in network.restart if it["router"] == name]
+    restarts = sorted(rng.sample(restarts, min(len(restarts), rng.choice([1, 2, 2, 4]))))
     begin = max(0, restarts[0] - rng.choice([1, 1, 1_000, 10**6, 10**8]))
     times = [begin] + [at + rng.choice([0, 0, 0, 1, 10]) for at in restarts]
     second = (begin + sources.routers[name].get("clock_offset_ns", 0)) // SECOND

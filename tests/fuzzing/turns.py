@@ -251,17 +251,6 @@ def _(last, key, told, table, entry):
         right_time(last, key, told, table, entry)
 
 
-@reading("times-first", "a reroute's time is looked at before its prefix", configuration, "check_reroutes")
-def _(routers, links, routes, reroutes):
-    last, known = {}, {(route.router, route.prefix) for route in routes}
-    for entry, it in enumerate(reroutes):
-        configuration.check_owner(routers, it, "reroute", entry)
-        configuration.check_via(links, it, "reroute", entry)
-        configuration.check_time(last, (it.router, it.prefix), it, "reroute", entry)
-        if (it.router, it.prefix) not in known:
-            raise configuration.Fault("prefix", "reroute", entry, "prefix")
-
-
 @reading("prefix-of-any", "a reroute's prefix may be that of another router's route", configuration, "check_reroutes")
 def _(routers, links, routes, reroutes):
     every = [SimpleNamespace(router=it.name, prefix=route.prefix) for it in routers for route in routes]
