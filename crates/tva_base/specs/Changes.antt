@@ -32,7 +32,7 @@ of_prefix prefix changes = filter (λ change. same_prefix change.1 prefix) chang
 -- the route by the last change of its prefix that has come
 abbrev pub route_at : RouterPlan → ℕ → Route → Route
 route_at plan now route = record route {
-  link = last_of route.link (map (λ change. change.2) (filter (λ change. has_come now change.0) (of_prefix route.prefix plan.reroutes)));
+  link = last_of route.link (map (λ change. change.2) (filter (λ change. has_come now change.0) (of_prefix route.prefix plan.reroutes)))
 }
 
 -- a plan with another master and other routes
