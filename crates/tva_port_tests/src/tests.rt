@@ -168,8 +168,8 @@ fn class_named(word: Option<&str>) -> Class {
 
 /// Queues a packet, and gives the answer in words. A refused packet is handed back.
 fn queue(rt: &impl Abort, port: &mut Port, now: u64, ordinal: u64, call: &str) -> &'static str
-    requires { port.old.last ≤ now }
-    requires { now ≤ 1000000000000000 }
+    requires time { port.old.last ≤ now }
+    requires horizon { now ≤ 1000000000000000 }
     ensures { port.new.last ≡ now }
 {
     let mut words = call.split_whitespace().skip(2);
@@ -195,8 +195,8 @@ fn queue(rt: &impl Abort, port: &mut Port, now: u64, ordinal: u64, call: &str) -
 
 /// Decides at a time, and gives the answer in words.
 fn decide(rt: &impl Abort, alloc: Global, port: &mut Port, now: u64) -> Result<String, AllocError>
-    requires { port.old.last ≤ now }
-    requires { now ≤ 1000000000000000 }
+    requires time { port.old.last ≤ now }
+    requires horizon { now ≤ 1000000000000000 }
     ensures { port.new.last ≡ now }
 {
     assert!(rt; port.free_at().0 <= now);
