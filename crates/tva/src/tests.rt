@@ -24,10 +24,7 @@ static FILES: [(&str, &str); 10] = [
         "trace",
         "time,node,kind,src,dst,payload,shim\n5000000000,R1,list,10.0.0.1,10.0.1.1,472,00000000000a/1/10/0/R1@5\n5000000000,R1,list,10.0.0.1,10.0.1.1,472,00000000000a/1/10/0/0500112233445566\n7000000000,R1,list,10.0.0.1,10.0.1.1,472,00000000000a/1/2/0/R1@5\n",
     ),
-    (
-        "header",
-        "time,node,kind,src,dst,payload,shim\n",
-    ),
+    ("header", "time,node,kind,src,dst,payload,shim\n"),
     (
         "two",
         "horizon_ns = 1000000000000\nmax_events = 2\n[[router]]\nname = \"R1\"\nmaster = \"000102030405060708090a0b0c0d0e0f101112131415161718191a1b1c1d1e1f\"\nslots = 8\n",
@@ -78,10 +75,7 @@ fn shelf(rt: &impl AllocGlobal) -> Result<MemoryShelf, AllocError> {
 // Words, and what is written where there is memory.
 const WRITTEN: [(&str, &str); 4] = [
     ("replay walk steps", REPORT),
-    (
-        "check walk",
-        "config nodes=3 links=4 routes=2 slots=8\n",
-    ),
+    ("check walk", "config nodes=3 links=4 routes=2 slots=8\n"),
     (
         "shim 100600",
         "v1 request demoted=0 protocol=6 entries=- return=-\n",

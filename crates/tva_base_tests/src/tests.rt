@@ -1,7 +1,7 @@
 use std::cmp::Ordering;
 use tva_base::{
-    Address, Caps, Event, Flow, Grant, HostPlan, Key, Line, Listed, Name, Rights, Route, RouterPlan,
-    Totals, address, carries, credit, decimal, grants_are_ordered, prefix, rights_in,
+    Address, Caps, Event, Flow, Grant, HostPlan, Key, Line, Listed, Name, Rights, Route,
+    RouterPlan, Totals, address, carries, credit, decimal, grants_are_ordered, prefix, rights_in,
     rights_number, rights_size, version_for,
 };
 

@@ -190,7 +190,7 @@ fn made_words(
 }
 
 /// What the host answers at a time to a send row, or to a packet that it receives, in words.
-fn answer(
+fn timed(
     rt: &impl Abort,
     alloc: Global,
     from: (u16, Address),
@@ -243,6 +243,27 @@ fn inject(
     Ok(format!(in alloc; "#{ordinal} {bytes} {digits}")?)
 }
 
+/// What the host answers to a call, in words. The last time is kept.
+fn answer(
+    rt: &impl Abort,
+    alloc: Global,
+    from: (u16, Address),
+    host: &mut Host,
+    last: &mut u64,
+    call: &str,
+) -> Result<String, Fail>
+    requires { host.old.last ≤ last.old }
+    ensures { IfOk result (λ told. host.new.last ≤ last.new) }
+{
+    if call.starts_with("inject") {
+        return inject(rt, alloc, from.0, host, call);
+    }
+    let now = number(call.split(' ').nth(1), 1_000_000_000_000_000);
+    assert!(rt; *last <= now);
+    *last = now;
+    timed(rt, alloc, from, host, now, call)
+}
+
 /// Plays the calls of a case, and counts them.
 fn play(rt: &impl Abort, alloc: Global, case: &str) -> Result<u64, Fail> {
     let mut lines = case.lines().skip(1);
@@ -253,19 +274,13 @@ fn play(rt: &impl Abort, alloc: Global, case: &str) -> Result<u64, Fail> {
     let plan = plan_of(rt, alloc, line)?;
     let from = (node, plan.address);
     let mut host = Host::build(alloc, node, &plan)?;
-    let (mut last, mut calls) = (0u64, 0u64);
+    let mut last = 0u64;
+    let mut calls = 0u64;
     for line in lines {
         let Some((call, wanted)) = line.split_once(" -> ") else {
             continue;
         };
-        let told = if call.starts_with("inject") {
-            inject(rt, alloc, node, &mut host, call)?
-        } else {
-            let now = number(call.split(' ').nth(1), 1_000_000_000_000_000);
-            assert!(rt; last <= now);
-            last = now;
-            answer(rt, alloc, from, &mut host, now, call)?
-        };
+        let told = answer(rt, alloc, from, &mut host, &mut last, call)?;
         assert_eq!(rt; told.as_str(), wanted, "{line}");
         calls = calls.wrapping_add(1);
     }

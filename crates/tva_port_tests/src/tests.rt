@@ -34,7 +34,10 @@ fn number(word: Option<&str>) -> u64 {
 }
 
 fn small_number(word: Option<&str>) -> u32 {
-    u32::try_from(number(word)).unwrap_or(0)
+    let Some(word) = word else {
+        return 0;
+    };
+    word.parse::<u32>().unwrap_or(0)
 }
 
 /// What stands behind the sign of a word as `share=20`.
@@ -165,8 +168,8 @@ fn class_named(word: Option<&str>) -> Class {
 
 /// Queues a packet, and gives the answer in words. A refused packet is handed back.
 fn queue(rt: &impl Abort, port: &mut Port, now: u64, ordinal: u64, call: &str) -> &'static str
-    requires { port.old.last ≤ now }
-    requires { now ≤ 1000000000000000 }
+    requires time { port.old.last ≤ now }
+    requires horizon { now ≤ 1000000000000000 }
     ensures { port.new.last ≡ now }
 {
     let mut words = call.split_whitespace().skip(2);
@@ -192,8 +195,8 @@ fn queue(rt: &impl Abort, port: &mut Port, now: u64, ordinal: u64, call: &str) -
 
 /// Decides at a time, and gives the answer in words.
 fn decide(rt: &impl Abort, alloc: Global, port: &mut Port, now: u64) -> Result<String, AllocError>
-    requires { port.old.last ≤ now }
-    requires { now ≤ 1000000000000000 }
+    requires time { port.old.last ≤ now }
+    requires horizon { now ≤ 1000000000000000 }
     ensures { port.new.last ≡ now }
 {
     assert!(rt; port.free_at().0 <= now);
@@ -219,7 +222,9 @@ fn play(rt: &impl Abort, alloc: Global, case: &str) -> Result<u64, Fail> {
         return Ok(0);
     };
     let mut port = Port::build(alloc, limits_of(rt, line))?;
-    let (mut last, mut ordinal, mut calls) = (0u64, 0u64, 0u64);
+    let mut last = 0u64;
+    let mut ordinal = 0u64;
+    let mut calls = 0u64;
     for line in lines {
         let Some((call, wanted)) = line.split_once(" -> ") else {
             continue;
@@ -240,14 +245,20 @@ fn play(rt: &impl Abort, alloc: Global, case: &str) -> Result<u64, Fail> {
     Ok(calls)
 }
 
+/// Plays the cases of a text, and counts their calls.
+fn calls_of(rt: &impl Abort, alloc: Global, cases: &str) -> Result<u64, Fail> {
+    let mut calls = 0u64;
+    for case in cases.split("case ") {
+        calls = calls.wrapping_add(play(rt, alloc, case)?);
+    }
+    Ok(calls)
+}
+
 /// On links with two levels, whose cases come last, the neighbours behind one tag take turns.
 #[test]
 fn sequences_of_queueings_and_decisions(rt: HostRuntime) -> Result<(), Fail> {
-    let mut calls = 0u64;
-    for case in CASES.split("case ").chain(LEVEL_CASES.split("case ")) {
-        calls = calls.wrapping_add(play(&rt, rt.alloc(), case)?);
-    }
-    assert_eq!(rt; calls, 738);
+    assert_eq!(rt; calls_of(&rt, rt.alloc(), CASES)?, 559);
+    assert_eq!(rt; calls_of(&rt, rt.alloc(), LEVEL_CASES)?, 179);
     Ok(())
 }
 

@@ -50,8 +50,15 @@ fn nothing_is_written_behind_a_failure(rt: HostRuntime) -> Result<(), Fail> {
         let mut out = MemorySink::new(rt.alloc(), *most);
         out.fail_at(*call)?;
         let status = replay(&rt, *load, &mut out, &OpenGate)?;
-        assert_eq!(rt; (status, out.bytes().len()), (*number, *bytes), "{load} {most} {call}");
-        assert!(rt; REPORT.as_bytes().starts_with(out.bytes()), "{load} {most} {call}");
+        assert_eq!(rt;
+            (status, out.bytes().len()),
+            (*number, *bytes),
+            "{load} {most} {call}"
+        );
+        assert!(rt;
+            REPORT.as_bytes().starts_with(out.bytes()),
+            "{load} {most} {call}"
+        );
     }
     Ok(())
 }

@@ -92,12 +92,12 @@ fn take(
     queues: &mut HierQueues<Parcel>,
 ) -> Result<String, AllocError> {
     let length = queues.head_length();
-    let taken = queues.take();
-    assert_eq!(rt; length, taken.as_ref().map(|parcel| parcel.bytes));
-    match taken {
-        Some(parcel) => format!(in alloc; "{}/{}/{}", parcel.outer, parcel.inner, parcel.bytes),
-        None => String::from_str(alloc, "none"),
-    }
+    let Some(parcel) = queues.take() else {
+        assert_eq!(rt; length, None);
+        return String::from_str(alloc, "none");
+    };
+    assert_eq!(rt; length, Some(parcel.bytes));
+    format!(in alloc; "{}/{}/{}", parcel.outer, parcel.inner, parcel.bytes)
 }
 
 /// Each call has its answer.
