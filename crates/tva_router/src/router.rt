@@ -69,6 +69,13 @@ impl Router {
         })
     }
 
+    /// The restarts of the plan by which it was built.
+    pub fn restarts(&self) -> &[(Time, [u8; 32])]
+        ensures { result.now ≡ self.now.built.restarts }
+    {
+        self.built.restarts.as_slice()
+    }
+
     /// What becomes of a packet that comes in on a link, or from the trace. Times are in nanoseconds
     /// and never fall. The cases are TVA's, in this order: the hop limit; no shim, or a marked one; a
     /// malformed one; a request, which gets an entry; a list, a nonce or a renewal, which is authorised
@@ -225,9 +232,22 @@ fn copied(alloc: Global, plan: &RouterPlan) -> Result<RouterPlan, AllocError>
         incoming: Listed::new(plan.incoming.as_slice().to_vec(alloc)?),
         outgoing: Listed::new(plan.outgoing.as_slice().to_vec(alloc)?),
         routes: Listed::new(plan.routes.as_slice().to_vec(alloc)?),
-        restarts: Listed::new(plan.restarts.as_slice().to_vec(alloc)?),
+        restarts: Listed::new(restarts_of(alloc, plan.restarts.as_slice())?),
         reroutes: Listed::new(plan.reroutes.as_slice().to_vec(alloc)?),
     })
+}
+
+fn restarts_of(
+    alloc: Global,
+    restarts: &[(Time, [u8; 32])],
+) -> Result<Vec<(Time, [u8; 32])>, AllocError>
+    ensures { IfOk result (λ copies. copies.items ≡ restarts.now) }
+{
+    let mut copies = Vec::with_capacity(alloc, restarts.len())?;
+    for restart in restarts {
+        copies.push(*restart)?;
+    }
+    Ok(copies)
 }
 
 fn arrival_of(now: Time, from: Option<u16>, packet: &Packet) -> Arrival
