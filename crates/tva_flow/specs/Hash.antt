@@ -3,10 +3,6 @@ use Rattle.std.specs.Prelude.{ℕ, ◌+◌, ◌*◌, ◌/◌, ◌%◌}
 use Rattle.tva_base.specs.declared.packet.Flow.{Flow}
 use Rattle.tva_flow.specs.declared.hash.HashKey.{HashKey}
 
--- the key of caches that are given none
-abbrev pub fixed_key : HashKey
-fixed_key = record { src = 7640891576956012809; dst = 13503953896175478587; plus = 4354685564936845355 }
-
 -- bits 32 to 63 of the sum, for so many buckets
 unfoldable pub bucket_of : ℕ → HashKey → Flow → ℕ
 bucket_of buckets k f = (k.src * f.src.0 + k.dst * f.dst.0 + k.plus) / 4294967296 % 4294967296 % buckets

@@ -4,7 +4,6 @@ use Rattle.tva_base.specs.declared.packet.Flow.{Flow}
 use Rattle.tva_base.specs.declared.packet.Grant.{Grant}
 use Rattle.tva_flow.specs.declared.hash.HashKey.{HashKey}
 use Rattle.tva_flow.specs.declared.kept.Entry.{Entry}
-use Rattle.tva_flow.specs.Hash.{fixed_key}
 use Rattle.tva_flow.specs.Charges.{Charge, same_flow, of_flow, end_of, is_living, run, bytes_of, last_charge}
 use Rattle.tva_flow.specs.Verdicts.{IsAuthorised}
 
@@ -20,7 +19,11 @@ pub record Cache : Type 0 where
 abbrev pub keyed : HashKey → ℕ → ℕ → ℕ → List Entry → Cache
 keyed key slots offset last entries = record { key = key; slots = slots; offset = offset; last = last; entries = entries }
 
--- one under the key of caches that are given none
+-- the key of caches that are given none
+abbrev pub fixed_key : HashKey
+fixed_key = record { src = 7640891576956012809; dst = 13503953896175478587; plus = 4354685564936845355 }
+
+-- a cache under it
 abbrev pub cache : ℕ → ℕ → ℕ → List Entry → Cache
 cache slots offset last entries = keyed fixed_key slots offset last entries
 

@@ -21,7 +21,8 @@ mod tests;
 
 /// The flows of a router that live, each by its entry. Contracts see the key by which it finds flows,
 /// the number of its slots, how many nanoseconds its clock is ahead, the last time and the entries, of
-/// which there are at most as many as slots, and speak of all charges for which these stand. All memory is taken when it is made.
+/// which there are at most as many as slots, and speak of all charges for which these stand. All memory
+/// is taken when it is made.
 #[derive(Drop)]
 pub struct FlowCache {
     clock_offset: u64,
@@ -251,6 +252,24 @@ impl FlowCache {
             }
             _ => Verdict::UnknownNonce,
         }
+    }
+
+    /// Forgets all charges: the cache then stands for none, as a new one. Its last time stays, and times
+    /// don't fall after it either. It takes a step for each entry that is kept, and none for a slot.
+    pub fn clear(&mut self)
+        ensures value { self.new ≡ keyed self.old.key self.old.slots self.old.offset self.old.last [] }
+        ensures stands { StandsFor self.new [] }
+    {
+        let key = self.entries.key();
+        self.clear_keyed(key);
+    }
+
+    /// The same, with another key of the hash from then on, as `with_slots_keyed` has it.
+    pub fn clear_keyed(&mut self, key: HashKey)
+        ensures value { self.new ≡ keyed key self.old.slots self.old.offset self.old.last [] }
+        ensures stands { StandsFor self.new [] }
+    {
+        self.entries.clear(key);
     }
 
     /// How many flows live at that time, in nanoseconds, which isn't before an earlier one.

@@ -1,5 +1,5 @@
 // The entries of a cache at their places.
-ghost use Rattle.std.specs.Prelude.{◌≡◌, ℕ, ◌+◌, ◌*◌, ◌<◌, ◌≤◌, nat_lt, nat_le, List, [], ◌∷◌, ◌++◌, length, count_by, slice_index_or, slice_set, None, Some, MatchOption, All, IfOk};
+ghost use Rattle.std.specs.Prelude.{◌≡◌, ℕ, ◌+◌, ◌*◌, ◌<◌, ◌≤◌, nat_lt, nat_le, List, [], ◌∷◌, ◌++◌, length, count_by, slice_index_or, slice_set, vec_capacity, None, Some, MatchOption, All, IfOk};
 ghost use Rattle.tva_index.specs.Buckets.{home};
 ghost use Rattle.tva_flow.specs.declared.kept.Entry.{Entry};
 ghost use Rattle.tva_flow.specs.Stands.{entry_of};
@@ -57,6 +57,22 @@ fn find_in(all: &Vec<Entry>, places: &Buckets, bucket: u32, flow: &Flow) -> Opti
     None
 }
 
+/// Takes all entries away, from the last place on: so each stands first in its bucket when it is taken
+/// out, and a step is paid for each entry and none for a slot.
+fn take_all(all: &mut Vec<Entry>, places: &mut Buckets)
+    requires few { (length all.old.items ≤ length places.old.homes) × (length all.old.items ≤ 1000000) }
+    requires within { (i b : ℕ) → home places.old.homes i ≡ Some b → i < length all.old.items }
+    ensures all { all.new.items ≡ [] }
+    ensures room { vec_capacity all.new ≡ vec_capacity all.old }
+    ensures free { (i b : ℕ) → home places.new.homes i ≡ Some b → ⊥ }
+    ensures same { (places.new.count ≡ places.old.count)
+        × (length places.new.homes ≡ length places.old.homes) }
+{
+    while all.pop().is_some() {
+        places.take_out(all.len() as u32);
+    }
+}
+
 impl Entries {
     /// No entries. The error is want of memory.
     pub fn with_slots(alloc: Global, slots: u32, key: HashKey) -> Result<Entries, AllocError>
@@ -79,6 +95,12 @@ impl Entries {
         ensures { result ≡ self.now.slots }
     {
         self.slots
+    }
+
+    pub fn key(&self) -> HashKey
+        ensures { result ≡ self.now.key }
+    {
+        self.key
     }
 
     /// Whether there is no place for a further entry.
@@ -159,5 +181,14 @@ impl Entries {
         self.all.push_reserved(entry);
         self.places.put(at, bucket);
         self.ends.put(at, entry.end);
+    }
+
+    /// Takes all entries away, and finds those to come by that key. The ends stay as they were: they are
+    /// asked for where each place has an entry again.
+    pub fn clear(&mut self, key: HashKey)
+        ensures { self.new ≡ kept self.old.slots key [] }
+    {
+        take_all(&mut self.all, &mut self.places);
+        self.key = key;
     }
 }

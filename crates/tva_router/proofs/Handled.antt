@@ -43,7 +43,7 @@ all-early (o ∷ os) last (p ∷ ps) a = All-cons (λ (q : port.PortData). q.las
 -- a sound router is one of its plan
 pub by-plan : (built plan : RouterPlan) (last : ℕ) (g : Guard) (w : Ways) (ps : List port.PortData) → IsSound built plan last g w ps → IsByPlan (router_data built plan last g.minter g.cache ps)
 by-plan built plan last g w ps s = record {
-  valid = subst (λ (z : RouterPlan). IsRouterPlan z) s.in_force s.valid;
+  valid = s.valid;
   in_force = s.in_force;
   master = s.guard.master;
   clock = s.guard.clock;

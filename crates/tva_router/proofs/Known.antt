@@ -67,7 +67,7 @@ pub known : (v : RouterData) (h : List Charge) (logs : Logs) (link : ℕ) (limit
 known v h logs link limits now s f le =
     let q = port_for v.plan.outgoing v.last v.ports logs link limits s.links s.plan.ports f in
     record {
-      valid = limits_valid v.plan.outgoing link limits (subst (λ (z : RouterPlan). IsRouterPlan z) (sym s.plan.in_force) s.plan.valid).limits f;
+      valid = limits_valid v.plan.outgoing link limits s.plan.valid.limits f;
       legal = subst (λ (l : LinkLimits). IsLegal l (logs link)) q.1.limits_are q.1.stands.legal;
       later = later-weaker q.0.last now (logs link) (omega (arith, q.1.early, le)) q.1.stands.past;
     }

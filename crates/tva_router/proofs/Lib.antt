@@ -3,6 +3,8 @@ pub mod Ports
 pub mod Answers
 pub mod Queueing
 pub mod Handled
+pub mod Changed
+pub mod InForce
 pub mod Known
 pub mod Ways
 pub mod Tables

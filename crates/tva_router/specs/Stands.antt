@@ -3,6 +3,7 @@ use Rattle.std.specs.Prelude.{◌≡◌, ◌≤◌, ℕ, ◌==◌, if◌then◌e
 use Rattle.tva_base.specs.declared.limits.LinkLimits.{LinkLimits}
 use Rattle.tva_base.specs.declared.plan.RouterPlan.{RouterPlan}
 use Rattle.tva_base.specs.Plan.{IsRouterPlan}
+use Rattle.tva_base.specs.Changes.{changed}
 use Rattle.tva_caps.specs.Minting.{MinterState}
 use Rattle.tva_flow.specs.Charges.{Charge}
 use Rattle.tva_flow.specs.Budget.{AreTimely}
@@ -27,11 +28,12 @@ abbrev pub router_data : (built plan : RouterPlan) → ℕ → MinterState → f
 router_data built plan last minter cache ports =
     record { built = built; plan = plan; last = last; minter = minter; cache = cache; ports = ports }
 
--- the plan of the router is valid and is the one in force, the minter and the cache with its key are that plan's, and
--- neither the cache nor a port was called later than the router
+-- the plan in force is valid, and is the one by which the router was built but for its master and its routes; the
+-- minter and the cache with its key are those of the plan in force, and neither the cache nor a port was called later
+-- than the router
 pub record IsByPlan (v : RouterData) : Type 0 where
-  pub valid : IsRouterPlan v.built
-  pub in_force : v.plan ≡ v.built
+  pub valid : IsRouterPlan v.plan
+  pub in_force : v.plan ≡ changed v.plan.master v.plan.routes v.built
   pub master : v.minter.master ≡ v.plan.master
   pub clock : v.minter.clock_offset ≡ v.plan.clock_offset
   pub key : v.cache.key ≡ flow_key v.plan.master

@@ -1,7 +1,8 @@
 // What a router makes of the packets that arrive.
-ghost use Rattle.std.specs.Prelude.{◌≡◌, ◌≤◌, ◌<◌, ◌==◌, List, [], length, slice_get, IfOk, IfSome, Some, None};
+ghost use Rattle.std.specs.Prelude.{◌≡◌, ◌≤◌, ◌<◌, ◌==◌, ℕ, List, [], length, slice_get, IfOk, IfSome, Some, None};
 ghost use Rattle.std.specs.List.{find};
 ghost use Rattle.tva_base.specs.Plan.{IsRouterPlan};
+ghost use Rattle.tva_base.specs.Changes.{changed};
 ghost use Rattle.tva_base.specs.Versions.{AreSomeRights};
 ghost use Rattle.tva_shim.specs.Changes.{IsRequest, PointsAtOne, with_next_pointer, with_fresh, with_mark};
 ghost use Rattle.tva_shim.specs.Packets.{IsCarried};
@@ -44,6 +45,17 @@ impl Guard {
             cache: FlowCache::with_slots_keyed(alloc, plan.slots, plan.clock_offset, key)?,
             incoming: places_of(alloc, plan.incoming.as_slice())?,
         })
+    }
+
+    /// Starts again with another master: with a new minter, and without charges, under that master's key.
+    pub fn restart(&mut self, plan: &RouterPlan, master: [u8; 32])
+        requires { IsRouterPlan plan.now }
+        ensures guard { (last : ℕ) → IsGuard plan.now last self.old
+            → IsGuard (changed master plan.now.routes plan.now) last self.new }
+        ensures stands { StandsFor self.new.cache [] }
+    {
+        self.minter = Minter::new(master, plan.clock_offset);
+        self.cache.clear_keyed(flow_key(&master));
     }
 
     /// What the router makes of an arrival that carries this, which is then what it carries on.

@@ -91,6 +91,24 @@ pub fn verdicts_need_no_routes()
         → (handle (with_routes routes plan) h logs now from p).onward ≡ (handle plan h others now from p).onward }
 {}
 
+/// Two routers of one plan with the same master in force that stand for the same charges judge the same
+/// packet alike at the same time, whatever links their routes have come to take, and whatever waits for
+/// their links.
+pub fn equal_masters_judge_alike()
+    ensures class { (v w : RouterData) (h : List Charge) (logs others : Logs) (now : ℕ) (from : Option ℕ) (p : PacketData)
+        → StandsFor v h logs → StandsFor w h others → v.built ≡ w.built → v.plan.master ≡ w.plan.master
+        → (handle v.plan h logs now from p).fate.class ≡ (handle w.plan h others now from p).fate.class }
+    ensures cause { (v w : RouterData) (h : List Charge) (logs others : Logs) (now : ℕ) (from : Option ℕ) (p : PacketData)
+        → StandsFor v h logs → StandsFor w h others → v.built ≡ w.built → v.plan.master ≡ w.plan.master
+        → (handle v.plan h logs now from p).fate.cause ≡ (handle w.plan h others now from p).fate.cause }
+    ensures charge { (v w : RouterData) (h : List Charge) (logs others : Logs) (now : ℕ) (from : Option ℕ) (p : PacketData)
+        → StandsFor v h logs → StandsFor w h others → v.built ≡ w.built → v.plan.master ≡ w.plan.master
+        → (handle v.plan h logs now from p).fate.charge ≡ (handle w.plan h others now from p).fate.charge }
+    ensures onward { (v w : RouterData) (h : List Charge) (logs others : Logs) (now : ℕ) (from : Option ℕ) (p : PacketData)
+        → StandsFor v h logs → StandsFor w h others → v.built ≡ w.built → v.plan.master ≡ w.plan.master
+        → (handle v.plan h logs now from p).onward ≡ (handle w.plan h others now from p).onward }
+{}
+
 /// A packet goes on with the mark exactly where it had it, or was judged for a cause other than a
 /// malformed shim.
 pub fn marks_have_causes()

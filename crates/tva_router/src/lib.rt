@@ -16,7 +16,7 @@ mod sending;
 pub use judged::{Arrival, Judged};
 pub use key::flow_key;
 pub use laws::{
-    charges_keep_slots, fates_tell_entries, links_keep_limits, marks_have_causes,
-    verdicts_need_no_logs, verdicts_need_no_routes, ways_lead,
+    charges_keep_slots, equal_masters_judge_alike, fates_tell_entries, links_keep_limits,
+    marks_have_causes, verdicts_need_no_logs, verdicts_need_no_routes, ways_lead,
 };
 pub use router::Router;

@@ -1,6 +1,7 @@
 // A router.
-ghost use Rattle.std.specs.Prelude.{◌≡◌, ◌≢◌, ◌≤◌, ◌<◌, ◌↔◌, ℕ, ◌+◌, ◌*◌, max, nat_le, true, false, List, [], ◌++◌, Some, None, IfOk, All};
-ghost use Rattle.tva_base.specs.Plan.{IsRouterPlan, AreLinkLimits};
+ghost use Rattle.std.specs.Prelude.{◌≡◌, ◌≢◌, ◌≤◌, ◌<◌, ◌↔◌, ℕ, ◌+◌, ◌*◌, max, nat_le, true, false, List, [], ◌++◌, Some, None, IfOk, All, Contains, map};
+ghost use Rattle.tva_base.specs.Changes.{changed};
+ghost use Rattle.tva_base.specs.Plan.{IsRouterPlan, AreLinkLimits, links_of};
 ghost use Rattle.tva_shim.specs.Packets.{PacketData, packet_length};
 ghost use Rattle.tva_flow.specs.Charges.{Charge, living_count};
 ghost use Rattle.tva_flow.specs.Budget.{AreTimely, IsWithinBudget};
@@ -9,16 +10,20 @@ ghost use Rattle.tva_port.specs.Waiting.{waiting_after, next_request, IsEmpty, I
 ghost use Rattle.tva_port.specs.Decide.{decision, is_start, started_by, RestsAt, MissesNone, NoneDueBefore, IsFirstCovered};
 ghost use Rattle.tva_port.specs.declared.decision.Decision.TheVariants.{Start, WaitUntil, Idle};
 ghost use Rattle.tva_router.specs.Handling.{Logs, outgoing_link, arrival, stopped, handle};
+ghost use Rattle.tva_router.specs.Routes.{rerouted};
 ghost use Rattle.tva_router.specs.Stands.{StandsFor, StandForLogs, free_of, started_on, ◌with◌};
 ghost use Rattle.tva_router.specs.Steps.{ArePorts};
 
 use crate::finding::{Ways, ways_of};
 use crate::guard::Guard;
 use crate::judged::{Arrival, Judgement};
+use crate::routes::reroute;
 use crate::sending::{decide_on, free_on, send};
 use std::alloc::{AllocError, Global};
 use std::marker::Model;
-use tva_base::{Class, DropCause, Fate, LinkLimits, Listed, Name, Outcome, RouterPlan, Time};
+use tva_base::{
+    Class, DropCause, Fate, LinkLimits, Listed, Name, Outcome, Prefix, RouterPlan, Time,
+};
 use tva_port::{Decision, Port};
 use tva_shim::{HOPS_MAX, Packet, class_of, length};
 
@@ -67,6 +72,13 @@ impl Router {
             ways: ways_of(alloc, plan)?,
             ports: ports_of(alloc, plan.outgoing.as_slice())?,
         })
+    }
+
+    /// The restarts of the plan by which it was built.
+    pub fn restarts(&self) -> &[(Time, [u8; 32])]
+        ensures { result.now ≡ self.now.built.restarts }
+    {
+        self.built.restarts.as_slice()
     }
 
     /// What becomes of a packet that comes in on a link, or from the trace. Times are in nanoseconds
@@ -184,6 +196,39 @@ impl Router {
         free_on(&self.plan, &self.ways, &self.ports, link)
     }
 
+    /// Starts again with another master. From then on the router stands for no charges, and mints and
+    /// checks by that master; what its links' ports hold and owe stays, and so do its routes. Times are in
+    /// nanoseconds and never fall, with those of all other calls. It takes no memory, and a step for each
+    /// flow that the cache kept.
+    pub fn restart(&mut self, now: Time, master: [u8; 32])
+        requires { self.old.last ≤ now.0 }
+        ensures stands { (h : List Charge) (logs : Logs) → StandsFor self.old h logs → StandsFor self.new [] logs }
+        ensures plan { self.new.plan ≡ changed master self.old.plan.routes self.old.plan }
+        ensures built { self.new.built ≡ self.old.built }
+        ensures last { self.new.last ≡ now.0 }
+    {
+        self.last = now.0;
+        self.guard.restart(&self.plan, master);
+        self.plan.master = master;
+    }
+
+    /// Gives the route of a prefix another of the outgoing links, which packets take from then on that
+    /// arrive for it. The router stands for the same charges and logs: what is queued stays where it is.
+    /// Times are in nanoseconds and never fall, with those of all other calls. It takes no memory.
+    pub fn reroute(&mut self, now: Time, prefix: Prefix, link: u16)
+        requires time { self.old.last ≤ now.0 }
+        requires prefix { Contains (map (λ r. r.prefix) self.old.plan.routes) prefix }
+        requires link { Contains (links_of self.old.plan.outgoing) link }
+        ensures stands { (h : List Charge) (logs : Logs) → StandsFor self.old h logs → StandsFor self.new h logs }
+        ensures plan { self.new.plan
+            ≡ changed self.old.plan.master (rerouted prefix link self.old.plan.routes) self.old.plan }
+        ensures built { self.new.built ≡ self.old.built }
+        ensures last { self.new.last ≡ now.0 }
+    {
+        self.last = now.0;
+        reroute(&mut self.plan.routes, &self.ways.routes, prefix, link);
+    }
+
     /// How many flows may live at once. Whatever packets came, each was charged in one of its grant's
     /// T seconds, and the charges of each grant have less than twice its N units of 1,024 bytes. The
     /// bound is TVA's.
@@ -225,9 +270,22 @@ fn copied(alloc: Global, plan: &RouterPlan) -> Result<RouterPlan, AllocError>
         incoming: Listed::new(plan.incoming.as_slice().to_vec(alloc)?),
         outgoing: Listed::new(plan.outgoing.as_slice().to_vec(alloc)?),
         routes: Listed::new(plan.routes.as_slice().to_vec(alloc)?),
-        restarts: Listed::new(plan.restarts.as_slice().to_vec(alloc)?),
+        restarts: Listed::new(restarts_of(alloc, plan.restarts.as_slice())?),
         reroutes: Listed::new(plan.reroutes.as_slice().to_vec(alloc)?),
     })
+}
+
+fn restarts_of(
+    alloc: Global,
+    restarts: &[(Time, [u8; 32])],
+) -> Result<Vec<(Time, [u8; 32])>, AllocError>
+    ensures { IfOk result (λ copies. copies.items ≡ restarts.now) }
+{
+    let mut copies = Vec::with_capacity(alloc, restarts.len())?;
+    for restart in restarts {
+        copies.push(*restart)?;
+    }
+    Ok(copies)
 }
 
 fn arrival_of(now: Time, from: Option<u16>, packet: &Packet) -> Arrival

@@ -1,16 +1,17 @@
 // Which link leads to a destination. Of the lengths that prefixes have, the longest is looked up first,
 // so the time doesn't grow with the number of routes.
-ghost use Rattle.std.specs.Prelude.{◌≡◌, ◌≤◌, ◌<◌, ◌-◌, ◌^◌, All, IfOk, IfSome, length, position};
+ghost use Rattle.std.specs.Prelude.{◌≡◌, ◌≤◌, ◌<◌, ◌-◌, ◌^◌, All, IfOk, IfSome, length, map, position};
 ghost use Rattle.std.specs.Option.{option_map};
 ghost use Rattle.std.specs.List.{find};
 ghost use Rattle.tva_base.specs.Addresses.{kept};
-ghost use Rattle.tva_base.specs.Plan.{IsPrefix};
-ghost use Rattle.tva_router.specs.Routes.{leads, link_to};
+ghost use Rattle.tva_base.specs.Changes.{same_prefix};
+ghost use Rattle.tva_base.specs.Plan.{IsPrefix, AreDistinct};
+ghost use Rattle.tva_router.specs.Routes.{leads, link_to, rerouted};
 ghost use Rattle.tva_router.specs.Tables.{AreMarked, AreRoutePlacesFrom, IsTableOf};
 
 use std::alloc::{AllocError, Global};
 use std::collections::HashMap;
-use tva_base::{Address, Route};
+use tva_base::{Address, Listed, Prefix, Route};
 
 /// The places of routes by the lengths and the addresses of their prefixes, and which lengths there are.
 /// The link of a route stands with the route alone.
@@ -72,6 +73,27 @@ pub(crate) fn link_to(routes: &[Route], table: &RouteTable, dst: Address) -> Opt
         }
     }
     None
+}
+
+/// Gives the route of a prefix another link. The table finds it, and has nothing to change.
+pub(crate) fn reroute(routes: &mut Listed<Route>, table: &RouteTable, prefix: Prefix, link: u16)
+    requires table { IsTableOf routes.old table.now }
+    requires apart { AreDistinct (map (λ r. r.prefix) routes.old) }
+    ensures { routes.new ≡ rerouted prefix link routes.old }
+{
+    if let Some(place) = place_of_prefix(routes.as_slice(), table, prefix) {
+        let route = routes.as_slice()[place];
+        routes.set(place, Route { link, ..route });
+    }
+}
+
+// The place of the route of a prefix.
+fn place_of_prefix(routes: &[Route], table: &RouteTable, prefix: Prefix) -> Option<usize>
+    requires { IsTableOf routes.now table.now }
+    ensures place { result ≡ position (λ r. same_prefix r.prefix prefix) routes.now }
+    ensures within { IfSome result (λ place. place < length routes.now) }
+{
+    table.places.get(&(prefix.bits, prefix.address.0)).copied()
 }
 
 // The link of the prefix of that length that the destination begins with.

@@ -10,6 +10,7 @@ use Rattle.tva_router.specs.Stands.{StandForLogs}
 use Rattle.tva_router.specs.Steps.{ArePorts, IsGuard}
 use Rattle.tva_router.specs.Tables.{AreWays}
 use Rattle.tva_router.proofs.Handled.{by-plan}
+use Rattle.tva_router.proofs.Changed.{force_same}
 use Rattle.tva_router.proofs.router.Router.build.Goals as goal
 
 pub returns-clause-stands : goal.returns-clause-stands
@@ -21,7 +22,7 @@ returns-clause-stands c =
     record {
       plan = by-plan built plan 0 c.in_ok-build.field-0 c.in_ok-ways_of.field-0 c.in_ok-ports_of.field-0.items (record {
         valid = subst (λ (z : RouterPlan). IsRouterPlan z) (sym same) c.requires;
-        in_force = same ∙ sym c.in_ok-copied.ensures;
+        in_force = force_same plan built (same ∙ sym c.in_ok-copied.ensures);
         guard = subst (λ (z : RouterPlan). IsGuard z 0 c.in_ok-build.field-0) (sym same) c.in_ok-build.ensures.guard;
         ways = subst (λ (z : RouterPlan). AreWays z c.in_ok-ways_of.field-0) (sym same) c.in_ok-ways_of.ensures;
         ports = subst (λ (z : List (ℕ × LinkLimits)). ArePorts z 0 c.in_ok-ports_of.field-0.items) outgoing c.in_ok-ports_of.ensures.ports;
