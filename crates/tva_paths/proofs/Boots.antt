@@ -69,15 +69,6 @@ one_master plan a b e = elim (cases_lt a b) [
   | inr l ↦ sym (later_master plan b a l (sym e))
 ]
 
--- the clock and the slots are always those of the plan
-pub clock_stays : (plan : RouterPlan) (now : ℕ) → plan.clock_offset ≡ (in_force plan now).clock_offset
-unfolding in_force
-clock_stays plan now = refl
-
-pub slots_stay : (plan : RouterPlan) (now : ℕ) → plan.slots ≡ (in_force plan now).slots
-unfolding in_force
-slots_stay plan now = refl
-
 -- ## what came in a boot
 
 picked_here : {X : Type 0} (x : X) (xs ys : List X) (b : Bool) → xs ≡ ys → cond b (x ∷ xs) xs ≡ cons_option (cond b (Some x) None) ys

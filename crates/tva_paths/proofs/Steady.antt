@@ -27,6 +27,7 @@ use Rattle.tva_sender.specs.Played.{AreNext, IsPlayed}
 use Rattle.tva_router.specs.Boots.{charges_of_boot, charges_at}
 use Rattle.tva_router.specs.Handling.{arrival}
 use Rattle.tva_router.specs.Marks.{is_marked}
+use Rattle.tva_router.proofs.InForce.{force_clock, force_slots}
 use Rattle.tva_host.specs.declared.made.Receipt.{Receipt}
 use Rattle.tva_host.specs.Calls.{NeverFall}
 use Rattle.tva_host.proofs.Played as players
@@ -67,7 +68,7 @@ use Rattle.tva_paths.proofs.Counts.{few_inputs}
 use Rattle.tva_paths.proofs.Matching.{In, come_key, keys, AreIn, Matches, in_place, in_append, in_behind, matched}
 use Rattle.tva_paths.proofs.Asks.{Asked, last_time, asked_place, come_id, ask_is, coming_is, last_rights_are}
 use Rattle.tva_paths.proofs.Comings.{paid_of, paid, claim, claim_at, flow_charges, CameAt, came_place, paid_only, paid_place, charged_is}
-use Rattle.tva_paths.proofs.Boots.{one_master, clock_stays, slots_stay, passing_place, boot_charges}
+use Rattle.tva_paths.proofs.Boots.{one_master, passing_place, boot_charges}
 use Rattle.tva_paths.proofs.Miles.{Run, miles_of, authorised_since}
 use Rattle.tva_paths.proofs.Regular.{ShowsGrant, steady_regular}
 use Rattle.tva_paths.proofs.Kept.{AreShims, are_shims, same_length, at_router, shown_as_made, shows_as_made}
@@ -322,7 +323,7 @@ module _ (config : Config) (rows : List Row) (until : ℕ) (logs : Logs) (valid 
       (flow_charges to router to_plan until (log_at logs node) keeps packet.flow b (Took i (Arrived o p ft ow) ∷ r) h)) in
       let hold : last_charge (charges_in ms) ≡ holder paid_then p.flow =
       ap last_charge (ce ∙ (sym fr ∙ sym of_boot)) ∙ ap (λ (z : Flow). last_charge (of_flow z paid_then)) fl in
-      let a = at_router way rules p ms paid_then u fl (one_master router now u (sym boot)) (clock_stays router u) hold in
+      let a = at_router way rules p ms paid_then u fl (one_master router now u (sym boot)) (sym (force_clock router u)) hold in
       let minted : IfSome (last_came ms) (λ v. ShowsMinted rules p p.carried v) =
       subst (λ (z : Option ℕ). IfSome z (λ v. ShowsMinted rules p p.carried v)) (sym came_eq) cs.minted in
       let after_delay = it.from in
@@ -489,7 +490,7 @@ module _ (config : Config) (rows : List Row) (until : ℕ) (logs : Logs) (valid 
     shows_it : ShowsGrant way miles.miles (shape_in at.packet.carried) packet.carried
     shows_it =
         let a =
-        at_router way ruling packet miles.miles held now refl refl (clock_stays router now) (ap last_charge (sym charged_so)) in
+        at_router way ruling packet miles.miles held now refl refl (sym (force_clock router now)) (ap last_charge (sym charged_so)) in
         shows_as_made way ruling at.packet packet miles.miles held now a shims
         (subst (λ (o : Option ℕ). IfSome o (λ u. ShowsMinted ruling packet packet.carried u)) (sym miles.came) steady.last.minted)
 
@@ -500,7 +501,7 @@ module _ (config : Config) (rows : List Row) (until : ℕ) (logs : Logs) (valid 
         let r =
         steady_regular ruling held (port_logs past) now on packet way miles.miles at.sent
         (shape_in at.packet.carried) below
-        (record { flow_is = refl; master_is = refl; offset_is = clock_stays router now; slots_are = slots_stay router now }) is_steady shows_it in
+        (record { flow_is = refl; master_is = refl; offset_is = sym (force_clock router now); slots_are = sym (force_slots router now) }) is_steady shows_it in
         record {
           rights = r.last.rights;
           came = r.last.came;

@@ -34,6 +34,7 @@ use Rattle.tva_log.specs.Entries.{Content, Arrived, Entry, Took, Started, input_
 use Rattle.tva_log.specs.Entries as entry
 use Rattle.tva_log.specs.Parts.{queued_at, reply_at, port_entry, port_logs}
 use Rattle.tva_log.specs.NodeLog.{start_of, start_after, starts, LeavesNone}
+use Rattle.tva_log.proofs.Links.{same_out}
 use Rattle.tva_joins.specs.Joins.{cut}
 use Rattle.tva_joins.proofs.Joins.{filter-true, filter-false}
 use Rattle.tva_promises.proofs.Packets.{sized_length}
@@ -92,11 +93,6 @@ own_way site link (Some o) e = subst (λ k. limits_out site k ≡ Some o) (sym (
 pub link_way : (site : Site) (link : ℕ) → IsWayOut site (limits_out site link)
 link_way site link = own_way site link (limits_out site link) refl
 
--- whatever is in force, a router has the same links out
-out_in_force : (plan : RouterPlan) (now link : ℕ) → outgoing_link (in_force plan now) link ≡ outgoing_link plan link
-unfolding in_force
-out_in_force plan now link = refl
-
 way_by : (site : Site) (plan : RouterPlan) (o : Option ℕ) → ((link : ℕ) → outgoing_link plan link ≡ limits_out site link) → IsWayOut site (link_or_none plan o)
 way_by site plan None e = tt
 way_by site plan (Some link) e = own_way site link (outgoing_link plan link) (sym (e link))
@@ -105,7 +101,7 @@ way_by site plan (Some link) e = own_way site link (outgoing_link plan link) (sy
 pub router_way : (site : Site) (plan : RouterPlan) (now : ℕ) (dst : Address) → IsSite site → site.plan ≡ plans.Router plan → IsWayOut site (way_to (in_force plan now) dst)
 router_way site plan now dst s e =
     let q : RouterPlan = in_force plan now in
-    way_by site q (link_to q.routes dst) (λ link. out_in_force plan now link ∙ router_out site plan link s e)
+    way_by site q (link_to q.routes dst) (λ link. same_out plan now link ∙ router_out site plan link s e)
 
 -- ## queued packets
 
