@@ -4,6 +4,7 @@ pub mod Answers
 pub mod Queueing
 pub mod Handled
 pub mod Changed
+pub mod Copies
 pub mod InForce
 pub mod Known
 pub mod Ways
