@@ -270,22 +270,9 @@ fn copied(alloc: Global, plan: &RouterPlan) -> Result<RouterPlan, AllocError>
         incoming: Listed::new(plan.incoming.as_slice().to_vec(alloc)?),
         outgoing: Listed::new(plan.outgoing.as_slice().to_vec(alloc)?),
         routes: Listed::new(plan.routes.as_slice().to_vec(alloc)?),
-        restarts: Listed::new(restarts_of(alloc, plan.restarts.as_slice())?),
+        restarts: Listed::new(plan.restarts.as_slice().to_vec(alloc)?),
         reroutes: Listed::new(plan.reroutes.as_slice().to_vec(alloc)?),
     })
-}
-
-fn restarts_of(
-    alloc: Global,
-    restarts: &[(Time, [u8; 32])],
-) -> Result<Vec<(Time, [u8; 32])>, AllocError>
-    ensures { IfOk result (λ copies. copies.items ≡ restarts.now) }
-{
-    let mut copies = Vec::with_capacity(alloc, restarts.len())?;
-    for restart in restarts {
-        copies.push(*restart)?;
-    }
-    Ok(copies)
 }
 
 fn arrival_of(now: Time, from: Option<u16>, packet: &Packet) -> Arrival
