@@ -1,10 +1,11 @@
 -- The charges of a router's boots: what an arrival adds, and what a restart leaves.
-use Rattle.std.proofs.Common.{◌≡◌, ℕ, ◌+◌, ◌≤◌, ◌<◌, true, false, cond, List, [], ◌∷◌, ◌++◌, refl, ◌∙◌, ap, arith}
+use Rattle.std.proofs.Common.{◌≡◌, ℕ, ◌+◌, ◌≤◌, ◌<◌, true, false, cond, List, [], ◌∷◌, ◌++◌, sym, subst, ◌∙◌, ap, arith}
 use Rattle.std.specs.Prelude.{◌==◌, nat_le, count_by}
 use Rattle.std.specs.List.{AllByRecursion}
 use Rattle.std.proofs.lemmas.Bool.{eq-eqb, ne_eqb}
 use Rattle.std.proofs.lemmas.Bool.Decides.{nat_tests}
 use Rattle.std.proofs.lemmas.List.Elements.{filter-append}
+use Rattle.std.proofs.lemmas.List.Sums.{sum_by-cons}
 use Rattle.tva_base.specs.declared.packet.Time.{Time}
 use Rattle.tva_base.specs.declared.plan.RouterPlan.{RouterPlan}
 use Rattle.tva_base.specs.Changes.{boot_at, has_come}
@@ -17,7 +18,13 @@ one_more time now later l = grind (arith, nat_tests)
 
 come_later : (now later : ℕ) → now ≤ later → (restarts : List (Time × List ℕ)) → count_by (λ c. has_come now c.0) restarts ≤ count_by (λ c. has_come later c.0) restarts
 come_later now later l [] = omega arith
-come_later now later l (x ∷ xs) = let a = come_later now later l xs in let b = one_more x.0.0 now later l in omega arith
+come_later now later l (x ∷ xs) =
+    let a = come_later now later l xs in
+    let b = one_more x.0.0 now later l in
+    let before = sum_by-cons (λ (c : Time × List ℕ). cond (has_come now c.0) 1 0) x xs in
+    let behind = sum_by-cons (λ (c : Time × List ℕ). cond (has_come later c.0) 1 0) x xs in
+    subst (λ (n : ℕ). n ≤ count_by (λ c. has_come later c.0) (x ∷ xs)) (sym before)
+    (subst (λ (n : ℕ). cond (nat_le x.0.0 now) 1 0 + count_by (λ c. has_come now c.0) xs ≤ n) (sym behind) (omega (arith, a, b)))
 
 -- boots rise with time
 pub boots_rise : (plan : RouterPlan) (now later : ℕ) → now ≤ later → boot_at plan now ≤ boot_at plan later
