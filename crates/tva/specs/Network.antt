@@ -10,7 +10,7 @@ use Rattle.tva_promises.specs.Promises.{KeepsPromises}
 use Rattle.tva_paths.specs.Paths.{AreHonestRegular}
 use Rattle.tva.specs.Expected.{Expected, replays}
 
--- in every run up to any time the log of each node keeps its promises
+-- in every run up to any time the log of each node keeps its promises, a router's for each of its boots
 abbrev pub EachKeepsPromises : Config → List Row → Type 0
 EachKeepsPromises plan rows =
     (until : ℕ) (logs : Logs) → IsRunTo plan rows until logs

@@ -74,11 +74,12 @@ pub fn run<R: Threads + Sync, S: Shelf, W: Sink, G: Gate>(
     ensures one_end { (files : Held) → IfSome (wanted (Some files) (texts words.now)) HasOneEnd }
 
     // The network: in every run of a trace that is to be replayed, up to any time, the log of each
-    // node keeps its promises at each of its places.
+    // node keeps its promises at each of its places. Budgets are counted for each router, each of its
+    // boots and each grant.
     ensures network { (files : Held) → IfSome (wanted (Some files) (texts words.now)) ArePromisesKept }
 
     // Honest senders, in each such run: what shows a grant is charged and regular at each router to
-    // which the path of its host is steady.
+    // which the path of its host is steady, in a boot of that router.
     ensures honest { (files : Held) → IfSome (wanted (Some files) (texts words.now)) AreHonestTaken }
 
     // What stays. Words that need no file leave the shelf as it was, and usage the sink, whatever

@@ -3,3 +3,4 @@ pub mod Ports
 pub mod Links
 pub mod Legal
 pub mod Quiet
+pub mod Boots

@@ -13,6 +13,7 @@ use Rattle.tva_base.specs.declared.packet.Outcome.TheVariants.{Queued, Dropped}
 use Rattle.tva_base.specs.declared.plan.LinkPlan.{LinkPlan}
 use Rattle.tva_base.specs.declared.plan.RouterPlan.{RouterPlan}
 use Rattle.tva_base.specs.declared.plan.HostPlan.{HostPlan}
+use Rattle.tva_base.specs.Changes.{in_force}
 use Rattle.tva_shim.specs.Packets.{PacketData, class_by_shim}
 use Rattle.tva_shim.specs.Shows.{key_of}
 use Rattle.tva_drr.specs.declared.offered.Offered.{Offered}
@@ -26,6 +27,7 @@ use Rattle.tva_router.specs.declared.judged.Judged.{Judged}
 use Rattle.tva_router.specs.Judging.{judge}
 use Rattle.tva_router.specs.Handling.{Logs, offered, outcome_of, sent, outgoing_link, link_or_none, way_to, arrival, goes_on, stopped, forwarded, handle}
 use Rattle.tva_router.specs.Routes.{link_to}
+use Rattle.tva_router.specs.Boots.{charges_at}
 use Rattle.tva_host.specs.declared.made.Made.{Made}
 use Rattle.tva_host.specs.Calls.{history_of}
 use Rattle.tva_host.specs.Receiving.{receipt_of}
@@ -100,12 +102,17 @@ own_way site link (Some o) e = subst (λ k. limits_out site k ≡ Some o) (sym (
 link_way : (site : Site) (link : ℕ) → IsWayOut site (limits_out site link)
 link_way site link = own_way site link (limits_out site link) refl
 
-router_way : (site : Site) (plan : RouterPlan) (dst : Address) → IsSite site → site.plan ≡ plans.Router plan → IsWayOut site (way_to plan dst)
-router_way site plan dst s e = by_link (link_to plan.routes dst)
+-- whatever changes, a router's links out stay
+pub same_out : (plan : RouterPlan) (now link : ℕ) → outgoing_link (in_force plan now) link ≡ outgoing_link plan link
+unfolding in_force
+same_out plan now link = refl
+
+router_way : (site : Site) (plan : RouterPlan) (now : ℕ) (dst : Address) → IsSite site → site.plan ≡ plans.Router plan → IsWayOut site (way_to (in_force plan now) dst)
+router_way site plan now dst s e = by_link (link_to (in_force plan now).routes dst)
   where
-    by_link : (o : Option ℕ) → IsWayOut site (link_or_none plan o)
+    by_link : (o : Option ℕ) → IsWayOut site (link_or_none (in_force plan now) o)
     by_link None = tt
-    by_link (Some link) = own_way site link (outgoing_link plan link) (sym (router_out site plan link s e))
+    by_link (Some link) = own_way site link (outgoing_link (in_force plan now) link) (sym (same_out plan now link ∙ router_out site plan link s e))
 
 -- ## times
 
@@ -212,11 +219,12 @@ arrived_follows : (site : Site) (plan : RouterPlan) (link : ℕ) (l : LinkLimits
     → port.NoneLater now (port_logs before link) → FollowsAt l before link now (arrived plan before now from p)
 unfolding arrived handle
 arrived_follows site plan link l before now from p valid e out past =
-    let j : Judged = judge plan (charges before) (arrival now from p) p.carried in
-    elim (nat_le 32 p.hops) as (λ b. IfSome (queued_at link now (cond b (stopped p) (forwarded plan (port_logs before) now p j)).fate.outcome
-    (cond b (stopped p) (forwarded plan (port_logs before) now p j)).fate.class (cond b (stopped p) (forwarded plan (port_logs before) now p j)).onward) (MayFollow l (port_logs before link))) [
+    let force = in_force plan now in
+    let j : Judged = judge force (charges_at plan now (charges before)) (arrival now from p) p.carried in
+    elim (nat_le 32 p.hops) as (λ b. IfSome (queued_at link now (cond b (stopped p) (forwarded force (port_logs before) now p j)).fate.outcome
+    (cond b (stopped p) (forwarded force (port_logs before) now p j)).fate.class (cond b (stopped p) (forwarded force (port_logs before) now p j)).onward) (MayFollow l (port_logs before link))) [
       | true ↦ tt
-      | false ↦ sent_follows site link l (port_logs before) now j.class (goes_on p j.carried) (way_to plan p.flow.dst) out (router_way site plan p.flow.dst valid e) past
+      | false ↦ sent_follows site link l (port_logs before) now j.class (goes_on p j.carried) (way_to force p.flow.dst) out (router_way site plan now p.flow.dst valid e) past
     ]
 
 -- ## at a host

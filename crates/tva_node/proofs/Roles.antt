@@ -1,8 +1,8 @@
 -- What a router or a host that stands for a node's log tells of its links' logs, and how it goes on.
-use Rattle.std.proofs.Common.{◌≡◌, ℕ, ◌+◌, ◌≤◌, Bool, true, false, cond, List, [], ◌∷◌, ◌++◌, map, Option, Some, None, Result, Ok, Err, refl, sym, subst, ◌∙◌, ap, arith, inl, inr, append-nil}
+use Rattle.std.proofs.Common.{ap₂, ◌≡◌, ℕ, ◌+◌, ◌≤◌, Bool, true, false, cond, List, [], ◌∷◌, ◌++◌, map, Option, Some, None, Result, Ok, Err, refl, sym, subst, ◌∙◌, ap, arith, inl, inr, append-nil}
 use Rattle.std.specs.Prelude.{◌==◌, min, IfOk}
 use Rattle.std.specs.Option.{option_map}
-use Rattle.std.specs.List.{find, cons_option}
+use Rattle.std.specs.List.{AllByRecursion, find, cons_option}
 use Rattle.std.proofs.lemmas.Bool.{cond-true, cond-false, cases_Bool, eq-eqb, eqb-true}
 use Rattle.std.proofs.lemmas.List.Elements.{filter_map-append, All-weaker}
 use Rattle.std.proofs.lemmas.List.Sums.{sum_by_push}
@@ -20,6 +20,7 @@ use Rattle.tva_base.specs.declared.packet.Grant.{Grant}
 use Rattle.tva_base.specs.declared.packet.Outcome.{Outcome}
 use Rattle.tva_base.specs.declared.packet.Outcome.TheVariants.{Queued, Dropped}
 use Rattle.tva_base.specs.Plan.{links_of}
+use Rattle.tva_base.specs.Changes.{boot_at, in_force}
 use Rattle.tva_base.specs.Ordinals.{ordinal_behind}
 use Rattle.tva_shim.specs.Packets.{PacketData, packet_length, class_by_shim}
 use Rattle.tva_shim.specs.Shows.{key_of, nonce_in}
@@ -40,6 +41,7 @@ use Rattle.tva_host.specs.Calls.{Call, Received, history_of}
 use Rattle.tva_host.specs.Stands as host_stands
 use Rattle.tva_host.specs.Stands.{HostData}
 use Rattle.tva_trace.specs.declared.rows.Row.{Row}
+use Rattle.tva_router.specs.Boots.{charges_at, charges_of_boot}
 use Rattle.tva_router.specs.Handling.{Logs, charged_by, entered_by, handle, outcome_of, outgoing_link, sent}
 use Rattle.tva_router.specs.Stands as router
 use Rattle.tva_router.specs.Stands.{◌with◌, started_on}
@@ -53,19 +55,24 @@ use Rattle.tva_log.specs.Sites.{Site, IsSite, IsPlanned, limits_out}
 use Rattle.tva_log.specs.Entries.{Content, Arrived, Sent, Entry, Took, Started, input_time}
 use Rattle.tva_log.specs.Entries as entry
 use Rattle.tva_log.specs.Parts.{call_of, call_of_input, call_of_row, reply_at, calls, charge_of, charged, charges, content_at, is_row, port_entry, port_logs, queued_at, rows_in}
-use Rattle.tva_log.specs.Contents.{arrived, content_by, goes_out, hosted, made_for, routed}
+use Rattle.tva_log.specs.Contents.{arrived, content_by, goes_out, handled, hosted, made_for, routed}
 use Rattle.tva_log.specs.Told.{content_told, reply_told}
+use Rattle.tva_joins.proofs.Joins.{each-append, each-weaker}
 use Rattle.tva_log.proofs.Legal.{AreLegal}
+use Rattle.tva_log.proofs.Boots.{charges_now}
+use Rattle.tva_node.specs.declared.changes.Changes.{Changes}
 use Rattle.tva_node.specs.declared.role.Role.{Role}
 use Rattle.tva_node.specs.declared.role.Role.TheVariants as roles
 use Rattle.tva_node.specs.declared.role.Routed.{Routed}
 use Rattle.tva_node.specs.declared.role.Hosted.{Hosted}
 use Rattle.tva_node.specs.States.{RoleStands, StandsAsRouter, StandsAsHost, IsBy, role_plan}
+use Rattle.tva_node.specs.Making.{IsUpTo}
 use Rattle.tva_node.specs.Steps.{HostTook, RouterTook, Takes, reply_went, started_by, went_out}
+use Rattle.tva_node.proofs.Changes.{routed_later, same_links}
 
 -- a time is no earlier
 pub by-later : (now later : ℕ) (role : Role) → now ≤ later → IsBy now role → IsBy later role
-by-later now later (roles.Router r) l h = omega arith
+by-later now later (roles.Router r) l h = routed_later now later r l h
 by-later now later (roles.Host x) l h = (let a = h.0 in omega arith, let a = h.1 in omega arith)
 
 -- ## links
@@ -117,7 +124,7 @@ pub role_legal : (site : Site) (role : Role) (log : List Entry) (now : ℕ) → 
 role_legal site (roles.Router r) log now s e h b = λ link o f.
     let k = link_number site link o f in
     let k' : limits_out site link ≡ Some (link, o.1) = f ∙ ap Some (λ i. (k i, o.1)) in
-    let is = known r.router (charges log) (port_logs log) link o.1 now h.router (router_out site r.router.plan link s e ∙ k') b in
+    let is = known r.router (charges_of_boot r.router.built r.changes.boot (charges log)) (port_logs log) link o.1 now h.router (same_links now r b link ∙ (router_out site r.router.built link s e ∙ k')) b.last in
     (is.legal, is.later)
   where
     found_number : (links : List (ℕ × LinkPlan)) (link : ℕ) (o : ℕ × LinkLimits) → option_map (λ (x : ℕ × LinkPlan). let y : ℕ × LinkLimits = (x.0, x.1.limits) in y) (find (λ x. x.0 == link) links) ≡ Some o → o.0 ≡ link
@@ -174,28 +181,55 @@ ordinal_row log row made next e = omega (arith, e, rows_more log (Took (FromTrac
 pub ordinal_arrival : (log : List Entry) (time : Time) (link : ℕ) (packet : PacketData) (made : Content) (next : ℕ) → next ≡ ordinal_behind (rows_in log) → next ≡ ordinal_behind (rows_in (log ++ Took (Arrival time link packet) made ∷ []))
 ordinal_arrival log time link packet made next e = omega (arith, e, rows_more log (Took (Arrival time link packet) made))
 
--- a router goes on with an arrival
-pub router_took : (r new : Routed) (log : List Entry) (input : Input) (from : Option ℕ) (packet : PacketData) → StandsAsRouter r log
-    → (let is = handle r.router.plan (charges log) (port_logs log) (input_time input) from packet in router.StandsFor new.router (charges log ++ is.charges) (port_logs log with is.queued))
-    → new.next ≡ ordinal_behind (rows_in (log ++ Took input (arrived r.router.plan log (input_time input) from packet) ∷ []))
-    → StandsAsRouter new (log ++ Took input (arrived r.router.plan log (input_time input) from packet) ∷ [])
+-- what is charged at a time
+charged_then : (o : Option Grant) (now nonce bytes : ℕ) → AllByRecursion (λ (c : Charge). c.time ≡ now) (charged_by o now nonce bytes)
+charged_then None now nonce bytes = tt
+charged_then (Some grant) now nonce bytes = (refl, tt)
+
+-- a router goes on with an arrival, after all changes up to then
+pub router_took : (r new : Routed) (log : List Entry) (input : Input) (from : Option ℕ) (packet : PacketData) → IsUpTo (input_time input) r → StandsAsRouter r log
+    → (let h = charges_of_boot r.router.built r.changes.boot (charges log) in
+    let is = handle r.router.plan h (port_logs log) (input_time input) from packet in router.StandsFor new.router (h ++ is.charges) (port_logs log with is.queued))
+    → new.router.built ≡ r.router.built → new.changes ≡ r.changes
+    → new.next ≡ ordinal_behind (rows_in (log ++ Took input (arrived r.router.built log (input_time input) from packet) ∷ []))
+    → StandsAsRouter new (log ++ Took input (arrived r.router.built log (input_time input) from packet) ∷ [])
 unfolding arrived
-router_took r new log input from packet h st next =
+router_took r new log input from packet up h st built changes next =
     let time = input_time input in
-    let plan = r.router.plan in
-    let is = handle plan (charges log) (port_logs log) time from packet in
+    let plan = r.router.built in
+    let boot = r.changes.boot in
+    let g = charges_at plan time (charges log) in
+    let is = handled plan log time from packet in
     let entry = Took input (Arrived from packet is.fate is.onward) in
+    let here : charges_of_boot plan boot (charges log) ≡ g = ap (λ (k : ℕ). charges_of_boot plan k (charges log)) up.boot in
+    let st' : router.StandsFor new.router (g ++ is.charges) (port_logs log with is.queued) =
+    subst (λ (p : RouterPlan). router.StandsFor new.router (g ++ (handle p g (port_logs log) time from packet).charges) (port_logs log with (handle p g (port_logs log) time from packet).queued)) up.plan
+    (subst (λ (k : List Charge). router.StandsFor new.router (k ++ (handle r.router.plan k (port_logs log) time from packet).charges) (port_logs log with (handle r.router.plan k (port_logs log) time from packet).queued)) here st) in
+    let told : is.charges ≡ charged_by is.fate.charge time (nonce_in packet.carried) (packet_length packet) = charges_told (in_force plan time) g (port_logs log) time from packet in
+    let now : AllByRecursion (λ (c : Charge). c.time ≡ time) is.charges =
+    subst (AllByRecursion (λ (c : Charge). c.time ≡ time)) (sym told) (charged_then is.fate.charge time (nonce_in packet.carried) (packet_length packet)) in
     let more : charges (log ++ entry ∷ []) ≡ charges log ++ is.charges =
-    charges_more log entry ∙ ap (λ (g : List Charge). charges log ++ g) (charged_is time packet is.fate.charge ∙ sym (charges_told plan (charges log) (port_logs log) time from packet)) in
+    charges_more log entry ∙ ap (λ (k : List Charge). charges log ++ k) (charged_is time packet is.fate.charge ∙ sym told) in
+    let in_boot : charges_of_boot new.router.built new.changes.boot (charges (log ++ entry ∷ [])) ≡ g ++ is.charges =
+    ap (λ (p : RouterPlan). charges_of_boot p new.changes.boot (charges (log ++ entry ∷ []))) built
+    ∙ (ap (λ (c : Changes). charges_of_boot plan c.boot (charges (log ++ entry ∷ []))) changes
+    ∙ (ap (λ (k : ℕ). charges_of_boot plan k (charges (log ++ entry ∷ []))) up.boot
+    ∙ (ap (charges_at plan time) more ∙ charges_now plan time (charges log) is.charges now))) in
+    let no_later : AllByRecursion (λ (c : Charge). boot_at plan c.time ≤ boot) (charges log ++ is.charges) =
+    each-append (λ (c : Charge). boot_at plan c.time ≤ boot) (charges log) is.charges h.boots
+    (each-weaker (λ (c : Charge). c.time ≡ time) (λ (c : Charge). boot_at plan c.time ≤ boot) (λ c e. let k : boot_at plan c.time ≡ boot_at plan time = ap (boot_at plan) e in let b = up.boot in omega (arith, k, b)) is.charges now) in
     let logs : (link : ℕ) → port_logs (log ++ entry ∷ []) link ≡ port_logs log link ++ is.queued link =
-    (λ link. logs_more log entry link ∙ ap (λ (es : List port.Entry). port_logs log link ++ es) (entered_is link time is.fate.outcome is.fate.class is.onward ∙ sym (queued_told plan (charges log) (port_logs log) time from packet link))) in
+    (λ link. logs_more log entry link ∙ ap (λ (es : List port.Entry). port_logs log link ++ es) (entered_is link time is.fate.outcome is.fate.class is.onward ∙ sym (queued_told (in_force plan time) g (port_logs log) time from packet link))) in
     record {
-      router = subst (λ (g : List Charge). router.StandsFor new.router g (port_logs (log ++ entry ∷ []))) (sym more)
-          (subst (λ (k : Logs). router.StandsFor new.router (charges log ++ is.charges) k) (λ i link. sym (logs link) i) st);
+      router = subst (λ (k : List Charge). router.StandsFor new.router k (port_logs (log ++ entry ∷ []))) (sym in_boot)
+          (subst (λ (k : Logs). router.StandsFor new.router (g ++ is.charges) k) (λ i link. sym (logs link) i) st');
+      boots = subst (λ (p : RouterPlan). AllByRecursion (λ (c : Charge). boot_at p c.time ≤ new.changes.boot) (charges (log ++ entry ∷ []))) (sym built)
+          (subst (λ (k : Changes). AllByRecursion (λ (c : Charge). boot_at plan c.time ≤ k.boot) (charges (log ++ entry ∷ []))) (sym changes)
+          (subst (AllByRecursion (λ (c : Charge). boot_at plan c.time ≤ boot)) (sym more) no_later));
       next = next;
     }
 
-pub arrived_told : (plan : RouterPlan) (log : List Entry) (time : ℕ) (from : Option ℕ) (packet : PacketData) → content_told (arrived plan log time from packet) ≡ happens.Arrived packet.id (packet_length packet) from (handle plan (charges log) (port_logs log) time from packet).fate
+pub arrived_told : (plan : RouterPlan) (log : List Entry) (time : ℕ) (from : Option ℕ) (packet : PacketData) → content_told (arrived plan log time from packet) ≡ happens.Arrived packet.id (packet_length packet) from (handled plan log time from packet).fate
 unfolding arrived
 arrived_told plan log time from packet = refl
 
@@ -235,12 +269,23 @@ logs_started log now on Idle link = ap (λ (es : List Entry). port_logs es link)
     nothing true = sym (append-nil (port_logs log link))
     nothing false = sym (append-nil (port_logs log link))
 
-pub router_decided : (r new : Routed) (log : List Entry) (link now : ℕ) (d : Decision) → StandsAsRouter r log → router.StandsFor new.router (charges log) (port_logs log with started_on link d now) → new.next ≡ r.next → StandsAsRouter new (log ++ started_by link now d)
-router_decided r new log link now d h st next = record {
-  router = subst (λ (g : List Charge). router.StandsFor new.router g (port_logs (log ++ started_by link now d))) (sym (charges_started log now link d))
-      (subst (λ (k : Logs). router.StandsFor new.router (charges log) k) (λ i on. sym (logs_started log now link d on) i) st);
-  next = next ∙ (h.next ∙ ap ordinal_behind (sym (rows_started log now link d)));
-}
+pub router_decided : (r new : Routed) (log : List Entry) (link now : ℕ) (d : Decision) → StandsAsRouter r log
+    → router.StandsFor new.router (charges_of_boot r.router.built r.changes.boot (charges log)) (port_logs log with started_on link d now)
+    → new.router.built ≡ r.router.built → new.changes ≡ r.changes → new.next ≡ r.next → StandsAsRouter new (log ++ started_by link now d)
+router_decided r new log link now d h st built changes next =
+    let same : charges (log ++ started_by link now d) ≡ charges log = charges_started log now link d in
+    let boot : charges_of_boot new.router.built new.changes.boot (charges (log ++ started_by link now d)) ≡ charges_of_boot r.router.built r.changes.boot (charges log) =
+    ap (λ (p : RouterPlan). charges_of_boot p new.changes.boot (charges (log ++ started_by link now d))) built
+    ∙ (ap (λ (c : Changes). charges_of_boot r.router.built c.boot (charges (log ++ started_by link now d))) changes
+    ∙ ap (charges_of_boot r.router.built r.changes.boot) same) in
+    record {
+      router = subst (λ (g : List Charge). router.StandsFor new.router g (port_logs (log ++ started_by link now d))) (sym boot)
+          (subst (λ (k : Logs). router.StandsFor new.router (charges_of_boot r.router.built r.changes.boot (charges log)) k) (λ i on. sym (logs_started log now link d on) i) st);
+      boots = subst (λ (p : RouterPlan). AllByRecursion (λ (c : Charge). boot_at p c.time ≤ new.changes.boot) (charges (log ++ started_by link now d))) (sym built)
+          (subst (λ (k : Changes). AllByRecursion (λ (c : Charge). boot_at r.router.built c.time ≤ k.boot) (charges (log ++ started_by link now d))) (sym changes)
+          (subst (AllByRecursion (λ (c : Charge). boot_at r.router.built c.time ≤ r.changes.boot)) (sym same) h.boots));
+      next = next ∙ (h.next ∙ ap ordinal_behind (sym (rows_started log now link d)));
+    }
 
 started_here : (link : ℕ) (d : Decision) (now : ℕ) → started_on link d now link ≡ port_started d now
 started_here link d now = cond-true (link == link) (port_started d now) [] (eq-eqb link link refl)
@@ -293,28 +338,36 @@ if_ok P Q (Ok x) f h = f x h
 if_ok P Q (Err e) f h = tt
 
 -- a router has its link
-pub router_has_out : (site : Site) (role : Role) (r : Routed) (link : ℕ) (limits : LinkLimits) → IsSite site → site.plan ≡ role_plan role → role ≡ roles.Router r → limits_out site link ≡ Some (link, limits) → outgoing_link r.router.plan link ≡ Some (link, limits)
-router_has_out site role r link limits s e is out = router_out site r.router.plan link s (e ∙ ap role_plan is) ∙ out
+pub router_has_out : (site : Site) (role : Role) (r : Routed) (link : ℕ) (limits : LinkLimits) (now : ℕ) → IsBy now role → IsSite site → site.plan ≡ role_plan role → role ≡ roles.Router r → limits_out site link ≡ Some (link, limits) → outgoing_link r.router.plan link ≡ Some (link, limits)
+router_has_out site role r link limits now by s e is out =
+    same_links now r (subst (IsBy now) is by) link ∙ (router_out site r.router.built link s (e ∙ ap role_plan is) ∙ out)
 
 pub not_none : (o : Option (ℕ × LinkLimits)) (x : ℕ × LinkLimits) → o ≡ Some x → o ≡ None → ⊥
 not_none o x e f = cc
 
--- a router takes an input
-pub router_takes : (r mid new : Routed) (number : ℕ) (log : List Entry) (input : Input) (from : Option ℕ) (packet : PacketData) (told : Happened) → StandsAsRouter r log → mid.router ≡ r.router
-    → routed number r.router.plan log input ≡ Some (arrived r.router.plan log (input_time input) from packet)
-    → told ≡ happens.Arrived packet.id (packet_length packet) from (handle mid.router.plan (charges log) (port_logs log) (input_time input) from packet).fate
-    → router.StandsFor new.router (charges log ++ (handle mid.router.plan (charges log) (port_logs log) (input_time input) from packet).charges) (port_logs log with (handle mid.router.plan (charges log) (port_logs log) (input_time input) from packet).queued)
-    → new.next ≡ ordinal_behind (rows_in (log ++ Took input (arrived r.router.plan log (input_time input) from packet) ∷ []))
-    → RouterTook number r.router.plan log input told new
-router_takes r mid new number log input from packet told h e content is st next =
+-- a router takes an input, after all changes up to then
+pub router_takes : (r mid new : Routed) (number : ℕ) (plan : RouterPlan) (log : List Entry) (input : Input) (from : Option ℕ) (packet : PacketData) (told : Happened) → IsUpTo (input_time input) r → StandsAsRouter r log
+    → r.router.built ≡ plan → mid.router ≡ r.router → mid.changes ≡ r.changes
+    → routed number plan log input ≡ Some (arrived plan log (input_time input) from packet)
+    → (let h = charges_of_boot r.router.built r.changes.boot (charges log) in told ≡ happens.Arrived packet.id (packet_length packet) from (handle mid.router.plan h (port_logs log) (input_time input) from packet).fate)
+    → (let h = charges_of_boot r.router.built r.changes.boot (charges log) in
+    let is = handle mid.router.plan h (port_logs log) (input_time input) from packet in router.StandsFor new.router (h ++ is.charges) (port_logs log with is.queued))
+    → new.router.built ≡ mid.router.built → new.changes ≡ mid.changes
+    → new.next ≡ ordinal_behind (rows_in (log ++ Took input (arrived plan log (input_time input) from packet) ∷ []))
+    → RouterTook number plan log input told new
+router_takes r mid new number plan log input from packet told up h own e f content is st built changes next =
     let time = input_time input in
-    let plan : mid.router.plan ≡ r.router.plan = ap (λ (v : router.RouterData). v.plan) e in (
-      arrived r.router.plan log time from packet,
+    let k = charges_of_boot r.router.built r.changes.boot (charges log) in
+    let same : mid.router.plan ≡ r.router.plan = ap (λ (v : router.RouterData). v.plan) e in
+    let there : k ≡ charges_at plan time (charges log) = ap (λ (b : ℕ). charges_of_boot r.router.built b (charges log)) up.boot ∙ ap (λ (p : RouterPlan). charges_at p time (charges log)) own in
+    let plan_now : mid.router.plan ≡ in_force plan time = same ∙ (up.plan ∙ ap (λ (p : RouterPlan). in_force p time) own) in (
+      arrived plan log time from packet,
       content,
-      is ∙ (ap (λ (p : RouterPlan). happens.Arrived packet.id (packet_length packet) from (handle p (charges log) (port_logs log) time from packet).fate) plan ∙ sym (arrived_told r.router.plan log time from packet)),
-      router_took r new log input from packet h
-          (subst (λ (p : RouterPlan). router.StandsFor new.router (charges log ++ (handle p (charges log) (port_logs log) time from packet).charges) (port_logs log with (handle p (charges log) (port_logs log) time from packet).queued)) plan st)
-          next,
+      is ∙ (ap₂ (λ (p : RouterPlan) (g : List Charge). happens.Arrived packet.id (packet_length packet) from (handle p g (port_logs log) time from packet).fate) plan_now there ∙ sym (arrived_told plan log time from packet)),
+      subst (λ (p : RouterPlan). new.next ≡ ordinal_behind (rows_in (log ++ Took input (arrived p log time from packet) ∷ [])) → StandsAsRouter new (log ++ Took input (arrived p log time from packet) ∷ [])) own
+          (router_took r new log input from packet up h
+          (subst (λ (p : RouterPlan). router.StandsFor new.router (k ++ (handle p k (port_logs log) time from packet).charges) (port_logs log with (handle p k (port_logs log) time from packet).queued)) same st)
+          (built ∙ ap (λ (v : router.RouterData). v.built) e) (changes ∙ f)) next,
     )
 
 -- a host takes an input

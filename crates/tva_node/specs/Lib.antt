@@ -1,7 +1,9 @@
 pub mod Turns
+pub mod Changes
 pub mod Pairs
 pub mod Links
 pub mod States
 pub mod AtTime
+pub mod Making
 pub mod Steps
 pub mod Work

@@ -1,10 +1,14 @@
 -- What a node keeps, and for which log it stands.
-use Rattle.std.specs.Prelude.{◌≡◌, ℕ, ◌+◌, ◌<◌, ◌≤◌, min, max, List, ◌++◌, All, map, Option, Some, None}
+use Rattle.std.specs.Prelude.{◌≡◌, ℕ, ◌+◌, ◌<◌, ◌≤◌, min, max, List, [], ◌++◌, All, map, take, Option, Some, None}
+use Rattle.std.specs.List.{AllByRecursion}
 use Rattle.tva_base.specs.declared.event.Event.{Event}
 use Rattle.tva_base.specs.declared.packet.Time.{Time}
+use Rattle.tva_base.specs.Changes.{boot_at}
 use Rattle.tva_base.specs.Ordinals.{ordinal_behind}
+use Rattle.tva_base.specs.Plan.{IsRouterPlan}
 use Rattle.tva_shim.specs.Packets.{IsCarried}
 use Rattle.tva_port.specs.Stands as port
+use Rattle.tva_router.specs.Boots.{charges_of_boot}
 use Rattle.tva_router.specs.Stands as router
 use Rattle.tva_host.specs.Stands as host
 use Rattle.tva_plan.specs.declared.config.NodePlan.{NodePlan}
@@ -28,17 +32,25 @@ use Rattle.tva_node.specs.declared.links.Link.{Link}
 use Rattle.tva_node.specs.declared.parts.Parts.{Parts}
 use Rattle.tva_node.specs.declared.turns.Turn.{Turn}
 use Rattle.tva_node.specs.Pairs.{link_pair}
+use Rattle.tva_node.specs.Changes.{AreByTime, AreMade, move_time, plan_after, restart_time}
 use Rattle.tva_node.specs.Turns.{AreLeft}
 
 -- ## what a node is
 
 abbrev pub role_plan : Role → NodePlan
-role_plan (roles.Router r) = plans.Router r.router.plan
+role_plan (roles.Router r) = plans.Router r.router.built
 role_plan (roles.Host h) = plans.Host h.host.plan
 
--- a router stands for the charges and the logs of the node's log, and knows the ordinal behind the rows
+-- the restarts of a router's plan
+abbrev pub restarts_in : NodePlan → List (Time × List ℕ)
+restarts_in (plans.Router plan) = plan.restarts
+restarts_in (plans.Host plan) = []
+
+-- a router stands for the charges of its boot and the logs of the node's log, in which nothing is charged in a later
+-- boot, and knows the ordinal behind the rows
 pub record StandsAsRouter (r : Routed) (log : List Entry) : Type 0 where
-  pub router : router.StandsFor r.router (charges log) (port_logs log)
+  pub router : router.StandsFor r.router (charges_of_boot r.router.built r.changes.boot (charges log)) (port_logs log)
+  pub boots : AllByRecursion (λ c. boot_at r.router.built c.time ≤ r.changes.boot) (charges log)
   pub next : r.next ≡ ordinal_behind (rows_in log)
 
 -- a host stands for its calls, and the port of its one link for that link's log
@@ -54,9 +66,19 @@ abbrev pub RoleStands : Site → Role → List Entry → Type 0
 RoleStands site (roles.Router r) log = StandsAsRouter r log
 RoleStands site (roles.Host h) log = StandsAsHost site h log
 
+-- a router was called no later than that; of the changes of its plan the first ones are made, none of which is later
+-- than that, and they are in force
+pub record IsRoutedBy (now : ℕ) (r : Routed) : Type 0 where
+  pub last : r.router.last ≤ now
+  pub valid : IsRouterPlan r.router.built
+  pub moves : AreByTime r.router.built.reroutes r.changes.moves.items
+  pub restarted : AreMade restart_time r.router.built.restarts r.changes.boot now
+  pub moved : AreMade move_time r.changes.moves.items r.changes.moved now
+  pub plan : r.router.plan ≡ plan_after r.router.built r.changes.boot (take r.changes.moved r.changes.moves.items)
+
 -- it was called no later than that
 abbrev pub IsBy : ℕ → Role → Type 0
-IsBy now (roles.Router r) = r.router.last ≤ now
+IsBy now (roles.Router r) = IsRoutedBy now r
 IsBy now (roles.Host h) = (h.host.last ≤ now) × (h.port.last ≤ now)
 
 -- an input that a node can take: a row that sends is for a host

@@ -4,9 +4,12 @@
 //! which an input comes or a link decides; and that nodes that are worked in parts at once have the
 //! logs that they have one after another. A node finds the link that decides first by a tree of
 //! keys: where nothing is to be done it looks at that link alone, and of many links only at those
-//! that have something to do.
+//! that have something to do. The restarts of a router and the changes of its routes are no inputs: the
+//! node makes those that have come just before an input, so that they are in force for all inputs of
+//! their time.
 #![tactic(auto)]
 
+mod changes;
 mod halves;
 mod links;
 mod node;

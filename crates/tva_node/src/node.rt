@@ -3,8 +3,9 @@ ghost use Rattle.std.specs.Prelude.{◌≡◌, ◌≤◌, ◌+◌, ◌∷◌, []
 ghost use Rattle.tva_log.specs.Entries.{Entry, input_source, input_time};
 ghost use Rattle.tva_log.specs.NodeLog.{in_turn};
 ghost use Rattle.tva_log.specs.Sites.{IsSite, site_of};
-ghost use Rattle.tva_node.specs.States.{Fits, IsBy, IsFirstWork, Keeps, RoleStands, Stands, StandsFor, role_plan};
+ghost use Rattle.tva_node.specs.States.{Fits, IsBy, IsFirstWork, Keeps, RoleStands, Stands, StandsFor, restarts_in, role_plan};
 
+use crate::changes::Changes;
 use crate::links::Links;
 use crate::parts::Parts;
 use crate::role::{Hosted, Role, Routed};
@@ -112,6 +113,17 @@ impl Node {
         self.parts.inbox.as_slice()
     }
 
+    /// The restarts of a router's plan, each with its time, in nanoseconds, and the master that the router
+    /// then has; none at a host.
+    pub fn restarts(&self) -> &[(Time, [u8; 32])]
+        ensures { result.now ≡ restarts_in self.now.site.plan }
+    {
+        match &self.parts.role {
+            Role::Router(routed) => routed.router.restarts(),
+            Role::Host(_) => &[],
+        }
+    }
+
     /// The earliest time, in nanoseconds, of an input or a decision of a link that is not worked yet;
     /// none where there is none up to the horizon.
     pub fn next_time(&self) -> Option<Time>
@@ -190,6 +202,7 @@ fn role_of(
         NodePlan::Router(router) => Ok(Role::Router(Routed {
             router: Router::build(alloc, router)?,
             next: 1,
+            changes: Changes::of(alloc, router.reroutes.as_slice())?,
         })),
         NodePlan::Host(host) => Ok(Role::Host(Hosted {
             host: Host::build(alloc, number, host)?,

@@ -1,5 +1,5 @@
 // What a node is: a router, or a host with the port of its link.
-ghost use Rattle.std.specs.Prelude.{◌≡◌, ◌≤◌, ◌+◌, min, List, ◌∷◌, ◌++◌, [], Some, IfOk};
+ghost use Rattle.std.specs.Prelude.{◌≡◌, ℕ, ◌≤◌, ◌+◌, min, List, ◌∷◌, ◌++◌, [], Some, IfOk};
 ghost use Rattle.std.specs.List.{cons_option};
 ghost use Rattle.tva_base.specs.declared.limits.LinkLimits.{LinkLimits};
 ghost use Rattle.tva_base.specs.declared.event.Happened.TheVariants as happens;
@@ -19,9 +19,10 @@ ghost use Rattle.tva_log.specs.Parts.{call_of_row, port_logs, reply_at};
 ghost use Rattle.tva_log.specs.Contents.{made_for, packet_of_row};
 ghost use Rattle.tva_log.specs.Told.{brings, reply_told};
 ghost use Rattle.tva_log.specs.declared.kinds.Input.TheVariants as inputs;
-ghost use Rattle.tva_node.specs.States.{Fits, FitsRow, IsBy, RoleStands, StandsAsHost, StandsAsRouter, role_plan};
+ghost use Rattle.tva_node.specs.States.{Fits, FitsRow, IsBy, IsRoutedBy, RoleStands, StandsAsHost, StandsAsRouter, role_plan};
 ghost use Rattle.tva_node.specs.Steps.{Decides, HostTook, RouterTook, Takes, reply_went, role_free, went_out};
 
+use crate::changes::Changes;
 use std::alloc::{AllocError, Global};
 use tva_base::{
     BackKind, Class, DropCause, Happened, Outcome, PacketId, ReplyLine, ShapeKind, Time,
@@ -34,11 +35,12 @@ use tva_router::Router;
 use tva_shim::{Carried, Packet, ReturnInfo, class_of, length, queue_key};
 use tva_trace::{Row, RowWhat};
 
-/// A router, and the ordinal of its next packet from the trace.
+/// A router, the ordinal of its next packet from the trace, and how far its changes are made.
 #[derive(Drop)]
 pub struct Routed {
     pub router: Router,
     pub next: u64,
+    pub changes: Changes,
 }
 
 /// A host, the number of its one link, and the port of that.
@@ -100,7 +102,8 @@ impl Role {
 
     /// When a link out is free.
     pub fn free_at(&self, link: u16) -> Time
-        requires { (site : Site) × (limits : LinkLimits) × IsSite site × (site.plan ≡ role_plan self.now)
+        requires time { (now : ℕ) × IsBy now self.now }
+        requires out { (site : Site) × (limits : LinkLimits) × IsSite site × (site.plan ≡ role_plan self.now)
             × (limits_out site link ≡ Some (link, limits)) }
         ensures value { result.0 ≡ role_free self.now link }
         ensures free { (site : Site) (log : List Entry) (limits : LinkLimits) → IsSite site
@@ -116,20 +119,22 @@ impl Role {
 
 impl Routed {
     fn take(&mut self, number: u16, input: &Input) -> Happened
-        requires time { self.old.router.last ≤ input_time input.now }
+        requires time { IsRoutedBy (input_time input.now) self.old }
         requires horizon { input_time input.now ≤ 1000000000000000 }
-        requires fits { Fits (plans.Router self.old.router.plan) input.now }
+        requires fits { Fits (plans.Router self.old.router.built) input.now }
         ensures took { (log : List Entry) → StandsAsRouter self.old log
-            → RouterTook number self.old.router.plan log input.now result self.new }
-        ensures plan { self.new.router.plan ≡ self.old.router.plan }
-        ensures last { self.new.router.last ≡ input_time input.now }
+            → RouterTook number self.old.router.built log input.now result self.new }
+        ensures plan { self.new.router.built ≡ self.old.router.built }
+        ensures last { IsRoutedBy (input_time input.now) self.new }
     {
         match input {
             Input::FromTrace(row) => {
+                self.change(row.time);
                 let packet = self.packet_of(number, &row.what);
                 self.arrive(row.time, None, packet)
             }
             Input::Arrival { time, link, packet } => {
+                self.change(*time);
                 self.arrive(*time, Some(*link), packet.copied())
             }
         }
@@ -137,10 +142,10 @@ impl Routed {
 
     // The next packet from the trace.
     fn packet_of(&mut self, number: u16, what: &RowWhat) -> Packet
-        requires { FitsRow (plans.Router self.old.router.plan) what.now }
+        requires { FitsRow (plans.Router self.old.router.built) what.now }
         ensures packet { packet_of_row (record { node = number; ordinal = self.old.next }) what.now ≡ Some result }
         ensures next { self.new.next ≡ min (self.old.next + 1) 18446744073709551615 }
-        ensures router { self.new.router ≡ self.old.router }
+        ensures router { (self.new.router ≡ self.old.router) × (self.new.changes ≡ self.old.changes) }
     {
         let id = PacketId {
             node: number,
@@ -166,9 +171,9 @@ impl Routed {
         ensures stands { (h : List Charge) (logs : Logs) → RouterStandsFor self.old.router h logs
             → RouterStandsFor self.new.router (h ++ (handle self.old.router.plan h logs now.0 from packet).charges)
             (logs with (handle self.old.router.plan h logs now.0 from packet).queued) }
-        ensures plan { self.new.router.plan ≡ self.old.router.plan }
+        ensures plan { (self.new.router.plan ≡ self.old.router.plan) × (self.new.router.built ≡ self.old.router.built) }
         ensures last { self.new.router.last ≡ now.0 }
-        ensures next { self.new.next ≡ self.old.next }
+        ensures same { (self.new.next ≡ self.old.next) × (self.new.changes ≡ self.old.changes) }
     {
         let id = packet.id;
         let length = length(&packet);

@@ -7,6 +7,8 @@ use Rattle.tva_base.specs.declared.limits.LinkLimits.{LinkLimits}
 use Rattle.tva_base.specs.declared.addresses.Prefix.{Prefix}
 use Rattle.tva_base.specs.declared.plan.Route.{Route}
 use Rattle.tva_base.specs.declared.plan.RouterPlan.{RouterPlan}
+use Rattle.tva_base.specs.declared.packet.Time.{Time}
+use Rattle.tva_node_tests.specs.Ready.{AreChanges}
 
 module _ {X : Type 0} where
   absent_at : (x y : X) (ys : List X) → (y ≡ x → ⊥) → (Contains ys x → ⊥) → (k : ℕ) → k < length (y ∷ ys) → get_or (y ∷ ys) k x ≡ x → ⊥
@@ -37,8 +39,8 @@ outs k m = (1, k) ∷ (2, m) ∷ []
 other : (a b : ℕ) → (a ≡ b → ⊥) → (to a 1).prefix ≡ (to b 2).prefix → ⊥
 other a b apart e = apart (ap (λ (z : Prefix). z.address.0) e)
 
-pub plan_is : (r : RouterPlan) (k m : LinkLimits) → r.clock_offset ≡ 0 → r.slots ≡ 8 → AreLinkLimits k → AreLinkLimits m → r.incoming ≡ (0, 1) ∷ (3, 2) ∷ [] → r.outgoing ≡ outs k m → r.routes ≡ ways → IsRouterPlan r
-plan_is r k m offset slots kk mm incoming outgoing routes = record {
+pub plan_is : (r : RouterPlan) (k m : LinkLimits) → r.clock_offset ≡ 0 → r.slots ≡ 8 → AreLinkLimits k → AreLinkLimits m → r.incoming ≡ (0, 1) ∷ (3, 2) ∷ [] → r.outgoing ≡ outs k m → r.routes ≡ ways → AreChanges r.restarts r.reroutes → IsRouterPlan r
+plan_is r k m offset slots kk mm incoming outgoing routes changes = record {
   clock_offset = omega (arith, offset);
   slots = omega (arith, slots);
   incoming = subst (λ (z : List (ℕ × ℕ)). AreDistinct (links_of z)) (sym incoming) (two_apart 0 3 (λ e. omega (arith, e)));
@@ -51,4 +53,8 @@ plan_is r k m offset slots kk mm incoming outgoing routes = record {
       (two_all (λ (w : Route). IsPrefix w.prefix) (to 167772160 1) (to 167772416 2) (record { bits = omega arith; zeros = refl }) (record { bits = omega arith; zeros = refl }));
   apart = subst (λ (z : List Route). AreDistinct (map (λ (w : Route). w.prefix) z)) (sym routes)
       (two_apart (to 167772160 1).prefix (to 167772416 2).prefix (λ e. other 167772160 167772416 (λ i. omega (arith, i)) (sym e)));
+  boots = changes.boots;
+  moved = subst (λ (z : List Route). All (λ (c : Time × Prefix × ℕ). Contains (map (λ (w : Route). w.prefix) z) c.1) r.reroutes) (sym routes) changes.moved;
+  ways = subst (λ (z : List (ℕ × LinkLimits)). All (λ (c : Time × Prefix × ℕ). Contains (links_of z) c.2) r.reroutes) (sym outgoing) changes.ways;
+  turns = changes.turns;
 }

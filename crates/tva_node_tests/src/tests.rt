@@ -1,4 +1,5 @@
 // Nodes of a small network one by one, and halves at once.
+mod changes;
 mod edges;
 mod halves;
 mod makers;
@@ -7,6 +8,7 @@ mod playing;
 mod renewal;
 mod walk;
 
+use changes::play_changes;
 use edges::EDGES;
 use notice::NOTICES;
 use playing::play;
@@ -31,5 +33,12 @@ fn nodes_at_their_edges(rt: HostRuntime) -> Result<(), Fail> {
     for case in &EDGES {
         play(&rt, rt.alloc(), case)?;
     }
+    Ok(())
+}
+
+/// A router's restarts and the changes of its routes are in force for all inputs of their time.
+#[test]
+fn router_that_changes(rt: HostRuntime) -> Result<(), Fail> {
+    play_changes(&rt, rt.alloc())?;
     Ok(())
 }

@@ -9,6 +9,7 @@ use Rattle.tva_base.specs.declared.packet.Flow.{Flow}
 use Rattle.tva_base.specs.declared.packet.Grant.{Grant}
 use Rattle.tva_base.specs.declared.packet.Rights.{Rights}
 use Rattle.tva_base.specs.declared.plan.RouterPlan.{RouterPlan}
+use Rattle.tva_base.specs.Changes.{in_force}
 use Rattle.tva_shim.specs.declared.kinds.Shown.{Shown}
 use Rattle.tva_shim.specs.declared.kinds.Kind.{Kind}
 use Rattle.tva_shim.specs.declared.kinds.Kind.TheVariants as kinds
@@ -20,6 +21,7 @@ use Rattle.tva_caps.specs.Check.{check_of, checked_at}
 use Rattle.tva_flow.specs.Charges.{Charge, same_flow, of_flow}
 use Rattle.tva_flow.proofs.Same.{flow_is}
 use Rattle.tva_router.specs.declared.judged.Arrival.{Arrival}
+use Rattle.tva_router.specs.Boots.{charges_at}
 use Rattle.tva_router.specs.Handling.{arrival}
 use Rattle.tva_router.specs.Marks.{is_marked}
 use Rattle.tva_host.specs.Receiving.{shows_grant}
@@ -148,13 +150,16 @@ module _ (site : Site) (plan : RouterPlan) (is_router : site.plan ≡ plans.Rout
     (keeps : KeepsPromises site until log) where
   pub fate_at : (before : List Entry) (input : Input) (from : Option ℕ) (packet : PacketData) (fate : Fate) (onward : PacketData)
       (rest : List Entry) → log ≡ before ++ Took input (Arrived from packet fate onward) ∷ rest
-      → IsFate plan (charges before) (port_logs before) (input_time input) from packet fate onward
+      → IsFate (in_force plan (input_time input)) (charges_at plan (input_time input) (charges before)) (port_logs before) (input_time input)
+      from packet fate onward
   fate_at before input from packet fate onward rest here =
       keeps.fates plan is_router before input (Arrived from packet fate onward) rest here
 
   pub claim_at : (before : List Entry) (input : Input) (from : Option ℕ) (packet : PacketData) (fate : Fate) (onward : PacketData)
       (rest : List Entry) → log ≡ before ++ Took input (Arrived from packet fate onward) ∷ rest
-      → (g : Grant) → fate.charge ≡ Some g → NoRowRefuses plan (charges before) (arrival (input_time input) from packet) packet.carried g
+      → (g : Grant) → fate.charge ≡ Some g
+      → NoRowRefuses (in_force plan (input_time input)) (charges_at plan (input_time input) (charges before))
+      (arrival (input_time input) from packet) packet.carried g
   claim_at before input from packet fate onward rest here g e = ((fate_at before input from packet fate onward rest here).only g e).1
 
   module _ (f : Flow) where
@@ -162,7 +167,8 @@ module _ (site : Site) (plan : RouterPlan) (is_router : site.plan ≡ plans.Rout
         → of_flow f (cons_option (charge_of e) []) ≡ filter_map paid_of (cons_option (came_at f e) [])
     entry_charges before (Took input (Arrived from packet fate onward)) rest here =
         charge_by f (coming input packet fate) fate.charge refl
-        (λ g e. claim plan (charges before) (arrival (input_time input) from packet) packet.carried g
+        (λ g e. claim (in_force plan (input_time input)) (charges_at plan (input_time input) (charges before))
+        (arrival (input_time input) from packet) packet.carried g
         (claim_at before input from packet fate onward rest here g e))
     entry_charges before (Took input (Sent made outcome)) rest here = refl
     entry_charges before (Took input (Received from packet receipt went)) rest here = refl

@@ -9,6 +9,7 @@ pub mod Counts
 pub mod Matching
 pub mod Asks
 pub mod Comings
+pub mod Boots
 pub mod Miles
 pub mod Regular
 pub mod Kept

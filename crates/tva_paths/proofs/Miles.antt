@@ -131,7 +131,9 @@ map-push (e ∷ es) d = ap (λ (cs : List Contact). contact_of e ∷ cs) (map-pu
 
 -- ## along the deals
 
-module _ (w : Way) (seen : List Coming) (log : List Entry) (own earlier : List Deal) (tail : List Deal) (whole : own ≡ earlier ++ tail)
+-- asks are looked for in all that came, and charges in what was met since the router began
+
+module _ (w : Way) (seen met : List Coming) (log : List Entry) (own earlier : List Deal) (tail : List Deal) (whole : own ≡ earlier ++ tail)
     (rises : Rises (keys own))
     (comes : (before : List Deal) (rights : Rights) (caps : List ℕ) (rest : List Deal) (came : ℕ)
     → earlier ≡ before ++ Granted rights caps ∷ rest → ask_came seen before ≡ Some came → (ms : List Mile) → contacts ms ≡ map contact_of before
@@ -139,11 +141,11 @@ module _ (w : Way) (seen : List Coming) (log : List Entry) (own earlier : List D
     (asked : (before : List Deal) (rights : Rights) (caps : List ℕ) (after : List Deal)
     → earlier ≡ before ++ Granted rights caps ∷ after → is_some (ask_came seen before) ≡ true)
     (pays : (before : List Deal) (t : ℕ) (p : PacketData) (after : List Deal) (front : List Coming) (x : Coming) (back : List Coming)
-    → own ≡ before ++ Prepared t p ∷ after → paid seen ≡ front ++ x ∷ back
+    → own ≡ before ++ Prepared t p ∷ after → paid met ≡ front ++ x ∷ back
     → p.id ≡ x.packet.id → (c : Charge) → paid_of x ≡ Some c → (ms : List Mile) → last_came ms ≡ grant_came seen [] before
     → charges_in ms ≡ filter_map paid_of front
     → IsPaid w ms t (shape_in p.carried) (counted p) c)
-    (paying : AllByRecursion (λ x. is_some (paid_of x) ≡ true) (paid seen)) where
+    (paying : AllByRecursion (λ x. is_some (paid_of x) ≡ true) (paid met)) where
   -- the miles of the deals so far, with what was charged so far
   pub record Run (before : List Deal) (front : List Coming) : Type 0 where
     pub miles : List Mile
@@ -151,13 +153,13 @@ module _ (w : Way) (seen : List Coming) (log : List Entry) (own earlier : List D
     pub charges_are : charges_in miles ≡ filter_map paid_of front
     pub are : AreMiles w [] miles
     pub came : last_came miles ≡ grant_came seen [] before
-    pub beside : AreBeside seen before miles
+    pub beside : AreBeside met before miles
 
   run_none : Run [] []
   run_none = record { miles = []; contacts_are = refl; charges_are = refl; are = tt; came = refl; beside = tt }
 
   -- a packet that was not charged
-  skipped : (before : List Deal) (front : List Coming) (t : ℕ) (p : PacketData) → Run before front → (IsCharged seen p.id → ⊥)
+  skipped : (before : List Deal) (front : List Coming) (t : ℕ) (p : PacketData) → Run before front → (IsCharged met p.id → ⊥)
       → Run (before ++ Prepared t p ∷ []) front
   skipped before front t p r none =
       let m : Mile = Went t (shape_in p.carried) (counted p) None in
@@ -168,7 +170,7 @@ module _ (w : Way) (seen : List Coming) (log : List Entry) (own earlier : List D
         charges_are = charges-push r.miles m ∙ (append-nil (charges_in r.miles) ∙ r.charges_are);
         are = miles-push w [] r.miles m r.are tt;
         came = came-same r.miles m refl ∙ (r.came ∙ sym (came-other seen [] before (Prepared t p) tt));
-        beside = beside-push seen before r.miles (Prepared t p) m r.beside (none, refl);
+        beside = beside-push met before r.miles (Prepared t p) m r.beside (none, refl);
       }
 
   -- one that was
@@ -186,7 +188,7 @@ module _ (w : Way) (seen : List Coming) (log : List Entry) (own earlier : List D
         charges_are = charges-push r.miles m ∙ (ap₂ ◌++◌ r.charges_are one ∙ sym (filter_map-append paid_of front (x ∷ [])));
         are = miles-push w [] r.miles m r.are (pay r.miles r.came r.charges_are);
         came = came-same r.miles m refl ∙ (r.came ∙ sym (came-other seen [] before (Prepared t p) tt));
-        beside = beside-push seen before r.miles (Prepared t p) m r.beside tt;
+        beside = beside-push met before r.miles (Prepared t p) m r.beside tt;
       }
 
   -- a grant
@@ -203,7 +205,7 @@ module _ (w : Way) (seen : List Coming) (log : List Entry) (own earlier : List D
         charges_are = charges-push r.miles m ∙ (append-nil (charges_in r.miles) ∙ r.charges_are);
         are = miles-push w [] r.miles m r.are (fine, comes before rights caps rest came here e r.miles r.contacts_are);
         came = came-got r.miles rights caps came ∙ sym (came-granted seen [] before rights caps came e);
-        beside = beside-push seen before r.miles (Granted rights caps) m r.beside tt;
+        beside = beside-push met before r.miles (Granted rights caps) m r.beside tt;
       }
 
   noticed : (before : List Deal) (front : List Coming) → Run before front → Run (before ++ Noticed ∷ []) front
@@ -214,7 +216,7 @@ module _ (w : Way) (seen : List Coming) (log : List Entry) (own earlier : List D
     charges_are = charges-push r.miles Told ∙ (append-nil (charges_in r.miles) ∙ r.charges_are);
     are = miles-push w [] r.miles Told r.are tt;
     came = came-same r.miles Told refl ∙ (r.came ∙ sym (came-other seen [] before Noticed tt));
-    beside = beside-push seen before r.miles Noticed Told r.beside tt;
+    beside = beside-push met before r.miles Noticed Told r.beside tt;
   }
 
   -- what was skipped is of no charged packet: those before it were prepared before it, and those behind it behind it
@@ -250,13 +252,13 @@ module _ (w : Way) (seen : List Coming) (log : List Entry) (own earlier : List D
   )
 
   -- nothing came of that identity that was charged
-  not_charged : (id : PacketId) → AllByRecursion (IsOther id) (paid seen) → IsCharged seen id → ⊥
-  not_charged id a = by (come_as seen id) refl
+  not_charged : (id : PacketId) → AllByRecursion (IsOther id) (paid met) → IsCharged met id → ⊥
+  not_charged id a = by (come_as met id) refl
     where
-      by : (o : Option Coming) → come_as seen id ≡ o → is_some (option_and_then (λ (x : Coming). x.charge) o) ≡ true → ⊥
+      by : (o : Option Coming) → come_as met id ≡ o → is_some (option_and_then (λ (x : Coming). x.charge) o) ≡ true → ⊥
       by None e k = cc
       by (Some y) e k =
-          let is = come_is (λ x. is_some x.charge ≡ true → IsOther id x) seen id y (paid_each (IsOther id) seen a) e in is.0 k is.1
+          let is = come_is (λ x. is_some x.charge ≡ true → IsOther id x) met id y (paid_each (IsOther id) met a) e in is.0 k is.1
 
   rises_back : (before ds : List Deal) → Rises (keys (before ++ ds)) → Rises (keys ds)
   rises_back [] ds r = r
@@ -270,11 +272,11 @@ module _ (w : Way) (seen : List Coming) (log : List Entry) (own earlier : List D
   -- the deal at a place, and all that follow
   record At (before : List Deal) (front : List Coming) (ds : List Deal) (xs : List Coming) : Type 0 where
     here : earlier ≡ before ++ ds
-    seen_here : paid seen ≡ front ++ xs
+    seen_here : paid met ≡ front ++ xs
     run : Run before front
     ins : AllByRecursion (λ x. In before x.packet.id) front
 
-  paid_some : (front : List Coming) (x : Coming) (back : List Coming) → paid seen ≡ front ++ x ∷ back → is_some (paid_of x) ≡ true
+  paid_some : (front : List Coming) (x : Coming) (back : List Coming) → paid met ≡ front ++ x ∷ back → is_some (paid_of x) ≡ true
   paid_some front x back e = at front (subst (AllByRecursion (λ y. is_some (paid_of y) ≡ true)) e paying)
     where
       at : (ys : List Coming) → AllByRecursion (λ y. is_some (paid_of y) ≡ true) (ys ++ x ∷ back) → is_some (paid_of x) ≡ true
@@ -326,7 +328,7 @@ module _ (w : Way) (seen : List Coming) (log : List Entry) (own earlier : List D
       by Noticed here k = noticed before front a.run
 
   walk : (before : List Deal) (front : List Coming) (ds : List Deal) (xs : List Coming) → AllByRecursion (IsTrue log) ds
-      → At before front ds xs → Matches ds xs → Run earlier (paid seen)
+      → At before front ds xs → Matches ds xs → Run earlier (paid met)
   walk before front [] [] fine a m =
       subst (λ (xs : List Coming). Run earlier xs) (sym (a.seen_here ∙ append-nil front))
       (subst (λ (ds : List Deal). Run ds front) (sym (a.here ∙ append-nil before)) a.run)
@@ -338,10 +340,10 @@ module _ (w : Way) (seen : List Coming) (log : List Entry) (own earlier : List D
   walk before front (d ∷ ds) (x ∷ xs) fine a (inr m) =
       walk (before ++ d ∷ []) front ds (x ∷ xs) fine.1 (step_skipped before front d ds (x ∷ xs) fine a m) m
 
-  pub miles_of : AllByRecursion (IsTrue log) earlier → Matches earlier (paid seen) → Run earlier (paid seen)
-  miles_of fine m = walk [] [] earlier (paid seen) fine (record { here = refl; seen_here = refl; run = run_none; ins = tt }) m
+  pub miles_of : AllByRecursion (IsTrue log) earlier → Matches earlier (paid met) → Run earlier (paid met)
+  miles_of fine m = walk [] [] earlier (paid met) fine (record { here = refl; seen_here = refl; run = run_none; ins = tt }) m
 
-  pub authorised_since : (r : Run earlier (paid seen)) → AllByRecursion (WasCharged seen) (since_granted [] earlier)
+  pub authorised_since : (r : Run earlier (paid met)) → AllByRecursion (WasCharged met) (since_granted [] earlier)
       → AreAuthorised (since_got [] r.miles)
   authorised_since r a =
-      authorised seen (since_granted [] earlier) (since_got [] r.miles) (since_beside seen [] [] earlier r.miles tt r.beside) a
+      authorised met (since_granted [] earlier) (since_got [] r.miles) (since_beside met [] [] earlier r.miles tt r.beside) a

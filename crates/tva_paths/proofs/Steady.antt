@@ -1,8 +1,9 @@
 -- In each run what comes on a steady path and shows a grant is charged and goes on as regular.
 use Rattle.std.proofs.Common.{◌≡◌, ◌≤◌, ◌<◌, ◌⊎◌, inl, inr, ℕ, true, false, cond, List, [], ◌∷◌, ◌++◌, map, is_some, Option, Some, None, refl, ap, ap₂, sym, subst, ◌∙◌, arith, append_assoc}
-use Rattle.std.specs.Prelude.{IsSomeAnd}
+use Rattle.std.specs.Prelude.{IsSomeAnd, ◌==◌}
 use Rattle.std.specs.Option.{option_map, IfSome}
 use Rattle.std.specs.List.{AllByRecursion, filter_map, cons_option}
+use Rattle.std.proofs.lemmas.Bool.{eqb-true}
 use Rattle.std.proofs.lemmas.List.Elements.{filter_map-append}
 use Rattle.tva_base.specs.declared.packet.Fate.{Fate}
 use Rattle.tva_base.specs.declared.packet.Flow.{Flow}
@@ -13,6 +14,7 @@ use Rattle.tva_base.specs.declared.packet.Rights.{Rights}
 use Rattle.tva_base.specs.declared.packet.Time.{Time}
 use Rattle.tva_base.specs.declared.plan.HostPlan.{HostPlan}
 use Rattle.tva_base.specs.declared.plan.RouterPlan.{RouterPlan}
+use Rattle.tva_base.specs.Changes.{boot_at, in_force}
 use Rattle.tva_base.specs.Plan.{IsHostPlan}
 use Rattle.tva_shim.specs.Shims.{IsReturn}
 use Rattle.tva_shim.specs.Packets.{PacketData, packet_length}
@@ -22,8 +24,10 @@ use Rattle.tva_flow.proofs.Same.{flow_is}
 use Rattle.tva_sender.specs.Contacts as contact
 use Rattle.tva_sender.specs.Contacts.{Contact, Taking, last_taking, asked_at, time}
 use Rattle.tva_sender.specs.Played.{AreNext, IsPlayed}
-use Rattle.tva_router.specs.Handling.{arrival, handle}
+use Rattle.tva_router.specs.Boots.{charges_of_boot, charges_at}
+use Rattle.tva_router.specs.Handling.{arrival}
 use Rattle.tva_router.specs.Marks.{is_marked}
+use Rattle.tva_router.proofs.InForce.{force_clock, force_slots}
 use Rattle.tva_host.specs.declared.made.Receipt.{Receipt}
 use Rattle.tva_host.specs.Calls.{NeverFall}
 use Rattle.tva_host.proofs.Played as players
@@ -43,6 +47,7 @@ use Rattle.tva_log.specs.declared.kinds.Input.TheVariants.{FromTrace, Arrival}
 use Rattle.tva_log.specs.Sites.{Site, IsPlanned}
 use Rattle.tva_log.specs.Entries.{Arrived, Received, Entry, Took, Started, input_time, entry_time, entry_rank}
 use Rattle.tva_log.specs.Parts.{charged, charges, port_logs, call_of_row, calls}
+use Rattle.tva_log.specs.Contents.{handled}
 use Rattle.tva_log.specs.NodeLog.{due}
 use Rattle.tva_run.specs.Reaching.{Logs, log_at, site_at}
 use Rattle.tva_run.specs.Run.{IsRunTo}
@@ -51,7 +56,7 @@ use Rattle.tva_promises.specs.Promises.{KeepsPromises}
 use Rattle.tva_promises.proofs.Entries.{fate_is}
 use Rattle.tva_paths.specs.Origins.{made_in, Keeps, HasOrigin}
 use Rattle.tva_paths.specs.Deals.{Deal, Prepared, Granted, Noticed, Coming, coming, deals, comings}
-use Rattle.tva_paths.specs.Paths.{shows, ask_coming, ask_came, grant_came, ShowsMinted, ComesInTime, ComesSteadily, those_charged, IsSteadyPath, IsTakenByLast, AreHonestRegular}
+use Rattle.tva_paths.specs.Paths.{shows, ask_coming, ask_came, grant_came, ShowsMinted, ComesInTime, ComesSteadily, comings_at, those_charged, IsSteadyPath, IsTakenByLast, AreHonestRegular}
 use Rattle.tva_paths.proofs.Given.{AreGiven}
 use Rattle.tva_paths.proofs.Lists.{some_same, Rises, rises_from, rises_rest, rises_front, rises_last, each_front, one_place}
 use Rattle.tva_paths.proofs.Walks.{at_place}
@@ -63,6 +68,7 @@ use Rattle.tva_paths.proofs.Counts.{few_inputs}
 use Rattle.tva_paths.proofs.Matching.{In, come_key, keys, AreIn, Matches, in_place, in_append, in_behind, matched}
 use Rattle.tva_paths.proofs.Asks.{Asked, last_time, asked_place, come_id, ask_is, coming_is, last_rights_are}
 use Rattle.tva_paths.proofs.Comings.{paid_of, paid, claim, claim_at, flow_charges, CameAt, came_place, paid_only, paid_place, charged_is}
+use Rattle.tva_paths.proofs.Boots.{one_master, passing_place, boot_charges}
 use Rattle.tva_paths.proofs.Miles.{Run, miles_of, authorised_since}
 use Rattle.tva_paths.proofs.Regular.{ShowsGrant, steady_regular}
 use Rattle.tva_paths.proofs.Kept.{AreShims, are_shims, same_length, at_router, shown_as_made, shows_as_made}
@@ -178,6 +184,19 @@ module _ (config : Config) (rows : List Row) (until : ℕ) (logs : Logs) (valid 
   abbrev last : Coming
   last = coming input packet fate
 
+  abbrev now : ℕ
+  now = input_time input
+
+  -- what is in force as the packet comes, and what came in that boot
+  abbrev ruling : RouterPlan
+  ruling = in_force router now
+
+  abbrev met : List Coming
+  met = comings_at router now seen
+
+  abbrev held : List Charge
+  held = charges_at router now (charges past)
+
   abbrev way : Way
   way = record {
     margin = host.margin;
@@ -185,7 +204,7 @@ module _ (config : Config) (rows : List Row) (until : ℕ) (logs : Logs) (valid 
     version = host.version;
     delay = delay;
     flow = packet.flow;
-    master = router.master;
+    master = ruling.master;
     offset = router.clock_offset;
     slots = router.slots;
   }
@@ -279,37 +298,44 @@ module _ (config : Config) (rows : List Row) (until : ℕ) (logs : Logs) (valid 
   pays_at : (b : List Entry) (i : Input) (o : Option ℕ) (p : PacketData) (ft : Fate) (ow : PacketData) (r : List Entry)
       → log_at logs node ≡ b ++ Took i (Arrived o p ft ow) ∷ r → same_flow p.flow packet.flow ≡ true → is_marked p.carried ≡ false
       → (before : List Deal) (t : ℕ) (q : PacketData) (after : List Deal) → own ≡ before ++ Prepared t q ∷ after → (front : List Coming)
-      → filter_map paid_of (comings packet.flow b) ≡ filter_map paid_of front
-      → q.id ≡ p.id → Steadily (coming i p ft) → (g : Grant) → ft.charge ≡ Some g → (ms : List Mile)
+      → filter_map paid_of (comings_at router now (comings packet.flow b)) ≡ filter_map paid_of front
+      → q.id ≡ p.id → Steadily (coming i p ft) → boot_at router (input_time i) ≡ boot_at router now
+      → (g : Grant) → ft.charge ≡ Some g → (ms : List Mile)
       → last_came ms ≡ grant_came seen [] before → charges_in ms ≡ filter_map paid_of front
       → IsPaid way ms t (shape_in q.carried) (counted q) (charged (input_time i) p g)
-  pays_at b i o p ft ow r h flow plain before t q after place front fr same cs g e ms lc ce =
+  pays_at b i o p ft ow r h flow plain before t q after place front fr same cs boot g e ms lc ce =
+      let u : ℕ = input_time i in
+      let rules : RouterPlan = in_force router u in
+      let paid_then : List Charge = charges_at router u (charges b) in
       let k = kept_at b i o p ft ow r h before t q after place same in
       let cl = claim_at to router to_plan until (log_at logs node) keeps b i o p ft ow r h g e in
-      let ic = claim router (charges b) (arrival (input_time i) o p) p.carried g cl in
+      let ic = claim rules paid_then (arrival u o p) p.carried g cl in
       let v = are_shims q.carried p.carried k.carried plain ic.shown in
       let it : InTime (coming i p ft) = cs.in_time in
       let s = one_deal before t q after it.before it.sent it.packet it.after place it.place (it.same ∙ sym same) in
       let sent : t ≡ it.sent = s.1 in
       let came_eq : last_came ms ≡ grant_came seen [] it.before = lc ∙ ap (grant_came seen []) s.0 in
       let fl : packet.flow ≡ p.flow = sym (flow_is p.flow packet.flow flow) in
-      let hold : last_charge (charges_in ms) ≡ holder (charges b) p.flow =
-      ap last_charge (ce ∙
-      (sym fr ∙ sym (flow_charges to router to_plan until (log_at logs node) keeps packet.flow b (Took i (Arrived o p ft ow) ∷ r) h)))
-      ∙ ap (λ (z : Flow). last_charge (of_flow z (charges b))) fl in
-      let a = at_router way router p ms (charges b) (input_time i) fl refl refl hold in
-      let minted : IfSome (last_came ms) (λ u. ShowsMinted router p p.carried u) =
-      subst (λ (z : Option ℕ). IfSome z (λ u. ShowsMinted router p p.carried u)) (sym came_eq) cs.minted in
+      let of_boot : of_flow packet.flow paid_then ≡ filter_map paid_of (comings_at router now (comings packet.flow b)) =
+      subst (λ (n : ℕ). of_flow packet.flow (charges_of_boot router n (charges b))
+      ≡ filter_map paid_of (comings_at router now (comings packet.flow b))) (sym boot)
+      (boot_charges router packet.flow (boot_at router now) b
+      (flow_charges to router to_plan until (log_at logs node) keeps packet.flow b (Took i (Arrived o p ft ow) ∷ r) h)) in
+      let hold : last_charge (charges_in ms) ≡ holder paid_then p.flow =
+      ap last_charge (ce ∙ (sym fr ∙ sym of_boot)) ∙ ap (λ (z : Flow). last_charge (of_flow z paid_then)) fl in
+      let a = at_router way rules p ms paid_then u fl (one_master router now u (sym boot)) (sym (force_clock router u)) hold in
+      let minted : IfSome (last_came ms) (λ v. ShowsMinted rules p p.carried v) =
+      subst (λ (z : Option ℕ). IfSome z (λ v. ShowsMinted rules p p.carried v)) (sym came_eq) cs.minted in
       let after_delay = it.from in
       let within = it.until in
       record {
         comes = record { from = omega (arith, sent, after_delay); until = omega (arith, sent, within) };
         behind = subst (λ (z : Option ℕ). IfSome z (λ u. u ≤ input_time i)) (sym came_eq) cs.behind;
         length = same_length q p k v;
-        shown = shown_as_made way router q p ms (charges b) (input_time i) a o (charged (input_time i) p g) v refl refl cl minted;
+        shown = shown_as_made way rules q p ms paid_then u a o (charged u p g) v refl refl cl minted;
       }
 
-  module _ (steady : IsSteadyPath host router delay own seen (charges past) last) where
+  module _ (steady : IsSteadyPath host router delay own seen held last) where
     abbrev at : InTime last
     at = steady.last.in_time
 
@@ -320,8 +346,8 @@ module _ (config : Config) (rows : List Row) (until : ℕ) (logs : Logs) (valid 
     tail = Prepared at.sent at.packet ∷ at.after
 
     -- what was charged came steadily
-    each : AllByRecursion Steadily (paid seen)
-    each = subst (AllByRecursion Steadily) (charged_is seen) steady.each
+    each : AllByRecursion Steadily (paid met)
+    each = subst (AllByRecursion Steadily) (charged_is met) steady.each
 
     comes_for : (before : List Deal) (rights : Rights) (caps : List ℕ) (after : List Deal) (came : ℕ)
         → earlier ≡ before ++ Granted rights caps ∷ after → ask_came seen before ≡ Some came → (ms : List Mile)
@@ -358,43 +384,46 @@ module _ (config : Config) (rows : List Row) (until : ℕ) (logs : Logs) (valid 
     asked_for before rights caps after e = asked_some (ask_coming seen before) (steady.asked before rights caps after e)
 
     pays_for : (before : List Deal) (t : ℕ) (p : PacketData) (after : List Deal) (front : List Coming) (x : Coming) (back : List Coming)
-        → own ≡ before ++ Prepared t p ∷ after → paid seen ≡ front ++ x ∷ back
+        → own ≡ before ++ Prepared t p ∷ after → paid met ≡ front ++ x ∷ back
         → p.id ≡ x.packet.id → (c : Charge) → paid_of x ≡ Some c → (ms : List Mile) → last_came ms ≡ grant_came seen [] before
         → charges_in ms ≡ filter_map paid_of front
         → IsPaid way ms t (shape_in p.carried) (counted p) c
     pays_for before t p after front x back place picked same c pays ms lc ce =
-        let pa = paid_place seen front x back picked in
-        let ca = came pa.before x pa.after pa.is in
-        let cs = at_place Steadily (paid seen) front x back picked each in
+        let pa = paid_place met front x back picked in
+        let mp = passing_place (λ (y : Coming). boot_at router y.time == boot_at router now) seen pa.before x pa.after pa.is in
+        let ca = came mp.before x mp.after mp.is in
+        let boot : boot_at router x.time ≡ boot_at router now = eqb-true (boot_at router x.time) (boot_at router now) mp.passes in
+        let cs = at_place Steadily (paid met) front x back picked each in
         let parts = charge_parts x x.charge c refl pays in
         let g : Grant = parts.0 in
-        let fr : filter_map paid_of (comings packet.flow ca.before) ≡ filter_map paid_of front =
-        ap (filter_map paid_of) ca.front_is ∙ (paid_only pa.before ∙ ap (filter_map paid_of) pa.front_is) in
-        let pay : p.id ≡ x.packet.id → Steadily x → x.charge ≡ Some g → IsPaid way ms t (shape_in p.carried) (counted p)
-        (charged x.time x.packet g) =
-        subst (λ (y : Coming). p.id ≡ y.packet.id → Steadily y → y.charge ≡ Some g → IsPaid way ms t (shape_in p.carried) (counted p)
-        (charged y.time y.packet g)) ca.is
-        (λ k s e. pays_at ca.before ca.input ca.from ca.packet ca.fate ca.onward ca.rest ca.here ca.flow ca.unmarked
-        before t p after place front fr k s g e ms lc ce) in
-        subst (IsPaid way ms t (shape_in p.carried) (counted p)) parts.2 (pay same cs parts.1)
+        let fr : filter_map paid_of (comings_at router now (comings packet.flow ca.before)) ≡ filter_map paid_of front =
+        ap (λ (ys : List Coming). filter_map paid_of (comings_at router now ys)) ca.front_is
+        ∙ (ap (filter_map paid_of) mp.front_is ∙ (paid_only pa.before ∙ ap (filter_map paid_of) pa.front_is)) in
+        let pay : p.id ≡ x.packet.id → Steadily x → boot_at router x.time ≡ boot_at router now → x.charge ≡ Some g
+        → IsPaid way ms t (shape_in p.carried) (counted p) (charged x.time x.packet g) =
+        subst (λ (y : Coming). p.id ≡ y.packet.id → Steadily y → boot_at router y.time ≡ boot_at router now → y.charge ≡ Some g
+        → IsPaid way ms t (shape_in p.carried) (counted p) (charged y.time y.packet g)) ca.is
+        (λ k s b e. pays_at ca.before ca.input ca.from ca.packet ca.fate ca.onward ca.rest ca.here ca.flow ca.unmarked
+        before t p after place front fr k s b g e ms lc ce) in
+        subst (IsPaid way ms t (shape_in p.carried) (counted p)) parts.2 (pay same cs boot parts.1)
 
-    in_order : AreBefore last (map come_key (paid seen))
+    in_order : AreBefore last (map come_key (paid met))
     in_order =
-        rises_last (map come_key (paid seen)) (come_key last)
-        (subst Rises (ap (λ (ys : List Coming). map come_key (ys ++ last ∷ [])) (charged_is seen) ∙ keys_push (paid seen) last)
-        (rises_from (map come_key (those_charged seen ++ last ∷ [])) steady.order))
+        rises_last (map come_key (paid met)) (come_key last)
+        (subst Rises (ap (λ (ys : List Coming). map come_key (ys ++ last ∷ [])) (charged_is met) ∙ keys_push (paid met) last)
+        (rises_from (map come_key (those_charged met ++ last ∷ [])) steady.order))
 
     whole_rises : Rises (keys (earlier ++ tail))
     whole_rises = subst (λ (ds : List Deal). Rises (keys ds)) at.place rises
 
-    ins : AreIn earlier (paid seen)
+    ins : AreIn earlier (paid met)
     ins =
-        prepared_before earlier at.sent at.packet at.after last (paid seen) at.same
+        prepared_before earlier at.sent at.packet at.after last (paid met) at.same
         (rises_behind earlier tail whole_rises)
         (each-weaker Steadily (λ (y : Coming). In (earlier ++ tail) y.packet.id)
         (λ y cs. let it : InTime y = cs.in_time in
         subst (λ (ds : List Deal). In ds y.packet.id) (sym it.place ∙ at.place)
-        (in_place it.before it.sent it.packet it.after y.packet.id it.same)) (paid seen) each)
+        (in_place it.before it.sent it.packet it.after y.packet.id it.same)) (paid met) each)
         in_order.1
 
     fine : AllByRecursion (IsTrue (log_at logs sender)) earlier
@@ -402,16 +431,16 @@ module _ (config : Config) (rows : List Row) (until : ℕ) (logs : Logs) (valid 
         each_front (IsTrue (log_at logs sender)) earlier tail
         (subst (AllByRecursion (IsTrue (log_at logs sender))) at.place told_all.each)
 
-    match : Matches earlier (paid seen)
+    match : Matches earlier (paid met)
     match =
-        matched earlier (paid seen) (rises_front (keys earlier) (keys tail)
+        matched earlier (paid met) (rises_front (keys earlier) (keys tail)
         (subst Rises (filter_map-append deal_key earlier tail) whole_rises)) in_order.0 ins
 
-    miles : Run way seen (log_at logs sender) own earlier tail at.place rises comes_for asked_for pays_for
-        (paying_all seen) earlier (paid seen)
+    miles : Run way seen met (log_at logs sender) own earlier tail at.place rises comes_for asked_for pays_for
+        (paying_all met) earlier (paid met)
     miles =
-        miles_of way seen (log_at logs sender) own earlier tail at.place rises comes_for asked_for pays_for
-        (paying_all seen) fine match
+        miles_of way seen met (log_at logs sender) own earlier tail at.place rises comes_for asked_for pays_for
+        (paying_all met) fine match
 
     kept : Keeps at.packet packet
     kept =
@@ -437,12 +466,13 @@ module _ (config : Config) (rows : List Row) (until : ℕ) (logs : Logs) (valid 
         (sym miles.contacts_are) size)
         front
 
-    charged_so : of_flow packet.flow (charges past) ≡ charges_in miles.miles
+    charged_so : of_flow packet.flow held ≡ charges_in miles.miles
     charged_so =
-        flow_charges to router to_plan until (log_at logs node) keeps packet.flow past
-        (Took input (Arrived on packet fate onward) ∷ rest) here ∙ (paid_only seen ∙ sym miles.charges_are)
+        boot_charges router packet.flow (boot_at router now) past
+        (flow_charges to router to_plan until (log_at logs node) keeps packet.flow past
+        (Took input (Arrived on packet fate onward) ∷ rest) here) ∙ (paid_only met ∙ sym miles.charges_are)
 
-    is_steady : IsSteady way (charges past) miles.miles at.sent (shape_in at.packet.carried) (packet_length packet)
+    is_steady : IsSteady way held miles.miles at.sent (shape_in at.packet.carried) (packet_length packet)
         (input_time input)
     is_steady = record {
       rules = planned.retry.0;
@@ -451,27 +481,27 @@ module _ (config : Config) (rows : List Row) (until : ℕ) (logs : Logs) (valid 
       charges = charged_so;
       comes = record { from = at.from; until = at.until };
       behind = subst (λ (o : Option ℕ). IfSome o (λ u. u ≤ input_time input)) (sym miles.came) steady.last.behind;
-      authorised = authorised_since way seen
+      authorised = authorised_since way seen met
           (log_at logs sender) own earlier tail at.place rises comes_for asked_for pays_for
-          (paying_all seen) miles steady.paid;
+          (paying_all met) miles steady.paid;
       room = steady.room;
     }
 
     shows_it : ShowsGrant way miles.miles (shape_in at.packet.carried) packet.carried
     shows_it =
         let a =
-        at_router way router packet miles.miles (charges past) (input_time input) refl refl refl (ap last_charge (sym charged_so)) in
-        shows_as_made way router at.packet packet miles.miles (charges past) (input_time input) a shims
-        (subst (λ (o : Option ℕ). IfSome o (λ u. ShowsMinted router packet packet.carried u)) (sym miles.came) steady.last.minted)
+        at_router way ruling packet miles.miles held now refl refl (sym (force_clock router now)) (ap last_charge (sym charged_so)) in
+        shows_as_made way ruling at.packet packet miles.miles held now a shims
+        (subst (λ (o : Option ℕ). IfSome o (λ u. ShowsMinted ruling packet packet.carried u)) (sym miles.came) steady.last.minted)
 
     pub regular : IsTakenByLast router packet.flow seen steady.last.in_time.before fate
     regular =
-        let is : fate ≡ (handle router (charges past) (port_logs past) (input_time input) on packet).fate =
+        let is : fate ≡ (handled router past now on packet).fate =
         fate_is to router past input on packet fate onward to_plan (keeps.contents past input (Arrived on packet fate onward) rest here) in
         let r =
-        steady_regular router (charges past) (port_logs past) (input_time input) on packet way miles.miles at.sent
+        steady_regular ruling held (port_logs past) now on packet way miles.miles at.sent
         (shape_in at.packet.carried) below
-        (record { flow_is = refl; master_is = refl; offset_is = refl; slots_are = refl }) is_steady shows_it in
+        (record { flow_is = refl; master_is = refl; offset_is = sym (force_clock router now); slots_are = sym (force_slots router now) }) is_steady shows_it in
         record {
           rights = r.last.rights;
           came = r.last.came;

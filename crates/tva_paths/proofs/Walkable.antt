@@ -1,10 +1,11 @@
 -- The worked walk's configuration is valid, and so are its rows.
-use Rattle.std.proofs.Common.{◌≡◌, ◌<◌, ℕ, zero, suc, true, List, [], ◌∷◌, length, Contains, slice_index_or, refl, ap, arith}
+use Rattle.std.proofs.Common.{◌≡◌, ◌<◌, ℕ, zero, suc, true, List, [], ◌∷◌, length, map, Contains, slice_index_or, refl, ap, arith}
 use Rattle.std.specs.List.{AllByRecursion}
-use Rattle.std.proofs.lemmas.List.Elements.{All-from_recursion}
+use Rattle.std.proofs.lemmas.List.Elements.{All-from_recursion, All-nil}
 use Rattle.tva_base.specs.declared.addresses.Address.{Address}
 use Rattle.tva_base.specs.declared.addresses.Prefix.{Prefix}
 use Rattle.tva_base.specs.declared.limits.LinkLimits.{LinkLimits}
+use Rattle.tva_base.specs.declared.packet.Time.{Time}
 use Rattle.tva_base.specs.declared.plan.PolicyKind.{PolicyKind}
 use Rattle.tva_base.specs.declared.plan.PolicyKind.TheVariants.{Client, Server}
 use Rattle.tva_base.specs.declared.plan.Route.{Route}
@@ -83,6 +84,10 @@ router_fine = record {
         (unlike (λ (p : Prefix). p.address.0) (walk_route 167772416 2).prefix (walk_route 167772160 1).prefix (λ k. omega (arith, k)), tt),
     (absent [] (walk_route 167772416 2).prefix tt, tt),
   );
+  boots = tt;
+  moved = All-nil (λ (c : Time × Prefix × ℕ). Contains (map (λ (r : Route). r.prefix) walk_router.routes) c.1);
+  ways = All-nil (λ (c : Time × Prefix × ℕ). Contains (links_of walk_router.outgoing) c.2);
+  turns = λ prefix. tt;
 }
 
 host_fine : (letter : ℕ) (address : Address) (kind : PolicyKind) (uplink : ℕ) → IsHostPlan (walk_host letter address kind uplink)

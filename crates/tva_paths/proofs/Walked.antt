@@ -4,6 +4,7 @@ use Rattle.std.specs.Prelude.{IsSomeAnd}
 use Rattle.std.proofs.lemmas.List.Elements.{All-nil, All-from_recursion}
 use Rattle.tva_base.specs.declared.packet.Class.TheVariants.{Regular, Legacy}
 use Rattle.tva_base.specs.declared.packet.Rights.{Rights}
+use Rattle.tva_base.specs.Changes.{in_force}
 use Rattle.tva_base.specs.Credit.{credit_of}
 use Rattle.tva_shim.specs.Layout.{layout, two_bytes, six_bytes, eight_bytes, number_bytes}
 use Rattle.tva_log.specs.declared.kinds.Input.TheVariants.{FromTrace}
@@ -122,6 +123,7 @@ asked_by P rest n k (x ∷ y ∷ ys) rights caps after e =
 -- ## the paths
 
 list_comes : Steadily walk_before_list list_coming
+unfolding in_force
 list_comes = record { in_time = list_in_time; behind = omega arith; minted = refl }
 
 pub steady_list : IsSteadyBehind walk_before_list walk_list_comes (walk_list 0 0) (walk_list 1 1)
@@ -148,7 +150,7 @@ nonce_comes : Steadily walk_before_nonce nonce_coming
 nonce_comes = record { in_time = nonce_in_time; behind = omega arith; minted = tt }
 
 pub steady_nonce : IsSteadyBehind walk_before_nonce walk_nonce_comes (walk_nonce 0) (walk_nonce 1)
-unfolding nonce_comes layout two_bytes six_bytes eight_bytes number_bytes credit_of
+unfolding nonce_comes in_force layout two_bytes six_bytes eight_bytes number_bytes credit_of
 steady_nonce = record {
   rest = Started 11010280 2 Regular (walk_nonce 1)
       ∷ walk_passes 6001010400 0 (walk_renewal 0 0 (walk_cap walk_flow)) Regular (Some walk_grant) 2
@@ -166,11 +168,12 @@ steady_nonce = record {
 }
 
 renewal_comes : Steadily walk_before_renewal renewal_coming
+unfolding in_force
 renewal_comes = record { in_time = renewal_in_time; behind = omega arith; minted = refl }
 
 pub steady_renewal : IsSteadyBehind walk_before_renewal walk_renewal_comes (walk_renewal 0 0 (walk_cap walk_flow))
     (walk_renewal 1 1 (walk_precap walk_flow 6))
-unfolding renewal_comes layout two_bytes six_bytes eight_bytes number_bytes credit_of
+unfolding renewal_comes in_force layout two_bytes six_bytes eight_bytes number_bytes credit_of
 steady_renewal = record {
   rest = Started 6001010400 2 Regular (walk_renewal 1 1 (walk_precap walk_flow 6)) ∷ [];
   here = refl;

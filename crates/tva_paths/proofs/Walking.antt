@@ -7,6 +7,7 @@ use Rattle.std.proofs.lemmas.Bool.{cases_lt, lt-ltb, ltb-true, leb-true, eqb-tru
 use Rattle.std.proofs.lemmas.Bool.Decides.{nat_tests}
 use Rattle.tva_base.specs.declared.limits.LinkLimits.{LinkLimits}
 use Rattle.tva_base.specs.declared.packet.Class.TheVariants.{Regular}
+use Rattle.tva_base.specs.Changes.{in_force}
 use Rattle.tva_base.specs.Credit.{credit_of}
 use Rattle.tva_base.specs.Versions.{AreSomeRights}
 use Rattle.tva_shim.specs.Layout.{layout, two_bytes, six_bytes, eight_bytes, number_bytes}
@@ -174,16 +175,16 @@ renewal_valid = valid way walk_rights 1001000 6001010400 some_rights (omega arit
 
 list_passes : content router_site walk_before_list walk_list_comes
     ≡ Some (Arrived (Some 0) (walk_list 0 0) (walk_fate Regular (Some walk_grant) 2) (walk_list 1 1))
-unfolding layout two_bytes six_bytes eight_bytes number_bytes credit_of list_verdict link_to answer_to_shown judged_shim handle arrived
+unfolding layout two_bytes six_bytes eight_bytes number_bytes credit_of list_verdict link_to answer_to_shown judged_shim handle arrived in_force
 list_passes = rw list_valid refl
 
 renewal_passes : content router_site walk_before_renewal walk_renewal_comes
     ≡ Some (Arrived (Some 0) (walk_renewal 0 0 (walk_cap walk_flow)) (walk_fate Regular (Some walk_grant) 2) (walk_renewal 1 1 (walk_precap walk_flow 6)))
-unfolding layout two_bytes six_bytes eight_bytes number_bytes credit_of list_verdict link_to answer_to_shown judged_shim handle arrived
+unfolding layout two_bytes six_bytes eight_bytes number_bytes credit_of list_verdict link_to answer_to_shown judged_shim handle arrived in_force
 renewal_passes = rw renewal_valid refl
 
 router_steps : GoesOn router_site [] router_inputs walk_log_router
-unfolding layout two_bytes six_bytes eight_bytes number_bytes credit_of nonce_verdict link_to answer_to_nonce judged_shim handle arrived decision start_after
+unfolding layout two_bytes six_bytes eight_bytes number_bytes credit_of nonce_verdict link_to answer_to_nonce judged_shim handle arrived decision start_after in_force
 router_steps =
     (refl, refl, (refl, (refl, refl, (refl, (refl, list_passes, (refl, (refl, refl, (refl, (refl, refl, (refl, (refl, renewal_passes, (refl, tt))))))))))))
 

@@ -14,10 +14,12 @@ use Rattle.tva_base.specs.declared.packet.Outcome.TheVariants.{Queued, Dropped}
 use Rattle.tva_base.specs.declared.plan.HostPlan.{HostPlan}
 use Rattle.tva_base.specs.declared.plan.LinkPlan.{LinkPlan}
 use Rattle.tva_base.specs.declared.plan.RouterPlan.{RouterPlan}
+use Rattle.tva_base.specs.Changes.{in_force}
 use Rattle.tva_shim.specs.Packets.{PacketData, packet_length, class_by_shim, made_packet}
 use Rattle.tva_shim.specs.Shows.{key_of}
 use Rattle.tva_flow.specs.Charges.{Charge}
 use Rattle.tva_port.specs.Log as port
+use Rattle.tva_router.specs.Boots.{charges_at}
 use Rattle.tva_router.specs.Handling as handling
 use Rattle.tva_router.specs.Handling.{handle}
 use Rattle.tva_host.specs.declared.made.Made.{Made}
@@ -176,7 +178,7 @@ module _ (P : PacketData → Type 0) (W : RowWhat → Type 0) where
     arrived_goes : (plan : RouterPlan) (before : List Entry) (now : ℕ) (from : Option ℕ) (p : PacketData) → P p
         → Goes (arrived plan before now from p)
     unfolding arrived
-    arrived_goes plan before now from p k = (k, hands_on plan (charges before) (port_logs before) now from p k)
+    arrived_goes plan before now from p k = (k, hands_on (in_force plan now) (charges_at plan now (charges before)) (port_logs before) now from p k)
 
     own_packet : (plan : RouterPlan) (before : List Entry) (now : ℕ) (p : PacketData) → made_in (arrived plan before now None p) ≡ Some p
     unfolding arrived

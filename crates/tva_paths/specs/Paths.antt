@@ -10,6 +10,7 @@ use Rattle.tva_base.specs.declared.packet.PacketId.{PacketId}
 use Rattle.tva_base.specs.declared.packet.Rights.{Rights}
 use Rattle.tva_base.specs.declared.plan.HostPlan.{HostPlan}
 use Rattle.tva_base.specs.declared.plan.RouterPlan.{RouterPlan}
+use Rattle.tva_base.specs.Changes.{boot_at, in_force}
 use Rattle.tva_base.specs.Clock.{router_second}
 use Rattle.tva_shim.specs.declared.kinds.Shown.{Shown}
 use Rattle.tva_shim.specs.declared.kinds.Kind.{Kind}
@@ -20,13 +21,14 @@ use Rattle.tva_shim.specs.Packets.{PacketData}
 use Rattle.tva_caps.specs.Formula.{precap_of, capability_of}
 use Rattle.tva_flow.specs.Charges.{Charge, lives, living_count}
 use Rattle.tva_port.specs.Keeps.{AreRising}
+use Rattle.tva_router.specs.Boots.{charges_at}
 use Rattle.tva_router.specs.Marks.{is_marked}
 use Rattle.tva_host.specs.Receiving.{shows_grant}
 use Rattle.tva_plan.specs.declared.config.Config.{Config}
 use Rattle.tva_plan.specs.declared.config.NodePlan.TheVariants.{Router, Host}
 use Rattle.tva_log.specs.declared.kinds.Input.{Input}
 use Rattle.tva_log.specs.Sites.{Site}
-use Rattle.tva_log.specs.Entries.{Entry, Arrived, Took}
+use Rattle.tva_log.specs.Entries.{Entry, Arrived, Took, input_time}
 use Rattle.tva_log.specs.Parts.{charges}
 use Rattle.tva_run.specs.Reaching.{Logs, log_at, site_at}
 use Rattle.tva_paths.specs.Deals.{Deal, Prepared, Granted, Noticed, Coming, coming, deals, comings}
@@ -135,12 +137,16 @@ pub record ComesInTime (host : HostPlan) (delay : ℕ) (own : List Deal) (x : Co
   pub until : x.time ≤ sent + delay + host.margin
 
 -- so came one that shows a grant, behind the last ask before the last grant, and a capability that it points at is the
--- one minted for that ask
+-- one minted for that ask with the master that is in force as it comes
 pub record ComesSteadily (host : HostPlan) (router : RouterPlan) (delay : ℕ) (own : List Deal) (seen : List Coming) (x : Coming)
     : Type 0 where
   pub in_time : ComesInTime host delay own x
   pub behind : IfSome (grant_came seen [] in_time.before) (λ came. came ≤ x.time)
-  pub minted : IfSome (grant_came seen [] in_time.before) (λ came. ShowsMinted router x.packet x.packet.carried came)
+  pub minted : IfSome (grant_came seen [] in_time.before) (λ came. ShowsMinted (in_force router x.time) x.packet x.packet.carried came)
+
+-- those that came in the boot of the router that a time is in
+abbrev pub comings_at : RouterPlan → ℕ → List Coming → List Coming
+comings_at router now seen = filter (λ x. boot_at router x.time == boot_at router now) seen
 
 -- those that were charged
 abbrev pub those_charged : List Coming → List Coming
@@ -153,20 +159,28 @@ WasCharged seen (Prepared time packet) =
 WasCharged seen (Granted rights caps) = Unit {0}
 WasCharged seen Noticed = Unit {0}
 
--- The path is steady up to a packet that shows a grant. It and all packets of its flow that were charged come steadily, in
--- the order in which the host numbered them. Of each grant that was taken before it was prepared the last ask came in time.
--- All packets that were prepared before it under its grant and show it were charged. And where the flow doesn't live, the
--- cache has room.
+-- The path is steady up to a packet that shows a grant. It and all packets of its flow that were charged in the router's
+-- boot come steadily, in the order in which the host numbered them. Of each grant that was taken before it was prepared the
+-- last ask came in time. All packets that were prepared before it under its grant and show it were charged in this boot. And
+-- where the flow doesn't live by the boot's charges, the cache has room. So a restart ends the path of the grants that were
+-- shown before it, and a grant whose ask came behind it begins a steady path again.
 pub record IsSteadyPath (host : HostPlan) (router : RouterPlan) (delay : ℕ) (own : List Deal) (seen : List Coming)
     (charged : List Charge) (x : Coming) : Type 0 where
-  pub each : AllByRecursion (ComesSteadily host router delay own seen) (those_charged seen)
+  pub each : AllByRecursion (ComesSteadily host router delay own seen) (those_charged (comings_at router x.time seen))
   pub last : ComesSteadily host router delay own seen x
-  pub order : AreRising (map (λ y. y.packet.id.ordinal) (those_charged seen ++ x ∷ []))
+  pub order : AreRising (map (λ y. y.packet.id.ordinal) (those_charged (comings_at router x.time seen) ++ x ∷ []))
   pub asked : (before : List Deal) (rights : Rights) (caps : List ℕ) (after : List Deal)
       → last.in_time.before ≡ before ++ Granted rights caps ∷ after
       → IsSomeAnd (ask_coming seen before) (ComesInTime host delay own)
-  pub paid : AllByRecursion (WasCharged seen) (since_granted [] last.in_time.before)
+  pub paid : AllByRecursion (WasCharged (comings_at router x.time seen)) (since_granted [] last.in_time.before)
   pub room : lives charged x.packet.flow x.time ≡ false → living_count charged x.time < router.slots
+
+-- all packets that show a grant and were prepared before it under its grant came in its boot and were charged there
+abbrev pub LieInBoot : RouterPlan → List Coming → ℕ → List Deal → Type 0
+LieInBoot router seen now own = (before : List Deal) (sent : ℕ) (packet : PacketData) (after : List Deal)
+    → own ≡ before ++ Prepared sent packet ∷ after → shows packet.carried ≡ true
+    → IsSomeAnd (come_as (comings_at router now seen) packet.id)
+    (λ y. (boot_at router y.time ≡ boot_at router now) × (is_some y.charge ≡ true))
 
 -- ## in a run
 
@@ -195,5 +209,5 @@ AreHonestRegular config logs =
     → is_marked packet.carried ≡ false → packet.hops < 32 → shows packet.carried ≡ true
     → (delay : ℕ)
     (steady : IsSteadyPath host router delay (deals packet.flow.dst (log_at logs sender)) (comings packet.flow before)
-    (charges before) (coming input packet fate))
+    (charges_at router (input_time input) (charges before)) (coming input packet fate))
     → IsTakenByLast router packet.flow (comings packet.flow before) steady.last.in_time.before fate

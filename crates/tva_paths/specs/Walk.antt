@@ -31,6 +31,7 @@ use Rattle.tva_shim.specs.declared.packets.Carried.{Carried}
 use Rattle.tva_shim.specs.declared.packets.Carried.TheVariants.{Nothing, Shim}
 use Rattle.tva_shim.specs.Packets.{PacketData, packet_data}
 use Rattle.tva_caps.specs.Formula.{precap_of, capability_of}
+use Rattle.tva_router.specs.Boots.{charges_at}
 use Rattle.tva_plan.specs.declared.config.Config.{Config}
 use Rattle.tva_plan.specs.declared.config.NodePlan.TheVariants.{Router, Host}
 use Rattle.tva_trace.specs.declared.rows.Row.{Row}
@@ -38,7 +39,7 @@ use Rattle.tva_trace.specs.declared.rows.RowWhat.{RowWhat}
 use Rattle.tva_trace.specs.declared.rows.RowWhat.TheVariants.{Send, Inject}
 use Rattle.tva_log.specs.declared.kinds.Input.{Input}
 use Rattle.tva_log.specs.declared.kinds.Input.TheVariants.{FromTrace, Arrival}
-use Rattle.tva_log.specs.Entries.{Entry, Took, Started, Arrived, Sent, Received}
+use Rattle.tva_log.specs.Entries.{Entry, Took, Started, Arrived, Sent, Received, input_time}
 use Rattle.tva_log.specs.Parts.{charges}
 use Rattle.tva_log.specs.Told.{at_time}
 use Rattle.tva_run.specs.Reaching.{Logs, log_at}
@@ -293,4 +294,4 @@ pub record IsSteadyBehind (before : List Entry) (input : Input) (packet onward :
   pub here : log_at walk_logs 0
       ≡ before ++ Took input (Arrived (Some 0) packet (walk_fate Regular (Some walk_grant) 2) onward) ∷ rest
   pub steady : IsSteadyPath walk_host_a walk_router 1000520 (deals walk_b (log_at walk_logs 1)) (comings walk_flow before)
-      (charges before) (coming input packet (walk_fate Regular (Some walk_grant) 2))
+      (charges_at walk_router (input_time input) (charges before)) (coming input packet (walk_fate Regular (Some walk_grant) 2))

@@ -1,5 +1,5 @@
 // What holds of the packets of every run.
-ghost use Rattle.std.specs.Prelude.{◌≡◌, ℕ, List, ◌∷◌, ◌++◌, Some};
+ghost use Rattle.std.specs.Prelude.{◌≡◌, ℕ, List, [], ◌∷◌, ◌++◌, Some};
 ghost use Rattle.tva_plan.specs.declared.config.Config.{Config};
 ghost use Rattle.tva_plan.specs.Valid.{IsConfig};
 ghost use Rattle.tva_trace.specs.declared.rows.Row.{Row};
@@ -11,7 +11,11 @@ ghost use Rattle.tva_log.specs.Entries.{Content, Entry, Took};
 ghost use Rattle.tva_run.specs.Reaching.{Logs, log_at, site_at};
 ghost use Rattle.tva_run.specs.Run.{IsRunTo};
 ghost use Rattle.tva_paths.specs.Origins.{HasOrigin, comes_in};
-ghost use Rattle.tva_paths.specs.Paths.{AreHonestRegular};
+ghost use Rattle.tva_base.specs.declared.plan.HostPlan.{HostPlan};
+ghost use Rattle.tva_base.specs.declared.plan.RouterPlan.{RouterPlan};
+ghost use Rattle.tva_flow.specs.Charges.{Charge};
+ghost use Rattle.tva_paths.specs.Deals.{Deal, Coming};
+ghost use Rattle.tva_paths.specs.Paths.{AreHonestRegular, IsSteadyPath, LieInBoot, since_granted};
 ghost use Rattle.tva_paths.specs.Walk.{walk_before_list, walk_before_nonce, walk_before_renewal, walk_cap, walk_config};
 ghost use Rattle.tva_paths.specs.Walk.{walk_flow, walk_list, walk_list_comes, walk_logs, walk_nonce, walk_nonce_comes};
 ghost use Rattle.tva_paths.specs.Walk.{walk_precap, walk_renewal, walk_renewal_comes, walk_rows, walk_until};
@@ -37,6 +41,14 @@ pub fn packets_have_origins()
 pub fn honest_senders_are_regular()
     ensures { (config : Config) (rows : List Row) (until : ℕ) (logs : Logs) → IsConfig config
         → AreTraceRows config rows → IsRunTo config rows until logs → AreHonestRegular config logs }
+{}
+
+/// A restart ends a path: where it is steady up to a packet, all packets that were prepared before it under its grant
+/// and show that grant came to the router in the same boot, and were charged there. Times are in nanoseconds.
+pub fn paths_lie_in_a_boot()
+    ensures { (host : HostPlan) (router : RouterPlan) (delay : ℕ) (own : List Deal) (seen : List Coming) (charged : List Charge)
+        (x : Coming) (steady : IsSteadyPath host router delay own seen charged x)
+        → LieInBoot router seen x.time (since_granted [] steady.last.in_time.before) }
 {}
 
 /// The logs of a worked walk, in nanoseconds, are a run: of the network of `examples/walk.toml` with a horizon of

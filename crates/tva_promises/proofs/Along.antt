@@ -1,14 +1,16 @@
 -- What a node's log keeps, entry by entry.
-use Rattle.std.proofs.Common.{◌≡◌, ℕ, ◌≤◌, ◌<◌, List, [], ◌∷◌, ◌++◌, Option, Some, None, refl, sym, ap, ◌∙◌, subst, arith, append-nil, append_assoc}
-use Rattle.std.specs.Prelude.{nat_lt}
+use Rattle.std.proofs.Common.{◌≡◌, ℕ, ◌≤◌, ◌<◌, Bool, true, false, cond, List, [], ◌∷◌, ◌++◌, Option, Some, None, refl, sym, ap, ◌∙◌, subst, arith, append-nil, append_assoc}
+use Rattle.std.specs.Prelude.{nat_lt, ◌==◌}
 use Rattle.std.specs.Option.{option_map, option_and_then, IfSome}
 use Rattle.std.specs.List.{AllByRecursion, cons_option}
-use Rattle.std.proofs.lemmas.List.Elements.{filter_map-append, All-from_recursion, All-nil, All-push}
+use Rattle.std.proofs.lemmas.Bool.{eqb-true}
+use Rattle.std.proofs.lemmas.List.Elements.{filter-append, filter_map-append, All-from_recursion, All-nil, All-push}
 use Rattle.tva_base.specs.declared.limits.LinkLimits.{LinkLimits}
 use Rattle.tva_base.specs.declared.packet.Class.{Class}
 use Rattle.tva_base.specs.declared.packet.Grant.{Grant}
 use Rattle.tva_base.specs.declared.plan.RouterPlan.{RouterPlan}
 use Rattle.tva_base.specs.declared.plan.HostPlan.{HostPlan}
+use Rattle.tva_base.specs.Changes.{boot_at}
 use Rattle.tva_shim.specs.Packets.{PacketData}
 use Rattle.tva_flow.specs.Charges.{Charge}
 use Rattle.tva_flow.specs.Stands.{NoneLater, AreNext}
@@ -17,6 +19,7 @@ use Rattle.tva_flow.proofs.Pushes.{next-push}
 use Rattle.tva_port.specs.Log as port
 use Rattle.tva_port.specs.Waiting.{waiting_after}
 use Rattle.tva_port.specs.Legal.{IsLegal}
+use Rattle.tva_router.specs.Boots.{charges_of_boot, charges_at}
 use Rattle.tva_host.specs.History.{History}
 use Rattle.tva_host.specs.Calls.{Call, history_of}
 use Rattle.tva_host.proofs.Calls.{history_of-push}
@@ -38,13 +41,14 @@ use Rattle.tva_promises.proofs.Waits.{AreSized, none_waits, waits_sized, start_s
 use Rattle.tva_promises.proofs.Links.{IsGood, number_is, start_follows, started_good, logs_more, legal_more, logs_past}
 use Rattle.tva_promises.proofs.Entries.{HasFew, IsNextCharge, took_good, took_charge}
 
--- a log whose links' logs are legal and hold what is within the sizes, whose charges a cache can have and are timely,
--- and whose host took no grant with too many capabilities
+-- a log whose links' logs are legal and hold what is within the sizes, whose charges of each boot a cache can have and
+-- are timely, and whose host took no grant with too many capabilities
 pub record IsSound (site : Site) (log : List Entry) : Type 0 where
   pub legal : (link : ℕ) (l : LinkLimits) → limits_out site link ≡ Some (link, l) → IsLegal l (port_logs log link)
   pub waits : (link : ℕ) (l : LinkLimits) → limits_out site link ≡ Some (link, l) → AreSized (waiting_after l (port_logs log link))
   pub sizes : AllByRecursion IsSizedEntry log
-  pub grants : (plan : RouterPlan) → site.plan ≡ plans.Router plan → AreNext plan.slots plan.clock_offset [] (charges log) × AreTimely plan.clock_offset (charges log)
+  pub grants : (plan : RouterPlan) → site.plan ≡ plans.Router plan → (boot : ℕ)
+      → AreNext plan.slots plan.clock_offset [] (charges_of_boot plan boot (charges log)) × AreTimely plan.clock_offset (charges_of_boot plan boot (charges log))
   pub few : HasFew site log
 
 -- what an entry is after those before it
@@ -72,18 +76,34 @@ past_all : (now : ℕ) (log : List Entry) → AllByRecursion (λ e. entry_time e
 past_all now [] a = tt
 past_all now (e ∷ es) a = past_option now (entry_time e) (charge_of e) (charges es) a.0 (charge_time e) (past_all now es a.1)
 
-charges_past : (now : ℕ) (log : List Entry) → AllByRecursion (λ e. entry_time e ≤ now) log → NoneLater now (charges log)
-charges_past now log a = All-from_recursion (λ (c : Charge). c.time ≤ now) (charges log) (past_all now log a)
+charges_past : (plan : RouterPlan) (boot now : ℕ) (log : List Entry) → AllByRecursion (λ e. entry_time e ≤ now) log → NoneLater now (charges_of_boot plan boot (charges log))
+charges_past plan boot now log a =
+    All-from_recursion (λ (c : Charge). c.time ≤ now) (charges_of_boot plan boot (charges log))
+    (each-filter (λ (c : Charge). c.time ≤ now) (λ c. boot_at plan c.time == boot) (charges log) (past_all now log a))
 
-charges_more : (log : List Entry) (e : Entry) → charges (log ++ e ∷ []) ≡ charges log ++ cons_option (charge_of e) []
-charges_more log e = filter_map-append charge_of log (e ∷ [])
+charges_more : (plan : RouterPlan) (boot : ℕ) (log : List Entry) (e : Entry)
+    → charges_of_boot plan boot (charges (log ++ e ∷ [])) ≡ charges_of_boot plan boot (charges log) ++ charges_of_boot plan boot (cons_option (charge_of e) [])
+charges_more plan boot log e =
+    ap (charges_of_boot plan boot) (filter_map-append charge_of log (e ∷ []))
+    ∙ filter-append (λ (c : Charge). boot_at plan c.time == boot) (charges log) (cons_option (charge_of e) [])
 
 abbrev AreCharged : RouterPlan → List Charge → Type 0
 AreCharged plan h = AreNext plan.slots plan.clock_offset [] h × AreTimely plan.clock_offset h
 
-charged_option : (plan : RouterPlan) (h : List Charge) (o : Option Charge) → AreCharged plan h → IfSome o (IsNextCharge plan h) → AreCharged plan (h ++ cons_option o [])
-charged_option plan h None a k = subst (λ (z : List Charge). AreCharged plan z) (sym (append-nil h)) a
-charged_option plan h (Some c) a k = (next-push plan.slots plan.clock_offset [] h c a.0 k.0, All-push (λ (x : Charge). IsWithinSeconds plan.clock_offset x.time x.grant) h c a.1 k.1)
+charged_where : (plan : RouterPlan) (h : List Charge) (c : Charge) (b : Bool) → AreCharged plan h → (b ≡ true → IsNextCharge plan h c) → AreCharged plan (h ++ cond b (c ∷ []) [])
+charged_where plan h c false a k = subst (λ (z : List Charge). AreCharged plan z) (sym (append-nil h)) a
+charged_where plan h c true a k =
+    let n : IsNextCharge plan h c = k refl in
+    (next-push plan.slots plan.clock_offset [] h c a.0 n.0, All-push (λ (x : Charge). IsWithinSeconds plan.clock_offset x.time x.grant) h c a.1 n.1)
+
+-- a charge is one more of its own boot, and none of another
+charged_option : (plan : RouterPlan) (boot now : ℕ) (h : List Charge) (o : Option Charge) → AreCharged plan (charges_of_boot plan boot h) → IfSome o (λ c. c.time ≡ now)
+    → IfSome o (IsNextCharge plan (charges_at plan now h)) → AreCharged plan (charges_of_boot plan boot h ++ charges_of_boot plan boot (cons_option o []))
+charged_option plan boot now h None a t k = subst (λ (z : List Charge). AreCharged plan z) (sym (append-nil (charges_of_boot plan boot h))) a
+charged_option plan boot now h (Some c) a t k =
+    charged_where plan (charges_of_boot plan boot h) c (boot_at plan c.time == boot) a
+    (λ e. let same : boot_at plan now ≡ boot = ap (boot_at plan) (sym t) ∙ eqb-true (boot_at plan c.time) boot e in
+    subst (λ (n : ℕ). IsNextCharge plan (charges_of_boot plan n h) c) same k)
 
 -- ## the calls before
 
@@ -128,10 +148,12 @@ module _ (site : Site) (valid : IsSite site) where
         let k = out_by site before link time class p (limits_out site link) refl m in
         start_sized k.limits (port_logs before link) time class p (start_follows site link k.limits before time class p k.out (logs_past link time before past) m) (s.waits link k.limits k.out)
 
-    entry_charge : (e : Entry) (plan : RouterPlan) → site.plan ≡ plans.Router plan → AllByRecursion (λ x. entry_time x ≤ entry_time e) before → entry_time e ≤ 1000000000000000 → IsMade site before e → IfSome (charge_of e) (IsNextCharge plan (charges before))
+    entry_charge : (e : Entry) (plan : RouterPlan) → site.plan ≡ plans.Router plan → AllByRecursion (λ x. entry_time x ≤ entry_time e) before → entry_time e ≤ 1000000000000000 → IsMade site before e
+        → IfSome (charge_of e) (IsNextCharge plan (charges_at plan (entry_time e) (charges before)))
     entry_charge (Took input made) plan is past time m =
-        let g = s.grants plan is in
-        took_charge site plan before input made valid is time (charges_past (input_time input) before past) g.0 g.1 m.1 m.0
+        let boot : ℕ = boot_at plan (input_time input) in
+        let g = s.grants plan is boot in
+        took_charge site plan before input made valid is time (charges_past plan boot (input_time input) before past) g.0 g.1 m.1 m.0
     entry_charge (Started at link class p) plan is past time m = tt
 
     entry_call : (e : Entry) → IsMade site before e → IfSome (call_of e) IsSizedCall
@@ -149,7 +171,9 @@ module _ (site : Site) (valid : IsSite site) where
           subst (λ (z : List port.Entry). AreSized (waiting_after l z)) (sym (logs_more before e link))
           (waits_option l (port_logs before link) (port_entry link e) (s.legal link l out) (s.waits link l out) (entry_good e link l out past m));
       sizes = each-append IsSizedEntry before (e ∷ []) s.sizes (entry_sized e past m, tt);
-      grants = λ plan is. subst (λ (z : List Charge). AreCharged plan z) (sym (charges_more before e)) (charged_option plan (charges before) (charge_of e) (s.grants plan is) (entry_charge e plan is past time m));
+      grants = λ plan is boot.
+          subst (λ (z : List Charge). AreCharged plan z) (sym (charges_more plan boot before e))
+          (charged_option plan boot (entry_time e) (charges before) (charge_of e) (s.grants plan is boot) (charge_time e) (entry_charge e plan is past time m));
       few = λ plan is. subst (λ (z : List Call). AreFew (history_of plan z).contacts) (sym (calls_more before e)) (few_option plan (calls before) (call_of e) (s.few plan is) (entry_call e m));
     }
 
@@ -160,7 +184,7 @@ module _ (site : Site) (valid : IsSite site) where
     legal = λ link l out. tt;
     waits = λ link l out. none_waits l;
     sizes = tt;
-    grants = λ plan is. (tt, All-nil (λ (c : Charge). IsWithinSeconds plan.clock_offset c.time c.grant));
+    grants = λ plan is boot. (tt, All-nil (λ (c : Charge). IsWithinSeconds plan.clock_offset c.time c.grant));
     few = λ plan is. tt;
   }
 

@@ -8,12 +8,14 @@ use Rattle.tva_base.specs.declared.packet.Grant.{Grant}
 use Rattle.tva_base.specs.declared.packet.Outcome.{Outcome}
 use Rattle.tva_base.specs.declared.plan.RouterPlan.{RouterPlan}
 use Rattle.tva_base.specs.declared.plan.HostPlan.{HostPlan}
+use Rattle.tva_base.specs.Changes.{in_force}
 use Rattle.tva_shim.specs.Packets.{PacketData, IsSizedPacket, class_by_shim, made_packet}
 use Rattle.tva_flow.specs.Charges.{Charge}
 use Rattle.tva_flow.specs.Stands.{NoneLater, IsNext, AreNext}
 use Rattle.tva_flow.specs.Budget.{IsWithinSeconds, AreTimely}
 use Rattle.tva_port.specs.Log as port
-use Rattle.tva_router.specs.Handling.{Handled, handle, arrival, way_to}
+use Rattle.tva_router.specs.Handling.{Logs, Handled, handle, arrival, way_to}
+use Rattle.tva_router.specs.Boots.{charges_at}
 use Rattle.tva_host.specs.declared.made.Made.{Made}
 use Rattle.tva_host.specs.Calls.{history_of}
 use Rattle.tva_host.specs.Receiving.{receipt_of}
@@ -26,7 +28,7 @@ use Rattle.tva_log.specs.declared.kinds.Input.TheVariants.{FromTrace, Arrival}
 use Rattle.tva_log.specs.Sites.{Site, IsSite, IsPlanned, limits_out}
 use Rattle.tva_log.specs.Entries.{Content, Arrived, Entry, Took, input_time}
 use Rattle.tva_log.specs.Parts.{charged, charge_of, charges, calls, content_at, queued_at, reply_at, port_logs}
-use Rattle.tva_log.specs.Contents.{packet_of_row, next_id, arrived, routed, goes_out, made_for, hosted, content_by, content}
+use Rattle.tva_log.specs.Contents.{packet_of_row, next_id, handled, arrived, routed, goes_out, made_for, hosted, content_by, content}
 use Rattle.tva_promises.specs.Sizes.{IsSizedWhat, IsSizedInput}
 use Rattle.tva_promises.specs.Promises.{IsHandled}
 use Rattle.tva_promises.proofs.Packets.{sized_length, onward_sized}
@@ -74,14 +76,15 @@ arrived_good : (site : Site) (plan : RouterPlan) (link : ℕ) (l : LinkLimits) (
     → port.NoneLater now (port_logs before link) → IsSizedPacket p → IsGoodAt l before link now (arrived plan before now from p)
 unfolding arrived
 arrived_good site plan link l before now from p valid e out past s =
-    let h : List Charge = charges before in
-    let is : Handled = handle plan h (port_logs before) now from p in
+    let q : RouterPlan = in_force plan now in
+    let h : List Charge = charges_at plan now (charges before) in
+    let is : Handled = handle q h (port_logs before) now from p in
     let good : Outcome → Type 0 = λ o. IfSome (queued_at link now o is.fate.class is.onward) (IsGood l (port_logs before link)) in
     elim (cases_lt p.hops 32) [
       | inl below ↦
-          subst good (sym (on_way plan h (port_logs before) now from p below))
-          (queued_good site link l (port_logs before) now is.fate.class is.onward (way_to plan p.flow.dst) out (router_way site plan p.flow.dst valid e) past (onward_sized plan h (port_logs before) now from p s))
-      | inr limit ↦ subst good (sym (at_limit plan h (port_logs before) now from p limit).2) tt
+          subst good (sym (on_way q h (port_logs before) now from p below))
+          (queued_good site link l (port_logs before) now is.fate.class is.onward (way_to q p.flow.dst) out (router_way site plan now p.flow.dst valid e) past (onward_sized q h (port_logs before) now from p s))
+      | inr limit ↦ subst good (sym (at_limit q h (port_logs before) now from p limit).2) tt
     ]
 
 router_good : (site : Site) (plan : RouterPlan) (link : ℕ) (l : LinkLimits) (before : List Entry) (input : Input) (made : Content) → IsSite site → site.plan ≡ plans.Router plan → limits_out site link ≡ Some (link, l)
@@ -133,26 +136,32 @@ took_good site link l before input made valid out past few s c = took_by site si
 abbrev pub IsNextCharge : RouterPlan → List Charge → Charge → Type 0
 IsNextCharge plan h c = IsNext plan.slots plan.clock_offset h c × IsWithinSeconds plan.clock_offset c.time c.grant
 
-charge_by : (plan : RouterPlan) (before : List Entry) (now : ℕ) (from : Option ℕ) (p : PacketData) (o : Option Grant) → IsReady plan (charges before) (arrival now from p) → (handle plan (charges before) (port_logs before) now from p).fate.charge ≡ o
-    → IfSome (option_map (charged now p) o) (IsNextCharge plan (charges before))
-charge_by plan before now from p None r e = tt
-charge_by plan before now from p (Some g) r e = let k = charge_next plan (charges before) (port_logs before) now from p g r e in (k.next, k.seconds)
+charge_by : (plan : RouterPlan) (h : List Charge) (logs : Logs) (now : ℕ) (from : Option ℕ) (p : PacketData) (o : Option Grant) → IsReady plan h (arrival now from p) → (handle plan h logs now from p).fate.charge ≡ o
+    → IfSome (option_map (charged now p) o) (IsNextCharge plan h)
+charge_by plan h logs now from p None r e = tt
+charge_by plan h logs now from p (Some g) r e = let k = charge_next plan h logs now from p g r e in (k.next, k.seconds)
 
+-- it is after those of its boot
 abbrev IsCharging : RouterPlan → List Entry → Input → Content → Type 0
-IsCharging plan before input made = IfSome (charge_of (Took input made)) (IsNextCharge plan (charges before))
+IsCharging plan before input made = IfSome (charge_of (Took input made)) (IsNextCharge plan (charges_at plan (input_time input) (charges before)))
 
-arrived_charge : (plan : RouterPlan) (before : List Entry) (input : Input) (from : Option ℕ) (p : PacketData) → IsReady plan (charges before) (arrival (input_time input) from p) → IsCharging plan before input (arrived plan before (input_time input) from p)
-unfolding arrived
-arrived_charge plan before input from p r = charge_by plan before (input_time input) from p (handle plan (charges before) (port_logs before) (input_time input) from p).fate.charge r refl
+arrived_charge : (plan : RouterPlan) (before : List Entry) (input : Input) (from : Option ℕ) (p : PacketData)
+    → IsReady (in_force plan (input_time input)) (charges_at plan (input_time input) (charges before)) (arrival (input_time input) from p)
+    → IsCharging plan before input (arrived plan before (input_time input) from p)
+unfolding arrived in_force
+arrived_charge plan before input from p r =
+    let now : ℕ = input_time input in
+    charge_by (in_force plan now) (charges_at plan now (charges before)) (port_logs before) now from p (handled plan before now from p).fate.charge r refl
 
 -- what an input is charged to
-pub took_charge : (site : Site) (plan : RouterPlan) (before : List Entry) (input : Input) (made : Content) → IsSite site → site.plan ≡ plans.Router plan → input_time input ≤ 1000000000000000 → NoneLater (input_time input) (charges before)
-    → AreNext plan.slots plan.clock_offset [] (charges before) → AreTimely plan.clock_offset (charges before) → IsSizedInput input → content site before input ≡ Some made → IsCharging plan before input made
+pub took_charge : (site : Site) (plan : RouterPlan) (before : List Entry) (input : Input) (made : Content) → IsSite site → site.plan ≡ plans.Router plan → input_time input ≤ 1000000000000000 → NoneLater (input_time input) (charges_at plan (input_time input) (charges before))
+    → AreNext plan.slots plan.clock_offset [] (charges_at plan (input_time input) (charges before)) → AreTimely plan.clock_offset (charges_at plan (input_time input) (charges before)) → IsSizedInput input → content site before input ≡ Some made → IsCharging plan before input made
+unfolding in_force
 took_charge site plan before input made valid e time past legal timely s c =
     let planned : IsPlanned (plans.Router plan) site.links = subst (λ (p : NodePlan). IsPlanned p site.links) e valid.planned in
     let by_plan : routed site.number plan before input ≡ Some made = sym (ap (λ (p : NodePlan). content_by site p before input) e) ∙ c in
     let k = came site.number plan before input made by_plan in
-    let ready : IsReady plan (charges before) (arrival (input_time input) k.from k.packet) = record {
+    let ready : IsReady (in_force plan (input_time input)) (charges_at plan (input_time input) (charges before)) (arrival (input_time input) k.from k.packet) = record {
       clock = planned.0.clock_offset;
       time = time;
       past = past;
@@ -166,7 +175,9 @@ took_charge site plan before input made valid e time past legal timely s c =
 
 arrived_handled : (plan : RouterPlan) (before : List Entry) (input : Input) (from : Option ℕ) (p : PacketData) → IsHandled plan before input (arrived plan before (input_time input) from p)
 unfolding arrived
-arrived_handled plan before input from p = is_fate plan (charges before) (port_logs before) (input_time input) from p
+arrived_handled plan before input from p =
+    let now : ℕ = input_time input in
+    is_fate (in_force plan now) (charges_at plan now (charges before)) (port_logs before) now from p
 
 -- a router handles each input
 pub took_handled : (site : Site) (plan : RouterPlan) (before : List Entry) (input : Input) (made : Content) → site.plan ≡ plans.Router plan → content site before input ≡ Some made → IsHandled plan before input made
@@ -184,16 +195,16 @@ same_arrived : (from on : Option ℕ) (p q onward further : PacketData) (fate ot
 same_arrived from on p q onward further fate other e = record { same_from = cc; same_packet = cc; same_fate = cc }
 
 came_is : (plan : RouterPlan) (before : List Entry) (now : ℕ) (on from : Option ℕ) (q p : PacketData) (fate : Fate) (onward : PacketData) → arrived plan before now on q ≡ Arrived from p fate onward
-    → fate ≡ (handle plan (charges before) (port_logs before) now from p).fate
+    → fate ≡ (handled plan before now from p).fate
 unfolding arrived
 came_is plan before now on from q p fate onward e =
-    let h : Option ℕ → PacketData → Fate = λ o x. (handle plan (charges before) (port_logs before) now o x).fate in
-    let s = same_arrived on from q p (handle plan (charges before) (port_logs before) now on q).onward onward (h on q) fate e in
+    let h : Option ℕ → PacketData → Fate = λ o x. (handled plan before now o x).fate in
+    let s = same_arrived on from q p (handled plan before now on q).onward onward (h on q) fate e in
     sym s.same_fate ∙ ap₂ h s.same_from s.same_packet
 
 -- the fate of an arrival is what the router makes of it
 pub fate_is : (site : Site) (plan : RouterPlan) (before : List Entry) (input : Input) (from : Option ℕ) (p : PacketData) (fate : Fate) (onward : PacketData) → site.plan ≡ plans.Router plan
-    → content site before input ≡ Some (Arrived from p fate onward) → fate ≡ (handle plan (charges before) (port_logs before) (input_time input) from p).fate
+    → content site before input ≡ Some (Arrived from p fate onward) → fate ≡ (handled plan before (input_time input) from p).fate
 fate_is site plan before input from p fate onward e c =
     let by_plan : routed site.number plan before input ≡ Some (Arrived from p fate onward) = sym (ap (λ (p : NodePlan). content_by site p before input) e) ∙ c in
     let k = came site.number plan before input (Arrived from p fate onward) by_plan in

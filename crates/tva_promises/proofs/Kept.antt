@@ -1,9 +1,11 @@
 -- A sound log keeps its promises.
 use Rattle.std.proofs.Common.{◌≡◌, ℕ, ◌≤◌, List, [], ◌∷◌, ◌++◌, Some, sym, ap, ◌∙◌, subst, append-nil, append_assoc}
+use Rattle.std.specs.Prelude.{◌==◌}
 use Rattle.std.specs.List.{AllByRecursion}
-use Rattle.std.proofs.lemmas.List.Elements.{filter_map-append}
+use Rattle.std.proofs.lemmas.List.Elements.{filter-append, filter_map-append}
 use Rattle.tva_base.specs.declared.limits.LinkLimits.{LinkLimits}
 use Rattle.tva_base.specs.declared.plan.RouterPlan.{RouterPlan}
+use Rattle.tva_base.specs.Changes.{boot_at}
 use Rattle.tva_base.specs.Plan.{AreLinkLimits}
 use Rattle.tva_flow.specs.Charges.{Charge}
 use Rattle.tva_flow.specs.Stands.{AreNext}
@@ -19,6 +21,7 @@ use Rattle.tva_port.proofs.Limits.{stays_within}
 use Rattle.tva_port.proofs.Served.{alike}
 use Rattle.tva_port.proofs.RequestBound.{requests_served}
 use Rattle.tva_port.proofs.RegularBound.{regulars_served}
+use Rattle.tva_router.specs.Boots.{charges_of_boot}
 use Rattle.tva_plan.specs.declared.config.NodePlan.TheVariants as plans
 use Rattle.tva_log.specs.declared.kinds.Input.{Input}
 use Rattle.tva_log.specs.Sites.{Site, IsSite, limits_out}
@@ -72,10 +75,15 @@ module _ (site : Site) (inputs : List Input) (until : ℕ) (log : List Entry) (v
   is_sound : IsSound site log
   is_sound = sound site valid until small inputs log z h
 
-  grants_at : (plan : RouterPlan) → site.plan ≡ plans.Router plan → (before rest : List Entry) → log ≡ before ++ rest → KeepsGrants plan (charges before)
-  grants_at plan e before rest d =
-      let g = is_sound.grants plan e in
-      grants_kept plan (charges log) (charges before) (charges rest) (ap (λ (es : List Entry). charges es) d ∙ filter_map-append charge_of before rest) g.0 g.1
+  grants_at : (plan : RouterPlan) → site.plan ≡ plans.Router plan → (before rest : List Entry) → log ≡ before ++ rest → (boot : ℕ)
+      → KeepsGrants plan (charges_of_boot plan boot (charges before))
+  grants_at plan e before rest d boot =
+      let g = is_sound.grants plan e boot in
+      let of : List Entry → List Charge = λ es. charges_of_boot plan boot (charges es) in
+      let split : of log ≡ of before ++ of rest =
+          ap of d ∙ (ap (charges_of_boot plan boot) (filter_map-append charge_of before rest)
+          ∙ filter-append (λ (c : Charge). boot_at plan c.time == boot) (charges before) (charges rest)) in
+      grants_kept plan (of log) (of before) (of rest) split g.0 g.1
 
   links_at : (link : ℕ) (l : LinkLimits) → limits_out site link ≡ Some (link, l) → KeepsService l until (port_logs log link)
   links_at link l out =
@@ -91,7 +99,7 @@ module _ (site : Site) (inputs : List Input) (until : ℕ) (log : List Entry) (v
   pub keeps : KeepsPromises site until log
   keeps = record {
     contents = λ before input made rest d. contents_at before input made rest d;
-    grants = λ plan e before rest d. grants_at plan e before rest d;
+    grants = λ plan e before rest d boot. grants_at plan e before rest d boot;
     links = λ link l out. links_at link l out;
     fates = λ plan e before input made rest d. fates_at plan e before input made rest d;
   }

@@ -7,6 +7,7 @@ use Rattle.std.specs.List.{AllByRecursion, find, cons_option}
 use Rattle.std.proofs.lemmas.Bool.{cond-true, cond-false, cases_Bool, eqb-true, le-leb, leb-true, lt-ltb, le-ltb, cases_lt}
 use Rattle.std.proofs.lemmas.List.Elements.{filter_map-append, All-from_recursion}
 use Rattle.tva_base.specs.declared.addresses.Address.{Address}
+use Rattle.tva_base.specs.Changes.{in_force}
 use Rattle.tva_base.specs.declared.limits.LinkLimits.{LinkLimits}
 use Rattle.tva_base.specs.declared.packet.Class.{Class}
 use Rattle.tva_base.specs.declared.packet.Outcome.{Outcome}
@@ -33,6 +34,7 @@ use Rattle.tva_log.specs.Entries.{Content, Arrived, Entry, Took, Started, input_
 use Rattle.tva_log.specs.Entries as entry
 use Rattle.tva_log.specs.Parts.{queued_at, reply_at, port_entry, port_logs}
 use Rattle.tva_log.specs.NodeLog.{start_of, start_after, starts, LeavesNone}
+use Rattle.tva_log.proofs.Links.{same_out}
 use Rattle.tva_joins.specs.Joins.{cut}
 use Rattle.tva_joins.proofs.Joins.{filter-true, filter-false}
 use Rattle.tva_promises.proofs.Packets.{sized_length}
@@ -91,13 +93,15 @@ own_way site link (Some o) e = subst (λ k. limits_out site k ≡ Some o) (sym (
 pub link_way : (site : Site) (link : ℕ) → IsWayOut site (limits_out site link)
 link_way site link = own_way site link (limits_out site link) refl
 
--- a router's
-pub router_way : (site : Site) (plan : RouterPlan) (dst : Address) → IsSite site → site.plan ≡ plans.Router plan → IsWayOut site (way_to plan dst)
-router_way site plan dst s e = by_link (link_to plan.routes dst)
-  where
-    by_link : (o : Option ℕ) → IsWayOut site (link_or_none plan o)
-    by_link None = tt
-    by_link (Some link) = own_way site link (outgoing_link plan link) (sym (router_out site plan link s e))
+way_by : (site : Site) (plan : RouterPlan) (o : Option ℕ) → ((link : ℕ) → outgoing_link plan link ≡ limits_out site link) → IsWayOut site (link_or_none plan o)
+way_by site plan None e = tt
+way_by site plan (Some link) e = own_way site link (outgoing_link plan link) (sym (e link))
+
+-- a router's, by the plan in force
+pub router_way : (site : Site) (plan : RouterPlan) (now : ℕ) (dst : Address) → IsSite site → site.plan ≡ plans.Router plan → IsWayOut site (way_to (in_force plan now) dst)
+router_way site plan now dst s e =
+    let q : RouterPlan = in_force plan now in
+    way_by site q (link_to q.routes dst) (λ link. same_out plan now link ∙ router_out site plan link s e)
 
 -- ## queued packets
 

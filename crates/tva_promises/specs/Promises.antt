@@ -49,8 +49,8 @@ IsHandled plan before input (Sent made outcome) = ⊥
 IsHandled plan before input (Received from packet receipt went) = ⊥
 
 -- a node's log up to a time: at each place an input became what the node makes of it over what stands before it, a
--- router's charges of each boot keep their grants, the log of each link out of the node keeps its service, and each arrival at a
--- router has its fate
+-- router's charges of each boot keep their grants, the log of each link out of the node keeps its service, and each
+-- arrival at a router has its fate; so a budget is one of a router, a boot and a grant
 pub record KeepsPromises (site : Site) (until : ℕ) (log : List Entry) : Type 0 where
   pub contents : (before : List Entry) (input : Input) (made : Content) (rest : List Entry)
       → log ≡ before ++ Took input made ∷ rest → content site before input ≡ Some made

@@ -33,7 +33,7 @@ pub fn refused_is_not_regular()
 
 /// Whatever reaches a node, within the sizes of a network and up to a time of at most 10^15 nanoseconds,
 /// its log keeps its promises, and what its links send is within those sizes. The budget of a grant is
-/// TVA's.
+/// TVA's; it is counted for each router and each of its boots.
 pub fn nodes_keep_promises()
     ensures kept { (site : Site) (inputs : List Input) (until : ℕ) (log : List Entry) → IsSite site
         → until ≤ 1000000000000001 → AllByRecursion IsSizedInput inputs → IsNodeLog site inputs until log

@@ -1,6 +1,6 @@
 //! What a network promises of every log of its nodes, whatever reaches them: at each place of a router's
-//! log each charge came in its grant's seconds, no grant was charged twice its units, and no more flows
-//! live than there are slots; each link keeps requests to their rate and queues to their limits, misses no
+//! log each charge of a boot came in its grant's seconds, no grant was charged twice its units in a boot, and
+//! no more flows of a boot live than there are slots; each link keeps requests to their rate and queues to their limits, misses no
 //! start, and serves what is queued within its bounds; each input became what the node makes of it; and each arrival at a
 //! router has a cause exactly where the router's tables give it, is charged exactly where no row of theirs refuses it, and
 //! is regular exactly where it is charged. The contracts are laws over a node's log of any inputs, and over every run.

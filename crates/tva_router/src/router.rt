@@ -75,6 +75,13 @@ impl Router {
         })
     }
 
+    /// The restarts of the plan by which it was built.
+    pub fn restarts(&self) -> &[(Time, [u8; 32])]
+        ensures { result.now ≡ self.now.built.restarts }
+    {
+        self.built.restarts.as_slice()
+    }
+
     /// What becomes of a packet that comes in on a link, or from the trace. Times are in nanoseconds
     /// and never fall. The cases are TVA's, in this order: the hop limit; no shim, or a marked one; a
     /// malformed one; a request, which gets an entry; a list, a nonce or a renewal, which is authorised

@@ -17,6 +17,7 @@ use Rattle.tva_base.specs.declared.packet.PacketId.{PacketId}
 use Rattle.tva_base.specs.declared.plan.HostPlan.{HostPlan}
 use Rattle.tva_base.specs.declared.plan.LinkPlan.{LinkPlan}
 use Rattle.tva_base.specs.declared.plan.RouterPlan.{RouterPlan}
+use Rattle.tva_base.specs.Changes.{in_force}
 use Rattle.tva_shim.specs.declared.kinds.ReturnInfo.{ReturnInfo}
 use Rattle.tva_shim.specs.Packets.{PacketData, packet_length, class_by_shim, made_packet}
 use Rattle.tva_shim.specs.Shows.{key_of}
@@ -29,6 +30,7 @@ use Rattle.tva_router.specs.Judging.{judge}
 use Rattle.tva_router.specs.Routes.{link_to}
 use Rattle.tva_router.specs.Handling as handling
 use Rattle.tva_router.specs.Handling.{Handled, arrival, forwarded, goes_on, handle, link_or_none, offered, outcome_of, sent, stopped, way_to}
+use Rattle.tva_router.specs.Boots.{charges_at}
 use Rattle.tva_host.specs.declared.made.Made.{Made}
 use Rattle.tva_host.specs.declared.made.Receipt.{Receipt}
 use Rattle.tva_host.specs.Calls.{history_of}
@@ -209,9 +211,9 @@ module _ (config : Config) where
     -- at a router
     arrived_named : (plan : RouterPlan) (now : ℕ) (from : Option ℕ) (packet : PacketData) → AllByRecursion (λ (x : ℕ × LinkLimits). HasLink config x.0) plan.outgoing
         → IsKnown packet → HasSource config from → IsNamed (arrived plan before now from packet)
-    unfolding arrived
+    unfolding arrived in_force
     arrived_named plan now from packet out node source =
-        let h = handled_known plan (charges before) (port_logs before) now from packet out in
+        let h = handled_known (in_force plan now) (charges_at plan now (charges before)) (port_logs before) now from packet out in
         ((node, source, h.0), subst (λ (i : PacketId). HasNode config i.node) (sym h.1) node)
 
     row_named : (plan : RouterPlan) (now : ℕ) (w : RowWhat) (made : Content) → AllByRecursion (λ (x : ℕ × LinkLimits). HasLink config x.0) plan.outgoing

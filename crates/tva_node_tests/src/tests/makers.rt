@@ -3,7 +3,7 @@
 ghost use Rattle.std.specs.Prelude.{◌≡◌, ◌≤◌, IfOk, OnOk};
 ghost use Rattle.tva_base.specs.Plan.{AreClassLimits, AreLinkLimits};
 ghost use Rattle.tva_node.specs.States.{Stands};
-ghost use Rattle.tva_node_tests.specs.Ready.{IsHost, IsReady};
+ghost use Rattle.tva_node_tests.specs.Ready.{AreChanges, IsHost, IsReady};
 ghost use Rattle.tva_shim.specs.Packets.{IsCarried};
 
 use std::alloc::{AllocError, Global};
@@ -100,20 +100,48 @@ pub fn host(
     Node::build(alloc, HORIZON, number, &plan, &[(uplink, link(number, 0))])
 }
 
+// The network of 256 addresses that begins with that one.
+pub fn network(address: u32) -> Prefix
+    ensures { result ≡ record { address = record { 0 = address }; bits = 24 } }
+{
+    Prefix {
+        address: Address(address),
+        bits: 24,
+    }
+}
+
 fn route(address: u32, link: u16) -> Route
     ensures { result ≡ record { prefix = record { address = record { 0 = address }; bits = 24 }; link = link } }
 {
     Route {
-        prefix: Prefix {
-            address: Address(address),
-            bits: 24,
-        },
+        prefix: network(address),
         link,
     }
 }
 
+// The bytes 0 to 31.
+pub const COUNTING: [u8; 32] = [
+    0, 1, 2, 3, 4, 5, 6, 7, 8, 9, 10, 11, 12, 13, 14, 15, 16, 17, 18, 19, 20, 21, 22, 23, 24, 25, 26,
+    27, 28, 29, 30, 31,
+];
+
 // R1, whose master is the bytes 0 to 31.
 pub fn router(alloc: Global) -> Result<Node, AllocError>
+    ensures ready { IfOk result IsReady }
+    ensures stands { IfOk result Stands }
+{
+    let restarts = Listed::new(Vec::new(alloc));
+    changing_router(alloc, COUNTING, restarts, Listed::new(Vec::new(alloc)))
+}
+
+// R1 with that master, with restarts, and with changes of its two routes.
+pub fn changing_router(
+    alloc: Global,
+    master: [u8; 32],
+    restarts: Listed<(Time, [u8; 32])>,
+    reroutes: Listed<(Time, Prefix, u16)>,
+) -> Result<Node, AllocError>
+    requires { AreChanges restarts reroutes }
     ensures ready { IfOk result IsReady }
     ensures stands { IfOk result Stands }
 {
@@ -121,18 +149,15 @@ pub fn router(alloc: Global) -> Result<Node, AllocError>
     let on = link(0, 2);
     let plan = NodePlan::Router(RouterPlan {
         name: Name::new("R1"),
-        master: [
-            0, 1, 2, 3, 4, 5, 6, 7, 8, 9, 10, 11, 12, 13, 14, 15, 16, 17, 18, 19, 20, 21, 22, 23,
-            24, 25, 26, 27, 28, 29, 30, 31,
-        ],
+        master,
         clock_offset: 0,
         slots: 8,
         edge_tag: 0,
         incoming: Listed::new(vec![in alloc; (0, 1), (3, 2)]?),
         outgoing: Listed::new(vec![in alloc; (1, back.limits), (2, on.limits)]?),
         routes: Listed::new(vec![in alloc; route(0x0a00_0000, 1), route(0x0a00_0100, 2)]?),
-        restarts: Listed::new(Vec::new(alloc)),
-        reroutes: Listed::new(Vec::new(alloc)),
+        restarts,
+        reroutes,
     });
     Node::build(alloc, HORIZON, 0, &plan, &[(1, back), (2, on)])
 }

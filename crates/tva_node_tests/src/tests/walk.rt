@@ -75,7 +75,7 @@ const LIST_AT_B: &[u8] = &[
 ];
 
 // A's nonce alone.
-const NONCE: &[u8] = &[0x12, 6, 0, 0, 0, 0, 0, 2];
+pub const NONCE: &[u8] = &[0x12, 6, 0, 0, 0, 0, 0, 2];
 
 pub const AT_A: Part = Part {
     rows: &[

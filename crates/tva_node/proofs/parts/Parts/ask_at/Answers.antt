@@ -11,7 +11,10 @@ pub free_at-free-requires : goal.free_at-free-requires
 free_at-free-requires c =
     let p = c.args.self.now in
     let st = c.requires.stands.3 in
-    (site_at p, c.at-number.result.plan.limits, st.site, st.plan, read_out p c.args.now c.args.place c.at-number.result c.at-number.ensures c.requires.within c.requires.stands)
+    record {
+      time = (c.args.now, st.past);
+      out = (site_at p, c.at-number.result.plan.limits, st.site, st.plan, read_out p c.args.now c.args.place c.at-number.result c.at-number.ensures c.requires.within c.requires.stands);
+    }
 
 pub returns-then-free-now-clause-stands : goal.returns-then-free-now-clause-stands
 returns-then-free-now-clause-stands c =

@@ -1,27 +1,31 @@
-use Rattle.std.proofs.Common.{◌≡◌, ◌∙◌, ◌++◌, refl, sym, subst, ap}
+use Rattle.std.proofs.Common.{◌≡◌, ◌∙◌, ◌++◌, refl, sym, subst, ap, arith}
 use Rattle.tva_base.specs.declared.limits.LinkLimits.{LinkLimits}
 use Rattle.tva_port.specs.Decide.{decision}
+use Rattle.tva_router.specs.Boots.{charges_of_boot}
 use Rattle.tva_log.specs.Parts.{charges, port_logs}
 use Rattle.tva_node.specs.declared.role.Role.{Role}
 use Rattle.tva_node.specs.declared.role.Hosted.{Hosted}
-use Rattle.tva_node.specs.States.{RoleStands, StandsAsHost, role_plan}
+use Rattle.tva_node.specs.States.{IsBy, RoleStands, StandsAsHost, role_plan}
 use Rattle.tva_node.specs.Steps.{started_by}
 use Rattle.tva_node.proofs.Roles.{host_decided, host_out, not_none, router_decided, router_has_out}
+use Rattle.tva_node.proofs.Changes.{routed_same}
 use Rattle.tva_node.proofs.role.Role.decide.Goals as goal
 
 pub decide-requires-clause-outgoing : goal.decide-requires-clause-outgoing
 decide-requires-clause-outgoing c =
     let r = c.requires.out in
-    let out = router_has_out r.0 c.args.self.now c.in-Router.routed c.args.link r.1 r.2 r.3 c.in-Router.is r.4 in
+    let out = router_has_out r.0 c.args.self.now c.in-Router.routed c.args.link r.1 c.args.now.0 c.requires.time r.2 r.3 c.in-Router.is r.4 in
     λ none. not_none _ (c.args.link, r.1) out none
 
 pub returns-in-Router-clause-decides : goal.returns-in-Router-clause-decides
 returns-in-Router-clause-decides c = λ site log limits s e out st.
     let stands = subst (λ (r : Role). RoleStands site r log) c.in-Router.is st in
-    let has = router_has_out site c.args.self.now c.in-Router.routed c.args.link limits s e c.in-Router.is out in (
-      c.decide.ensures.decision (charges log) (port_logs log) limits stands.router has,
-      router_decided c.in-Router.routed (record { router = c.decide.new.self; next = c.in-Router.routed.next }) log c.args.link c.args.now.0 c.decide.result stands
-          (c.decide.ensures.stands (charges log) (port_logs log) stands.router) refl,
+    let has = router_has_out site c.args.self.now c.in-Router.routed c.args.link limits c.args.now.0 c.requires.time s e c.in-Router.is out in
+    let r = c.in-Router.routed in
+    let h = charges_of_boot r.router.built r.changes.boot (charges log) in (
+      c.decide.ensures.decision h (port_logs log) limits stands.router has,
+      router_decided c.in-Router.routed (record { router = c.decide.new.self; next = r.next; changes = r.changes }) log c.args.link c.args.now.0 c.decide.result stands
+          (c.decide.ensures.stands h (port_logs log) stands.router) c.decide.ensures.built refl refl,
     )
 
 pub returns-in-Host-clause-decides : goal.returns-in-Host-clause-decides
@@ -36,3 +40,9 @@ returns-in-Host-clause-decides c = λ site log limits s e out st.
       subst (λ k. StandsAsHost site new (log ++ started_by k c.args.now.0 c.decide-in-Host.result)) o.0
           (host_decided site h new log c.args.now.0 c.decide-in-Host.result stands (c.decide-in-Host.ensures.stands (port_logs log h.uplink) stands.port) refl refl c.decide-in-Host.ensures.same),
     )
+
+pub returns-in-Router-clause-last : goal.returns-in-Router-clause-last
+returns-in-Router-clause-last c =
+    let r = c.in-Router.routed in
+    let by = subst (IsBy c.args.now.0) c.in-Router.is c.requires.time in
+    routed_same c.args.now.0 r c.decide.new.self r.next by (omega (arith, c.decide.ensures.last)) c.decide.ensures.built c.decide.ensures.same

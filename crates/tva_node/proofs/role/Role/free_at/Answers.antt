@@ -1,6 +1,7 @@
 use Rattle.std.proofs.Common.{◌≡◌, ◌∙◌, sym, subst, ap}
 use Rattle.tva_base.specs.declared.limits.LinkLimits.{LinkLimits}
 use Rattle.tva_port.specs.Log.{free_after}
+use Rattle.tva_router.specs.Boots.{charges_of_boot}
 use Rattle.tva_log.specs.Parts.{charges, port_logs}
 use Rattle.tva_node.specs.declared.role.Role.{Role}
 use Rattle.tva_node.specs.States.{RoleStands, role_plan}
@@ -9,14 +10,16 @@ use Rattle.tva_node.proofs.role.Role.free_at.Goals as goal
 
 pub free_at-requires : goal.free_at-requires
 free_at-requires c =
-    let r = c.requires in
-    let out = router_has_out r.0 c.args.self.now c.in-Router.routed c.args.link r.1 r.2 r.3 c.in-Router.is r.4 in
+    let r = c.requires.out in
+    let by = c.requires.time in
+    let out = router_has_out r.0 c.args.self.now c.in-Router.routed c.args.link r.1 by.0 by.1 r.2 r.3 c.in-Router.is r.4 in
     record { outgoing = λ none. not_none _ (c.args.link, r.1) out none }
 
 pub returns-in-Router-clause-free : goal.returns-in-Router-clause-free
 returns-in-Router-clause-free c = λ site log limits s e out st.
-    c.free_at.ensures.free (charges log) (port_logs log) limits (subst (λ (r : Role). RoleStands site r log) c.in-Router.is st).router
-    (router_has_out site c.args.self.now c.in-Router.routed c.args.link limits s e c.in-Router.is out)
+    let r = c.in-Router.routed in
+    c.free_at.ensures.free (charges_of_boot r.router.built r.changes.boot (charges log)) (port_logs log) limits (subst (λ (r : Role). RoleStands site r log) c.in-Router.is st).router
+    (router_has_out site c.args.self.now c.in-Router.routed c.args.link limits c.requires.time.0 c.requires.time.1 s e c.in-Router.is out)
 
 pub returns-in-Host-clause-free : goal.returns-in-Host-clause-free
 returns-in-Host-clause-free c = λ site log limits s e out st.

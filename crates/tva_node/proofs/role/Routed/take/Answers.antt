@@ -1,6 +1,8 @@
 use Rattle.std.proofs.Common.{◌≡◌, ◌∙◌, Some, None, refl, sym, subst, ap}
 use Rattle.std.specs.Option.{option_map}
+use Rattle.tva_base.specs.declared.plan.RouterPlan.{RouterPlan}
 use Rattle.tva_shim.specs.Packets.{PacketData}
+use Rattle.tva_router.specs.Boots.{charges_of_boot}
 use Rattle.tva_router.specs.Stands.{RouterData, StandsFor}
 use Rattle.tva_log.specs.declared.kinds.Input.{Input}
 use Rattle.tva_log.specs.declared.kinds.Input.TheVariants.{FromTrace, Arrival}
@@ -11,32 +13,46 @@ use Rattle.tva_node.proofs.Roles.{ordinal_arrival, ordinal_row, router_takes}
 use Rattle.tva_node.proofs.role.Routed.take.Goals as goal
 
 pub returns-in-FromTrace-clause-took : goal.returns-in-FromTrace-clause-took
-returns-in-FromTrace-clause-took c = λ log h.
-    let r = c.args.self.now in
+returns-in-FromTrace-clause-took c = λ log st.
+    let before = c.args.self.now in
+    let r = c.change.new.self in
     let row = c.in-FromTrace.row in
     let mid = c.packet_of-packet.new.self in
     let packet = c.packet_of-packet.result in
-    let plan = r.router.plan in
+    let plan = before.router.built in
+    let goes = c.change.ensures.goes in
+    let h = goes.stands log st in
+    let g = charges_of_boot r.router.built r.changes.boot (charges log) in
     let made = arrived plan log row.time.0 None packet in
-    let stands = subst (λ (v : RouterData). StandsFor v (charges log) (port_logs log)) (sym c.packet_of-packet.ensures.router) h.router in
+    let stands = subst (λ (v : RouterData). StandsFor v g (port_logs log)) (sym c.packet_of-packet.ensures.router.0) h.router in
     let found = subst (λ k. packet_of_row (record { node = c.args.number; ordinal = k }) row.what ≡ Some packet) h.next c.packet_of-packet.ensures.packet in
     subst (λ (i : Input). RouterTook c.args.number plan log i c.arrive.result c.arrive.new.self) (sym c.in-FromTrace.is)
-    (router_takes r mid c.arrive.new.self c.args.number log (FromTrace row) None packet c.arrive.result h c.packet_of-packet.ensures.router
+    (router_takes r mid c.arrive.new.self c.args.number plan log (FromTrace row) None packet c.arrive.result c.change.ensures.done h goes.same.0
+    c.packet_of-packet.ensures.router.0 c.packet_of-packet.ensures.router.1
     (ap (option_map (arrived plan log row.time.0 None)) found)
-    (c.arrive.ensures.told (charges log) (port_logs log) stands)
-    (c.arrive.ensures.stands (charges log) (port_logs log) stands)
-    (c.arrive.ensures.next ∙ (c.packet_of-packet.ensures.next ∙ ordinal_row log row made r.next h.next)))
+    (c.arrive.ensures.told g (port_logs log) stands)
+    (c.arrive.ensures.stands g (port_logs log) stands)
+    c.arrive.ensures.plan.1 c.arrive.ensures.same.1
+    (c.arrive.ensures.same.0 ∙ (c.packet_of-packet.ensures.next ∙ ordinal_row log row made r.next h.next)))
 
 pub returns-in-Arrival-clause-took : goal.returns-in-Arrival-clause-took
-returns-in-Arrival-clause-took c = λ log h.
-    let r = c.args.self.now in
+returns-in-Arrival-clause-took c = λ log st.
+    let before = c.args.self.now in
+    let r = c.change-in-Arrival.new.self in
     let packet = c.in-Arrival.packet in
     let time = c.in-Arrival.time in
-    let plan = r.router.plan in
-    let made = arrived plan log time.0 (Some c.in-Arrival.link) packet in
-    subst (λ (i : Input). RouterTook c.args.number plan log i c.arrive-in-Arrival.result c.arrive-in-Arrival.new.self) (sym c.in-Arrival.is)
-    (subst (λ (p : PacketData). RouterTook c.args.number plan log (Arrival time c.in-Arrival.link p) c.arrive-in-Arrival.result c.arrive-in-Arrival.new.self) c.copied.ensures
-    (router_takes r r c.arrive-in-Arrival.new.self c.args.number log (Arrival time c.in-Arrival.link c.copied.result) (Some c.in-Arrival.link) c.copied.result c.arrive-in-Arrival.result h refl refl
-    (c.arrive-in-Arrival.ensures.told (charges log) (port_logs log) h.router)
-    (c.arrive-in-Arrival.ensures.stands (charges log) (port_logs log) h.router)
-    (c.arrive-in-Arrival.ensures.next ∙ ordinal_arrival log time c.in-Arrival.link c.copied.result (arrived plan log time.0 (Some c.in-Arrival.link) c.copied.result) r.next h.next)))
+    let link = c.in-Arrival.link in
+    let plan = before.router.built in
+    let goes = c.change-in-Arrival.ensures.goes in
+    let h = goes.stands log st in
+    let g = charges_of_boot r.router.built r.changes.boot (charges log) in
+    let new = c.arrive-in-Arrival.new.self in
+    let told = c.arrive-in-Arrival.result in
+    let copy = c.copied.result in
+    subst (λ (i : Input). RouterTook c.args.number plan log i told new) (sym c.in-Arrival.is)
+    (subst (λ (p : PacketData). RouterTook c.args.number plan log (Arrival time link p) told new) c.copied.ensures
+    (router_takes r r new c.args.number plan log (Arrival time link copy) (Some link) copy told c.change-in-Arrival.ensures.done h goes.same.0 refl refl refl
+    (c.arrive-in-Arrival.ensures.told g (port_logs log) h.router)
+    (c.arrive-in-Arrival.ensures.stands g (port_logs log) h.router)
+    c.arrive-in-Arrival.ensures.plan.1 c.arrive-in-Arrival.ensures.same.1
+    (c.arrive-in-Arrival.ensures.same.0 ∙ ordinal_arrival log time link copy (arrived plan log time.0 (Some link) copy) r.next h.next)))

@@ -3,7 +3,7 @@ use Rattle.std.proofs.lemmas.List.Elements.{All-nil, All-cons}
 use Rattle.tva_base.specs.declared.plan.Route.{Route}
 use Rattle.tva_log.specs.Sites.{IsLinkOut}
 use Rattle.tva_node_tests.proofs.Plans.{plan_is}
-use Rattle.tva_node_tests.proofs.tests.makers.router.Goals as goal
+use Rattle.tva_node_tests.proofs.tests.makers.changing_router.Goals as goal
 
 two : (a b p q : Route) → a ≡ p → b ≡ q → a ∷ b ∷ [] ≡ p ∷ q ∷ []
 two a b p q e f = cc
@@ -18,7 +18,8 @@ build-requires-clause-site c =
       planned = (
         plan_is _ c.link-back.result.limits c.link-on.result.limits refl refl back.limits on.limits
             (c.new-2.ensures ∙ c.in_ok-vec.ensures.items) outgoing
-            (c.new-4.ensures ∙ c.in_ok-vec-3.ensures.items ∙ two _ _ _ _ c.route.ensures c.route-2.ensures),
+            (c.new-4.ensures ∙ c.in_ok-vec-3.ensures.items ∙ two _ _ _ _ c.route.ensures c.route-2.ensures)
+            c.requires,
         outgoing,
       );
       links = All-cons (IsLinkOut 0) (1, c.link-back.result) ((2, c.link-on.result) ∷ [])
