@@ -248,13 +248,16 @@ def rebooting(sources):
 
 
 def spending(sources):
-    """Rows at a router that use one grant up in each of some boots: before a restart, and at it or behind it."""
+    """Rows at a router that use one grant up in each of some boots: before a restart, and at some of those from it on, or
+    behind them."""
     rng, network = sources.rng, sources.network
     name = rng.choice(network.restart)["router"]
     restarts = [it["at_ns"] for it in network.restart if it["router"] == name]
-    restarts = sorted(rng.sample(restarts, min(len(restarts), rng.choice([1, 2, 2, 4]))))
-    begin = max(0, restarts[0] - rng.choice([1, 1, 1_000, 10**6, 10**8]))
-    times = [begin] + [at + rng.choice([0, 0, 0, 1, 10]) for at in restarts]
+    first = rng.randrange(len(restarts))
+    chosen = restarts[first : first + 4]
+    begin = max(0, chosen[0] - rng.choice([1, 1, 1_000, 10**6, 10**8]))
+    shown = sorted(rng.sample(chosen, rng.randrange(len(chosen)) + 1))
+    times = [begin] + [at + rng.choice([0, 0, 0, 1, 10]) for at in shown]
     second = (begin + sources.routers[name].get("clock_offset_ns", 0)) // SECOND
     flow, rights, nonce = sources.a_flow(), (1, rng.choice([2, 4, 10, 63])), sources.a_grant()[1]
     found = []
