@@ -1,5 +1,5 @@
 -- Maps of last times, and one more time.
-use Rattle.std.proofs.Common.{◌≡◌, ◌==◌, ◌||◌, ◌&&◌, nat_eq, nat_le, ℕ, Bool, true, false, cond, List, [], ◌∷◌, ◌++◌, Some, ap, sym, ◌∙◌, eqb-true}
+use Rattle.std.proofs.Common.{◌≡◌, ◌==◌, ◌||◌, ◌&&◌, nat_eq, ℕ, true, false, cond, List, [], ◌∷◌, ◌++◌, Some, ap, sym, ◌∙◌, eqb-true}
 use Rattle.std.specs.List.{list_any}
 use Rattle.std.specs.HashMap.{get}
 use Rattle.std.proofs.lemmas.Bool.{and_parts}

@@ -10,7 +10,6 @@ use Rattle.tva_base.specs.declared.plan.LinkPlan.{LinkPlan}
 use Rattle.tva_config.specs.declared.joined.JoinedLists.{JoinedLists}
 use Rattle.tva_config.specs.declared.joined.OwnedLists.{OwnedLists}
 use Rattle.tva_config.specs.Read.{Owned, Joined}
-use Rattle.tva_base.specs.declared.addresses.Prefix.{Prefix}
 use Rattle.tva_config.specs.declared.joined.OwnedRoute.{OwnedRoute}
 use Rattle.tva_config.specs.declared.joined.OwnedRestart.{OwnedRestart}
 use Rattle.tva_config.specs.declared.joined.OwnedReroute.{OwnedReroute}
@@ -81,9 +80,7 @@ IsRestarted map restarts = (router time : ℕ) → is_late (restarted_at map rou
 abbrev pub Rerouted : Type 0
 Rerouted = HashMap (ℕ × ℕ × ℕ) ℕ (BuildHasherDefault FoldHasher)
 
-abbrev pub rerouted_at : Rerouted → ℕ → Prefix → Option ℕ
-rerouted_at map router prefix = get same_route map (router, prefix.address.0, prefix.bits)
-
+-- by it, there is a change for a router and a prefix at no smaller time exactly where there is one
 abbrev pub IsRerouted : Rerouted → List OwnedReroute → Type 0
 IsRerouted map reroutes = (router address bits time : ℕ) → is_late (get same_route map (router, address, bits)) time
     ≡ list_any (is_late_reroute router (record { address = record { 0 = address }; bits = bits }) time) reroutes
