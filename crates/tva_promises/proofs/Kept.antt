@@ -81,8 +81,8 @@ module _ (site : Site) (inputs : List Input) (until : ℕ) (log : List Entry) (v
       let g = is_sound.grants plan e boot in
       let of : List Entry → List Charge = λ es. charges_of_boot plan boot (charges es) in
       let split : of log ≡ of before ++ of rest =
-          ap of d ∙ (ap (charges_of_boot plan boot) (filter_map-append charge_of before rest)
-          ∙ filter-append (λ (c : Charge). boot_at plan c.time == boot) (charges before) (charges rest)) in
+      ap of d ∙ (ap (charges_of_boot plan boot) (filter_map-append charge_of before rest)
+      ∙ filter-append (λ (c : Charge). boot_at plan c.time == boot) (charges before) (charges rest)) in
       grants_kept plan (of log) (of before) (of rest) split g.0 g.1
 
   links_at : (link : ℕ) (l : LinkLimits) → limits_out site link ≡ Some (link, l) → KeepsService l until (port_logs log link)
