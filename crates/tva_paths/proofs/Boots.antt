@@ -1,8 +1,8 @@
 -- What is in force in a boot of a router, and where what came in a boot stands among all that came.
-use Rattle.std.proofs.Common.{◌≡◌, ◌≤◌, ◌<◌, ℕ, Bool, true, false, cond, List, [], ◌∷◌, ◌++◌, length, map, is_some, Option, Some, None, refl, ap, sym, subst, ◌∙◌, inl, inr, arith}
+use Rattle.std.proofs.Common.{◌≡◌, ◌≤◌, ℕ, Bool, true, false, cond, List, [], ◌∷◌, ◌++◌, length, map, is_some, Option, Some, None, refl, ap, sym, ◌∙◌, inl, inr, arith}
 use Rattle.std.specs.Prelude.{◌==◌, filter, IsSomeAnd}
 use Rattle.std.specs.Option.{option_map, option_and_then}
-use Rattle.std.specs.List.{AllByRecursion, filter_map, cons_option}
+use Rattle.std.specs.List.{filter_map, cons_option}
 use Rattle.std.proofs.lemmas.Bool.{cases_lt, le-leb, leb-true, eqb-true}
 use Rattle.std.proofs.lemmas.List.Sums.{length-filter}
 use Rattle.std.proofs.lemmas.Option.{cond_some}
@@ -14,12 +14,11 @@ use Rattle.tva_base.specs.declared.plan.RouterPlan.{RouterPlan}
 use Rattle.tva_base.specs.Changes.{last_of, has_come, boot_at, master_at, in_force}
 use Rattle.tva_flow.specs.Charges.{Charge, same_flow, of_flow}
 use Rattle.tva_joins.proofs.Joins.{filter_swap, each-passes}
-use Rattle.tva_shim.specs.Packets.{PacketData}
 use Rattle.tva_router.specs.Boots.{charges_of_boot}
 use Rattle.tva_log.specs.Entries.{Entry}
 use Rattle.tva_log.specs.Parts.{charged, charges}
 use Rattle.tva_paths.specs.Deals.{Deal, Prepared, Coming, comings}
-use Rattle.tva_paths.specs.Paths.{shows, come_as, comings_at, since_granted, WasCharged, IsSteadyPath, LieInBoot}
+use Rattle.tva_paths.specs.Paths.{come_as, comings_at, since_granted, WasCharged, IsSteadyPath, LieInBoot}
 use Rattle.tva_paths.proofs.Lists.{place}
 use Rattle.tva_paths.proofs.Walks.{at_place}
 use Rattle.tva_paths.proofs.Asks.{come_is}

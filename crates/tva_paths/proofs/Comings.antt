@@ -36,7 +36,7 @@ use Rattle.tva_promises.specs.Fates.{NoRowRefusesShown, NoRowRefusesNonce, NoRow
 use Rattle.tva_promises.specs.Promises.{KeepsPromises}
 use Rattle.tva_paths.specs.Deals.{Coming, coming, came_at, comings}
 use Rattle.tva_paths.specs.Paths.{shows, those_charged}
-use Rattle.tva_paths.proofs.Lists.{place}
+use Rattle.tva_paths.proofs.Lists.{some_same, place}
 
 -- ## what was charged
 
@@ -292,3 +292,18 @@ charged_here x xs ys false e = e
 pub charged_is : (seen : List Coming) → those_charged seen ≡ paid seen
 charged_is [] = refl
 charged_is (x ∷ xs) = charged_here x (those_charged xs) (paid xs) (is_some x.charge) (charged_is xs)
+
+-- a charge of what came
+pub charge_parts : (x : Coming) (o : Option Grant) (c : Charge) → x.charge ≡ o → option_map (charged x.time x.packet) o ≡ Some c
+    → (g : Grant) × (x.charge ≡ Some g) × (charged x.time x.packet g ≡ c)
+charge_parts x None c e k = absurd (cc)
+charge_parts x (Some g) c e k = (g, e, some_same (charged x.time x.packet g) c k)
+
+paying_by : (x : Coming) (xs : List Coming) (o : Option Grant) → x.charge ≡ o → AllByRecursion (λ y. is_some (paid_of y) ≡ true) xs
+    → AllByRecursion (λ y. is_some (paid_of y) ≡ true) (cons_option (cond (is_some o) (Some x) None) xs)
+paying_by x xs None e a = a
+paying_by x xs (Some g) e a = (ap (λ (o : Option Grant). is_some (option_map (charged x.time x.packet) o)) e, a)
+
+pub paying_all : (seen : List Coming) → AllByRecursion (λ y. is_some (paid_of y) ≡ true) (paid seen)
+paying_all [] = tt
+paying_all (x ∷ xs) = paying_by x (paid xs) x.charge refl (paying_all xs)

@@ -18,6 +18,7 @@ use Rattle.tva_sender.specs.Contacts as contact
 use Rattle.tva_sender.specs.Contacts.{Contact, takes}
 use Rattle.tva_sender.specs.Shapes.{length_of}
 use Rattle.tva_sender.specs.Book.{of_peer}
+use Rattle.tva_sender.specs.Played.{AreNext}
 use Rattle.tva_sender.proofs.Standing.{of_peer-push}
 use Rattle.tva_host.specs.declared.made.Receipt.{Receipt}
 use Rattle.tva_host.specs.History.{History}
@@ -217,3 +218,15 @@ receipt_deal number plan h peer now p =
           (replied now (reply_of number plan met now src answer)))
       | false ↦ nothing_more (of_peer peer h.contacts) (eqb peer.0 src.0) [] refl
     ]
+
+-- ## what is played begins with what is played
+
+pub played_front : (margin retry version : ℕ) (before cs : List Contact) (c : Contact) (ds : List Contact)
+    → AreNext margin retry version before (cs ++ c ∷ ds) → AreNext margin retry version before (cs ++ c ∷ [])
+played_front margin retry version before [] c ds k = (k.0, tt)
+played_front margin retry version before (x ∷ cs) c ds k = (k.0, played_front margin retry version (before ++ x ∷ []) cs c ds k.1)
+
+pub map_place : (before : List Deal) (d : Deal) (after : List Deal)
+    → map contact_of (before ++ d ∷ after) ≡ map contact_of before ++ contact_of d ∷ map contact_of after
+map_place [] d after = refl
+map_place (x ∷ xs) d after = ap (λ (cs : List Contact). contact_of x ∷ cs) (map_place xs d after)

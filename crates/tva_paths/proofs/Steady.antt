@@ -1,8 +1,8 @@
 -- In each run what comes on a steady path and shows a grant is charged and goes on as regular.
-use Rattle.std.proofs.Common.{◌≡◌, ◌≤◌, ◌<◌, ◌⊎◌, inl, inr, ℕ, true, false, cond, List, [], ◌∷◌, ◌++◌, map, is_some, Option, Some, None, refl, ap, ap₂, sym, subst, ◌∙◌, arith, append_assoc}
+use Rattle.std.proofs.Common.{◌≡◌, ◌≤◌, ◌<◌, ◌⊎◌, inl, inr, ℕ, true, false, List, [], ◌∷◌, ◌++◌, map, is_some, Option, Some, None, refl, ap, ap₂, sym, subst, ◌∙◌, arith, append_assoc}
 use Rattle.std.specs.Prelude.{IsSomeAnd, ◌==◌}
 use Rattle.std.specs.Option.{option_map, IfSome}
-use Rattle.std.specs.List.{AllByRecursion, filter_map, cons_option}
+use Rattle.std.specs.List.{AllByRecursion, filter_map}
 use Rattle.std.proofs.lemmas.Bool.{eqb-true}
 use Rattle.std.proofs.lemmas.List.Elements.{filter_map-append}
 use Rattle.tva_base.specs.declared.packet.Fate.{Fate}
@@ -23,7 +23,7 @@ use Rattle.tva_flow.specs.Charges.{Charge, same_flow, of_flow, last_charge, hold
 use Rattle.tva_flow.proofs.Same.{flow_is}
 use Rattle.tva_sender.specs.Contacts as contact
 use Rattle.tva_sender.specs.Contacts.{Contact, Taking, last_taking, asked_at, time}
-use Rattle.tva_sender.specs.Played.{AreNext, IsPlayed}
+use Rattle.tva_sender.specs.Played.{IsPlayed}
 use Rattle.tva_router.specs.Boots.{charges_of_boot, charges_at}
 use Rattle.tva_router.specs.Handling.{arrival}
 use Rattle.tva_router.specs.Marks.{is_marked}
@@ -61,13 +61,13 @@ use Rattle.tva_paths.proofs.Given.{AreGiven}
 use Rattle.tva_paths.proofs.Lists.{some_same, Rises, rises_from, rises_rest, rises_front, rises_last, each_front, one_place}
 use Rattle.tva_paths.proofs.Walks.{at_place}
 use Rattle.tva_paths.proofs.Origins.{origin_at}
-use Rattle.tva_paths.proofs.Dealt.{shape_in, counted, contact_of}
+use Rattle.tva_paths.proofs.Dealt.{shape_in, counted, contact_of, played_front, map_place}
 use Rattle.tva_paths.proofs.Hosts.{ordinal_of, made_at, entry_key, deal_key, takes, IsMadeIn, IsTrue, Told, told}
 use Rattle.tva_paths.proofs.Returns.{received_returns}
 use Rattle.tva_paths.proofs.Counts.{few_inputs}
 use Rattle.tva_paths.proofs.Matching.{In, come_key, keys, AreIn, Matches, in_place, in_append, in_behind, matched}
 use Rattle.tva_paths.proofs.Asks.{Asked, last_time, asked_place, come_id, ask_is, coming_is, last_rights_are}
-use Rattle.tva_paths.proofs.Comings.{paid_of, paid, claim, claim_at, flow_charges, CameAt, came_place, paid_only, paid_place, charged_is}
+use Rattle.tva_paths.proofs.Comings.{paid_of, paid, charge_parts, paying_all, claim, claim_at, flow_charges, CameAt, came_place, paid_only, paid_place, charged_is}
 use Rattle.tva_paths.proofs.Boots.{one_master, passing_place, boot_charges}
 use Rattle.tva_paths.proofs.Miles.{Run, miles_of, authorised_since}
 use Rattle.tva_paths.proofs.Regular.{ShowsGrant, steady_regular}
@@ -95,18 +95,6 @@ never_fall from (Started at link class packet ∷ es) a o = never_fall from es a
 from_zero : (es : List Entry) → AllByRecursion (λ e. 0 ≤ entry_time e) es
 from_zero [] = tt
 from_zero (e ∷ es) = (omega arith, from_zero es)
-
--- ## what is played begins with what is played
-
-played_front : (margin retry version : ℕ) (before cs : List Contact) (c : Contact) (ds : List Contact)
-    → AreNext margin retry version before (cs ++ c ∷ ds) → AreNext margin retry version before (cs ++ c ∷ [])
-played_front margin retry version before [] c ds k = (k.0, tt)
-played_front margin retry version before (x ∷ cs) c ds k = (k.0, played_front margin retry version (before ++ x ∷ []) cs c ds k.1)
-
-map_place : (before : List Deal) (d : Deal) (after : List Deal)
-    → map contact_of (before ++ d ∷ after) ≡ map contact_of before ++ contact_of d ∷ map contact_of after
-map_place [] d after = refl
-map_place (x ∷ xs) d after = ap (λ (cs : List Contact). contact_of x ∷ cs) (map_place xs d after)
 
 -- ## places
 
@@ -149,21 +137,6 @@ prepared_before earlier t q after x (y ∷ ys) same r a b =
 rises_behind : (before ds : List Deal) → Rises (keys (before ++ ds)) → Rises (keys ds)
 rises_behind [] ds r = r
 rises_behind (b ∷ bs) ds r = rises_behind bs ds (rises_rest (deal_key b) (keys (bs ++ ds)) r)
-
--- a charge of what came
-charge_parts : (x : Coming) (o : Option Grant) (c : Charge) → x.charge ≡ o → option_map (charged x.time x.packet) o ≡ Some c
-    → (g : Grant) × (x.charge ≡ Some g) × (charged x.time x.packet g ≡ c)
-charge_parts x None c e k = absurd (cc)
-charge_parts x (Some g) c e k = (g, e, some_same (charged x.time x.packet g) c k)
-
-paying_by : (x : Coming) (xs : List Coming) (o : Option Grant) → x.charge ≡ o → AllByRecursion (λ y. is_some (paid_of y) ≡ true) xs
-    → AllByRecursion (λ y. is_some (paid_of y) ≡ true) (cons_option (cond (is_some o) (Some x) None) xs)
-paying_by x xs None e a = a
-paying_by x xs (Some g) e a = (ap (λ (o : Option Grant). is_some (option_map (charged x.time x.packet) o)) e, a)
-
-paying_all : (seen : List Coming) → AllByRecursion (λ y. is_some (paid_of y) ≡ true) (paid seen)
-paying_all [] = tt
-paying_all (x ∷ xs) = paying_by x (paid xs) x.charge refl (paying_all xs)
 
 -- ## in a run
 

@@ -142,7 +142,8 @@ pub record ComesSteadily (host : HostPlan) (router : RouterPlan) (delay : ℕ) (
     : Type 0 where
   pub in_time : ComesInTime host delay own x
   pub behind : IfSome (grant_came seen [] in_time.before) (λ came. came ≤ x.time)
-  pub minted : IfSome (grant_came seen [] in_time.before) (λ came. ShowsMinted (in_force router x.time) x.packet x.packet.carried came)
+  pub minted : IfSome (grant_came seen [] in_time.before)
+      (λ came. ShowsMinted (in_force router x.time) x.packet x.packet.carried came)
 
 -- those that came in the boot of the router that a time is in
 abbrev pub comings_at : RouterPlan → ℕ → List Coming → List Coming
@@ -159,11 +160,12 @@ WasCharged seen (Prepared time packet) =
 WasCharged seen (Granted rights caps) = Unit {0}
 WasCharged seen Noticed = Unit {0}
 
--- The path is steady up to a packet that shows a grant. It and all packets of its flow that were charged in the router's
--- boot come steadily, in the order in which the host numbered them. Of each grant that was taken before it was prepared the
--- last ask came in time. All packets that were prepared before it under its grant and show it were charged in this boot. And
--- where the flow doesn't live by the boot's charges, the cache has room. So a restart ends the path of the grants that were
--- shown before it, and a grant whose ask came behind it begins a steady path again.
+-- The path is steady up to a packet that shows a grant. It comes steadily, and so did all packets of its flow that
+-- were charged in its boot, in the order in which the host numbered them. Of each grant that was taken before it was
+-- prepared the last ask came in time, in whatever boot. All packets that were prepared before it under its grant and
+-- show it were charged in its boot. And where the flow doesn't live, by the charges of the boot, the cache has room. So
+-- a restart ends the path of each grant that was shown before it, and a grant that is asked for behind it may begin
+-- another path.
 pub record IsSteadyPath (host : HostPlan) (router : RouterPlan) (delay : ℕ) (own : List Deal) (seen : List Coming)
     (charged : List Charge) (x : Coming) : Type 0 where
   pub each : AllByRecursion (ComesSteadily host router delay own seen) (those_charged (comings_at router x.time seen))
@@ -175,7 +177,7 @@ pub record IsSteadyPath (host : HostPlan) (router : RouterPlan) (delay : ℕ) (o
   pub paid : AllByRecursion (WasCharged (comings_at router x.time seen)) (since_granted [] last.in_time.before)
   pub room : lives charged x.packet.flow x.time ≡ false → living_count charged x.time < router.slots
 
--- all packets that show a grant and were prepared before it under its grant came in its boot and were charged there
+-- of these deals each packet that shows a grant came in the boot that the time is in, and was charged there
 abbrev pub LieInBoot : RouterPlan → List Coming → ℕ → List Deal → Type 0
 LieInBoot router seen now own = (before : List Deal) (sent : ℕ) (packet : PacketData) (after : List Deal)
     → own ≡ before ++ Prepared sent packet ∷ after → shows packet.carried ≡ true
