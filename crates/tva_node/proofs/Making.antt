@@ -37,7 +37,7 @@ use Rattle.tva_node.proofs.Sorting.{falls_from, order_of, rising_falls, ties_fro
 -- ## changes of routes by time
 
 -- some change at a time
-abbrev some_move : ℕ → Time × Prefix × ℕ
+abbrev pub some_move : ℕ → Time × Prefix × ℕ
 some_move t = (record { 0 = t }, record { address = record { 0 = 0 }; bits = 0 }, 0)
 
 pub by_time : (file moves : List (Time × Prefix × ℕ)) → ((prefix : Prefix) → AreRising (map move_time (of_prefix prefix file)))
