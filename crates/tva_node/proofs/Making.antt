@@ -52,9 +52,9 @@ by_time file moves rise permuted sorted stable =
           (in_order-filter move_time move_time own moves (order_of move_time moves falls))
           (order_of move_time (of_prefix prefix file) (rising_falls move_time (of_prefix prefix file) (rise prefix)))
           (λ t.
-              filter_swap (λ c. move_time c == t) own moves
-              ∙ (ap (filter own) (ties_from move_time some_move (λ k. refl) file moves stable t)
-              ∙ sym (filter_swap (λ c. move_time c == t) own file)));
+          filter_swap (λ c. move_time c == t) own moves
+          ∙ (ap (filter own) (ties_from move_time some_move (λ k. refl) file moves stable t)
+          ∙ sym (filter_swap (λ c. move_time c == t) own file)));
       there = All-permutation (Contains file) file moves permuted (λ k d l. Contains-get_or file k d l);
     }
 
@@ -90,7 +90,6 @@ come_are {X = X} time now count xs f m n =
 same_routes : (f g : Route → Route) → ((r : Route) → f r ≡ g r) → (routes : List Route) → map f routes ≡ map g routes
 same_routes f g e [] = refl
 same_routes f g e (r ∷ rs) = ap₂ ◌∷◌ (e r) (same_routes f g e rs)
-
 
 -- where all that have come are made, they are in force
 pub up_to : (now : ℕ) (r : Routed) → IsRoutedBy now r → IsNextLater restart_time r.router.built.restarts r.changes.boot now → IsNextLater move_time r.changes.moves.items r.changes.moved now → IsUpTo now r
