@@ -38,11 +38,7 @@ impl Changes {
 
     /// Passes the restarts that have come by a time, in nanoseconds, and gives the master of the last of
     /// them.
-    pub fn restarted_by(
-        &mut self,
-        restarts: &[(Time, [u8; 32])],
-        now: Time,
-    ) -> Option<[u8; 32]>
+    pub fn restarted_by(&mut self, restarts: &[(Time, [u8; 32])], now: Time) -> Option<[u8; 32]>
         requires { self.old.boot ≤ length restarts.now }
         ensures passed { IsRestarted restarts.now now.0 self.old.boot self.new.boot result }
         ensures ahead { IsNextLater restart_time restarts.now self.new.boot now.0 }

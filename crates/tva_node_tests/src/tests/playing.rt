@@ -87,7 +87,12 @@ fn play_host<R: Abort>(rt: &R, alloc: Global, at: &HostAt, case: &Case) -> Resul
 }
 
 /// Plays a case at a node that has nothing to do yet, where only a host sends.
-pub fn play_node<R: Abort>(rt: &R, node: &mut Node, sends: bool, case: &Case) -> Result<(), AllocError>
+pub fn play_node<R: Abort>(
+    rt: &R,
+    node: &mut Node,
+    sends: bool,
+    case: &Case,
+) -> Result<(), AllocError>
     requires ready { IsReady node.old }
     requires host { sends ≡ true → IsHost node.old.site.plan }
     requires stands { Stands node.old }

@@ -1,9 +1,13 @@
-use Rattle.std.proofs.Common.{Some, sym, subst, ◌∙◌, ap}
+use Rattle.std.proofs.Common.{ℕ, List, Some, sym, subst, ◌∙◌, ap}
 use Rattle.tva_base.specs.declared.limits.LinkLimits.{LinkLimits}
 use Rattle.tva_base.specs.declared.plan.HostPlan.{HostPlan}
+use Rattle.tva_base.specs.declared.addresses.Prefix.{Prefix}
+use Rattle.tva_base.specs.declared.packet.Time.{Time}
 use Rattle.tva_plan.specs.declared.config.NodePlan.{NodePlan}
 use Rattle.tva_port.specs.Stands.{PortData}
 use Rattle.tva_log.specs.Sites.{IsPlanned}
+use Rattle.tva_node.specs.Changes.{AreByTime}
+use Rattle.tva_node.proofs.Making.{routed_first}
 use Rattle.tva_node.proofs.Posts.{first_out, first_valid}
 use Rattle.tva_node.proofs.node.role_of.Goals as goal
 
@@ -24,3 +28,12 @@ returns-in_ok-build-in-Host-2-clause-stands c =
       limits = first_out c.args.number c.args.plan.now c.args.links.now uplink _ planned.1 ∙ ap (λ (l : LinkLimits). Some (uplink, l)) (sym limits);
       port = c.in_ok-build-in-Host-2.ensures.stands;
     }
+
+pub returns-in_ok-of-in-Router-clause-last : goal.returns-in_ok-of-in-Router-clause-last
+returns-in_ok-of-in-Router-clause-last c =
+    let planned = subst (λ (p : NodePlan). IsPlanned p c.args.links.now) c.in-Router.is c.requires.planned in
+    let moves = c.in_ok-of-in-Router.field-0 in
+    let built = c.in_ok-build-in-Router.ensures in
+    let of = c.in_ok-of-in-Router.ensures in
+    let by = subst (λ (xs : List (Time × Prefix × ℕ)). AreByTime xs moves.moves.items) c.as_slice.ensures of.moves in
+    routed_first c.in_ok-build-in-Router.field-0 c.in-Router.router moves planned.0 built.built built.plan built.last of.first.0 of.first.1 by
