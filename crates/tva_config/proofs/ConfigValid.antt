@@ -16,66 +16,63 @@ use Rattle.tva_config_entries.specs.declared.faults.ConfigRule.TheVariants as ru
 use Rattle.tva_config_entries.specs.declared.entries.RouterEntry.{RouterEntry}
 use Rattle.tva_config_entries.specs.declared.entries.HostEntry.{HostEntry}
 use Rattle.tva_config_entries.specs.declared.entries.LinkEntry.{LinkEntry}
-use Rattle.tva_config_entries.specs.declared.entries.RouteEntry.{RouteEntry}
 use Rattle.tva_config.specs.declared.joined.OwnedRoute.{OwnedRoute}
 use Rattle.tva_config_entries.specs.Faults.{at, fault_at}
 use Rattle.tva_config.specs.Nodes.{node_names, node_of, all_slots, slots_of}
-use Rattle.tva_config.specs.Links.{link_between, links_of, uplinks_of, rings_of}
+use Rattle.tva_config.specs.Links.{links_of, uplinks_of, rings_of}
 use Rattle.tva_plan.specs.Wiring.{all_places}
-use Rattle.tva_config.specs.Routes.{routes_of}
 use Rattle.tva_plan.specs.Names.{name_at, is_host_plan}
 use Rattle.tva_plan.specs.Counts.{routes_in, slots_in}
-use Rattle.tva_config.specs.Read.{if_owned, routes_at, router_plan, host_plan, router_plans, host_plans, config_of}
-use Rattle.tva_config_entries.proofs.Ranges.{IsRouterEntry, IsHostEntry, IsLinkEntry, IsRouteEntry}
+use Rattle.tva_config.specs.Read.{Owned, if_owned, routes_at, router_plan, host_plan, router_plans, host_plans, config_of}
+use Rattle.tva_config_entries.proofs.Ranges.{IsRouterEntry, IsHostEntry, IsLinkEntry}
 use Rattle.tva_plan.specs.Valid.{IsName, IsNodePlan, IsLinkPlan, AreWired, AreRoutersFirst, addresses_at, IsConfig}
 use Rattle.tva_config_entries.proofs.Turns.{all_cons, unless_gave}
 use Rattle.tva_config.proofs.StepsLinks.{AreLinks, links_keep, AreUplinks, uplinks_keep}
-use Rattle.tva_config.proofs.StepsRoutes.{AreRoutes, routes_keep}
-use Rattle.tva_config.proofs.PlanValid.{router_valid, host_valid}
+use Rattle.tva_config.proofs.PlanValid.{AreOwned, router_valid, host_valid}
 
 -- ---- the routers' part
 
-routers_valid : (count : ℕ) (links : List LinkPlan) (routes : List OwnedRoute) (k : ℕ) (rs : List RouterEntry)
-    → All IsRouterEntry rs → All (IsLinkPlan count) links → AreRoutes links routes → All IsNodePlan (router_plans links routes k rs)
-routers_valid count links routes k [] entries known owned = All-nil IsNodePlan
-routers_valid count links routes k (r ∷ rs) entries known owned =
-    all_cons IsNodePlan (node.Router (router_plan links routes k r)) (router_plans links routes (k + 1) rs)
-    (router_valid count links routes k r (entries 0 r (omega arith)) known owned)
-    (routers_valid count links routes (k + 1) rs (λ j d within. entries (suc j) d (omega arith)) known owned)
+routers_valid : (count : ℕ) (links : List LinkPlan) (owned : Owned) (k : ℕ) (rs : List RouterEntry)
+    → All IsRouterEntry rs → All (IsLinkPlan count) links → AreOwned links owned → All IsNodePlan (router_plans links owned k rs)
+routers_valid count links owned k [] entries known all = All-nil IsNodePlan
+routers_valid count links owned k (r ∷ rs) entries known all =
+    all_cons IsNodePlan (node.Router (router_plan links owned k r)) (router_plans links owned (k + 1) rs)
+    (router_valid count links owned k r (entries 0 r (omega arith)) known all)
+    (routers_valid count links owned (k + 1) rs (λ j d within. entries (suc j) d (omega arith)) known all)
 
-routers_long : (links : List LinkPlan) (routes : List OwnedRoute) (k : ℕ) (rs : List RouterEntry) → length (router_plans links routes k rs) ≡ length rs
-routers_long links routes k [] = refl
-routers_long links routes k (r ∷ rs) = let more = routers_long links routes (k + 1) rs in omega (arith, more)
+routers_long : (links : List LinkPlan) (owned : Owned) (k : ℕ) (rs : List RouterEntry) → length (router_plans links owned k rs) ≡ length rs
+routers_long links owned k [] = refl
+routers_long links owned k (r ∷ rs) = let more = routers_long links owned (k + 1) rs in omega (arith, more)
 
-routers_named : (links : List LinkPlan) (routes : List OwnedRoute) (k : ℕ) (rs : List RouterEntry) → map name_at (router_plans links routes k rs) ≡ map (λ r. r.name) rs
+routers_named : (links : List LinkPlan) (owned : Owned) (k : ℕ) (rs : List RouterEntry) → map name_at (router_plans links owned k rs) ≡ map (λ r. r.name) rs
 unfolding router_plan
-routers_named links routes k [] = refl
-routers_named links routes k (r ∷ rs) = ap (λ names. r.name ∷ names) (routers_named links routes (k + 1) rs)
+routers_named links owned k [] = refl
+routers_named links owned k (r ∷ rs) = ap (λ names. r.name ∷ names) (routers_named links owned (k + 1) rs)
 
-routers_addressed : (links : List LinkPlan) (routes : List OwnedRoute) (k : ℕ) (rs : List RouterEntry) (more : List nodes.NodePlan) → addresses_at (router_plans links routes k rs ++ more) ≡ addresses_at more
-routers_addressed links routes k [] more = refl
-routers_addressed links routes k (r ∷ rs) more = routers_addressed links routes (k + 1) rs more
+routers_addressed : (links : List LinkPlan) (owned : Owned) (k : ℕ) (rs : List RouterEntry) (more : List nodes.NodePlan) → addresses_at (router_plans links owned k rs ++ more) ≡ addresses_at more
+routers_addressed links owned k [] more = refl
+routers_addressed links owned k (r ∷ rs) more = routers_addressed links owned (k + 1) rs more
 
-routers_wired : (links : List LinkPlan) (routes : List OwnedRoute) (k : ℕ) (rs : List RouterEntry) (more : List nodes.NodePlan)
-    → AreWired links (k + length rs) more → AreWired links k (router_plans links routes k rs ++ more)
+routers_wired : (links : List LinkPlan) (owned : Owned) (k : ℕ) (rs : List RouterEntry) (more : List nodes.NodePlan)
+    → AreWired links (k + length rs) more → AreWired links k (router_plans links owned k rs ++ more)
 unfolding router_plan
-routers_wired links routes k [] more wired = let same : k + 0 ≡ k = omega arith in rw same at wired
-routers_wired links routes k (r ∷ rs) more wired =
+routers_wired links owned k [] more wired = let same : k + 0 ≡ k = omega arith in rw same at wired
+routers_wired links owned k (r ∷ rs) more wired =
     let same : k + length (r ∷ rs) ≡ (k + 1) + length rs = omega arith in
-    ((refl, refl), routers_wired links routes (k + 1) rs more (rw same at wired))
+    ((refl, refl), routers_wired links owned (k + 1) rs more (rw same at wired))
 
-routers_slots : (links : List LinkPlan) (routes : List OwnedRoute) (k : ℕ) (rs : List RouterEntry) → sum_by slots_in (router_plans links routes k rs) ≡ all_slots rs
+routers_slots : (links : List LinkPlan) (owned : Owned) (k : ℕ) (rs : List RouterEntry) → sum_by slots_in (router_plans links owned k rs) ≡ all_slots rs
 unfolding router_plan
-routers_slots links routes k [] = refl
-routers_slots links routes k (r ∷ rs) =
-    sum_by-cons slots_in (node.Router (router_plan links routes k r)) (router_plans links routes (k + 1) rs)
-    ∙ ap (λ n. r.slots + n) (routers_slots links routes (k + 1) rs)
+routers_slots links owned k [] = refl
+routers_slots links owned k (r ∷ rs) =
+    sum_by-cons slots_in (node.Router (router_plan links owned k r)) (router_plans links owned (k + 1) rs)
+    ∙ ap (λ n. r.slots + n) (routers_slots links owned (k + 1) rs)
     ∙ sym (sum_by-cons (λ (x : RouterEntry). x.slots) r rs)
 
-routers_before : (links : List LinkPlan) (routes : List OwnedRoute) (k : ℕ) (rs : List RouterEntry) (more : List nodes.NodePlan)
-    → AreRoutersFirst more → AreRoutersFirst (router_plans links routes k rs ++ more)
-routers_before links routes k [] more last = last
-routers_before links routes k (r ∷ rs) more last = routers_before links routes (k + 1) rs more last
+routers_before : (links : List LinkPlan) (owned : Owned) (k : ℕ) (rs : List RouterEntry) (more : List nodes.NodePlan)
+    → AreRoutersFirst more → AreRoutersFirst (router_plans links owned k rs ++ more)
+routers_before links owned k [] more last = last
+routers_before links owned k (r ∷ rs) more last = routers_before links owned (k + 1) rs more last
 
 -- ---- the routes of the routers are among all routes
 
@@ -106,14 +103,14 @@ below_step : (k : ℕ) (os : List OwnedRoute) → length (filter_map (if_owned k
 below_step k [] = refl
 below_step k (o ∷ os) = step_at k o (filter_map (if_owned k) os) (below k os) (below (k + 1) os) (o.router == k) (nat_lt o.router k) (nat_lt o.router (k + 1)) refl refl refl (below_step k os)
 
-routers_routes : (links : List LinkPlan) (routes : List OwnedRoute) (k : ℕ) (rs : List RouterEntry) → sum_by routes_in (router_plans links routes k rs) + below k routes ≤ length routes
+routers_routes : (links : List LinkPlan) (owned : Owned) (k : ℕ) (rs : List RouterEntry) → sum_by routes_in (router_plans links owned k rs) + below k owned.routes ≤ length owned.routes
 unfolding router_plan routes_at
-routers_routes links routes k [] = let most = below_most k routes in omega (arith, most)
-routers_routes links routes k (r ∷ rs) =
-    let split : sum_by routes_in (router_plans links routes k (r ∷ rs)) ≡ length (filter_map (if_owned k) routes) + sum_by routes_in (router_plans links routes (k + 1) rs) =
-    sum_by-cons routes_in (node.Router (router_plan links routes k r)) (router_plans links routes (k + 1) rs) in
-    let step = below_step k routes in
-    let more = routers_routes links routes (k + 1) rs in
+routers_routes links owned k [] = let most = below_most k owned.routes in omega (arith, most)
+routers_routes links owned k (r ∷ rs) =
+    let split : sum_by routes_in (router_plans links owned k (r ∷ rs)) ≡ length (filter_map (if_owned k) owned.routes) + sum_by routes_in (router_plans links owned (k + 1) rs) =
+    sum_by-cons routes_in (node.Router (router_plan links owned k r)) (router_plans links owned (k + 1) rs) in
+    let step = below_step k owned.routes in
+    let more = routers_routes links owned (k + 1) rs in
     omega (arith, split, step, more)
 
 -- ---- the hosts' part
@@ -180,44 +177,42 @@ unfolding rings_of
 few_places links gave = ltb-false 1000000 (all_places links) (unless_gave _ (fault_at (at table.Link 0) rule.Rings _) tt gave)
 
 -- what is known of a configuration's parts when all steps have been passed
-pub record Passed (horizon max_events : ℕ) (rs : List RouterEntry) (hs : List HostEntry) (les : List LinkEntry) (res : List RouteEntry) (links : List LinkPlan) (us : List ℕ) (routes : List OwnedRoute) : Type 0 where
+pub record Passed (horizon max_events : ℕ) (rs : List RouterEntry) (hs : List HostEntry) (les : List LinkEntry) (links : List LinkPlan) (us : List ℕ) (owned : Owned) : Type 0 where
   pub horizon_most : horizon ≤ 1000000000000000
   pub events_most : (1 ≤ max_events) × (max_events ≤ 4000000)
   pub nodes : length rs + length hs ≤ 1024
   pub few_links : length links ≤ 4096
-  pub few_routes : length routes ≤ 65536
+  pub few_routes : length owned.routes ≤ 65536
   pub routers : All IsRouterEntry rs
   pub hosts : All IsHostEntry hs
   pub link_entries : All IsLinkEntry les
-  pub route_entries : All IsRouteEntry res
   pub names : AreDistinct (node_names rs hs)
   pub addresses : AreDistinct (map (λ h. h.address) hs)
   pub late : All (λ h. 1000000000 + h.margin ≤ h.retry) hs
   pub linked : links_of (node_of (node_names rs hs)) les ≡ Ok links
   pub uplinks : uplinks_of (length rs) links hs ≡ Ok us
   pub as_many : length us ≡ length hs
-  pub routed : routes_of (length rs) (node_of (node_names rs hs)) (link_between links) res ≡ Ok routes
+  pub owns : AreOwned links owned
   pub slots : slots_of rs ≡ Ok tt
   pub rings : rings_of links ≡ Ok tt
 
-pub config_valid : (horizon max_events : ℕ) (rs : List RouterEntry) (hs : List HostEntry) (les : List LinkEntry) (res : List RouteEntry) (links : List LinkPlan) (us : List ℕ) (routes : List OwnedRoute)
-    → Passed horizon max_events rs hs les res links us routes → IsConfig (config_of horizon max_events rs hs links us routes)
+pub config_valid : (horizon max_events : ℕ) (rs : List RouterEntry) (hs : List HostEntry) (les : List LinkEntry) (links : List LinkPlan) (us : List ℕ) (owned : Owned)
+    → Passed horizon max_events rs hs les links us owned → IsConfig (config_of horizon max_events rs hs links us owned)
 unfolding config_of
-config_valid horizon max_events rs hs les res links us routes passed =
+config_valid horizon max_events rs hs les links us owned passed =
     let name_count : length (node_names rs hs) ≡ length rs + length hs =
     length-append (map (λ (r : RouterEntry). r.name) rs) (map (λ (h : HostEntry). h.name) hs) ∙ rw (length-map rs (λ (r : RouterEntry). r.name), length-map hs (λ (h : HostEntry). h.name)) refl in
     let kept : AreLinks (length (node_names rs hs)) links = links_keep (node_names rs hs) les links passed.link_entries passed.linked in
-    let owned : AreRoutes links routes = routes_keep (length rs) (node_of (node_names rs hs)) links res routes passed.route_entries passed.routed in
-    let made = router_plans links routes 0 rs in
+    let made = router_plans links owned 0 rs in
     let hosted = host_plans hs us in
-    let made_count = routers_long links routes 0 rs in
+    let made_count = routers_long links owned 0 rs in
     let hosted_count = hosts_long hs us passed.as_many in
     let both : length (made ++ hosted) ≡ length made + length hosted = length-append made hosted in
     let long : length (made ++ hosted) ≡ length (node_names rs hs) = omega (arith, name_count, made_count, hosted_count, both) in
-    let slots : sum_by slots_in (made ++ hosted) ≡ all_slots rs + 0 = sum_by-append slots_in made hosted ∙ rw (routers_slots links routes 0 rs, hosts_slots hs us) refl in
+    let slots : sum_by slots_in (made ++ hosted) ≡ all_slots rs + 0 = sum_by-append slots_in made hosted ∙ rw (routers_slots links owned 0 rs, hosts_slots hs us) refl in
     let most_slots = few_slots rs passed.slots in
     let sum_routes : sum_by routes_in (made ++ hosted) ≡ sum_by routes_in made + 0 = sum_by-append routes_in made hosted ∙ ap (λ n. sum_by routes_in made + n) (hosts_routes hs us) in
-    let most_routes = routers_routes links routes 0 rs in
+    let most_routes = routers_routes links owned 0 rs in
     let uplinks = uplinks_keep (length rs) links hs us passed.uplinks in
     let same_start : length rs ≡ 0 + length rs = omega arith in
     let uplinked : AreUplinks links (0 + length rs) us = subst (λ n. AreUplinks links n us) same_start uplinks in
@@ -229,14 +224,14 @@ config_valid horizon max_events rs hs les res links us routes passed =
       few_routes = let most = passed.few_routes in omega (arith, sum_routes, most_routes, most);
       few_slots = omega (arith, slots, most_slots);
       few_places = few_places links passed.rings;
-      nodes = All-append IsNodePlan made hosted (routers_valid (length (node_names rs hs)) links routes 0 rs passed.routers kept.each owned) (hosts_valid hs us passed.hosts passed.late);
-      routers_first = routers_before links routes 0 rs hosted (hosts_last hs us);
+      nodes = All-append IsNodePlan made hosted (routers_valid (length (node_names rs hs)) links owned 0 rs passed.routers kept.each passed.owns) (hosts_valid hs us passed.hosts passed.late);
+      routers_first = routers_before links owned 0 rs hosted (hosts_last hs us);
       links = rw long kept.each;
-      names = rw (map-append name_at made hosted, routers_named links routes 0 rs, hosts_named hs us passed.as_many) passed.names;
-      named = rw (map-append name_at made hosted, routers_named links routes 0 rs, hosts_named hs us passed.as_many) (All-append IsName (map (λ r. r.name) rs) (map (λ h. h.name) hs)
+      names = rw (map-append name_at made hosted, routers_named links owned 0 rs, hosts_named hs us passed.as_many) passed.names;
+      named = rw (map-append name_at made hosted, routers_named links owned 0 rs, hosts_named hs us passed.as_many) (All-append IsName (map (λ r. r.name) rs) (map (λ h. h.name) hs)
           (All-map IsName (λ (r : RouterEntry). r.name) rs (λ j d within. (passed.routers j d within).name))
           (All-map IsName (λ (h : HostEntry). h.name) hs (λ j d within. (passed.hosts j d within).name)));
-      addresses = rw (routers_addressed links routes 0 rs hosted, hosts_addressed hs us passed.as_many) passed.addresses;
+      addresses = rw (routers_addressed links owned 0 rs hosted, hosts_addressed hs us passed.as_many) passed.addresses;
       pairs = kept.pairs;
-      wired = routers_wired links routes 0 rs hosted (hosts_wired links (0 + length rs) hs us uplinked);
+      wired = routers_wired links owned 0 rs hosted (hosts_wired links (0 + length rs) hs us uplinked);
     }

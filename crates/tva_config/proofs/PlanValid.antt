@@ -1,21 +1,28 @@
 -- Plans that were made of valid entries, links and routes are valid.
-use Rattle.std.proofs.Common.{◌≡◌, ◌≤◌, ◌==◌, ℕ, ◌+◌, zero, suc, Bool, true, false, cond, List, [], ◌∷◌, map, Option, Some, None, All, Contains, refl, ap, sym, subst, arith}
-use Rattle.std.specs.List.{cons_option, filter_map}
-use Rattle.std.proofs.lemmas.Bool.{eqb-true}
+use Rattle.std.proofs.Common.{◌≡◌, ◌≤◌, ◌==◌, ℕ, ◌+◌, ◌&&◌, ◌||◌, zero, suc, Bool, true, false, cond, List, [], ◌∷◌, map, filter, Option, Some, None, All, Contains, refl, ap, sym, ◌∙◌, subst, arith}
+use Rattle.std.specs.List.{cons_option, filter_map, list_any}
+use Rattle.std.proofs.lemmas.Bool.{and_parts, eqb-true}
 use Rattle.std.proofs.lemmas.List.Elements.{All-nil}
 use Rattle.tva_base.specs.declared.addresses.Prefix.{Prefix}
 use Rattle.tva_base.specs.declared.limits.LinkLimits.{LinkLimits}
+use Rattle.tva_base.specs.declared.packet.Time.{Time}
 use Rattle.tva_base.specs.declared.plan.LinkPlan.{LinkPlan}
 use Rattle.tva_base.specs.declared.plan.Route.{Route}
-use Rattle.tva_base.specs.Plan.{AreLinkLimits, AreDistinct, IsPrefix, IsRouterPlan, IsHostPlan, links_of}
+use Rattle.tva_base.specs.Plan.{AreLinkLimits, AreDistinct, AreRising, IsPrefix, IsRouterPlan, IsHostPlan, links_of}
+use Rattle.tva_base.specs.Changes.{of_prefix}
 use Rattle.tva_config_entries.specs.declared.entries.RouterEntry.{RouterEntry}
 use Rattle.tva_config_entries.specs.declared.entries.HostEntry.{HostEntry}
 use Rattle.tva_config.specs.declared.joined.OwnedRoute.{OwnedRoute}
+use Rattle.tva_config.specs.declared.joined.OwnedRestart.{OwnedRestart}
+use Rattle.tva_config.specs.declared.joined.OwnedReroute.{OwnedReroute}
 use Rattle.tva_plan.specs.Wiring.{picked, tagged_to, incoming_of, limited_from, outgoing_of}
-use Rattle.tva_config.specs.Read.{if_owned, routes_at, router_plan, host_plan}
+use Rattle.tva_config.specs.Read.{Owned, if_owned, routes_at, if_restart, restarts_at, if_reroute, reroutes_at, router_plan, host_plan}
+use Rattle.tva_config.specs.Routes.{is_for}
+use Rattle.tva_config.specs.Changes.{is_restart_of, is_reroute_of}
 use Rattle.tva_config_entries.proofs.Ranges.{IsRouterEntry, IsHostEntry}
 use Rattle.tva_plan.specs.Valid.{IsLinkPlan}
 use Rattle.tva_config_entries.proofs.Turns.{all_cons}
+use Rattle.tva_config.proofs.StepsChanges.{AreRestarts, IsMoved, AreReroutes}
 use Rattle.tva_config.proofs.StepsRoutes.{contains_cons, IsOwned, key_of, AreRoutes}
 
 -- a choice that keeps the number of what it takes
@@ -120,21 +127,128 @@ routes_apart : (n : ℕ) (routes : List OwnedRoute) → AreDistinct (map key_of 
 unfolding routes_at
 routes_apart n routes distinct = apart_from n routes distinct
 
+-- what holds of all that a choice may take, all that it takes have
+chosen_at : {B : Type 0} (P : B → Type 0) (o : Option B) (rest : List B) → ((y : B) → o ≡ Some y → P y) → All P rest → All P (cons_option o rest)
+chosen_at P None rest here more = more
+chosen_at P (Some y) rest here more = all_cons P y rest (here y refl) more
+
+chosen_all : {A B : Type 0} (P : B → Type 0) (Q : A → Type 0) (f : A → Option B) → ((x : A) (y : B) → Q x → f x ≡ Some y → P y) → (xs : List A) → All Q xs → All P (filter_map f xs)
+chosen_all P Q f from [] known = All-nil P
+chosen_all P Q f from (x ∷ xs) known =
+    chosen_at P (f x) (filter_map f xs) (λ y is. from x y (known 0 x (omega arith)) is) (chosen_all P Q f from xs (λ j d within. known (suc j) d (omega arith)))
+
+-- the times of what a choice takes, which are those of what passes a test
+boots_at : (r : OwnedRestart) (b : Bool) (rest : List OwnedRestart) (more : List (Time × List ℕ)) → map (λ c. c.0.0) more ≡ map (λ x. x.time.0) rest
+    → map (λ c. c.0.0) (cons_option (cond b (Some (r.time, r.master)) None) more) ≡ map (λ x. x.time.0) (cond b (r ∷ rest) rest)
+boots_at r true rest more same = ap (λ l. r.time.0 ∷ l) same
+boots_at r false rest more same = same
+
+boots_from : (n : ℕ) (rs : List OwnedRestart) → map (λ c. c.0.0) (filter_map (if_restart n) rs) ≡ map (λ x. x.time.0) (filter (is_restart_of n) rs)
+boots_from n [] = refl
+boots_from n (r ∷ rs) = boots_at r (r.router == n) (filter (is_restart_of n) rs) (filter_map (if_restart n) rs) (boots_from n rs)
+
+restarts_rise : (n : ℕ) (rs : List OwnedRestart) → AreRestarts rs → AreRising (map (λ c. c.0.0) (restarts_at n rs))
+unfolding restarts_at
+restarts_rise n rs rising = subst AreRising (sym (boots_from n rs)) (rising n)
+
+turns_at : (r : OwnedReroute) (p : Prefix) (own address bits : Bool) (rest : List OwnedReroute) (more : List (Time × Prefix × ℕ))
+    → (r.owned.route.prefix.address.0 == p.address.0) ≡ address → (r.owned.route.prefix.bits == p.bits) ≡ bits
+    → map (λ c. c.0.0) (of_prefix p more) ≡ map (λ x. x.time.0) rest
+    → map (λ c. c.0.0) (of_prefix p (cons_option (cond own (Some (r.time, r.owned.route.prefix, r.owned.route.link)) None) more))
+    ≡ map (λ x. x.time.0) (cond (own && address && bits) (r ∷ rest) rest)
+turns_at r p false address bits rest more a b same = same
+turns_at r p true true true rest more a b same = rw (a, b) (ap (λ l. r.time.0 ∷ l) same)
+turns_at r p true true false rest more a b same = rw (a, b) same
+turns_at r p true false true rest more a b same = rw (a, b) same
+turns_at r p true false false rest more a b same = rw (a, b) same
+
+turns_from : (n : ℕ) (p : Prefix) (rs : List OwnedReroute) → map (λ c. c.0.0) (of_prefix p (filter_map (if_reroute n) rs)) ≡ map (λ x. x.time.0) (filter (is_reroute_of n p) rs)
+turns_from n p [] = refl
+turns_from n p (r ∷ rs) =
+    turns_at r p (r.owned.router == n) (r.owned.route.prefix.address.0 == p.address.0) (r.owned.route.prefix.bits == p.bits)
+    (filter (is_reroute_of n p) rs) (filter_map (if_reroute n) rs) refl refl (turns_from n p rs)
+
+reroutes_rise : (links : List LinkPlan) (routes : List OwnedRoute) (n : ℕ) (p : Prefix) (rs : List OwnedReroute) → AreReroutes links routes rs
+    → AreRising (map (λ c. c.0.0) (of_prefix p (reroutes_at n rs)))
+unfolding reroutes_at
+reroutes_rise links routes n p rs known = subst AreRising (sym (turns_from n p rs)) (known.rising n p)
+
+-- a route that is there has its prefix among those of its router
+same_fields : (a b : Prefix) → a.address.0 ≡ b.address.0 → a.bits ≡ b.bits → a ≡ b
+same_fields a b address bits = ap (λ (n : ℕ). record { address = record { 0 = n }; bits = a.bits }) address ∙ ap (λ (n : ℕ). record { address = b.address; bits = n }) bits
+
+routed_first : (n : ℕ) (p : Prefix) (o : OwnedRoute) (rest : List Route) (b : Bool) → b ≡ true → o.route.prefix ≡ p
+    → Contains (map (λ r. r.prefix) (cons_option (cond b (Some o.route) None) rest)) p
+routed_first n p o rest false is same = absurd (cc)
+routed_first n p o rest true is same = (0, omega arith, same)
+
+routed_later : (p : Prefix) (o : OwnedRoute) (rest : List Route) (b : Bool) → Contains (map (λ r. r.prefix) rest) p
+    → Contains (map (λ r. r.prefix) (cons_option (cond b (Some o.route) None) rest)) p
+routed_later p o rest false there = there
+routed_later p o rest true there = contains_cons p o.route.prefix (map (λ r. r.prefix) rest) there
+
+routed_at : (n : ℕ) (p : Prefix) (o : OwnedRoute) (rest : List Route) (b more : Bool) → is_for n p o ≡ b → (b || more) ≡ true
+    → (more ≡ true → Contains (map (λ r. r.prefix) rest) p) → Contains (map (λ r. r.prefix) (cons_option (if_owned n o) rest)) p
+routed_at n p o rest true more is any from =
+    let (two, right) = and_parts ((o.router == n) && (o.route.prefix.address.0 == p.address.0)) (o.route.prefix.bits == p.bits) is in
+    let (one, left) = and_parts (o.router == n) (o.route.prefix.address.0 == p.address.0) two in
+    routed_first n p o rest (o.router == n) one (same_fields o.route.prefix p (eqb-true o.route.prefix.address.0 p.address.0 left) (eqb-true o.route.prefix.bits p.bits right))
+routed_at n p o rest false more is any from = routed_later p o rest (o.router == n) (from any)
+
+routed_from : (n : ℕ) (p : Prefix) (os : List OwnedRoute) → list_any (is_for n p) os ≡ true → Contains (map (λ r. r.prefix) (filter_map (if_owned n) os)) p
+routed_from n p [] any = absurd (cc)
+routed_from n p (o ∷ os) any = routed_at n p o (filter_map (if_owned n) os) (is_for n p o) (list_any (is_for n p) os) refl any (routed_from n p os)
+
+prefix_is_there : (n : ℕ) (p : Prefix) (os : List OwnedRoute) → list_any (is_for n p) os ≡ true → Contains (map (λ r. r.prefix) (routes_at n os)) p
+unfolding routes_at
+prefix_is_there n p os any = routed_from n p os any
+
+moved_at : (links : List LinkPlan) (routes : List OwnedRoute) (n : ℕ) (r : OwnedReroute) (y : Time × Prefix × ℕ) (b : Bool) → (r.owned.router == n) ≡ b → IsMoved links routes r
+    → cond b (Some (r.time, r.owned.route.prefix, r.owned.route.link)) None ≡ Some y
+    → Contains (map (λ x. x.prefix) (routes_at n routes)) y.1 × Contains (links_of (outgoing_of n links)) y.2
+moved_at links routes n r y false is known gave = absurd (cc)
+moved_at links routes n r y true is known gave =
+    let same : (r.time, r.owned.route.prefix, r.owned.route.link) ≡ y = cc in
+    let own : r.owned.router ≡ n = eqb-true r.owned.router n is in
+    subst (λ (z : Time × Prefix × ℕ). Contains (map (λ x. x.prefix) (routes_at n routes)) z.1 × Contains (links_of (outgoing_of n links)) z.2) same (
+      prefix_is_there n r.owned.route.prefix routes (subst (λ m. list_any (is_for m r.owned.route.prefix) routes ≡ true) own known.routed),
+      subst (λ m. Contains (links_of (outgoing_of m links)) r.owned.route.link) own known.link,
+    )
+
+moved_all : (links : List LinkPlan) (routes : List OwnedRoute) (n : ℕ) (rs : List OwnedReroute) → AreReroutes links routes rs
+    → All (λ c. Contains (map (λ x. x.prefix) (routes_at n routes)) c.1 × Contains (links_of (outgoing_of n links)) c.2) (reroutes_at n rs)
+unfolding reroutes_at
+moved_all links routes n rs known =
+    chosen_all (λ c. Contains (map (λ x. x.prefix) (routes_at n routes)) c.1 × Contains (links_of (outgoing_of n links)) c.2) (IsMoved links routes) (if_reroute n)
+    (λ r y here gave. moved_at links routes n r y (r.owned.router == n) refl here gave) rs known.each
+
+-- what routers own, by what each of its lists keeps
+pub record AreOwned (links : List LinkPlan) (owned : Owned) : Type 0 where
+  pub routes : AreRoutes links owned.routes
+  pub restarts : AreRestarts owned.restarts
+  pub reroutes : AreReroutes links owned.routes owned.reroutes
+
 -- the plan of a router is valid
-pub router_valid : (count : ℕ) (links : List LinkPlan) (routes : List OwnedRoute) (n : ℕ) (r : RouterEntry)
-    → IsRouterEntry r → All (IsLinkPlan count) links → AreRoutes links routes → IsRouterPlan (router_plan links routes n r)
+pub router_valid : (count : ℕ) (links : List LinkPlan) (all : Owned) (n : ℕ) (r : RouterEntry)
+    → IsRouterEntry r → All (IsLinkPlan count) links → AreOwned links all → IsRouterPlan (router_plan links all n r)
 unfolding router_plan
-router_valid count links routes n r entry known owned = record {
-  clock_offset = entry.clock_offset;
-  slots = entry.slots;
-  incoming = incoming_distinct n links;
-  outgoing = outgoing_distinct n links;
-  limits = outgoing_limits n count links known;
-  links = routes_at_all (λ x. Contains (links_of (outgoing_of n links)) x.link) (IsOwned links) n
-      (λ o same is. subst (λ m. Contains (links_of (outgoing_of m links)) o.route.link) same is.link) routes owned.each;
-  prefixes = routes_at_all (λ x. IsPrefix x.prefix) (IsOwned links) n (λ o same is. is.prefix) routes owned.each;
-  apart = routes_apart n routes owned.apart;
-}
+router_valid count links all n r entry known owned =
+    let moved = moved_all links all.routes n all.reroutes owned.reroutes in
+    record {
+      clock_offset = entry.clock_offset;
+      slots = entry.slots;
+      incoming = incoming_distinct n links;
+      outgoing = outgoing_distinct n links;
+      limits = outgoing_limits n count links known;
+      links = routes_at_all (λ x. Contains (links_of (outgoing_of n links)) x.link) (IsOwned links) n
+          (λ o same is. subst (λ m. Contains (links_of (outgoing_of m links)) o.route.link) same is.link) all.routes owned.routes.each;
+      prefixes = routes_at_all (λ x. IsPrefix x.prefix) (IsOwned links) n (λ o same is. is.prefix) all.routes owned.routes.each;
+      apart = routes_apart n all.routes owned.routes.apart;
+      boots = restarts_rise n all.restarts owned.restarts;
+      moved = λ k d within. (moved k d within).0;
+      ways = λ k d within. (moved k d within).1;
+      turns = λ p. reroutes_rise links all.routes n p all.reroutes owned.reroutes;
+    }
 
 -- the plan of a host is valid
 pub host_valid : (h : HostEntry) (uplink : ℕ) → IsHostEntry h → 1000000000 + h.margin ≤ h.retry → IsHostPlan (host_plan h uplink)

@@ -1,6 +1,9 @@
 -- What is read of a text is valid.
-use Rattle.std.proofs.Common.{◌≡◌, ℕ, List, [], length, Result, Ok, Err, IfOk, subst, arith}
+use Rattle.std.proofs.Common.{◌≡◌, ℕ, List, [], length, Option, Result, Ok, Err, IfOk, All, subst, arith}
+use Rattle.tva_base.specs.declared.plan.LinkPlan.{LinkPlan}
 use Rattle.tva_base.specs.Plan.{AreDistinct}
+use Rattle.tva_config_entries.specs.declared.entries.RouteEntry.{RouteEntry}
+use Rattle.tva_config.specs.declared.joined.OwnedRoute.{OwnedRoute}
 use Rattle.tva_plan.specs.declared.config.Config.{Config}
 use Rattle.tva_config_entries.specs.declared.faults.ConfigError.{ConfigError}
 use Rattle.tva_config_entries.specs.Faults.{Answers}
@@ -9,19 +12,47 @@ use Rattle.tva_config_entries.specs.Reading.{entries_read}
 use Rattle.tva_config.specs.Nodes.{node_names, node_of, names_of, addresses_of, retries_of, slots_of}
 use Rattle.tva_config.specs.Links.{link_between, link_step, links_of, uplink_step, uplinks_of, rings_of}
 use Rattle.tva_config.specs.Routes.{route_step, routes_of}
-use Rattle.tva_config.specs.Read.{config_of, Joined, joined_of, linked_of, plan_of, read_of}
-use Rattle.tva_config_entries.proofs.Ranges.{AreEntries}
+use Rattle.tva_config.specs.Changes.{restarts_of, reroutes_of}
+use Rattle.tva_config.specs.Read.{config_of, Owned, owned_of, Joined, joined_of, linked_of, plan_of, read_of}
+use Rattle.tva_config_entries.proofs.Ranges.{AreEntries, IsRouteEntry}
 use Rattle.tva_config_entries.proofs.ReadingValid.{read_entries_valid}
 use Rattle.tva_plan.specs.Valid.{IsConfig}
 use Rattle.tva_config.proofs.ConfigValid.{Passed, config_valid}
+use Rattle.tva_config.proofs.PlanValid.{AreOwned}
+use Rattle.tva_config.proofs.StepsRoutes.{routes_keep}
+use Rattle.tva_config.proofs.StepsChanges.{restarts_keep, reroutes_keep}
 use Rattle.tva_config.proofs.StepsKeep.{names_are, names_distinct, addresses_are, addresses_distinct, retries_late}
 use Rattle.tva_config_entries.proofs.Turns.{first_gave, when_gave, gave_one, in_turn_long}
 
 abbrev Joins : Entries → Joined → Type 0
-Joins e j = Passed e.horizon e.max_events e.routers e.hosts e.links e.routes j.links j.uplinks j.routes
+Joins e j = Passed e.horizon e.max_events e.routers e.hosts e.links j.links j.uplinks j.owned
+
+-- each entry gives one route
+routes_long : (routers : ℕ) (node : List ℕ → Option ℕ) (links : List LinkPlan) (entries : List RouteEntry) (routes : List OwnedRoute)
+    → routes_of routers node (link_between links) entries ≡ Ok routes → length routes ≡ length entries
+unfolding routes_of
+routes_long routers node links entries routes gave =
+    let long = in_turn_long (route_step routers node (link_between links)) [] entries routes gave in
+    omega (arith, long)
+
+-- what the steps over routes, restarts and changes of routes give
+owned_keep : (routers : ℕ) (node : List ℕ → Option ℕ) (links : List LinkPlan) (e : Entries) (owned : Owned) → All IsRouteEntry e.routes
+    → owned_of routers node (link_between links) e ≡ Ok owned → AreOwned links owned × (length owned.routes ≡ length e.routes)
+unfolding owned_of
+owned_keep routers node links e owned known gave =
+    let (routes, k1, g1) = first_gave (routes_of routers node (link_between links) e.routes) _ owned gave in
+    let (restarts, k2, g2) = first_gave (restarts_of routers node e.restarts) _ owned g1 in
+    let (reroutes, k3, g3) = first_gave (reroutes_of routers node (link_between links) routes e.reroutes) _ owned g2 in
+    let all : Owned = record { routes = routes; restarts = restarts; reroutes = reroutes } in
+    let kept : AreOwned links all = record {
+      routes = routes_keep routers node links e.routes routes known k1;
+      restarts = restarts_keep routers node e.restarts restarts k2;
+      reroutes = reroutes_keep routers node links routes e.reroutes reroutes k3;
+    } in
+    subst (λ o. AreOwned links o × (length o.routes ≡ length e.routes)) (gave_one all owned g3) (kept, routes_long routers node links e.routes routes k1)
 
 joined_passed : (e : Entries) (j : Joined) → AreEntries e → joined_of e ≡ Ok j → Joins e j
-unfolding joined_of linked_of addresses_of links_of uplinks_of routes_of
+unfolding joined_of linked_of addresses_of links_of uplinks_of
 joined_passed e j known gave =
     let rs = e.routers in
     let hs = e.hosts in
@@ -30,18 +61,18 @@ joined_passed e j known gave =
     when_gave (Joins e) (retries_of hs) _ j g2 (λ retries k3 g3.
     when_gave (Joins e) (links_of (node_of names) e.links) _ j g3 (λ links k4 g4.
     when_gave (Joins e) (uplinks_of (length rs) links hs) _ j g4 (λ us k5 g5.
-    when_gave (Joins e) (routes_of (length rs) (node_of names) (link_between links) e.routes) _ j g5 (λ routes k6 g6.
+    when_gave (Joins e) (owned_of (length rs) (node_of names) (link_between links) e) _ j g5 (λ owned k6 g6.
     when_gave (Joins e) (slots_of rs) _ j g6 (λ a k7 g7.
     when_gave (Joins e) (rings_of links) _ j g7 (λ b k8 g8.
     let named : names ≡ node_names rs hs = names_are rs hs names k1 in
-    let all : Joined = record { links = links; uplinks = us; routes = routes } in
+    let all : Joined = record { links = links; uplinks = us; owned = owned } in
     let made : all ≡ j = gave_one all j g8 in
     let u_long = in_turn_long (uplink_step (length rs) links) [] hs us k5 in
     let l_long = in_turn_long (link_step (node_of names)) [] e.links links k4 in
-    let r_long = in_turn_long (route_step (length rs) (node_of names) (link_between links)) [] e.routes routes k6 in
+    let (kept, r_long) = owned_keep (length rs) (node_of names) links e owned known.routes k6 in
     let few_links = known.few_links in
     let few_routes = known.few_routes in
-    let passed : Passed e.horizon e.max_events rs hs e.links e.routes links us routes = record {
+    let passed : Passed e.horizon e.max_events rs hs e.links links us owned = record {
       horizon_most = known.horizon;
       events_most = known.events;
       nodes = known.nodes;
@@ -50,14 +81,13 @@ joined_passed e j known gave =
       routers = known.routers;
       hosts = known.hosts;
       link_entries = known.links;
-      route_entries = known.routes;
       names = subst (λ ns. AreDistinct ns) named (names_distinct rs hs names k1);
       addresses = subst (λ xs. AreDistinct xs) (addresses_are hs addresses k2) (addresses_distinct hs addresses k2);
       late = retries_late hs retries k3;
       linked = subst (λ ns. links_of (node_of ns) e.links ≡ Ok links) named k4;
       uplinks = k5;
       as_many = omega (arith, u_long);
-      routed = subst (λ ns. routes_of (length rs) (node_of ns) (link_between links) e.routes ≡ Ok routes) named k6;
+      owns = kept;
       slots = k7;
       rings = k8;
     } in
@@ -67,9 +97,9 @@ plan_valid : (e : Entries) (c : Config) → AreEntries e → plan_of e ≡ Ok c 
 unfolding plan_of
 plan_valid e c known gave =
     let (j, joined, last) = first_gave (joined_of e) _ c gave in
-    let plan = config_of e.horizon e.max_events e.routers e.hosts j.links j.uplinks j.routes in
+    let plan = config_of e.horizon e.max_events e.routers e.hosts j.links j.uplinks j.owned in
     subst IsConfig (gave_one plan c last)
-    (config_valid e.horizon e.max_events e.routers e.hosts e.links e.routes j.links j.uplinks j.routes (joined_passed e j known joined))
+    (config_valid e.horizon e.max_events e.routers e.hosts e.links j.links j.uplinks j.owned (joined_passed e j known joined))
 
 -- what a text is read as is valid
 pub read_valid : (text : List ℕ) (c : Config) → read_of text ≡ Ok c → IsConfig c

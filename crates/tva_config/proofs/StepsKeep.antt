@@ -15,7 +15,7 @@ use Rattle.tva_config_entries.specs.Faults.{at, fault_at, unless}
 use Rattle.tva_config.specs.Nodes.{node_names, node_place, name_step, names_of, address_step, addresses_of, retry_step, retries_of}
 use Rattle.tva_config_entries.proofs.Turns.{first_gave, unless_gave, in_turn_keeps, in_turn_maps, in_turn_shows, distinct_push}
 
-or_false : (a b : Bool) → (a || b) ≡ false → (a ≡ false) × (b ≡ false)
+pub or_false : (a b : Bool) → (a || b) ≡ false → (a ≡ false) × (b ≡ false)
 or_false true b is = absurd (cc)
 or_false false b is = (refl, is)
 

@@ -1,5 +1,5 @@
 -- What the steps over routes show of the routes that they accept.
-use Rattle.std.proofs.Common.{◌≡◌, ◌==◌, ℕ, ◌+◌, suc, Bool, true, false, ◌&&◌, cond, List, [], ◌∷◌, ◌++◌, length, map, Ok, Option, Some, None, option_and_then, All, Contains, refl, ◌∙◌, subst, arith}
+use Rattle.std.proofs.Common.{◌≡◌, ◌==◌, ℕ, ◌+◌, suc, Bool, true, false, ◌&&◌, cond, List, [], ◌∷◌, ◌++◌, length, map, Ok, Option, Some, None, option_and_then, All, Contains, refl, sym, ◌∙◌, subst, arith}
 use Rattle.std.specs.List.{list_any, position_from, cons_option}
 use Rattle.std.proofs.lemmas.Bool.{eq-eqb, and_parts}
 use Rattle.std.proofs.lemmas.List.{map-append}
@@ -10,6 +10,7 @@ use Rattle.tva_base.specs.declared.plan.LinkPlan.{LinkPlan}
 use Rattle.tva_base.specs.Plan.{AreDistinct, IsPrefix, links_of}
 use Rattle.tva_config_entries.specs.declared.faults.ConfigTable.TheVariants as table
 use Rattle.tva_config_entries.specs.declared.faults.ConfigRule.TheVariants as rule
+use Rattle.tva_config_entries.specs.declared.place.Place.{Place}
 use Rattle.tva_config_entries.specs.declared.entries.RouteEntry.{RouteEntry}
 use Rattle.tva_config.specs.declared.joined.OwnedRoute.{OwnedRoute}
 use Rattle.tva_config_entries.specs.Faults.{at, fault_at, unless, found}
@@ -76,6 +77,18 @@ is_key_itself router p =
     let c : (p.bits == p.bits) ≡ true = eq-eqb p.bits p.bits refl in
     rw (a, b, c)
 
+-- a route with its numbers is for the prefix of its entry, by a link of its router
+pub resolved_shows : (place : Place) (routers : ℕ) (node : List ℕ → Option ℕ) (links : List LinkPlan) (x : RouteEntry) (owned : OwnedRoute)
+    → resolved place routers node (link_between links) x ≡ Ok owned → (owned.route.prefix ≡ x.prefix) × Contains (links_of (outgoing_of owned.router links)) owned.route.link
+resolved_shows place routers node links x owned made =
+    let (router, named, made1) = first_gave (found (router_named routers node x.router) (fault_at place rule.Owner _)) _ owned made in
+    let (out, linked, made2) = first_gave (found (link_to node (link_between links) router x.via) (fault_at place rule.Via _)) _ owned made1 in
+    let plan : OwnedRoute = record { router = router; route = record { prefix = x.prefix; link = out } } in
+    let is : plan ≡ owned = cc in
+    let (to, between) = then_gave (link_between links router) (node x.via) out (found_gave _ _ out linked) in
+    subst (λ (o : OwnedRoute). (o.route.prefix ≡ x.prefix) × Contains (links_of (outgoing_of o.router links)) o.route.link) is
+    (refl, out_is_there router to links out between)
+
 route_more : (routers : ℕ) (node : List ℕ → Option ℕ) (links : List LinkPlan) (done : List OwnedRoute) (x : RouteEntry) (y : OwnedRoute)
     → IsRouteEntry x → AreRoutes links done → route_step routers node (link_between links) done x ≡ Ok y → AreRoutes links (done ++ y ∷ [])
 route_more routers node links done x y entry routes made =
@@ -83,13 +96,8 @@ route_more routers node links done x y entry routes made =
     let (u, apart, made2) = first_gave (unless (list_any (is_for owned.router owned.route.prefix) done) (fault_at (at table.Route (length done)) rule.Prefix _)) _ y made1 in
     let same : owned ≡ y = cc in
     let new : list_any (is_for owned.router owned.route.prefix) done ≡ false = unless_gave _ _ u apart in
-    let (router, named, made3) = first_gave (found (router_named routers node x.router) (fault_at (at table.Route (length done)) rule.Owner _)) _ owned is_resolved in
-    let (out, linked, made4) = first_gave (found (link_to node (link_between links) router x.via) (fault_at (at table.Route (length done)) rule.Via _)) _ owned made3 in
-    let plan : OwnedRoute = record { router = router; route = record { prefix = x.prefix; link = out } } in
-    let is : plan ≡ owned = cc in
-    let (to, between) = then_gave (link_between links router) (node x.via) out (found_gave _ _ out linked) in
-    let planned : IsOwned links plan = record { prefix = entry; link = out_is_there router to links out between } in
-    let valid : IsOwned links owned = subst (IsOwned links) is planned in
+    let (prefixed, linked) = resolved_shows (at table.Route (length done)) routers node links x owned is_resolved in
+    let valid : IsOwned links owned = record { prefix = subst IsPrefix (sym prefixed) entry; link = linked } in
     let absent : list_any (is_key owned.router owned.route.prefix) (map key_of done) ≡ false = any_of_map key_of (is_key owned.router owned.route.prefix) done ∙ new in
     let distinct : AreDistinct (map key_of done ++ (owned.router, owned.route.prefix) ∷ []) =
     distinct_push (map key_of done) (owned.router, owned.route.prefix) routes.apart (not_in (is_key owned.router owned.route.prefix) (owned.router, owned.route.prefix) (map key_of done) absent (is_key_itself owned.router owned.route.prefix)) in

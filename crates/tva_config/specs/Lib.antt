@@ -1,3 +1,4 @@
+pub mod Changes
 pub mod Links
 pub mod Nodes
 pub mod Read

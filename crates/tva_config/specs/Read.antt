@@ -2,6 +2,8 @@
 use Rattle.std.specs.Prelude.{ℕ, ◌+◌, ◌==◌, List, [], ◌∷◌, ◌++◌, length, if◌then◌else◌}
 use Rattle.std.specs.Prelude.{Ok, Option, Some, None}
 use Rattle.std.specs.List.{filter_map}
+use Rattle.tva_base.specs.declared.addresses.Prefix.{Prefix}
+use Rattle.tva_base.specs.declared.packet.Time.{Time}
 use Rattle.tva_base.specs.declared.plan.LinkPlan.{LinkPlan}
 use Rattle.tva_base.specs.declared.plan.Route.{Route}
 use Rattle.tva_base.specs.declared.plan.RouterPlan.{RouterPlan}
@@ -12,12 +14,15 @@ use Rattle.tva_plan.specs.declared.config.NodePlan.TheVariants as node
 use Rattle.tva_config_entries.specs.declared.entries.RouterEntry.{RouterEntry}
 use Rattle.tva_config_entries.specs.declared.entries.HostEntry.{HostEntry}
 use Rattle.tva_config.specs.declared.joined.OwnedRoute.{OwnedRoute}
+use Rattle.tva_config.specs.declared.joined.OwnedRestart.{OwnedRestart}
+use Rattle.tva_config.specs.declared.joined.OwnedReroute.{OwnedReroute}
 use Rattle.tva_config_entries.specs.Faults.{Read, ◌>>=◌}
 use Rattle.tva_config_entries.specs.Tables.{Entries}
 use Rattle.tva_config_entries.specs.Reading.{entries_read}
 use Rattle.tva_config.specs.Nodes.{node_of, names_of, addresses_of, retries_of, slots_of}
 use Rattle.tva_config.specs.Links.{link_between, links_of, uplinks_of, rings_of}
 use Rattle.tva_config.specs.Routes.{routes_of}
+use Rattle.tva_config.specs.Changes.{restarts_of, reroutes_of}
 use Rattle.tva_plan.specs.Wiring.{incoming_of, outgoing_of}
 
 -- the routes of a router
@@ -27,9 +32,30 @@ if_owned router owned = if owned.router == router then Some owned.route else Non
 unfoldable pub routes_at : ℕ → List OwnedRoute → List Route
 routes_at router routes = filter_map (if_owned router) routes
 
+-- the restarts of a router
+abbrev pub if_restart : ℕ → OwnedRestart → Option (Time × List ℕ)
+if_restart router r = if r.router == router then Some (r.time, r.master) else None
+
+unfoldable pub restarts_at : ℕ → List OwnedRestart → List (Time × List ℕ)
+restarts_at router restarts = filter_map (if_restart router) restarts
+
+-- the changes of a router's routes
+abbrev pub if_reroute : ℕ → OwnedReroute → Option (Time × Prefix × ℕ)
+if_reroute router r =
+    if r.owned.router == router then Some (r.time, r.owned.route.prefix, r.owned.route.link) else None
+
+unfoldable pub reroutes_at : ℕ → List OwnedReroute → List (Time × Prefix × ℕ)
+reroutes_at router reroutes = filter_map (if_reroute router) reroutes
+
+-- the routes of all routers, their restarts and the changes of their routes
+pub record Owned : Type 0 where
+  pub routes : List OwnedRoute
+  pub restarts : List OwnedRestart
+  pub reroutes : List OwnedReroute
+
 -- the plan of a router of that number
-unfoldable pub router_plan : List LinkPlan → List OwnedRoute → ℕ → RouterEntry → RouterPlan
-router_plan links routes number r = record {
+unfoldable pub router_plan : List LinkPlan → Owned → ℕ → RouterEntry → RouterPlan
+router_plan links owned number r = record {
   name = r.name;
   master = r.master;
   clock_offset = r.clock_offset;
@@ -37,7 +63,9 @@ router_plan links routes number r = record {
   edge_tag = r.edge_tag;
   incoming = incoming_of number links;
   outgoing = outgoing_of number links;
-  routes = routes_at number routes;
+  routes = routes_at number owned.routes;
+  restarts = restarts_at number owned.restarts;
+  reroutes = reroutes_at number owned.reroutes;
 }
 
 -- the plan of a host with that link out
@@ -54,10 +82,10 @@ host_plan h uplink = record {
 }
 
 -- the plans of the routers, from that number on
-abbrev pub router_plans : List LinkPlan → List OwnedRoute → ℕ → List RouterEntry → List nodes.NodePlan
-router_plans links routes number [] = []
-router_plans links routes number (r ∷ rs) =
-    node.Router (router_plan links routes number r) ∷ router_plans links routes (number + 1) rs
+abbrev pub router_plans : List LinkPlan → Owned → ℕ → List RouterEntry → List nodes.NodePlan
+router_plans links owned number [] = []
+router_plans links owned number (r ∷ rs) =
+    node.Router (router_plan links owned number r) ∷ router_plans links owned (number + 1) rs
 
 -- the plans of the hosts, each with its link out
 abbrev pub host_plans : List HostEntry → List ℕ → List nodes.NodePlan
@@ -66,11 +94,11 @@ host_plans (h ∷ hs) [] = []
 host_plans (h ∷ hs) (uplink ∷ uplinks) = node.Host (host_plan h uplink) ∷ host_plans hs uplinks
 
 unfoldable pub config_of : ℕ → ℕ → List RouterEntry → List HostEntry
-    → List LinkPlan → List ℕ → List OwnedRoute → Config
-config_of horizon max_events routers hosts links uplinks routes = record {
+    → List LinkPlan → List ℕ → Owned → Config
+config_of horizon max_events routers hosts links uplinks owned = record {
   horizon = record { 0 = horizon };
   max_events = max_events;
-  nodes = router_plans links routes 0 routers ++ host_plans hosts uplinks;
+  nodes = router_plans links owned 0 routers ++ host_plans hosts uplinks;
   links = links;
 }
 
@@ -78,17 +106,26 @@ config_of horizon max_events routers hosts links uplinks routes = record {
 pub record Joined : Type 0 where
   pub links : List LinkPlan
   pub uplinks : List ℕ
-  pub routes : List OwnedRoute
+  pub owned : Owned
+
+-- the steps over routes, restarts and changes of routes, by the numbers of names and those of links
+-- between nodes
+unfoldable pub owned_of : ℕ → (List ℕ → Option ℕ) → (ℕ → ℕ → Option ℕ) → Entries → Read Owned
+owned_of routers node link e = do
+  routes ← routes_of routers node link e.routes
+  restarts ← restarts_of routers node e.restarts
+  reroutes ← reroutes_of routers node link routes e.reroutes
+  Ok (record { routes = routes; restarts = restarts; reroutes = reroutes })
 
 -- the steps across tables from the links on, by the numbers of names
 unfoldable pub linked_of : (List ℕ → Option ℕ) → Entries → Read Joined
 linked_of node e = do
   links ← links_of node e.links
   uplinks ← uplinks_of (length e.routers) links e.hosts
-  routes ← routes_of (length e.routers) node (link_between links) e.routes
+  owned ← owned_of (length e.routers) node (link_between links) e
   few_slots ← slots_of e.routers
   few_places ← rings_of links
-  Ok (record { links = links; uplinks = uplinks; routes = routes })
+  Ok (record { links = links; uplinks = uplinks; owned = owned })
 
 -- the steps across tables, in their order
 unfoldable pub joined_of : Entries → Read Joined
@@ -102,7 +139,7 @@ joined_of e = do
 unfoldable pub plan_of : Entries → Read Config
 plan_of e = do
   j ← joined_of e
-  Ok (config_of e.horizon e.max_events e.routers e.hosts j.links j.uplinks j.routes)
+  Ok (config_of e.horizon e.max_events e.routers e.hosts j.links j.uplinks j.owned)
 
 -- the plan of a text, or the first fault in the stated order: those of keys and tables come first
 unfoldable pub read_of : List ℕ → Read Config

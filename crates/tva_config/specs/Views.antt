@@ -1,5 +1,5 @@
 -- Kit: what the values of the code stand for, for the clauses within the crate.
-use Rattle.std.specs.Prelude.{◌≡◌, ◌==◌, ◌&&◌, ℕ, Bool, List, Option, String}
+use Rattle.std.specs.Prelude.{◌≡◌, ◌==◌, ◌&&◌, nat_le, nat_eq, ℕ, Bool, false, List, Option, Some, None, String}
 use Rattle.std.specs.HashMap.{HashMap, get, get_by_text}
 use Rattle.std.specs.HashSet.{HashSet, contains}
 use Rattle.std.specs.List.{list_any}
@@ -8,14 +8,21 @@ use Rattle.std.specs.declared.hash.BuildHasherDefault.{BuildHasherDefault}
 use Rattle.std.specs.declared.alloc.Global.{Global}
 use Rattle.tva_base.specs.declared.plan.LinkPlan.{LinkPlan}
 use Rattle.tva_config.specs.declared.joined.JoinedLists.{JoinedLists}
-use Rattle.tva_config.specs.Read.{Joined}
+use Rattle.tva_config.specs.declared.joined.OwnedLists.{OwnedLists}
+use Rattle.tva_config.specs.Read.{Owned, Joined}
 use Rattle.tva_config.specs.declared.joined.OwnedRoute.{OwnedRoute}
+use Rattle.tva_config.specs.declared.joined.OwnedRestart.{OwnedRestart}
+use Rattle.tva_config.specs.declared.joined.OwnedReroute.{OwnedReroute}
 use Rattle.tva_config.specs.Nodes.{node_of}
 use Rattle.tva_config.specs.Links.{link_between}
 use Rattle.tva_config.specs.Routes.{is_for}
+use Rattle.tva_config.specs.Changes.{is_late_restart, is_late_reroute}
+
+abbrev pub seen_owned : OwnedLists → Owned
+seen_owned o = record { routes = o.routes.items; restarts = o.restarts.items; reroutes = o.reroutes.items }
 
 abbrev pub seen_joined : JoinedLists → Joined
-seen_joined j = record { links = j.links.items; uplinks = j.uplinks.items; routes = j.routes.items }
+seen_joined j = record { links = j.links.items; uplinks = j.uplinks.items; owned = seen_owned j.owned }
 
 -- a map from names to numbers of nodes
 abbrev pub Numbers : Type 0
@@ -51,3 +58,29 @@ same_route x y = (x.0 == y.0) && (x.1 == y.1) && (x.2 == y.2)
 abbrev pub IsSeen : Seen → List OwnedRoute → Type 0
 IsSeen seen routes = (router address bits : ℕ) → contains same_route seen (router, address, bits)
     ≡ list_any (is_for router (record { address = record { 0 = address }; bits = bits })) routes
+
+-- a last time that isn't smaller than another
+abbrev pub is_late : Option ℕ → ℕ → Bool
+is_late None time = false
+is_late (Some last) time = nat_le time last
+
+-- a map from routers to the times of their last restarts
+abbrev pub Restarted : Type 0
+Restarted = HashMap ℕ ℕ (BuildHasherDefault FoldHasher)
+
+abbrev pub restarted_at : Restarted → ℕ → Option ℕ
+restarted_at map router = get nat_eq map router
+
+-- by it, there is a restart of a router at no smaller time exactly where there is one
+abbrev pub IsRestarted : Restarted → List OwnedRestart → Type 0
+IsRestarted map restarts = (router time : ℕ) → is_late (restarted_at map router) time
+    ≡ list_any (is_late_restart router time) restarts
+
+-- a map from routers and prefixes to the times of their last changes
+abbrev pub Rerouted : Type 0
+Rerouted = HashMap (ℕ × ℕ × ℕ) ℕ (BuildHasherDefault FoldHasher)
+
+-- by it, there is a change for a router and a prefix at no smaller time exactly where there is one
+abbrev pub IsRerouted : Rerouted → List OwnedReroute → Type 0
+IsRerouted map reroutes = (router address bits time : ℕ) → is_late (get same_route map (router, address, bits)) time
+    ≡ list_any (is_late_reroute router (record { address = record { 0 = address }; bits = bits }) time) reroutes

@@ -3,6 +3,7 @@
 //! keys of the entries is read below; here they are compared with one another and joined into the plan.
 #![tactic(auto)]
 
+mod changes;
 mod joined;
 mod links;
 mod nodes;

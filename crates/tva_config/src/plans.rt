@@ -1,11 +1,12 @@
 // The plans of nodes, from what their entries, links and routes are read as.
 ghost use Rattle.std.specs.Prelude.{◌≡◌, ◌≤◌, ◌+◌, ◌++◌, IfOk, OnOk, length};
-ghost use Rattle.tva_config.specs.Read.{routes_at, router_plan, host_plan, router_plans, host_plans};
+ghost use Rattle.tva_config.specs.Read.{routes_at, restarts_at, reroutes_at, router_plan, host_plan, router_plans, host_plans};
+ghost use Rattle.tva_config.specs.Views.{seen_owned};
 ghost use Rattle.tva_plan.specs.Wiring.{incoming_of, outgoing_of};
 
-use crate::joined::OwnedRoute;
+use crate::joined::{OwnedLists, OwnedReroute, OwnedRestart, OwnedRoute};
 use std::alloc::{AllocError, Global};
-use tva_base::{HostPlan, LinkLimits, LinkPlan, Listed, Route, RouterPlan};
+use tva_base::{HostPlan, LinkLimits, LinkPlan, Listed, Prefix, Route, RouterPlan, Time};
 use tva_config_entries::{HostEntry, RouterEntry};
 use tva_plan::NodePlan;
 
@@ -13,17 +14,17 @@ use tva_plan::NodePlan;
 pub fn router_plans(
     alloc: Global,
     links: &[LinkPlan],
-    routes: &[OwnedRoute],
+    owned: &OwnedLists,
     routers: Vec<RouterEntry>,
 ) -> Result<Vec<NodePlan>, AllocError>
     requires routers { length routers.items ≤ 1024 }
     requires links { length links.now ≤ 4096 }
-    ensures { IfOk result (λ nodes. nodes.items ≡ router_plans links.now routes.now 0 routers.items) }
+    ensures { IfOk result (λ nodes. nodes.items ≡ router_plans links.now (seen_owned owned.now) 0 routers.items) }
 {
     let mut nodes = Vec::new(alloc);
     let mut number = 0;
     for router in routers {
-        let plan = router_plan(alloc, links, routes, number, router)?;
+        let plan = router_plan(alloc, links, owned, number, router)?;
         nodes.push(NodePlan::Router(plan))?;
         number += 1;
     }
@@ -35,16 +36,18 @@ pub fn router_plans(
 fn router_plan(
     alloc: Global,
     links: &[LinkPlan],
-    routes: &[OwnedRoute],
+    owned: &OwnedLists,
     number: u16,
     router: RouterEntry,
 ) -> Result<RouterPlan, AllocError>
     requires { length links.now ≤ 4096 }
-    ensures { IfOk result (λ plan. plan ≡ router_plan links.now routes.now number router) }
+    ensures { IfOk result (λ plan. plan ≡ router_plan links.now (seen_owned owned.now) number router) }
 {
     let incoming = incoming(alloc, number, links)?;
     let outgoing = outgoing(alloc, number, links)?;
-    let routes = routes_at(alloc, number, routes)?;
+    let routes = routes_at(alloc, number, &owned.routes)?;
+    let restarts = restarts_at(alloc, number, &owned.restarts)?;
+    let reroutes = reroutes_at(alloc, number, &owned.reroutes)?;
     let master = router.master;
     Ok(RouterPlan {
         name: router.name,
@@ -55,6 +58,8 @@ fn router_plan(
         incoming,
         outgoing,
         routes,
+        restarts,
+        reroutes,
     })
 }
 
@@ -101,6 +106,43 @@ fn routes_at(alloc: Global, router: u16, routes: &[OwnedRoute]) -> Result<Listed
     for owned in routes {
         if owned.router == router {
             found.push(owned.route)?;
+        }
+    }
+    Ok(Listed::new(found))
+}
+
+// The restarts of a router.
+#[tactic(auto, unfolding(crate::specs::Read::restarts_at))]
+fn restarts_at(
+    alloc: Global,
+    router: u16,
+    restarts: &[OwnedRestart],
+) -> Result<Listed<(Time, [u8; 32])>, AllocError>
+    ensures { IfOk result (λ found. found ≡ restarts_at router restarts.now) }
+{
+    let mut found = Vec::new(alloc);
+    for restart in restarts {
+        if restart.router == router {
+            found.push((restart.time, restart.master))?;
+        }
+    }
+    Ok(Listed::new(found))
+}
+
+// The changes of a router's routes.
+#[tactic(auto, unfolding(crate::specs::Read::reroutes_at))]
+fn reroutes_at(
+    alloc: Global,
+    router: u16,
+    reroutes: &[OwnedReroute],
+) -> Result<Listed<(Time, Prefix, u16)>, AllocError>
+    ensures { IfOk result (λ found. found ≡ reroutes_at router reroutes.now) }
+{
+    let mut found = Vec::new(alloc);
+    for reroute in reroutes {
+        if reroute.owned.router == router {
+            let route = reroute.owned.route;
+            found.push((reroute.time, route.prefix, route.link))?;
         }
     }
     Ok(Listed::new(found))

@@ -7,11 +7,11 @@ ghost use Rattle.tva_plan.specs.declared.config.Config.{Config};
 ghost use Rattle.tva_config_entries.specs.Faults.{Answers, AnswersBy, IsOrLacksMemory};
 ghost use Rattle.tva_plan.specs.Valid.{IsConfig};
 ghost use Rattle.tva_config_entries.specs.Views.{seen_entries};
-ghost use Rattle.tva_config.specs.Views.{seen_joined};
-ghost use Rattle.tva_config.specs.Read.{config_of, linked_of, joined_of, plan_of, read_of};
+ghost use Rattle.tva_config.specs.Views.{link_at, seen_owned, seen_joined};
+ghost use Rattle.tva_config.specs.Read.{config_of, owned_of, linked_of, joined_of, plan_of, read_of};
 
-use crate::joined::{JoinedLists, OwnedRoute};
-use crate::{links, nodes, plans, routes};
+use crate::joined::{JoinedLists, OwnedLists};
+use crate::{changes, links, nodes, plans, routes};
 use std::alloc::{AllocError, Global};
 use std::collections::HashMap;
 use tva_base::{LinkPlan, Listed, Time};
@@ -48,6 +48,8 @@ fn plan(alloc: Global, entries: EntryLists) -> Result<Config, ConfigError>
     requires nodes { length entries.routers.items + length entries.hosts.items ≤ 1024 }
     requires links { length entries.links.items ≤ 4096 }
     requires routes { length entries.routes.items ≤ 65536 }
+    requires restarts { length entries.restarts.items ≤ 65536 }
+    requires reroutes { length entries.reroutes.items ≤ 65536 }
     ensures { Answers (plan_of (seen_entries entries)) result }
 {
     let joined = join(alloc, &entries)?;
@@ -59,7 +61,7 @@ fn plan(alloc: Global, entries: EntryLists) -> Result<Config, ConfigError>
         entries.hosts,
         joined.links,
         &joined.uplinks,
-        &joined.routes,
+        &joined.owned,
     )?)
 }
 
@@ -69,6 +71,8 @@ fn join(alloc: Global, entries: &EntryLists) -> Result<JoinedLists, ConfigError>
     requires nodes { length entries.now.routers.items + length entries.now.hosts.items ≤ 1024 }
     requires links { length entries.now.links.items ≤ 4096 }
     requires routes { length entries.now.routes.items ≤ 65536 }
+    requires restarts { length entries.now.restarts.items ≤ 65536 }
+    requires reroutes { length entries.now.reroutes.items ≤ 65536 }
     ensures answer { AnswersBy seen_joined (joined_of (seen_entries entries.now)) result }
     ensures links { IfOk result (λ j. length j.links.items ≡ length entries.now.links.items) }
     ensures uplinks { IfOk result (λ j. length j.uplinks.items ≡ length entries.now.hosts.items) }
@@ -91,6 +95,8 @@ fn join_links(
     requires nodes { length entries.now.routers.items + length entries.now.hosts.items ≤ 1024 }
     requires links { length entries.now.links.items ≤ 4096 }
     requires routes { length entries.now.routes.items ≤ 65536 }
+    requires restarts { length entries.now.restarts.items ≤ 65536 }
+    requires reroutes { length entries.now.reroutes.items ≤ 65536 }
     ensures answer { AnswersBy seen_joined (linked_of (get_by_text numbers.now) (seen_entries entries.now)) result }
     ensures links { IfOk result (λ j. length j.links.items ≡ length entries.now.links.items) }
     ensures uplinks { IfOk result (λ j. length j.uplinks.items ≡ length entries.now.hosts.items) }
@@ -99,19 +105,44 @@ fn join_links(
     let links = links::number_links(alloc, numbers, &entries.links)?;
     let plans = links.plans.as_slice();
     let uplinks = links::uplinks(alloc, routers.len(), plans, &entries.hosts)?;
-    let routes = routes::number_routes(
-        alloc,
-        routers.len(),
-        numbers,
-        &links.pairs,
-        &entries.routes,
-    )?;
+    let owned = own(alloc, routers.len(), numbers, &links.pairs, entries)?;
     nodes::slots(routers)?;
     links::rings(plans)?;
     Ok(JoinedLists {
         links: links.plans,
         uplinks,
-        routes,
+        owned,
+    })
+}
+
+// The steps over routes, restarts and changes of routes, or the first fault of them.
+#[tactic(auto, unfolding(crate::specs::Read::owned_of))]
+fn own(
+    alloc: Global,
+    routers: usize,
+    numbers: &HashMap<String, u16>,
+    pairs: &HashMap<(u16, u16), u16>,
+    entries: &EntryLists,
+) -> Result<OwnedLists, ConfigError>
+    requires routes { length entries.now.routes.items ≤ 65536 }
+    requires restarts { length entries.now.restarts.items ≤ 65536 }
+    requires reroutes { length entries.now.reroutes.items ≤ 65536 }
+    ensures { AnswersBy seen_owned (owned_of routers (get_by_text numbers.now) (link_at pairs.now) (seen_entries entries.now)) result }
+{
+    let routes = routes::number_routes(alloc, routers, numbers, pairs, &entries.routes)?;
+    let restarts = changes::number_restarts(alloc, routers, numbers, &entries.restarts)?;
+    let reroutes = changes::number_reroutes(
+        alloc,
+        routers,
+        numbers,
+        pairs,
+        &routes,
+        &entries.reroutes,
+    )?;
+    Ok(OwnedLists {
+        routes: routes.routes,
+        restarts,
+        reroutes,
     })
 }
 
@@ -125,14 +156,14 @@ fn config(
     hosts: Vec<HostEntry>,
     links: Vec<LinkPlan>,
     uplinks: &[u16],
-    routes: &[OwnedRoute],
+    owned: &OwnedLists,
 ) -> Result<Config, AllocError>
     requires routers { length routers.items ≤ 1024 }
     requires links { length links.items ≤ 4096 }
     requires uplinks { length uplinks.now ≡ length hosts.items }
-    ensures { IfOk result (λ config. config ≡ config_of horizon max_events routers.items hosts.items links.items uplinks.now routes.now) }
+    ensures { IfOk result (λ config. config ≡ config_of horizon max_events routers.items hosts.items links.items uplinks.now (seen_owned owned.now)) }
 {
-    let mut nodes = plans::router_plans(alloc, &links, routes, routers)?;
+    let mut nodes = plans::router_plans(alloc, &links, owned, routers)?;
     plans::add_hosts(&mut nodes, hosts, uplinks)?;
     Ok(Config {
         horizon: Time(horizon),

@@ -14,6 +14,13 @@ use tva_config_entries::{
     ConfigError, ConfigFault, ConfigRule, ConfigTable, Place, RouteEntry, fault,
 };
 
+/// The routes, and the router and the prefix of each.
+#[derive(Drop)]
+pub struct NumberedRoutes {
+    pub routes: Vec<OwnedRoute>,
+    pub seen: HashSet<(u16, u32, u8)>,
+}
+
 /// The routes, or the first fault among them. So many nodes are routers.
 #[tactic(auto, unfolding(crate::specs::Routes::routes_of))]
 pub fn number_routes(
@@ -22,10 +29,10 @@ pub fn number_routes(
     numbers: &HashMap<String, u16>,
     pairs: &HashMap<(u16, u16), u16>,
     entries: &[RouteEntry],
-) -> Result<Vec<OwnedRoute>, ConfigError>
+) -> Result<NumberedRoutes, ConfigError>
     requires { length entries.now ≤ 65536 }
-    ensures answer { AnswersBy (λ v. v.items) (routes_of routers (get_by_text numbers.now) (link_at pairs.now) entries.now) result }
-    ensures count { IfOk result (λ v. length v.items ≡ length entries.now) }
+    ensures answer { AnswersBy (λ v. v.routes.items) (routes_of routers (get_by_text numbers.now) (link_at pairs.now) entries.now) result }
+    ensures seen { IfOk result (λ v. IsSeen v.seen v.routes.items) }
 {
     let mut routes = Vec::new(alloc);
     let mut seen = HashSet::new(alloc);
@@ -35,7 +42,7 @@ pub fn number_routes(
         seen.insert((owned.router, prefix.address.0, prefix.bits))?;
         routes.push(owned)?;
     }
-    Ok(routes)
+    Ok(NumberedRoutes { routes, seen })
 }
 
 // The route of an entry behind earlier ones, or its fault.
@@ -63,8 +70,8 @@ fn next(
     Ok(owned)
 }
 
-// The route with its numbers, or the fault of a name.
-fn resolve(
+/// The route with its numbers, or the fault of a name.
+pub fn resolve(
     place: Place,
     routers: usize,
     numbers: &HashMap<String, u16>,
@@ -88,8 +95,8 @@ fn resolve(
     })
 }
 
-// The number of the router of a name.
-fn router_named(routers: usize, numbers: &HashMap<String, u16>, name: &str) -> Option<u16>
+/// The number of the router of a name.
+pub fn router_named(routers: usize, numbers: &HashMap<String, u16>, name: &str) -> Option<u16>
     ensures { result ≡ router_named routers (get_by_text numbers.now) name.now }
 {
     match node(numbers, name) {

@@ -8,7 +8,7 @@ use Rattle.tva_config_entries.specs.declared.faults.ConfigRule.TheVariants as ru
 use Rattle.tva_config_entries.specs.Faults.{at, top, fault_at, unless}
 use Rattle.tva_config_entries.specs.Keys.{only_listed, required, optional}
 use Rattle.tva_config_entries.specs.Values as value
-use Rattle.tva_config_entries.specs.Entries.{router_of, host_of, link_of, route_of}
+use Rattle.tva_config_entries.specs.Entries.{router_of, host_of, link_of, route_of, restart_of, reroute_of}
 use Rattle.tva_config_entries.specs.Tables.{Top, top_keys, top_of, tables_of, counts_of, entry_step, entries_of, Entries, all_entries_of}
 use Rattle.tva_config_entries.specs.Reading.{members_read, document_of, document_read, entries_read}
 use Rattle.tva_config_entries.proofs.Ranges.{IsRouterEntry, IsHostEntry, IsLinkEntry, IsRouteEntry, AreEntries}
@@ -29,21 +29,24 @@ top_valid ms t gave =
     when_gave AreTimes (optional top ms (codes "host") value.tables []) _ t g4 (λ hosts k4 g5.
     when_gave AreTimes (optional top ms (codes "link") value.tables []) _ t g5 (λ links k5 g6.
     when_gave AreTimes (optional top ms (codes "route") value.tables []) _ t g6 (λ routes k6 g7.
-    let made : Top = record { horizon = horizon; max_events = events; version = version; routers = routers; hosts = hosts; links = links; routes = routes } in
-    let same : made ≡ t = gave_one made t g7 in
+    when_gave AreTimes (optional top ms (codes "restart") value.tables []) _ t g7 (λ restarts k7 g8.
+    when_gave AreTimes (optional top ms (codes "reroute") value.tables []) _ t g8 (λ reroutes k8 g9.
+    let made : Top = record { horizon = horizon; max_events = events; version = version; routers = routers; hosts = hosts; links = links; routes = routes; restarts = restarts; reroutes = reroutes } in
+    let same : made ≡ t = gave_one made t g9 in
     let most = number_needed 0 1000000000000000 top ms (codes "horizon_ns") horizon k1 in
     let some = number_needed 1 4000000 top ms (codes "max_events") events k2 in
     let known = number_or 1 2 1 top ms (codes "version") version refl kv in
-    subst AreTimes same (most.1, some.0, some.1, record { from = known.0; to = known.1 })))))))))
+    subst AreTimes same (most.1, some.0, some.1, record { from = known.0; to = known.1 })))))))))))
 
-counts_valid : (nodes links routes : ℕ) → counts_of nodes links routes ≡ Ok tt → (nodes ≤ 1024) × (links ≤ 4096) × (routes ≤ 65536)
+counts_valid : (nodes links routes restarts reroutes : ℕ) → counts_of nodes links routes restarts reroutes ≡ Ok tt → (nodes ≤ 1024) × (links ≤ 4096) × (routes ≤ 65536)
 unfolding counts_of
-counts_valid nodes links routes gave =
+counts_valid nodes links routes restarts reroutes gave =
     let (a, few_nodes, g1) = first_gave (unless (nat_lt 1024 nodes) (fault_at (at table.Host 0) rule.Count _)) _ tt gave in
-    let (b, few_links, g2) = first_gave (unless (nat_lt 4096 links) (fault_at (at table.Link 0) rule.Count _)) _ tt g1 in (
+    let (b, few_links, g2) = first_gave (unless (nat_lt 4096 links) (fault_at (at table.Link 0) rule.Count _)) _ tt g1 in
+    let (d, few_routes, g3) = first_gave (unless (nat_lt 65536 routes) (fault_at (at table.Route 0) rule.Count _)) _ tt g2 in (
       ltb-false 1024 nodes (unless_gave _ _ a few_nodes),
       ltb-false 4096 links (unless_gave _ _ b few_links),
-      ltb-false 65536 routes (unless_gave _ _ tt g2),
+      ltb-false 65536 routes (unless_gave _ _ d few_routes),
     )
 
 -- what the entries of all tables keep
@@ -64,8 +67,10 @@ all_read t e known gave =
     when_gave (AreRead t) (entries_of table.Host (host_of t.version) t.hosts) _ e g1 (λ hosts k2 g2.
     when_gave (AreRead t) (entries_of table.Link link_of t.links) _ e g2 (λ links k3 g3.
     when_gave (AreRead t) (entries_of table.Route route_of t.routes) _ e g3 (λ routes k4 g4.
-    let made : Entries = record { horizon = t.horizon; max_events = t.max_events; routers = routers; hosts = hosts; links = links; routes = routes } in
-    let same : made ≡ e = gave_one made e g4 in
+    when_gave (AreRead t) (entries_of table.Restart restart_of t.restarts) _ e g4 (λ restarts k5 g5.
+    when_gave (AreRead t) (entries_of table.Reroute reroute_of t.reroutes) _ e g5 (λ reroutes k6 g6.
+    let made : Entries = record { horizon = t.horizon; max_events = t.max_events; routers = routers; hosts = hosts; links = links; routes = routes; restarts = restarts; reroutes = reroutes } in
+    let same : made ≡ e = gave_one made e g6 in
     let n1 = in_turn_long (entry_step table.Router router_of) [] t.routers routers k1 in
     let n2 = in_turn_long (entry_step table.Host (host_of t.version)) [] t.hosts hosts k2 in
     let n3 = in_turn_long (entry_step table.Link link_of) [] t.links links k3 in
@@ -80,15 +85,15 @@ all_read t e known gave =
       routes_long = omega (arith, n4);
       numbers = (refl, refl);
     } in
-    subst (AreRead t) same valid))))
+    subst (AreRead t) same valid))))))
 
 members_valid : (ms : Members) (e : Entries) → members_read ms ≡ Ok e → AreEntries e
 unfolding members_read
 members_valid ms e gave =
     when_gave AreEntries (top_of ms) _ e gave (λ t k1 g1.
-    when_gave AreEntries (counts_of (length t.routers + length t.hosts) (length t.links) (length t.routes)) _ e g1 (λ few k2 g2.
+    when_gave AreEntries (counts_of (length t.routers + length t.hosts) (length t.links) (length t.routes) (length t.restarts) (length t.reroutes)) _ e g1 (λ few k2 g2.
     let times = top_valid ms t k1 in
-    let counts = counts_valid _ _ _ k2 in
+    let counts = counts_valid _ _ _ _ _ k2 in
     let known = all_read t e times.3 g2 in
     let n_long = known.nodes_long in
     let m_long = known.links_long in

@@ -12,8 +12,9 @@ use Rattle.tva_config_entries.specs.declared.top.TopTable.{TopTable}
 use Rattle.tva_config_entries.specs.Tables.{counts_of, entries_of}
 use Rattle.tva_config_entries.specs.Views.{seen_top}
 
-pub counts_seen : (t : TopTable) → counts_of (length t.routers.items + length t.hosts.items) (length t.links.items) (length t.routes.items)
+pub counts_seen : (t : TopTable) → counts_of (length t.routers.items + length t.hosts.items) (length t.links.items) (length t.routes.items) (length t.restarts.items) (length t.reroutes.items)
     ≡ counts_of (length (seen_top t).routers + length (seen_top t).hosts) (length (seen_top t).links) (length (seen_top t).routes)
+    (length (seen_top t).restarts) (length (seen_top t).reroutes)
 counts_seen t = simp length-map
 
 -- what the entries of some tables are read as, where the same tables stand elsewhere

@@ -12,6 +12,8 @@ use Rattle.tva_config_entries.specs.declared.entries.RouterEntry.{RouterEntry}
 use Rattle.tva_config_entries.specs.declared.entries.HostEntry.{HostEntry}
 use Rattle.tva_config_entries.specs.declared.entries.LinkEntry.{LinkEntry}
 use Rattle.tva_config_entries.specs.declared.entries.RouteEntry.{RouteEntry}
+use Rattle.tva_config_entries.specs.declared.entries.RestartEntry.{RestartEntry}
+use Rattle.tva_config_entries.specs.declared.entries.RerouteEntry.{RerouteEntry}
 use Rattle.tva_config_entries.specs.Faults.{Read, ◌>>=◌}
 use Rattle.tva_config_entries.specs.Keys.{only_listed, required, optional}
 use Rattle.tva_config_entries.specs.Values as value
@@ -160,3 +162,28 @@ route_of p ms = do
   prefix ← required p ms (codes "prefix") value.prefix
   via ← required p ms (codes "via") value.name
   Ok (record { router = router; prefix = prefix; via = via })
+
+-- the keys of `restart`
+abbrev pub restart_keys : List (List ℕ)
+restart_keys = codes "router" ∷ codes "at_ns" ∷ codes "master" ∷ []
+
+unfoldable pub restart_of : Place → Members → Read RestartEntry
+restart_of p ms = do
+  known ← only_listed p restart_keys ms
+  router ← required p ms (codes "router") value.name
+  time ← required p ms (codes "at_ns") (value.number 0 1000000000000000)
+  master ← required p ms (codes "master") value.master
+  Ok (record { router = router; at = time; master = master })
+
+-- the keys of `reroute`
+abbrev pub reroute_keys : List (List ℕ)
+reroute_keys = codes "router" ∷ codes "at_ns" ∷ codes "prefix" ∷ codes "via" ∷ []
+
+unfoldable pub reroute_of : Place → Members → Read RerouteEntry
+reroute_of p ms = do
+  known ← only_listed p reroute_keys ms
+  router ← required p ms (codes "router") value.name
+  time ← required p ms (codes "at_ns") (value.number 0 1000000000000000)
+  prefix ← required p ms (codes "prefix") value.prefix
+  via ← required p ms (codes "via") value.name
+  Ok (record { at = time; route = record { router = router; prefix = prefix; via = via } })

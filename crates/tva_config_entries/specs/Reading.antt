@@ -13,6 +13,7 @@ unfoldable pub members_read : Members → Read Entries
 members_read ms = do
   t ← top_of ms
   few ← counts_of (length t.routers + length t.hosts) (length t.links) (length t.routes)
+      (length t.restarts) (length t.reroutes)
   all_entries_of t
 
 -- the table that `toml` gives for a text, if any

@@ -9,10 +9,12 @@ use Rattle.tva_config_entries.specs.declared.entries.RouterEntry.{RouterEntry}
 use Rattle.tva_config_entries.specs.declared.entries.HostEntry.{HostEntry}
 use Rattle.tva_config_entries.specs.declared.entries.LinkEntry.{LinkEntry}
 use Rattle.tva_config_entries.specs.declared.entries.RouteEntry.{RouteEntry}
+use Rattle.tva_config_entries.specs.declared.entries.RestartEntry.{RestartEntry}
+use Rattle.tva_config_entries.specs.declared.entries.RerouteEntry.{RerouteEntry}
 use Rattle.tva_config_entries.specs.Faults.{Read, ◌>>=◌, at, top, fault_at, unless, in_turn}
 use Rattle.tva_config_entries.specs.Keys.{only_listed, required, optional}
 use Rattle.tva_config_entries.specs.Values as value
-use Rattle.tva_config_entries.specs.Entries.{router_of, host_of, link_of, route_of}
+use Rattle.tva_config_entries.specs.Entries.{router_of, host_of, link_of, route_of, restart_of, reroute_of}
 
 -- what the top level holds
 pub record Top : Type 0 where
@@ -23,10 +25,13 @@ pub record Top : Type 0 where
   pub hosts : List Members
   pub links : List Members
   pub routes : List Members
+  pub restarts : List Members
+  pub reroutes : List Members
 
 abbrev pub top_keys : List (List ℕ)
 top_keys = codes "horizon_ns" ∷ codes "max_events" ∷ codes "version"
-    ∷ codes "router" ∷ codes "host" ∷ codes "link" ∷ codes "route" ∷ []
+    ∷ codes "router" ∷ codes "host" ∷ codes "link" ∷ codes "route"
+    ∷ codes "restart" ∷ codes "reroute" ∷ []
 
 -- its tables, behind its numbers
 unfoldable pub tables_of : ℕ → ℕ → ℕ → Members → Read Top
@@ -35,6 +40,8 @@ tables_of horizon max_events version ms = do
   hosts ← optional top ms (codes "host") value.tables []
   links ← optional top ms (codes "link") value.tables []
   routes ← optional top ms (codes "route") value.tables []
+  restarts ← optional top ms (codes "restart") value.tables []
+  reroutes ← optional top ms (codes "reroute") value.tables []
   Ok (record {
     horizon = horizon;
     max_events = max_events;
@@ -43,6 +50,8 @@ tables_of horizon max_events version ms = do
     hosts = hosts;
     links = links;
     routes = routes;
+    restarts = restarts;
+    reroutes = reroutes;
   })
 
 unfoldable pub top_of : Members → Read Top
@@ -54,11 +63,13 @@ top_of ms = do
   tables_of horizon max_events version ms
 
 -- there are not too many entries
-unfoldable pub counts_of : ℕ → ℕ → ℕ → Read (Unit {0})
-counts_of nodes links routes = do
+unfoldable pub counts_of : ℕ → ℕ → ℕ → ℕ → ℕ → Read (Unit {0})
+counts_of nodes links routes restarts reroutes = do
   few_nodes ← unless (nat_lt 1024 nodes) (fault_at (at table.Host 0) rule.Count (codes "-"))
   few_links ← unless (nat_lt 4096 links) (fault_at (at table.Link 0) rule.Count (codes "-"))
-  unless (nat_lt 65536 routes) (fault_at (at table.Route 0) rule.Count (codes "-"))
+  few_routes ← unless (nat_lt 65536 routes) (fault_at (at table.Route 0) rule.Count (codes "-"))
+  few_restarts ← unless (nat_lt 65536 restarts) (fault_at (at table.Restart 0) rule.Count (codes "-"))
+  unless (nat_lt 65536 reroutes) (fault_at (at table.Reroute 0) rule.Count (codes "-"))
 
 -- the entries of a table, in order
 abbrev pub entry_step : {A : Type 0} → tables.ConfigTable → (Place → Members → Read A) → List A → Members → Read A
@@ -76,6 +87,8 @@ pub record Entries : Type 0 where
   pub hosts : List HostEntry
   pub links : List LinkEntry
   pub routes : List RouteEntry
+  pub restarts : List RestartEntry
+  pub reroutes : List RerouteEntry
 
 unfoldable pub all_entries_of : Top → Read Entries
 all_entries_of t = do
@@ -83,6 +96,8 @@ all_entries_of t = do
   hosts ← entries_of table.Host (host_of t.version) t.hosts
   links ← entries_of table.Link link_of t.links
   routes ← entries_of table.Route route_of t.routes
+  restarts ← entries_of table.Restart restart_of t.restarts
+  reroutes ← entries_of table.Reroute reroute_of t.reroutes
   Ok (record {
     horizon = t.horizon;
     max_events = t.max_events;
@@ -90,4 +105,6 @@ all_entries_of t = do
     hosts = hosts;
     links = links;
     routes = routes;
+    restarts = restarts;
+    reroutes = reroutes;
   })

@@ -14,6 +14,8 @@ seen_top t = record {
   hosts = map (λ m. table_view m.now) t.hosts.items;
   links = map (λ m. table_view m.now) t.links.items;
   routes = map (λ m. table_view m.now) t.routes.items;
+  restarts = map (λ m. table_view m.now) t.restarts.items;
+  reroutes = map (λ m. table_view m.now) t.reroutes.items;
 }
 
 abbrev pub seen_entries : EntryLists → Entries
@@ -24,4 +26,6 @@ seen_entries e = record {
   hosts = e.hosts.items;
   links = e.links.items;
   routes = e.routes.items;
+  restarts = e.restarts.items;
+  reroutes = e.reroutes.items;
 }

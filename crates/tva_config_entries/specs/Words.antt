@@ -11,6 +11,8 @@ table_word table.Router = codes "router"
 table_word table.Host = codes "host"
 table_word table.Link = codes "link"
 table_word table.Route = codes "route"
+table_word table.Restart = codes "restart"
+table_word table.Reroute = codes "reroute"
 
 abbrev pub rule_word : rules.ConfigRule → List ℕ
 rule_word rule.Syntax = codes "syntax"
@@ -29,3 +31,4 @@ rule_word rule.Via = codes "via"
 rule_word rule.Prefix = codes "prefix"
 rule_word rule.Slots = codes "slots"
 rule_word rule.Rings = codes "rings"
+rule_word rule.Times = codes "times"

@@ -43,6 +43,21 @@ pub struct RouteEntry {
     pub via: Name,
 }
 
+/// A restart: the name of its router, its time in nanoseconds, and the master from then on.
+#[derive(Drop)]
+pub struct RestartEntry {
+    pub router: Name,
+    pub at: u64,
+    pub master: [u8; 32],
+}
+
+/// A change of a route: its time in nanoseconds, and the route from then on.
+#[derive(Drop)]
+pub struct RerouteEntry {
+    pub at: u64,
+    pub route: RouteEntry,
+}
+
 /// What stands in a configuration: its horizon in nanoseconds, its greatest number of events, and the
 /// entries of all tables in the order of the file.
 #[derive(Drop)]
@@ -53,4 +68,6 @@ pub struct EntryLists {
     pub hosts: Vec<HostEntry>,
     pub links: Vec<LinkEntry>,
     pub routes: Vec<RouteEntry>,
+    pub restarts: Vec<RestartEntry>,
+    pub reroutes: Vec<RerouteEntry>,
 }

@@ -16,6 +16,8 @@ pub enum ConfigTable {
     Host,
     Link,
     Route,
+    Restart,
+    Reroute,
 }
 
 /// The rule that a fault breaks.
@@ -37,6 +39,7 @@ pub enum ConfigRule {
     Prefix,
     Slots,
     Rings,
+    Times,
 }
 
 /// A fault: the rule that is broken, the table and the number of its entry (from 0; 0 for the top),
@@ -91,6 +94,8 @@ impl ConfigTable {
             ConfigTable::Host => "host",
             ConfigTable::Link => "link",
             ConfigTable::Route => "route",
+            ConfigTable::Restart => "restart",
+            ConfigTable::Reroute => "reroute",
         }
     }
 }
@@ -117,6 +122,7 @@ impl ConfigRule {
             ConfigRule::Prefix => "prefix",
             ConfigRule::Slots => "slots",
             ConfigRule::Rings => "rings",
+            ConfigRule::Times => "times",
         }
     }
 }

@@ -13,7 +13,9 @@ mod tables;
 mod top;
 mod values;
 
-pub use entries::{EntryLists, HostEntry, LinkEntry, RouteEntry, RouterEntry};
+pub use entries::{
+    EntryLists, HostEntry, LinkEntry, RerouteEntry, RestartEntry, RouteEntry, RouterEntry,
+};
 pub use faults::{ConfigError, ConfigFault, ConfigRule, ConfigTable};
 pub use keys::fault;
 pub use place::Place;

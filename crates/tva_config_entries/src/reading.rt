@@ -19,13 +19,15 @@ use toml::Table;
 ///
 /// A fault is the first one in the stated order; a text that isn't UTF-8, or that `toml` refuses, is
 /// a fault of syntax. Want of memory is the one answer that the text doesn't determine. There are at
-/// most 1,024 nodes, 4,096 links and 65,536 routes.
+/// most 1,024 nodes, 4,096 links, 65,536 routes, and as many restarts and changes of routes.
 #[tactic(auto, unfolding(crate::specs::Reading::entries_read))]
 pub fn read_entries(alloc: Global, text: &[u8]) -> Result<EntryLists, ConfigError>
     ensures answer { AnswersBy seen_entries (entries_read text.now) result }
     ensures nodes { IfOk result (λ e. length e.routers.items + length e.hosts.items ≤ 1024) }
     ensures links { IfOk result (λ e. length e.links.items ≤ 4096) }
     ensures routes { IfOk result (λ e. length e.routes.items ≤ 65536) }
+    ensures restarts { IfOk result (λ e. length e.restarts.items ≤ 65536) }
+    ensures reroutes { IfOk result (λ e. length e.reroutes.items ≤ 65536) }
 {
     match document(alloc, text)? {
         Some(table) => read_table(alloc, &table),
@@ -61,6 +63,8 @@ fn read_table(alloc: Global, table: &Table) -> Result<EntryLists, ConfigError>
     ensures nodes { IfOk result (λ e. length e.routers.items + length e.hosts.items ≤ 1024) }
     ensures links { IfOk result (λ e. length e.links.items ≤ 4096) }
     ensures routes { IfOk result (λ e. length e.routes.items ≤ 65536) }
+    ensures restarts { IfOk result (λ e. length e.restarts.items ≤ 65536) }
+    ensures reroutes { IfOk result (λ e. length e.reroutes.items ≤ 65536) }
 {
     let top = top::top(alloc, table)?;
     top::counts(&top)?;
@@ -73,15 +77,21 @@ fn all_entries(alloc: Global, top: &TopTable) -> Result<EntryLists, ConfigError>
     requires nodes { length top.now.routers.items + length top.now.hosts.items ≤ 1024 }
     requires links { length top.now.links.items ≤ 4096 }
     requires routes { length top.now.routes.items ≤ 65536 }
+    requires restarts { length top.now.restarts.items ≤ 65536 }
+    requires reroutes { length top.now.reroutes.items ≤ 65536 }
     ensures answer { AnswersBy seen_entries (all_entries_of (seen_top top.now)) result }
     ensures nodes { IfOk result (λ e. length e.routers.items + length e.hosts.items ≤ 1024) }
     ensures links { IfOk result (λ e. length e.links.items ≤ 4096) }
     ensures routes { IfOk result (λ e. length e.routes.items ≤ 65536) }
+    ensures restarts { IfOk result (λ e. length e.restarts.items ≤ 65536) }
+    ensures reroutes { IfOk result (λ e. length e.reroutes.items ≤ 65536) }
 {
     let routers = top::entries(alloc, ConfigTable::Router, top.version, &top.routers)?;
     let hosts = top::entries(alloc, ConfigTable::Host, top.version, &top.hosts)?;
     let links = top::entries(alloc, ConfigTable::Link, top.version, &top.links)?;
     let routes = top::entries(alloc, ConfigTable::Route, top.version, &top.routes)?;
+    let restarts = top::entries(alloc, ConfigTable::Restart, top.version, &top.restarts)?;
+    let reroutes = top::entries(alloc, ConfigTable::Reroute, top.version, &top.reroutes)?;
     Ok(EntryLists {
         horizon: top.horizon,
         max_events: top.max_events,
@@ -89,5 +99,7 @@ fn all_entries(alloc: Global, top: &TopTable) -> Result<EntryLists, ConfigError>
         hosts,
         links,
         routes,
+        restarts,
+        reroutes,
     })
 }

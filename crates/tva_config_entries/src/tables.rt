@@ -4,9 +4,9 @@ ghost use Rattle.toml.specs.Data.{Members};
 ghost use Rattle.toml.specs.View.{table_view};
 ghost use Rattle.tva_config_entries.specs.declared.place.Place.{Place};
 ghost use Rattle.tva_config_entries.specs.Faults.{Answers, Read};
-ghost use Rattle.tva_config_entries.specs.Entries.{router_of, rights_of, policy_plan_of, host_of, link_of, row, class_limits, behind_a_tag, inner_of, limits_of, route_of};
+ghost use Rattle.tva_config_entries.specs.Entries.{router_of, rights_of, policy_plan_of, host_of, link_of, row, class_limits, behind_a_tag, inner_of, limits_of, route_of, restart_of, reroute_of};
 
-use crate::entries::{HostEntry, LinkEntry, RouteEntry, RouterEntry};
+use crate::entries::{HostEntry, LinkEntry, RerouteEntry, RestartEntry, RouteEntry, RouterEntry};
 use crate::faults::{ConfigError, ConfigFault};
 use crate::keys;
 use crate::place::Place;
@@ -86,6 +86,54 @@ impl Entry for RouteEntry {
             prefix,
             via,
         })
+    }
+}
+
+const RESTART_KEYS: [&str; 3] = ["router", "at_ns", "master"];
+
+/// A restart, or its first fault.
+impl Entry for RestartEntry {
+    ghost entry_of = { λ version. restart_of };
+
+    #[tactic(auto, unfolding(crate::specs::Entries::restart_of))]
+    fn read(
+        _alloc: Global,
+        _version: u8,
+        place: Place,
+        table: &Table,
+    ) -> Result<RestartEntry, ConfigError> {
+        keys::only_listed(place, table, &RESTART_KEYS)?;
+        let router = keys::required(place, table, "router")?;
+        let at = keys::number(place, table, "at_ns", 0, TIME_MAX)?;
+        let master = keys::required(place, table, "master")?;
+        Ok(RestartEntry { router, at, master })
+    }
+}
+
+const REROUTE_KEYS: [&str; 4] = ["router", "at_ns", "prefix", "via"];
+
+/// A change of a route, or its first fault.
+impl Entry for RerouteEntry {
+    ghost entry_of = { λ version. reroute_of };
+
+    #[tactic(auto, unfolding(crate::specs::Entries::reroute_of))]
+    fn read(
+        _alloc: Global,
+        _version: u8,
+        place: Place,
+        table: &Table,
+    ) -> Result<RerouteEntry, ConfigError> {
+        keys::only_listed(place, table, &REROUTE_KEYS)?;
+        let router = keys::required(place, table, "router")?;
+        let at = keys::number(place, table, "at_ns", 0, TIME_MAX)?;
+        let prefix = keys::required(place, table, "prefix")?;
+        let via = keys::required(place, table, "via")?;
+        let route = RouteEntry {
+            router,
+            prefix,
+            via,
+        };
+        Ok(RerouteEntry { at, route })
     }
 }
 

@@ -25,6 +25,8 @@ pub struct TopTable<'a> {
     pub hosts: Vec<&'a Table>,
     pub links: Vec<&'a Table>,
     pub routes: Vec<&'a Table>,
+    pub restarts: Vec<&'a Table>,
+    pub reroutes: Vec<&'a Table>,
 }
 
 const TOP: Place = Place {
@@ -32,7 +34,7 @@ const TOP: Place = Place {
     entry: 0,
 };
 
-const TOP_KEYS: [&str; 7] = [
+const TOP_KEYS: [&str; 9] = [
     "horizon_ns",
     "max_events",
     "version",
@@ -40,6 +42,8 @@ const TOP_KEYS: [&str; 7] = [
     "host",
     "link",
     "route",
+    "restart",
+    "reroute",
 ];
 
 /// The top level, or its first fault.
@@ -69,6 +73,8 @@ fn tables<'a>(
     let hosts = keys::tables(alloc, TOP, table, "host")?;
     let links = keys::tables(alloc, TOP, table, "link")?;
     let routes = keys::tables(alloc, TOP, table, "route")?;
+    let restarts = keys::tables(alloc, TOP, table, "restart")?;
+    let reroutes = keys::tables(alloc, TOP, table, "reroute")?;
     Ok(TopTable {
         horizon,
         max_events,
@@ -77,16 +83,20 @@ fn tables<'a>(
         hosts,
         links,
         routes,
+        restarts,
+        reroutes,
     })
 }
 
 /// Refuses too many entries.
 #[tactic(auto, unfolding(crate::specs::Tables::counts_of))]
 pub fn counts(top: &TopTable) -> Result<(), ConfigFault>
-    ensures answer { result ≡ counts_of (length top.now.routers.items + length top.now.hosts.items) (length top.now.links.items) (length top.now.routes.items) }
+    ensures answer { result ≡ counts_of (length top.now.routers.items + length top.now.hosts.items) (length top.now.links.items) (length top.now.routes.items) (length top.now.restarts.items) (length top.now.reroutes.items) }
     ensures nodes { OnOk result (length top.now.routers.items + length top.now.hosts.items ≤ 1024) }
     ensures links { OnOk result (length top.now.links.items ≤ 4096) }
     ensures routes { OnOk result (length top.now.routes.items ≤ 65536) }
+    ensures restarts { OnOk result (length top.now.restarts.items ≤ 65536) }
+    ensures reroutes { OnOk result (length top.now.reroutes.items ≤ 65536) }
 {
     let routers = top.routers.len();
     if routers > 1024 || top.hosts.len() > 1024 - routers {
@@ -97,6 +107,12 @@ pub fn counts(top: &TopTable) -> Result<(), ConfigFault>
     }
     if top.routes.len() > 65_536 {
         return Err(too_many(ConfigTable::Route));
+    }
+    if top.restarts.len() > 65_536 {
+        return Err(too_many(ConfigTable::Restart));
+    }
+    if top.reroutes.len() > 65_536 {
+        return Err(too_many(ConfigTable::Reroute));
     }
     Ok(())
 }

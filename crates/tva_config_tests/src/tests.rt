@@ -1,5 +1,6 @@
 // Configurations and the answers that they must have, which are the specification's or come from
 // outside.
+mod changes;
 mod keys;
 mod plans;
 mod sizes;
@@ -78,11 +79,17 @@ fn texts_have_their_answers(rt: HostRuntime) {
     check(&rt, alloc, keys::links::CASES);
     check(&rt, alloc, keys::routes::CASES);
     check(&rt, alloc, steps::CASES);
+    check(&rt, alloc, changes::CASES);
 }
 
 #[test]
 fn texts_with_many_entries_have_their_answers(rt: HostRuntime) {
     check(&rt, rt.alloc(), sizes::CASES);
+}
+
+#[test]
+fn texts_with_many_changes_have_their_answers(rt: HostRuntime) {
+    check(&rt, rt.alloc(), changes::MANY);
 }
 
 #[test]

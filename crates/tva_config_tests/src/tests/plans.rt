@@ -4,7 +4,8 @@ use std::alloc::Global;
 use std::fmt::Write;
 use std::process::Abort;
 use tva_base::{
-    Address, DrrLimits, HostPlan, LinkLimits, LinkPlan, PolicyKind, PolicyPlan, Route, RouterPlan,
+    Address, DrrLimits, HostPlan, LinkLimits, LinkPlan, PolicyKind, PolicyPlan, Prefix, Route,
+    RouterPlan, Time,
 };
 use tva_config::read_config;
 use tva_plan::{Config, NodePlan, has_host_or_link};
@@ -184,6 +185,68 @@ link 1 to 0 delay 4 tag 0 rate 3 share 20 burst 8192
   legacy 256 262144
 ";
 
+/// Restarts and changes of routes: of each router in the order of the file, the changes by their links.
+const CHANGED: &str = r#"horizon_ns = 0
+max_events = 1
+router = [
+  { name = "a", master = "0000000000000000000000000000000000000000000000000000000000000000", slots = 1 },
+  { name = "b", master = "0000000000000000000000000000000000000000000000000000000000000000", slots = 2 },
+]
+link = [
+  { from = "b", to = "a", ns_per_byte = 3, delay_ns = 4 },
+  { from = "a", to = "b", ns_per_byte = 5, delay_ns = 6 },
+]
+route = [
+  { router = "b", prefix = "10.0.1.0/24", via = "a" },
+  { router = "b", prefix = "0.0.0.0/0", via = "a" },
+  { router = "a", prefix = "10.0.1.0/24", via = "b" },
+]
+restart = [
+  { router = "b", at_ns = 9, master = "00000000000000000000000000000000000000000000000000000000000000bE" },
+  { router = "a", at_ns = 0, master = "a000000000000000000000000000000000000000000000000000000000000000" },
+  { router = "b", at_ns = 1000000000000000, master = "000000000000000000000000000000000000000000000000000000000000000b" },
+]
+reroute = [
+  { router = "b", at_ns = 8, prefix = "10.0.1.7/24", via = "a" },
+  { router = "b", at_ns = 7, prefix = "0.0.0.0/0", via = "a" },
+  { router = "a", at_ns = 5, prefix = "10.0.1.0/24", via = "b" },
+  { router = "b", at_ns = 9, prefix = "10.0.1.0/24", via = "a" },
+]
+"#;
+
+const CHANGED_PLAN: &str = "horizon 0 events 1 joined
+router a 0000000000000000000000000000000000000000000000000000000000000000 offset 0 slots 1 edge 0
+ in 0 tag 0
+ out 1 rate 5 share 20 burst 8192
+  request 64 32 65536 1048576 2048 2048
+  regular 64 32 65536 1048576 2048 2048
+  legacy 256 262144
+ route 167772416/24 by 1
+ restart at 0 with a000000000000000000000000000000000000000000000000000000000000000
+ at 5 167772416/24 by 1
+router b 0000000000000000000000000000000000000000000000000000000000000000 offset 0 slots 2 edge 0
+ in 1 tag 0
+ out 0 rate 3 share 20 burst 8192
+  request 64 32 65536 1048576 2048 2048
+  regular 64 32 65536 1048576 2048 2048
+  legacy 256 262144
+ route 167772416/24 by 0
+ route 0/0 by 0
+ restart at 9 with 00000000000000000000000000000000000000000000000000000000000000be
+ restart at 1000000000000000 with 000000000000000000000000000000000000000000000000000000000000000b
+ at 8 167772416/24 by 0
+ at 7 0/0 by 0
+ at 9 167772416/24 by 0
+link 1 to 0 delay 4 tag 0 rate 3 share 20 burst 8192
+  request 64 32 65536 1048576 2048 2048
+  regular 64 32 65536 1048576 2048 2048
+  legacy 256 262144
+link 0 to 1 delay 6 tag 0 rate 5 share 20 burst 8192
+  request 64 32 65536 1048576 2048 2048
+  regular 64 32 65536 1048576 2048 2048
+  legacy 256 262144
+";
+
 #[test]
 fn plans_are_whole(rt: HostRuntime) {
     let alloc = rt.alloc();
@@ -191,6 +254,7 @@ fn plans_are_whole(rt: HostRuntime) {
     is_planned(&rt, alloc, WALK, WALK_PLAN, "walk");
     is_planned(&rt, alloc, FULL, FULL_PLAN, "full");
     is_planned(&rt, alloc, PAIR, PAIR_PLAN, "pair");
+    is_planned(&rt, alloc, CHANGED, CHANGED_PLAN, "changed");
 }
 
 fn is_planned(rt: &impl Abort, alloc: Global, text: &str, want: &str, name: &str) {
@@ -249,6 +313,8 @@ fn add_router(rt: &impl Abort, text: &mut String, plan: &RouterPlan) {
     add_incoming(rt, text, plan.incoming.as_slice());
     add_outgoing(rt, text, plan.outgoing.as_slice());
     add_routes(rt, text, plan.routes.as_slice());
+    add_restarts(rt, text, plan.restarts.as_slice());
+    add_reroutes(rt, text, plan.reroutes.as_slice());
 }
 
 fn add_name(rt: &impl Abort, text: &mut String, word: &str, name: &str) {
@@ -284,6 +350,26 @@ fn add_routes(rt: &impl Abort, text: &mut String, routes: &[Route]) {
             route.link as u128,
         ];
         add(rt, text, " route #/# by #\n", &numbers);
+    }
+}
+
+fn add_restarts(rt: &impl Abort, text: &mut String, restarts: &[(Time, [u8; 32])]) {
+    for (time, master) in restarts {
+        add(rt, text, " restart at # with ", &[time.0 as u128]);
+        add_master(rt, text, master);
+        text.push_str("\n").expect(rt, "memory");
+    }
+}
+
+fn add_reroutes(rt: &impl Abort, text: &mut String, reroutes: &[(Time, Prefix, u16)]) {
+    for (time, prefix, link) in reroutes {
+        let numbers = [
+            time.0 as u128,
+            prefix.address.0 as u128,
+            prefix.bits as u128,
+            *link as u128,
+        ];
+        add(rt, text, " at # #/# by #\n", &numbers);
     }
 }
 

@@ -128,7 +128,7 @@ a version behind the number of events
 an unknown table
 ^ edge
 ^ (end)
-^ [[restart]]|router = "R1"|
+^ [[restarts]]|router = "R1"|
 ^ bad config: unknown top 0 -
 
 a key of another case

@@ -1,10 +1,11 @@
 use Rattle.std.proofs.Common.{◌≡◌, ◌+◌, ◌++◌, length}
 use Rattle.std.specs.Vec.Iter.{into_iter_items}
 use Rattle.tva_config.specs.Read.{router_plans}
+use Rattle.tva_config.specs.Views.{seen_owned}
 use Rattle.tva_config.proofs.plans.router_plans.Given as goal
 
 abbrev pub invariant-loop-router : goal.invariant-loop-router
 invariant-loop-router l = record {
-  plans : l.nodes.items ++ router_plans l.links l.routes l.number (into_iter_items l.router-iterator) ≡ router_plans l.links l.routes 0 l.fn.routers.items;
+  plans : l.nodes.items ++ router_plans l.links (seen_owned l.owned) l.number (into_iter_items l.router-iterator) ≡ router_plans l.links (seen_owned l.owned) 0 l.fn.routers.items;
   number : l.number + length (into_iter_items l.router-iterator) ≡ length l.fn.routers.items;
 }

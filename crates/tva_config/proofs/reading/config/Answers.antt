@@ -1,12 +1,13 @@
 use Rattle.std.proofs.Common.{◌≡◌, ◌∙◌, ◌++◌, ap}
 use Rattle.tva_config.specs.Read.{router_plans, host_plans, config_of}
+use Rattle.tva_config.specs.Views.{seen_owned}
 use Rattle.tva_config.proofs.reading.config.Goals as goal
 
 pub returns : goal.returns
 unfolding config_of
 returns c =
     let hosts = host_plans c.args.hosts.items c.args.uplinks.now in
-    let routers : c.in_ok-nodes.nodes.items ≡ router_plans c.args.links.items c.args.routes.now 0 c.args.routers.items = rw c.deref.ensures.value at c.in_ok-nodes.ensures in
-    let nodes : c.new.result ≡ router_plans c.args.links.items c.args.routes.now 0 c.args.routers.items ++ hosts =
+    let routers : c.in_ok-nodes.nodes.items ≡ router_plans c.args.links.items (seen_owned c.args.owned.now) 0 c.args.routers.items = rw c.deref.ensures.value at c.in_ok-nodes.ensures in
+    let nodes : c.new.result ≡ router_plans c.args.links.items (seen_owned c.args.owned.now) 0 c.args.routers.items ++ hosts =
     c.new.ensures ∙ c.in_ok-add_hosts.ensures ∙ ap (λ l. l ++ hosts) routers in
     rw (nodes, c.new-2.ensures)

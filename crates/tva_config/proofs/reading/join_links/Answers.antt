@@ -1,12 +1,10 @@
 use Rattle.std.proofs.Common.{◌≡◌, ◌∙◌, length, refl, sym, Ok, Err, Vec, Global, ℕ}
 use Rattle.std.specs.HashMap.{get_by_text}
-use Rattle.tva_config.specs.declared.joined.OwnedRoute.{OwnedRoute}
 use Rattle.tva_config.specs.declared.links.NumberedLinks.{NumberedLinks}
 use Rattle.tva_config.specs.Nodes.{slots_of}
 use Rattle.tva_config.specs.Links.{link_between, links_of, uplinks_of}
-use Rattle.tva_config.specs.Routes.{routes_of}
-use Rattle.tva_config.specs.Read.{linked_of}
-use Rattle.tva_config.specs.Views.{link_at, seen_joined}
+use Rattle.tva_config.specs.Read.{owned_of, linked_of}
+use Rattle.tva_config.specs.Views.{link_at, seen_owned, seen_joined}
 use Rattle.tva_config_entries.specs.Views.{seen_entries}
 use Rattle.tva_config_entries.proofs.Answered.{answered_there, error_told, fault_told, given, refused}
 use Rattle.tva_config.proofs.reading.join_links.Goals as goal
@@ -34,20 +32,20 @@ returns-in_err-uplinks-clause-answer c =
     (uplinks_of (length c.as_slice-routers.result.now) c.as_slice-plans.result.now c.deref-2.result.now) (Err c.in_err-uplinks.field-0.0)
     (rw (c.as_slice-routers.ensures.value, c.as_slice-plans.ensures.value, c.deref-2.ensures.value)) c.in_err-uplinks.ensures.answer)
 
-pub returns-in_err-routes-clause-answer : goal.returns-in_err-routes-clause-answer
+pub returns-in_err-owned-clause-answer : goal.returns-in_err-owned-clause-answer
 unfolding linked_of
-returns-in_err-routes-clause-answer c =
+returns-in_err-owned-clause-answer c =
     let e = c.args.entries.now in
     let node = get_by_text c.args.numbers.now in
     let links : links_of node e.links.items ≡ Ok c.in_ok-links.links.plans.items = rw c.deref.ensures.value at c.in_ok-links.ensures.answer in
     let uplinks : uplinks_of (length e.routers.items) c.in_ok-links.links.plans.items e.hosts.items ≡ Ok c.in_ok-uplinks.uplinks.items =
     rw (c.as_slice-routers.ensures.value, c.as_slice-plans.ensures.value, c.deref-2.ensures.value) at c.in_ok-uplinks.ensures.answer in
-    error_told seen_joined (linked_of node (seen_entries e)) c.from_residual-in_err-routes.result _ (λ (v : Vec OwnedRoute Global). v.items) _ c.in_err-routes.field-0.0
-    c.from_residual-in_err-routes.ensures.1
+    error_told seen_joined (linked_of node (seen_entries e)) c.from_residual-in_err-owned.result _ seen_owned _ c.in_err-owned.field-0.0
+    c.from_residual-in_err-owned.ensures.1
     (given _ _ _ links ∙ given _ _ _ uplinks)
-    (answered_there (λ (v : Vec OwnedRoute Global). v.items) (routes_of (length e.routers.items) node (link_between c.in_ok-links.links.plans.items) e.routes.items)
-    (routes_of (length c.as_slice-routers.result.now) node (link_at c.in_ok-links.links.pairs) c.deref-3.result.now) (Err c.in_err-routes.field-0.0)
-    (rw (c.as_slice-routers.ensures.value, c.in_ok-links.ensures.pairs, c.deref-3.ensures.value)) c.in_err-routes.ensures.answer)
+    (answered_there seen_owned (owned_of (length e.routers.items) node (link_between c.in_ok-links.links.plans.items) (seen_entries e))
+    (owned_of (length c.as_slice-routers.result.now) node (link_at c.in_ok-links.links.pairs) (seen_entries e)) (Err c.in_err-owned.field-0.0)
+    (rw (c.as_slice-routers.ensures.value, c.in_ok-links.ensures.pairs)) c.in_err-owned.ensures)
 
 pub returns-in_err-slots-clause-answer : goal.returns-in_err-slots-clause-answer
 unfolding linked_of
@@ -57,10 +55,10 @@ returns-in_err-slots-clause-answer c =
     let links : links_of node e.links.items ≡ Ok c.in_ok-links.links.plans.items = rw c.deref.ensures.value at c.in_ok-links.ensures.answer in
     let uplinks : uplinks_of (length e.routers.items) c.in_ok-links.links.plans.items e.hosts.items ≡ Ok c.in_ok-uplinks.uplinks.items =
     rw (c.as_slice-routers.ensures.value, c.as_slice-plans.ensures.value, c.deref-2.ensures.value) at c.in_ok-uplinks.ensures.answer in
-    let routes : routes_of (length e.routers.items) node (link_between c.in_ok-links.links.plans.items) e.routes.items ≡ Ok c.in_ok-routes.routes.items =
-    rw (c.as_slice-routers.ensures.value, c.in_ok-links.ensures.pairs, c.deref-3.ensures.value) at c.in_ok-routes.ensures.answer in
+    let owned : owned_of (length e.routers.items) node (link_between c.in_ok-links.links.plans.items) (seen_entries e) ≡ Ok (seen_owned c.in_ok-owned.owned) =
+    rw (c.as_slice-routers.ensures.value, c.in_ok-links.ensures.pairs) at c.in_ok-owned.ensures in
     fault_told seen_joined (linked_of node (seen_entries e)) c.from_residual-in_err-slots.result c.in_err-slots.field-0.0 c.from_residual-in_err-slots.ensures.1
-    (given _ _ _ links ∙ given _ _ _ uplinks ∙ given _ _ _ routes ∙ refused _ _ _ (rw c.as_slice-routers.ensures.value at (sym c.in_err-slots.ensures)))
+    (given _ _ _ links ∙ given _ _ _ uplinks ∙ given _ _ _ owned ∙ refused _ _ _ (rw c.as_slice-routers.ensures.value at (sym c.in_err-slots.ensures)))
 
 pub returns-in_err-rings-clause-answer : goal.returns-in_err-rings-clause-answer
 unfolding linked_of
@@ -70,11 +68,11 @@ returns-in_err-rings-clause-answer c =
     let links : links_of node e.links.items ≡ Ok c.in_ok-links.links.plans.items = rw c.deref.ensures.value at c.in_ok-links.ensures.answer in
     let uplinks : uplinks_of (length e.routers.items) c.in_ok-links.links.plans.items e.hosts.items ≡ Ok c.in_ok-uplinks.uplinks.items =
     rw (c.as_slice-routers.ensures.value, c.as_slice-plans.ensures.value, c.deref-2.ensures.value) at c.in_ok-uplinks.ensures.answer in
-    let routes : routes_of (length e.routers.items) node (link_between c.in_ok-links.links.plans.items) e.routes.items ≡ Ok c.in_ok-routes.routes.items =
-    rw (c.as_slice-routers.ensures.value, c.in_ok-links.ensures.pairs, c.deref-3.ensures.value) at c.in_ok-routes.ensures.answer in
+    let owned : owned_of (length e.routers.items) node (link_between c.in_ok-links.links.plans.items) (seen_entries e) ≡ Ok (seen_owned c.in_ok-owned.owned) =
+    rw (c.as_slice-routers.ensures.value, c.in_ok-links.ensures.pairs) at c.in_ok-owned.ensures in
     let slots : slots_of e.routers.items ≡ Ok c.in_ok-slots.field-0 = rw c.as_slice-routers.ensures.value at (sym c.in_ok-slots.ensures) in
     fault_told seen_joined (linked_of node (seen_entries e)) c.from_residual-in_err-rings.result c.in_err-rings.field-0.0 c.from_residual-in_err-rings.ensures.1
-    (given _ _ _ links ∙ given _ _ _ uplinks ∙ given _ _ _ routes ∙ given _ _ _ slots ∙ refused _ _ _ (rw c.as_slice-plans.ensures.value at (sym c.in_err-rings.ensures)))
+    (given _ _ _ links ∙ given _ _ _ uplinks ∙ given _ _ _ owned ∙ given _ _ _ slots ∙ refused _ _ _ (rw c.as_slice-plans.ensures.value at (sym c.in_err-rings.ensures)))
 
 pub returns-clause-answer : goal.returns-clause-answer
 unfolding linked_of
@@ -84,7 +82,7 @@ returns-clause-answer c =
     let links : links_of node e.links.items ≡ Ok c.in_ok-links.links.plans.items = rw c.deref.ensures.value at c.in_ok-links.ensures.answer in
     let uplinks : uplinks_of (length e.routers.items) c.in_ok-links.links.plans.items e.hosts.items ≡ Ok c.in_ok-uplinks.uplinks.items =
     rw (c.as_slice-routers.ensures.value, c.as_slice-plans.ensures.value, c.deref-2.ensures.value) at c.in_ok-uplinks.ensures.answer in
-    let routes : routes_of (length e.routers.items) node (link_between c.in_ok-links.links.plans.items) e.routes.items ≡ Ok c.in_ok-routes.routes.items =
-    rw (c.as_slice-routers.ensures.value, c.in_ok-links.ensures.pairs, c.deref-3.ensures.value) at c.in_ok-routes.ensures.answer in
+    let owned : owned_of (length e.routers.items) node (link_between c.in_ok-links.links.plans.items) (seen_entries e) ≡ Ok (seen_owned c.in_ok-owned.owned) =
+    rw (c.as_slice-routers.ensures.value, c.in_ok-links.ensures.pairs) at c.in_ok-owned.ensures in
     let slots : slots_of e.routers.items ≡ Ok c.in_ok-slots.field-0 = rw c.as_slice-routers.ensures.value at (sym c.in_ok-slots.ensures) in
-    given _ _ _ links ∙ given _ _ _ uplinks ∙ given _ _ _ routes ∙ given _ _ _ slots ∙ given _ _ _ (rw c.as_slice-plans.ensures.value at (sym c.in_ok-rings.ensures))
+    given _ _ _ links ∙ given _ _ _ uplinks ∙ given _ _ _ owned ∙ given _ _ _ slots ∙ given _ _ _ (rw c.as_slice-plans.ensures.value at (sym c.in_ok-rings.ensures))

@@ -34,7 +34,7 @@ returns-in_err-owned-clause-answer c =
     let entries = c.args.entries.now in
     let i = c.loop-entry.entry-index in
     let entry = c.entry-item.result in
-    fault_told (λ v. v.items) (routes_of c.args.routers (get_by_text c.args.numbers.now) (link_at c.args.pairs.now) entries) c.from_residual.result c.in_err-owned.field-0.0
+    fault_told (λ v. v.routes.items) (routes_of c.args.routers (get_by_text c.args.numbers.now) (link_at c.args.pairs.now) entries) c.from_residual.result c.in_err-owned.field-0.0
     c.from_residual.ensures.1
     (continues_stops (route_step c.args.routers (get_by_text c.args.numbers.now) (link_at c.args.pairs.now)) c.loop-entry.routes.items (drop i entries) _ entries entry
     c.in_err-owned.field-0.0 (next_at entries i entry c.loop-entry-test.true c.entry-item.is) (sym c.in_err-owned.ensures) c.loop-entry.invariant.read)

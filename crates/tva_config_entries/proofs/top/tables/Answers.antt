@@ -41,6 +41,27 @@ returns-in_err-routes c =
     ∙ given _ _ _ c.in_ok-links.ensures)
     c.in_err-routes.ensures
 
+pub returns-in_err-restarts : goal.returns-in_err-restarts
+unfolding tables_of
+returns-in_err-restarts c =
+    error_told seen_top (tables_of c.args.horizon c.args.max_events c.args.version (table_view c.args.table.now)) c.from_residual-in_err-restarts.result _ seen_tables _ c.in_err-restarts.field-0.0 c.from_residual-in_err-restarts.ensures.1
+    (given _ _ _ c.in_ok-routers.ensures
+    ∙ given _ _ _ c.in_ok-hosts.ensures
+    ∙ given _ _ _ c.in_ok-links.ensures
+    ∙ given _ _ _ c.in_ok-routes.ensures)
+    c.in_err-restarts.ensures
+
+pub returns-in_err-reroutes : goal.returns-in_err-reroutes
+unfolding tables_of
+returns-in_err-reroutes c =
+    error_told seen_top (tables_of c.args.horizon c.args.max_events c.args.version (table_view c.args.table.now)) c.from_residual-in_err-reroutes.result _ seen_tables _ c.in_err-reroutes.field-0.0 c.from_residual-in_err-reroutes.ensures.1
+    (given _ _ _ c.in_ok-routers.ensures
+    ∙ given _ _ _ c.in_ok-hosts.ensures
+    ∙ given _ _ _ c.in_ok-links.ensures
+    ∙ given _ _ _ c.in_ok-routes.ensures
+    ∙ given _ _ _ c.in_ok-restarts.ensures)
+    c.in_err-reroutes.ensures
+
 pub returns : goal.returns
 unfolding tables_of
 returns c =
@@ -48,3 +69,5 @@ returns c =
     ∙ given _ _ _ c.in_ok-hosts.ensures
     ∙ given _ _ _ c.in_ok-links.ensures
     ∙ given _ _ _ c.in_ok-routes.ensures
+    ∙ given _ _ _ c.in_ok-restarts.ensures
+    ∙ given _ _ _ c.in_ok-reroutes.ensures

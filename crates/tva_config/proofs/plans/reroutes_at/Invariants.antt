@@ -1,0 +1,7 @@
+use Rattle.std.proofs.Common.{◌≡◌, ◌++◌, drop}
+use Rattle.std.specs.List.{filter_map}
+use Rattle.tva_config.specs.Read.{if_reroute}
+use Rattle.tva_config.proofs.plans.reroutes_at.Given as goal
+
+abbrev pub invariant-loop-reroute : goal.invariant-loop-reroute
+invariant-loop-reroute l = l.found.items ++ filter_map (if_reroute l.router) (drop l.reroute-index l.reroutes) ≡ filter_map (if_reroute l.router) l.reroutes

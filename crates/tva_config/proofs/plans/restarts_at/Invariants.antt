@@ -1,0 +1,7 @@
+use Rattle.std.proofs.Common.{◌≡◌, ◌++◌, drop}
+use Rattle.std.specs.List.{filter_map}
+use Rattle.tva_config.specs.Read.{if_restart}
+use Rattle.tva_config.proofs.plans.restarts_at.Given as goal
+
+abbrev pub invariant-loop-restart : goal.invariant-loop-restart
+invariant-loop-restart l = l.found.items ++ filter_map (if_restart l.router) (drop l.restart-index l.restarts) ≡ filter_map (if_restart l.router) l.restarts
