@@ -6,7 +6,6 @@ use Rattle.std.proofs.lemmas.List.Elements.{All-head, All-tail, All-map, All-wea
 use Rattle.tva_base.specs.Plan.{IsRouterPlan, IsPrefix, links_of}
 use Rattle.tva_base.specs.Changes.{last_of, has_come, master_at, same_prefix, of_prefix, route_at, in_force}
 use Rattle.tva_base.specs.declared.addresses.Prefix.{Prefix}
-use Rattle.tva_base.specs.declared.limits.LinkLimits.{LinkLimits}
 use Rattle.tva_base.specs.declared.packet.Time.{Time}
 use Rattle.tva_base.specs.declared.plan.Route.{Route}
 use Rattle.tva_base.specs.declared.plan.RouterPlan.{RouterPlan}

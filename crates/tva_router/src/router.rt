@@ -28,8 +28,9 @@ use tva_port::{Decision, Port};
 use tva_shim::{HOPS_MAX, Packet, class_of, length};
 
 /// What a router keeps: the plan by which it was built and the plan in force, its last time, what it
-/// judges packets with, the tables by which it finds links, and a port for each outgoing link. Contracts speak of all its charges and of the logs of
-/// its links' ports, for which these stand. All memory is taken when it is built.
+/// judges packets with, the tables by which it finds links, and a port for each outgoing link. Contracts
+/// speak of all its charges since it last started, and of the logs of its links' ports, for which these
+/// stand. All memory is taken when it is built.
 #[derive(Drop)]
 pub struct Router {
     built: RouterPlan,

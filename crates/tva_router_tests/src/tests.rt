@@ -9,7 +9,7 @@ mod cases;
 mod lines;
 
 use cases::cases;
-use lines::{MASTER, edge, limits_of, linked, number_at, packet_of};
+use lines::{MASTER, OTHER, edge, limits_of, linked, number_at, packet_of};
 use std::alloc::{AllocError, Global};
 use std::process::Abort;
 use std::test::Fail;
@@ -213,6 +213,15 @@ fn start_words(alloc: Global, class: Class, packet: &Packet, end: u64) -> Result
     Ok(format!(in alloc; "{class} R1#{ordinal} {bytes} {end}")?)
 }
 
+/// The router starts again with another master, which its plan has from then on.
+fn restart(rt: &impl Abort, replay: &mut Replay, call: &str) {
+    let now = number_at(call, 1, TIME_MAX);
+    assert!(rt; replay.last <= now);
+    replay.last = now;
+    replay.router.restart(Time(now), OTHER);
+    replay.plan.master = OTHER;
+}
+
 /// A router by that line, where it is the line of one.
 fn built(rt: &impl Abort, alloc: Global, line: &str) -> Result<Option<Replay>, Fail> {
     if line.starts_with("edge") {
@@ -228,10 +237,13 @@ fn built(rt: &impl Abort, alloc: Global, line: &str) -> Result<Option<Replay>, F
 /// What a call is answered, in words.
 fn told(rt: &impl Abort, alloc: Global, replay: &mut Replay, call: &str) -> Result<String, Fail> {
     if call.starts_with("in") {
-        arrive(rt, alloc, replay, call)
-    } else {
-        start(rt, alloc, replay, call)
+        return arrive(rt, alloc, replay, call);
     }
+    if call.starts_with("restart") {
+        restart(rt, replay, call);
+        return Ok(String::from_str(alloc, "done")?);
+    }
+    start(rt, alloc, replay, call)
 }
 
 /// Makes the call of a line and compares the answer. It tells whether there was a call.
@@ -269,7 +281,7 @@ fn follow_all(rt: &impl Abort, alloc: Global, replay: &mut Option<Replay>) -> Re
             calls = calls.wrapping_add(1);
         }
     }
-    assert_eq!(rt; calls, 269);
+    assert_eq!(rt; calls, 280);
     Ok(())
 }
 

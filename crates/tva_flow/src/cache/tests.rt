@@ -189,3 +189,33 @@ fn room_at_the_exact_end_of_one_of_many_lives(rt: HostRuntime) -> Result<(), Fai
     }
     Ok(())
 }
+
+/// A cache that was cleared knows no flow of before, and has room for as many as at first. When it is full
+/// again, the one whose end comes first makes room.
+#[test]
+fn cleared_and_full_again(rt: HostRuntime) -> Result<(), Fail> {
+    let mut cache = FlowCache::with_slots(rt.alloc(), 100, 0)?;
+    for start in [0u64, 10] {
+        for number in 0..100u32 {
+            let now = start.wrapping_add(u64::from(number) / 20);
+            let (verdict, living) = half_of_a_unit(&rt, &mut cache, now, number);
+            assert!(rt; matches!(verdict, Verdict::Authorised(_)));
+            assert_eq!(rt; living, number.wrapping_add(1));
+        }
+        let now = start.wrapping_add(5);
+        let (verdict, living) = half_of_a_unit(&rt, &mut cache, now, 100);
+        assert!(rt; verdict == Verdict::CacheFull && living == 100);
+        if start == 0 {
+            cache.clear();
+            let flow = Flow {
+                src: Address(7),
+                dst: Address(1),
+            };
+            let answer = admit_nonce(&rt, &mut cache, now, flow, 1, 100);
+            assert_eq!(rt; answer, (Verdict::UnknownNonce, 0));
+        }
+    }
+    let (verdict, living) = half_of_a_unit(&rt, &mut cache, 1_000_000_010, 100);
+    assert!(rt; matches!(verdict, Verdict::Authorised(_)) && living == 81);
+    Ok(())
+}

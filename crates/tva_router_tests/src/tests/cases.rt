@@ -6,7 +6,7 @@
 // for requests and for regular packets QUEUES/RING/QUEUE_BYTES/CLASS_BYTES, and for legacy packets
 // RING/BYTES. Then come its calls, each with its answer: `in TIME SOURCE DESTINATION PAYLOAD SHIM`, whose
 // packets are numbered from 1, with class, cause and outcome; and `start TIME LINK`, with class, number,
-// length and the time at which the link is free again.
+// length and the time at which the link is free again; and `restart TIME`, with a master of bytes 255.
 pub fn cases() -> &'static str {
     CASES
 }
@@ -341,4 +341,19 @@ in 5000000000 10.0.0.1 10.0.1.1 472 110600000000000a0100004a0500112233445566 -> 
 in 7000000000 10.0.0.1 10.0.1.1 472 110600000000000a0100004205e5a8e67c5a90d3 -> legacy expired dropped:no-route
 in 7000000000 10.0.0.2 10.0.1.1 472 110600000000000a0100004305d54e1cfa2e125a -> regular - dropped:no-route
 in 7000000000 10.0.0.1 10.0.1.2 472 110600000000000a0100004305d32ccaeb5d61c0 -> regular - dropped:no-route
+case restart between a list and its nonce
+edge 8 0 0
+in 5000000000 10.0.0.1 10.0.1.1 472 110600000000000a0100004a05a306372d5b388a -> regular - dropped:no-route
+in 5100000000 10.0.0.1 10.0.1.1 0 120600000000000a -> regular - dropped:no-route
+restart 5200000000 -> done
+in 5200000000 10.0.0.1 10.0.1.1 0 120600000000000a -> legacy unknown-nonce dropped:no-route
+in 5300000000 10.0.0.1 10.0.1.1 472 110600000000000a0100004a05a306372d5b388a -> legacy bad-hash dropped:no-route
+case restart leaves what is queued
+links 8 0 0 ns_per_byte=10 share=20 burst=8192 quantum=2048 request=64/32/65536/1048576 regular=64/32/65536/1048576 legacy=256/262144
+in 0 10.0.0.1 10.0.1.1 80 - -> legacy - queued:1
+in 0 10.0.0.1 10.0.1.129 80 - -> legacy - queued:3
+restart 0 -> done
+start 0 1 -> legacy R1#1 100 1000
+in 1000 10.0.0.1 10.0.1.1 80 - -> legacy - queued:1
+start 1000 3 -> legacy R1#2 100 2000
 ";

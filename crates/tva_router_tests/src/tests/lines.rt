@@ -16,6 +16,9 @@ pub const MASTER: [u8; 32] = [
     26, 27, 28, 29, 30, 31,
 ];
 
+/// The master after a restart.
+pub const OTHER: [u8; 32] = [255; 32];
+
 /// The number of a word, and 0 where it is none or above the greatest.
 fn number(word: Option<&str>, most: u64) -> u64
     ensures { result ≤ most }
@@ -157,6 +160,8 @@ pub fn linked(alloc: Global, line: &str, limits: LinkLimits) -> Result<RouterPla
             route(0x0a00_0180, 25, 2),
             route(0x0a00_0181, 32, 3),
         ]?),
+        restarts: Listed::new(Vec::new(alloc)),
+        reroutes: Listed::new(Vec::new(alloc)),
     })
 }
 

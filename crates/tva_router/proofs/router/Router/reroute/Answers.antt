@@ -1,9 +1,9 @@
-use Rattle.std.proofs.Common.{◌≤◌, ℕ, List, sym, subst}
+use Rattle.std.proofs.Common.{◌≤◌, List, sym, subst}
 use Rattle.std.specs.Prelude.{Contains}
 use Rattle.tva_base.specs.Changes.{changed}
 use Rattle.tva_base.specs.Plan.{links_of}
 use Rattle.tva_base.specs.declared.plan.Route.{Route}
-use Rattle.tva_router.specs.Stands.{RouterData, router_data, StandsFor}
+use Rattle.tva_router.specs.Stands.{RouterData, StandsFor}
 use Rattle.tva_router.specs.Steps.{IsSound}
 use Rattle.tva_router.proofs.Changed.{rerouted_sound, rerouted_stands}
 use Rattle.tva_router.proofs.router.Router.reroute.Goals as goal

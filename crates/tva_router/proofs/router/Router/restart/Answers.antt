@@ -1,5 +1,5 @@
-use Rattle.std.proofs.Common.{◌≤◌, ℕ, List, [], sym, subst}
-use Rattle.tva_router.specs.Stands.{RouterData, router_data, StandsFor}
+use Rattle.std.proofs.Common.{◌≤◌, sym, subst}
+use Rattle.tva_router.specs.Stands.{RouterData, StandsFor}
 use Rattle.tva_router.proofs.Changed.{restarted_sound, restarted_stands}
 use Rattle.tva_router.proofs.router.Router.restart.Goals as goal
 

@@ -1,6 +1,8 @@
 use Rattle.std.proofs.Common.{◌≡◌, ℕ, ◌<◌, ◌≤◌, List, [], ◌∷◌, length, get_or, refl, sym, ap, subst, ◌∙◌, zero, suc, arith}
 use Rattle.std.specs.Prelude.{All, Contains, map, ◌%◌, ◌^◌, ◌-◌}
-use Rattle.tva_base.specs.Plan.{IsRouterPlan, AreLinkLimits, AreDistinct, IsPrefix, links_of}
+use Rattle.tva_base.specs.Plan.{IsRouterPlan, AreLinkLimits, AreDistinct, AreRising, IsPrefix, links_of}
+use Rattle.tva_base.specs.Changes.{of_prefix}
+use Rattle.tva_base.specs.declared.packet.Time.{Time}
 use Rattle.tva_base.specs.declared.limits.LinkLimits.{LinkLimits}
 use Rattle.tva_base.specs.declared.addresses.Prefix.{Prefix}
 use Rattle.tva_base.specs.declared.plan.Route.{Route}
@@ -78,8 +80,8 @@ way_prefixes =
     four_all (λ (r : Route). IsPrefix r.prefix) (to 0 0 0) (to 167772416 24 1) (to 167772544 25 2) (to 167772545 32 3)
     (valid 0 0 0 (omega arith) refl) (valid 167772416 24 1 (omega arith) refl) (valid 167772544 25 2 (omega arith) refl) (valid 167772545 32 3 (omega arith) refl)
 
-plan_is : (r : RouterPlan) (l : LinkLimits) → r.clock_offset ≤ 1000000000000000 → r.slots ≤ 1000000 → AreLinkLimits l → r.incoming ≡ (9, 12) ∷ [] → r.outgoing ≡ outs l → r.routes ≡ ways → IsRouterPlan r
-plan_is r l offset slots k incoming outgoing routes = record {
+plan_is : (r : RouterPlan) (l : LinkLimits) → r.clock_offset ≤ 1000000000000000 → r.slots ≤ 1000000 → AreLinkLimits l → r.incoming ≡ (9, 12) ∷ [] → r.outgoing ≡ outs l → r.routes ≡ ways → r.restarts ≡ [] → r.reroutes ≡ [] → IsRouterPlan r
+plan_is r l offset slots k incoming outgoing routes restarts reroutes = record {
   clock_offset = offset;
   slots = slots;
   incoming = subst (λ (z : List (ℕ × ℕ)). AreDistinct (links_of z)) (sym incoming) (absent-nil 9, tt);
@@ -89,6 +91,10 @@ plan_is r l offset slots k incoming outgoing routes = record {
       (subst (λ (z : List Route). All (λ (w : Route). Contains (links_of (outs l)) w.link) z) (sym routes) (way_links l));
   prefixes = subst (λ (z : List Route). All (λ (w : Route). IsPrefix w.prefix) z) (sym routes) way_prefixes;
   apart = subst (λ (z : List Route). AreDistinct (map (λ (w : Route). w.prefix) z)) (sym routes) ways_apart;
+  boots = subst (λ (z : List (Time × List ℕ)). AreRising (map (λ c. c.0.0) z)) (sym restarts) tt;
+  moved = subst (λ (z : List (Time × Prefix × ℕ)). All (λ c. Contains (map (λ (w : Route). w.prefix) r.routes) c.1) z) (sym reroutes) (all-nil (λ (c : Time × Prefix × ℕ). Contains (map (λ (w : Route). w.prefix) r.routes) c.1));
+  ways = subst (λ (z : List (Time × Prefix × ℕ)). All (λ c. Contains (links_of r.outgoing) c.2) z) (sym reroutes) (all-nil (λ (c : Time × Prefix × ℕ). Contains (links_of r.outgoing) c.2));
+  turns = λ prefix. subst (λ (z : List (Time × Prefix × ℕ)). AreRising (map (λ c. c.0.0) (of_prefix prefix z))) (sym reroutes) tt;
 }
 
 four_is : (a b c d p q r s : Route) → a ≡ p → b ≡ q → c ≡ r → d ≡ s → a ∷ b ∷ c ∷ d ∷ [] ≡ p ∷ q ∷ r ∷ s ∷ []
@@ -100,3 +106,4 @@ returns c =
     (c.new-2.ensures ∙ c.in_ok-vec.ensures.items)
     (c.new-3.ensures ∙ c.in_ok-vec-2.ensures.items)
     (c.new-4.ensures ∙ c.in_ok-vec-3.ensures.items ∙ four_is _ _ _ _ _ _ _ _ c.route.ensures c.route-2.ensures c.route-3.ensures c.route-4.ensures)
+    c.new-5.ensures c.new-6.ensures
