@@ -1,5 +1,5 @@
 pub mod Sorting
-pub mod Changes
+pub mod Making
 pub mod Steps
 pub mod Finding
 pub mod Roles

@@ -68,7 +68,7 @@ use Rattle.tva_node.specs.declared.role.Hosted.{Hosted}
 use Rattle.tva_node.specs.States.{RoleStands, StandsAsRouter, StandsAsHost, IsBy, role_plan}
 use Rattle.tva_node.specs.Making.{IsUpTo}
 use Rattle.tva_node.specs.Steps.{HostTook, RouterTook, Takes, reply_went, started_by, went_out}
-use Rattle.tva_node.proofs.Changes.{routed_later, same_links}
+use Rattle.tva_node.proofs.Making.{routed_later, same_links}
 
 -- a time is no earlier
 pub by-later : (now later : ℕ) (role : Role) → now ≤ later → IsBy now role → IsBy later role

@@ -1,5 +1,5 @@
 -- Which of the changes of a router's plan are made.
-use Rattle.std.specs.Prelude.{◌≡◌, ℕ, ◌≤◌, List, All, map, take, length}
+use Rattle.std.specs.Prelude.{◌≡◌, ℕ, ◌≤◌, List, All, Contains, map, take, length}
 use Rattle.std.specs.List.{AllByRecursion}
 use Rattle.tva_base.specs.declared.addresses.Prefix.{Prefix}
 use Rattle.tva_base.specs.declared.packet.Time.{Time}
@@ -18,7 +18,7 @@ move_time c = c.0.0
 pub record AreByTime (file moves : List (Time × Prefix × ℕ)) : Type 0 where
   pub times : NeverFalls move_time moves
   pub same : (prefix : Prefix) → of_prefix prefix moves ≡ of_prefix prefix file
-  pub each : (P : Time × Prefix × ℕ → Type 0) → All P file → All P moves
+  pub there : All (Contains file) moves
 
 -- the first so many of some changes are made, and none of these is later than a time
 pub record AreMade {X : Type 0} (time : X → ℕ) (changes : List X) (count now : ℕ) : Type 0 where

@@ -8,7 +8,7 @@ use Rattle.tva_node.specs.declared.role.Hosted.{Hosted}
 use Rattle.tva_node.specs.States.{IsBy, RoleStands, StandsAsHost, role_plan}
 use Rattle.tva_node.specs.Steps.{started_by}
 use Rattle.tva_node.proofs.Roles.{host_decided, host_out, not_none, router_decided, router_has_out}
-use Rattle.tva_node.proofs.Changes.{routed_same}
+use Rattle.tva_node.proofs.Making.{routed_same}
 use Rattle.tva_node.proofs.role.Role.decide.Goals as goal
 
 pub decide-requires-clause-outgoing : goal.decide-requires-clause-outgoing

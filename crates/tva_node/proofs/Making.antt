@@ -6,8 +6,8 @@ use Rattle.std.specs.List.Sorted.{IsNonDecreasingBy, IsPermutation, IsStableByKe
 use Rattle.std.specs.Ordering.{nat_cmp}
 use Rattle.std.proofs.lemmas.Bool.{cases_Bool, cond-true, cond-false, le-leb, cases_lt}
 use Rattle.std.proofs.lemmas.Bool.Decides.{nat_tests}
-use Rattle.std.proofs.lemmas.List.{take-append-drop, take_more, length-take-le}
-use Rattle.std.proofs.lemmas.List.Elements.{filter-append, All-get_or}
+use Rattle.std.proofs.lemmas.List.{map_push, take-append-drop, take_more, length-take-le}
+use Rattle.std.proofs.lemmas.List.Elements.{filter-append, All-get_or, Contains-get_or}
 use Rattle.std.proofs.lemmas.List.Sorted.{All-permutation}
 use Rattle.std.proofs.lemmas.List.Sums.{length-filter}
 use Rattle.tva_base.specs.declared.addresses.Prefix.{Prefix}
@@ -37,7 +37,7 @@ use Rattle.tva_node.proofs.Sorting.{falls_from, order_of, rising_falls, ties_fro
 -- ## changes of routes by time
 
 -- some change at a time
-abbrev some_move : ℕ → Time × Prefix × ℕ
+abbrev pub some_move : ℕ → Time × Prefix × ℕ
 some_move t = (record { 0 = t }, record { address = record { 0 = 0 }; bits = 0 }, 0)
 
 pub by_time : (file moves : List (Time × Prefix × ℕ)) → ((prefix : Prefix) → AreRising (map move_time (of_prefix prefix file)))
@@ -55,8 +55,12 @@ by_time file moves rise permuted sorted stable =
               filter_swap (λ c. move_time c == t) own moves
               ∙ (ap (filter own) (ties_from move_time some_move (λ k. refl) file moves stable t)
               ∙ sym (filter_swap (λ c. move_time c == t) own file)));
-      each = λ P a. All-permutation P file moves permuted a;
+      there = All-permutation (Contains file) file moves permuted (λ k d l. Contains-get_or file k d l);
     }
+
+-- what holds of all changes of a plan holds of them by time
+each_there : (P : Time × Prefix × ℕ → Type 0) (file : List (Time × Prefix × ℕ)) (x : Time × Prefix × ℕ) → All P file → Contains file x → P x
+each_there P file x a (k, l, e) = subst P e (All-get_or P file k x l a)
 
 -- ## what has come
 
@@ -110,6 +114,31 @@ up_to now r b next_boot next_move =
 
 -- ## one step
 
+last_push : {X : Type 0} (d : X) (xs : List X) (x : X) → last_of d (xs ++ x ∷ []) ≡ x
+last_push d [] x = refl
+last_push d (y ∷ ys) x = last_push y ys x
+
+-- one more restart has come
+pub restart_more : (restarts : List (Time × List ℕ)) (now from at : ℕ) (m : Option (List ℕ)) (d : Time × List ℕ) → IsRestarted restarts now from at m → at < length restarts → (get_or restarts at d).0.0 ≤ now
+    → IsRestarted restarts now from (at + 1) (Some (get_or restarts at d).1)
+restart_more restarts now from at m d is within come =
+    let more : take (at + 1) restarts ≡ take at restarts ++ get_or restarts at d ∷ [] = take_more restarts at d within in
+    let on = is.on.0 in
+    record {
+      on = (omega (arith, on), omega (arith, within));
+      come = λ h. subst (AllByRecursion (λ c. restart_time c ≤ now)) (sym more) (each-append (λ c. restart_time c ≤ now) (take at restarts) (get_or restarts at d ∷ []) (is.come h) (come, tt));
+      last = (
+        omega (arith, on),
+        λ e.
+            ap (λ (cs : List (Time × List ℕ)). last_of e (map (λ c. c.1) cs)) more
+            ∙ (ap (last_of e) (map_push (λ (c : Time × List ℕ). c.1) (take at restarts) (get_or restarts at d))
+            ∙ last_push e (map (λ c. c.1) (take at restarts)) (get_or restarts at d).1),
+      );
+    }
+
+pub restarts_none : (restarts : List (Time × List ℕ)) (now boot : ℕ) → boot ≤ length restarts → IsRestarted restarts now boot boot None
+restarts_none restarts now boot l = record { on = (omega arith, l); come = λ h. h; last = refl }
+
 -- a router with the same links out
 pub same_links : (now : ℕ) (r : Routed) → IsRoutedBy now r → (link : ℕ) → outgoing_link r.router.plan link ≡ outgoing_link r.router.built link
 same_links now r b link = ap (λ (p : RouterPlan). outgoing_link p link) b.plan
@@ -127,7 +156,7 @@ module _ (now : ℕ) (r : Routed) (b : IsRoutedBy now r) (d : Time × Prefix × 
   has_prefix =
       let plan = r.router.built in
       let P : Time × Prefix × ℕ → Type 0 = λ c. Contains (map (λ (x : Route). x.prefix) plan.routes) c.1 in
-      let there : P next = All-get_or P r.changes.moves.items r.changes.moved d within (b.moves.each P b.valid.moved) in
+      let there : P next = each_there P plan.reroutes next b.valid.moved (All-get_or (Contains plan.reroutes) r.changes.moves.items r.changes.moved d within b.moves.there) in
       let same : map (λ (x : Route). x.prefix) plan.routes ≡ map (λ (x : Route). x.prefix) r.router.plan.routes =
       sym (ap (λ (p : RouterPlan). map (λ (x : Route). x.prefix) p.routes) b.plan ∙ prefixes_after (take r.changes.moved r.changes.moves.items) plan.routes) in
       subst (λ (ps : List Prefix). Contains ps next.1) same there
@@ -136,7 +165,7 @@ module _ (now : ℕ) (r : Routed) (b : IsRoutedBy now r) (d : Time × Prefix × 
   has_way =
       let plan = r.router.built in
       let P : Time × Prefix × ℕ → Type 0 = λ c. Contains (links_of plan.outgoing) c.2 in
-      let there : P next = All-get_or P r.changes.moves.items r.changes.moved d within (b.moves.each P b.valid.ways) in
+      let there : P next = each_there P plan.reroutes next b.valid.ways (All-get_or (Contains plan.reroutes) r.changes.moves.items r.changes.moved d within b.moves.there) in
       subst (λ (p : RouterPlan). Contains (links_of p.outgoing) next.2) (sym b.plan) there
 
 -- nothing has come
@@ -193,14 +222,6 @@ restarts_on now r v boot master b is last built plan stands =
 same_sym : (p q : Prefix) → same_prefix p q ≡ same_prefix q p
 same_sym p q = grind (arith, nat_tests)
 
-last_push : (d : ℕ) (xs : List ℕ) (x : ℕ) → last_of d (xs ++ x ∷ []) ≡ x
-last_push d [] x = refl
-last_push d (y ∷ ys) x = last_push y ys x
-
-links_push : (moves : List (Time × Prefix × ℕ)) (x : Time × Prefix × ℕ) → map (λ (c : Time × Prefix × ℕ). c.2) (moves ++ x ∷ []) ≡ map (λ (c : Time × Prefix × ℕ). c.2) moves ++ x.2 ∷ []
-links_push [] x = refl
-links_push (m ∷ ms) x = ap (λ (ls : List ℕ). m.2 ∷ ls) (links_push ms x)
-
 one_more : (moves : List (Time × Prefix × ℕ)) (x : Time × Prefix × ℕ) (route : Route)
     → cond (same_prefix route.prefix x.1) (record route { link = x.2 }) (route_after moves route) ≡ route_after (moves ++ x ∷ []) route
 one_more moves x route =
@@ -210,7 +231,7 @@ one_more moves x route =
       | inl a ↦
           let links : map (λ c. c.2) (of_prefix route.prefix (moves ++ x ∷ [])) ≡ map (λ c. c.2) (of_prefix route.prefix moves) ++ x.2 ∷ [] =
           ap (map (λ (c : Time × Prefix × ℕ). c.2)) (split ∙ ap (λ (cs : List (Time × Prefix × ℕ)). of_prefix route.prefix moves ++ cs) (filter-true own x [] a))
-          ∙ links_push (of_prefix route.prefix moves) x in
+          ∙ map_push (λ (c : Time × Prefix × ℕ). c.2) (of_prefix route.prefix moves) x in
           let link : last_of route.link (map (λ c. c.2) (of_prefix route.prefix (moves ++ x ∷ []))) ≡ x.2 = ap (last_of route.link) links ∙ last_push route.link (map (λ c. c.2) (of_prefix route.prefix moves)) x.2 in
           cond-true (same_prefix route.prefix x.1) (record route { link = x.2 }) (route_after moves route) (same_sym route.prefix x.1 ∙ a)
           ∙ sym (ap (λ (k : ℕ). let r : Route = record route { link = k } in r) link)
