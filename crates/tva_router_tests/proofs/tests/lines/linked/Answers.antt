@@ -106,4 +106,4 @@ returns c =
     (c.new-2.ensures ∙ c.in_ok-vec.ensures.items)
     (c.new-3.ensures ∙ c.in_ok-vec-2.ensures.items)
     (c.new-4.ensures ∙ c.in_ok-vec-3.ensures.items ∙ four_is _ _ _ _ _ _ _ _ c.route.ensures c.route-2.ensures c.route-3.ensures c.route-4.ensures)
-    c.new-5.ensures c.new-6.ensures
+    (c.new-6.ensures ∙ c.new-5.ensures.items) (c.new-8.ensures ∙ c.new-7.ensures.items)
