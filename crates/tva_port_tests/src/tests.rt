@@ -215,6 +215,25 @@ fn decide(rt: &impl Abort, alloc: Global, port: &mut Port, now: u64) -> Result<S
     }
 }
 
+/// Makes a call at a time, and gives the answer in words. The ordinal is that of a packet to be queued.
+fn answer(
+    rt: &impl Abort,
+    alloc: Global,
+    port: &mut Port,
+    now: u64,
+    ordinal: u64,
+    call: &str,
+) -> Result<String, AllocError>
+    requires time { port.old.last ≤ now }
+    requires horizon { now ≤ 1000000000000000 }
+    ensures { port.new.last ≡ now }
+{
+    if call.starts_with("queue") {
+        return String::from_str(alloc, queue(rt, port, now, ordinal, call));
+    }
+    decide(rt, alloc, port, now)
+}
+
 /// Makes the calls of a case, compares their answers, and gives the number of calls.
 fn play(rt: &impl Abort, alloc: Global, case: &str) -> Result<u64, Fail> {
     let mut lines = case.lines().skip(1);
@@ -232,14 +251,9 @@ fn play(rt: &impl Abort, alloc: Global, case: &str) -> Result<u64, Fail> {
         let now = number(call.split(' ').nth(1));
         assert!(rt; last <= now && now <= 1_000_000_000_000_000);
         last = now;
-        if call.starts_with("queue") {
-            ordinal = ordinal.wrapping_add(1);
-            let answer = queue(rt, &mut port, now, ordinal, call);
-            assert_eq!(rt; answer, wanted, "{line}");
-        } else {
-            let answer = decide(rt, alloc, &mut port, now)?;
-            assert_eq!(rt; answer.as_str(), wanted, "{line}");
-        }
+        ordinal = ordinal.wrapping_add(u64::from(call.starts_with("queue")));
+        let told = answer(rt, alloc, &mut port, now, ordinal, call)?;
+        assert_eq!(rt; told.as_str(), wanted, "{line}");
         calls = calls.wrapping_add(1);
     }
     Ok(calls)
