@@ -65,7 +65,7 @@ turns p =
       | inr a ↦ subst (λ (cs : List (Time × Prefix × ℕ)). AreRising (map (λ (c : Time × Prefix × ℕ). c.0.0) cs)) (sym (none_passes (λ c. same_prefix c.1 p) ours (a, a, tt))) tt
     ]
 
-pub no_changes : AreChanges [] []
+no_changes : AreChanges [] []
 no_changes = record {
   boots = tt;
   moved = All-from_recursion (λ (c : Time × Prefix × ℕ). Contains networks c.1) [] tt;
@@ -73,8 +73,15 @@ no_changes = record {
   turns = λ p. tt;
 }
 
--- the changes of the test
-pub changes : (counting other : List ℕ) → AreChanges ((at 0, counting) ∷ (at 3500000, other) ∷ (at 4000000, counting) ∷ (at 7000000, other) ∷ (at 8000000, counting) ∷ []) (theirs ++ ours)
+pub none : (restarts : List (Time × List ℕ)) (reroutes : List (Time × Prefix × ℕ)) → restarts ≡ [] → reroutes ≡ [] → AreChanges restarts reroutes
+none restarts reroutes e f =
+    subst (λ (z : List (Time × List ℕ)). AreChanges z reroutes) (sym e)
+    (subst (λ (z : List (Time × Prefix × ℕ)). AreChanges [] z) (sym f) no_changes)
+
+abbrev boots : List ℕ → List ℕ → List (Time × List ℕ)
+boots counting other = (at 0, counting) ∷ (at 3500000, other) ∷ (at 4000000, counting) ∷ (at 7000000, other) ∷ (at 8000000, counting) ∷ []
+
+changes : (counting other : List ℕ) → AreChanges (boots counting other) (theirs ++ ours)
 changes counting other = record {
   boots = rising (0 ∷ 3500000 ∷ 4000000 ∷ 7000000 ∷ 8000000 ∷ []) ((omega arith, omega arith, omega arith, omega arith, tt), (omega arith, omega arith, omega arith, tt), (omega arith, omega arith, tt), (omega arith, tt), tt, tt);
   moved = All-from_recursion (λ (c : Time × Prefix × ℕ). Contains networks c.1) (theirs ++ ours) (there, there, there, there, here, here, tt);
@@ -93,3 +100,12 @@ changes counting other = record {
 
     two : Contains (1 ∷ 2 ∷ []) 2
     two = (1, omega arith, refl)
+
+abbrev moves : Prefix → Prefix → List (Time × Prefix × ℕ)
+moves here there = (at 4000000, there, 1) ∷ (at 4500000, there, 2) ∷ (at 6000000, there, 1) ∷ (at 9000000, there, 2) ∷ (at 0, here, 2) ∷ (at 6500000, here, 1) ∷ []
+
+-- the changes of the test
+pub five_and_six : (counting other : List ℕ) (here there : Prefix) (restarts : List (Time × List ℕ)) (reroutes : List (Time × Prefix × ℕ)) → here ≡ network 167772160 → there ≡ network 167772416 → restarts ≡ boots counting other → reroutes ≡ moves here there → AreChanges restarts reroutes
+five_and_six counting other here there restarts reroutes h t e f =
+    subst (λ (z : List (Time × List ℕ)). AreChanges z reroutes) (sym e)
+    (subst (λ (z : List (Time × Prefix × ℕ)). AreChanges (boots counting other) z) (sym (f ∙ ap₂ moves h t)) (changes counting other))

@@ -8,7 +8,7 @@ mod playing;
 mod renewal;
 mod walk;
 
-use changes::play_changes;
+use changes::{CHANGED, play_changes};
 use edges::EDGES;
 use notice::NOTICES;
 use playing::play;
@@ -39,6 +39,8 @@ fn nodes_at_their_edges(rt: HostRuntime) -> Result<(), Fail> {
 /// A router's restarts and the changes of its routes are in force for all inputs of their time.
 #[test]
 fn router_that_changes(rt: HostRuntime) -> Result<(), Fail> {
-    play_changes(&rt, rt.alloc())?;
+    for case in &CHANGED {
+        play_changes(&rt, rt.alloc(), case)?;
+    }
     Ok(())
 }
