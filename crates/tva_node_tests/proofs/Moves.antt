@@ -40,10 +40,10 @@ apart : (p : Prefix) → same_prefix (network 167772416) p ≡ true → same_pre
 apart p e = grind (arith, nat_tests)
 
 their_times : AreRising (map (λ (c : Time × Prefix × ℕ). c.0.0) theirs)
-their_times = rising (4000000 ∷ 4500000 ∷ 6000000 ∷ 9000000 ∷ []) ((omega arith, omega arith, omega arith, tt), (omega arith, omega arith, tt), (omega arith, tt), tt, tt)
+their_times = rising (4000000 ∷ 4500000 ∷ 6000000 ∷ 9000000 ∷ []) ((omega arith, (omega arith, (omega arith, tt))), ((omega arith, (omega arith, tt)), ((omega arith, tt), (tt, tt))))
 
 our_times : AreRising (map (λ (c : Time × Prefix × ℕ). c.0.0) ours)
-our_times = rising (0 ∷ 6500000 ∷ []) ((omega arith, tt), tt, tt)
+our_times = rising (0 ∷ 6500000 ∷ []) ((omega arith, tt), (tt, tt))
 
 turns : (p : Prefix) → AreRising (map (λ (c : Time × Prefix × ℕ). c.0.0) (of_prefix p (theirs ++ ours)))
 turns p =
@@ -53,16 +53,16 @@ turns p =
       | inl a ↦
           let b = apart p a in
           subst (λ (cs : List (Time × Prefix × ℕ)). AreRising (map (λ (c : Time × Prefix × ℕ). c.0.0) cs))
-          (sym (ap₂ (λ (x y : List (Time × Prefix × ℕ)). x ++ y) (all_pass own theirs (a, a, a, a, tt)) (none_passes own ours (b, b, tt)))) their_times
+          (sym (ap₂ (λ (x y : List (Time × Prefix × ℕ)). x ++ y) (all_pass own theirs (a, (a, (a, (a, tt))))) (none_passes own ours (b, (b, tt))))) their_times
       | inr a ↦
           subst (λ (cs : List (Time × Prefix × ℕ)). AreRising (map (λ (c : Time × Prefix × ℕ). c.0.0) cs))
-          (sym (ap (λ (x : List (Time × Prefix × ℕ)). x ++ filter own ours) (none_passes own theirs (a, a, a, a, tt)))) (ours_only p)
+          (sym (ap (λ (x : List (Time × Prefix × ℕ)). x ++ filter own ours) (none_passes own theirs (a, (a, (a, (a, tt))))))) (ours_only p)
     ])
   where
     ours_only : (p : Prefix) → AreRising (map (λ (c : Time × Prefix × ℕ). c.0.0) (of_prefix p ours))
     ours_only p = elim (cases_Bool (same_prefix (network 167772160) p)) [
-      | inl a ↦ subst (λ (cs : List (Time × Prefix × ℕ)). AreRising (map (λ (c : Time × Prefix × ℕ). c.0.0) cs)) (sym (all_pass (λ c. same_prefix c.1 p) ours (a, a, tt))) our_times
-      | inr a ↦ subst (λ (cs : List (Time × Prefix × ℕ)). AreRising (map (λ (c : Time × Prefix × ℕ). c.0.0) cs)) (sym (none_passes (λ c. same_prefix c.1 p) ours (a, a, tt))) tt
+      | inl a ↦ subst (λ (cs : List (Time × Prefix × ℕ)). AreRising (map (λ (c : Time × Prefix × ℕ). c.0.0) cs)) (sym (all_pass (λ c. same_prefix c.1 p) ours (a, (a, tt)))) our_times
+      | inr a ↦ subst (λ (cs : List (Time × Prefix × ℕ)). AreRising (map (λ (c : Time × Prefix × ℕ). c.0.0) cs)) (sym (none_passes (λ c. same_prefix c.1 p) ours (a, (a, tt)))) tt
     ]
 
 no_changes : AreChanges [] []
@@ -83,9 +83,9 @@ boots counting other = (at 0, counting) ∷ (at 3500000, other) ∷ (at 4000000,
 
 changes : (counting other : List ℕ) → AreChanges (boots counting other) (theirs ++ ours)
 changes counting other = record {
-  boots = rising (0 ∷ 3500000 ∷ 4000000 ∷ 7000000 ∷ 8000000 ∷ []) ((omega arith, omega arith, omega arith, omega arith, tt), (omega arith, omega arith, omega arith, tt), (omega arith, omega arith, tt), (omega arith, tt), tt, tt);
-  moved = All-from_recursion (λ (c : Time × Prefix × ℕ). Contains networks c.1) (theirs ++ ours) (there, there, there, there, here, here, tt);
-  ways = All-from_recursion (λ (c : Time × Prefix × ℕ). Contains (1 ∷ 2 ∷ []) c.2) (theirs ++ ours) (one, two, one, two, two, one, tt);
+  boots = rising (0 ∷ 3500000 ∷ 4000000 ∷ 7000000 ∷ 8000000 ∷ []) ((omega arith, (omega arith, (omega arith, (omega arith, tt)))), ((omega arith, (omega arith, (omega arith, tt))), ((omega arith, (omega arith, tt)), ((omega arith, tt), (tt, tt)))));
+  moved = All-from_recursion (λ (c : Time × Prefix × ℕ). Contains networks c.1) (theirs ++ ours) (there, (there, (there, (there, (here, (here, tt))))));
+  ways = All-from_recursion (λ (c : Time × Prefix × ℕ). Contains (1 ∷ 2 ∷ []) c.2) (theirs ++ ours) (one, (two, (one, (two, (two, (one, tt))))));
   turns = turns;
 }
   where
@@ -95,10 +95,10 @@ changes counting other = record {
     there : Contains networks (network 167772416)
     there = (1, omega arith, refl)
 
-    one : Contains (1 ∷ 2 ∷ []) 1
+    one : Contains {X = ℕ} (1 ∷ 2 ∷ []) 1
     one = (0, omega arith, refl)
 
-    two : Contains (1 ∷ 2 ∷ []) 2
+    two : Contains {X = ℕ} (1 ∷ 2 ∷ []) 2
     two = (1, omega arith, refl)
 
 abbrev moves : Prefix → Prefix → List (Time × Prefix × ℕ)

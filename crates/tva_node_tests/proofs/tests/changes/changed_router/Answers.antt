@@ -4,6 +4,6 @@ use Rattle.tva_node_tests.proofs.tests.changes.changed_router.Goals as goal
 
 pub changing_router-requires : goal.changing_router-requires
 changing_router-requires c =
-    five_and_six _ _ _ _ _ _ c.network.ensures c.network-2.ensures
-    (c.new.ensures ∙ c.in_ok-vec.ensures.items)
-    (c.new-2.ensures ∙ c.in_ok-vec-2.ensures.items)
+    five_and_six _ _ _ _ _ _ c.network-here.ensures c.network-there.ensures
+    (c.new.ensures ∙ c.in_ok-restarts.ensures.items)
+    (c.new-2.ensures ∙ c.in_ok-reroutes.ensures.items)
