@@ -42,8 +42,18 @@ pub struct ReplyLine {
     pub outcome: Outcome,
 }
 
+/// A range of a file that was delivered, in bytes: the number of the transfer at its source, where the
+/// range begins, and how long it is.
+#[derive(Clone, Copy, Debug, PartialEq, Eq)]
+pub struct DataLine {
+    pub transfer: u16,
+    pub first: u32,
+    pub bytes: u16,
+}
+
 /// What happened at a node. Lengths and payloads are in bytes, and `from` and `link` are
-/// numbers of links. A packet with no link before it comes from the trace.
+/// numbers of links. A packet with no link before it comes from the trace. `Ticked` is a tick for which
+/// nothing is sent.
 #[derive(Clone, Copy, Debug, PartialEq, Eq)]
 pub enum Happened {
     Arrived {
@@ -66,6 +76,7 @@ pub enum Happened {
         what: WhatKind,
         back: BackKind,
         reply: Option<ReplyLine>,
+        range: Option<DataLine>,
     },
     Started {
         id: PacketId,
@@ -74,6 +85,7 @@ pub enum Happened {
         class: Class,
         end: Time,
     },
+    Ticked,
 }
 
 /// What happened, when and at which node.

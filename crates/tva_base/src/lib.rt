@@ -20,12 +20,13 @@ mod versions;
 pub use addresses::{Address, Prefix};
 pub use constants::{LENGTH_MAX, SECOND, TIME_MAX, UNIT, constants_hold};
 pub use credits::credit;
-pub use event::{BackKind, Event, Happened, ReplyLine, ShapeKind, Totals, WhatKind};
+pub use event::{BackKind, DataLine, Event, Happened, ReplyLine, ShapeKind, Totals, WhatKind};
 pub use limits::{DrrLimits, LinkLimits};
 pub use listed::{Caps, Listed};
 pub use numbers::decimal;
 pub use packet::{
-    Cause, Class, DropCause, Fate, Flow, Grant, Outcome, PacketId, Rights, Time, grants_are_ordered,
+    Cause, Class, DropCause, Fate, Flow, Grant, Outcome, PacketId, Rights, Time, Upper,
+    grants_are_ordered,
 };
 pub use plan::{HostPlan, LinkPlan, PolicyKind, PolicyPlan, Route, RouterPlan};
 pub use readers::{address, addresses_are_four_numbers, prefix};

@@ -1,4 +1,4 @@
-// What names a packet, what a sender may send, and what became of an arrival.
+// What names a packet, what it may bring, what a sender may send, and what became of an arrival.
 ghost use Rattle.std.specs.Prelude.{◌≡◌};
 ghost use Rattle.tva_base.specs.Orders.{grant_order};
 
@@ -21,6 +21,23 @@ pub struct Flow {
 pub struct PacketId {
     pub node: u16,
     pub ordinal: u64,
+}
+
+/// What a packet has above its shim, within its payload: nothing; the bytes of a file from `first`
+/// on, by the number of the transfer at the source; or that all bytes of the source's transfer of
+/// that number came up to `next`.
+#[derive(Clone, Copy, Debug, PartialEq, Eq)]
+pub enum Upper {
+    Nothing,
+    Data {
+        transfer: u16,
+        first: u32,
+        bytes: u16,
+    },
+    Ack {
+        transfer: u16,
+        next: u32,
+    },
 }
 
 /// What a destination grants: `n` units of 1,024 bytes within `t` seconds.

@@ -1,8 +1,10 @@
 -- What a host makes of the packets that it receives.
-use Rattle.std.specs.Prelude.{ℕ, ◌==◌, Bool, true, false, ◌&&◌, if◌then◌else◌, List, [], ◌∷◌, ◌++◌, length, map}
+use Rattle.std.specs.Prelude.{ℕ, ◌+◌, ◌==◌, Bool, true, false, ◌&&◌, if◌then◌else◌, List, [], ◌∷◌, ◌++◌, length, map}
 use Rattle.std.specs.Prelude.{is_some, Option, Some, None}
 use Rattle.tva_base.specs.declared.addresses.Address.{Address}
 use Rattle.tva_base.specs.declared.packet.Rights.{Rights}
+use Rattle.tva_base.specs.declared.packet.Upper.{Upper}
+use Rattle.tva_base.specs.declared.packet.Upper.TheVariants as upper
 use Rattle.tva_base.specs.declared.plan.HostPlan.{HostPlan}
 use Rattle.tva_base.specs.declared.event.WhatKind.{WhatKind}
 use Rattle.tva_base.specs.declared.event.WhatKind.TheVariants as what
@@ -17,7 +19,7 @@ use Rattle.tva_shim.specs.declared.packets.Carried.{Carried}
 use Rattle.tva_shim.specs.declared.packets.Carried.TheVariants as carried
 use Rattle.tva_shim.specs.Changes.{nonzero_tags}
 use Rattle.tva_shim.specs.Layout.{return_size}
-use Rattle.tva_shim.specs.Packets.{PacketData}
+use Rattle.tva_shim.specs.Packets.{PacketData, upper_size}
 use Rattle.tva_caps.specs.Formula.{capability_of}
 use Rattle.tva_policy.specs.Grants.{Deed, Decided, decision}
 use Rattle.tva_sender.specs.Contacts.{Contact, Taken, Notice, takes}
@@ -116,18 +118,29 @@ decided_on plan deeds src (Some claim) = Decided src (is_some (decision plan.pol
 abbrev pub after_answer : HostPlan → Address → Carried → History → History
 after_answer plan src carries h = record h { deeds = h.deeds ++ decided_on plan h.deeds src (claim_in carries) }
 
--- fourth, the reply that brings the answer to the source. It has no payload, and its body is the
--- bytes of its return info
-abbrev pub reply_of : ℕ → HostPlan → History → ℕ → Address → Option ReturnInfo → Option Made
-reply_of node plan h now src None = None
-reply_of node plan h now src (Some back) =
-    Some (next_made node plan h src 0
-    (carried.Shim (shim_of plan.version (next_shape plan h now src (return_size plan.version back)) back))
-    (next_shape plan h now src (return_size plan.version back)))
+-- an upper part that is to be answered rides on that reply; where there is none, it has one of its own without
+-- return info
+abbrev pub brought_by : Upper → Option ReturnInfo → Option ReturnInfo
+brought_by above (Some back) = Some back
+brought_by upper.Nothing None = None
+brought_by (upper.Data transfer first bytes) None = Some backs.Nothing
+brought_by (upper.Ack transfer next) None = Some backs.Nothing
 
-abbrev pub after_reply : HostPlan → ℕ → Address → Option ReturnInfo → History → History
-after_reply plan now src None h = h
-after_reply plan now src (Some back) h = with_made plan now src (return_size plan.version back) h
+-- a reply's body: the bytes of its return info and those of its upper part
+abbrev pub body_of : ℕ → ReturnInfo → Upper → ℕ
+body_of version back above = return_size version back + upper_size above
+
+-- fourth, the reply that brings the answer to the source. Its payload is its upper part
+abbrev pub reply_of : ℕ → HostPlan → History → ℕ → Address → Option ReturnInfo → Upper → Option Made
+reply_of node plan h now src None above = None
+reply_of node plan h now src (Some back) above =
+    Some (next_made node plan h src (upper_size above)
+    (carried.Shim (shim_of plan.version (next_shape plan h now src (body_of plan.version back above)) back)) above
+    (next_shape plan h now src (body_of plan.version back above)))
+
+abbrev pub after_reply : HostPlan → ℕ → Address → Option ReturnInfo → Upper → History → History
+after_reply plan now src None above h = h
+after_reply plan now src (Some back) above h = with_made plan now src (body_of plan.version back above) h
 
 -- what is told of a packet for another host, of which nothing comes
 abbrev pub stray : Receipt
@@ -138,22 +151,23 @@ abbrev pub before_reply : HostPlan → Address → Carried → History → Histo
 before_reply plan src carries h = after_answer plan src carries (after_back plan.version src (back_in carries) h)
 
 -- what a host tells of a packet for it
-abbrev pub received : ℕ → HostPlan → History → ℕ → Address → Carried → Receipt
-received node plan h now src carries = record {
+abbrev pub received : ℕ → HostPlan → History → ℕ → Address → Carried → Upper → Receipt
+received node plan h now src carries above = record {
   what = what_of carries;
   back = became_of plan.version h.contacts src (back_in carries);
   reply = reply_of node plan (before_reply plan src carries h) now src
-      (answer_to plan h.deeds src carries (claim_in carries));
+      (brought_by above (answer_to plan h.deeds src carries (claim_in carries))) above;
 }
 
--- the receipt of a packet, over what the host did and met
-unfoldable pub receipt_of : ℕ → HostPlan → History → ℕ → PacketData → Receipt
-receipt_of node plan h now p =
-    if p.flow.dst.0 == plan.address.0 then received node plan h now p.flow.src p.carried else stray
+-- the receipt of a packet with an upper part that is to be answered, over what the host did and met
+unfoldable pub receipt_of : ℕ → HostPlan → History → ℕ → PacketData → Upper → Receipt
+receipt_of node plan h now p above =
+    if p.flow.dst.0 == plan.address.0 then received node plan h now p.flow.src p.carried above else stray
 
-unfoldable pub after_receipt : HostPlan → History → ℕ → PacketData → History
-after_receipt plan h now p =
+unfoldable pub after_receipt : HostPlan → History → ℕ → PacketData → Upper → History
+after_receipt plan h now p above =
     if p.flow.dst.0 == plan.address.0
-    then after_reply plan now p.flow.src (answer_to plan h.deeds p.flow.src p.carried (claim_in p.carried))
+    then after_reply plan now p.flow.src
+    (brought_by above (answer_to plan h.deeds p.flow.src p.carried (claim_in p.carried))) above
     (before_reply plan p.flow.src p.carried h)
     else h

@@ -2,6 +2,8 @@
 use Rattle.std.specs.Prelude.{ℕ, Bool, true, false, if◌then◌else◌, []}
 use Rattle.tva_base.specs.declared.addresses.Address.{Address}
 use Rattle.tva_base.specs.declared.packet.Flow.{Flow}
+use Rattle.tva_base.specs.declared.packet.Upper.{Upper}
+use Rattle.tva_base.specs.declared.packet.Upper.TheVariants as upper
 use Rattle.tva_base.specs.declared.plan.HostPlan.{HostPlan}
 use Rattle.tva_base.specs.Ordinals.{ordinal_behind}
 use Rattle.tva_base.specs.declared.event.ShapeKind.{ShapeKind}
@@ -14,7 +16,7 @@ use Rattle.tva_shim.specs.declared.kinds.ReturnInfo.TheVariants as backs
 use Rattle.tva_shim.specs.declared.packets.Carried.{Carried}
 use Rattle.tva_shim.specs.declared.packets.Carried.TheVariants as carried
 use Rattle.tva_shim.specs.Shims.{ShimData}
-use Rattle.tva_shim.specs.Packets.{PacketData, made_packet}
+use Rattle.tva_shim.specs.Packets.{PacketData, made_with}
 use Rattle.tva_policy.specs.Grants.{Sent}
 use Rattle.tva_sender.specs.declared.shape.Held.{Held}
 use Rattle.tva_sender.specs.declared.shape.Shape.{Shape}
@@ -66,10 +68,13 @@ abbrev pub carried_by : ℕ → Shape → Carried
 carried_by version shape =
     if is_legacy shape then carried.Nothing else carried.Shim (shim_of version shape backs.Nothing)
 
--- the next packet of the node
+-- the next packet of the node, with an upper part, and the next one without
+abbrev pub next_with : ℕ → History → Flow → ℕ → Carried → Upper → PacketData
+next_with node h flow payload carries above =
+    made_with (record { node = node; ordinal = ordinal_behind h.made }) flow payload carries above
+
 abbrev pub next_packet : ℕ → History → Flow → ℕ → Carried → PacketData
-next_packet node h flow payload carries =
-    made_packet (record { node = node; ordinal = ordinal_behind h.made }) flow payload carries
+next_packet node h flow payload carries = next_with node h flow payload carries upper.Nothing
 
 -- the shape of the next packet for a peer, with a body of so many bytes
 abbrev pub next_shape : HostPlan → History → ℕ → Address → ℕ → Shape
@@ -77,9 +82,9 @@ next_shape plan h now dst body =
     shape_of plan.margin plan.retry plan.version (of_peer dst h.contacts) now body (offered plan h)
 
 -- the next packet of the host for a peer, in that shape
-abbrev pub next_made : ℕ → HostPlan → History → Address → ℕ → Carried → Shape → Made
-next_made node plan h dst payload carries shape = record {
-  packet = next_packet node h (record { src = plan.address; dst = dst }) payload carries;
+abbrev pub next_made : ℕ → HostPlan → History → Address → ℕ → Carried → Upper → Shape → Made
+next_made node plan h dst payload carries above shape = record {
+  packet = next_with node h (record { src = plan.address; dst = dst }) payload carries above;
   shape = kind_shown_of shape;
 }
 
@@ -87,12 +92,12 @@ next_made node plan h dst payload carries shape = record {
 abbrev pub with_made : HostPlan → ℕ → Address → ℕ → History → History
 with_made plan now dst body h = with_packet (with_prepared plan.version now dst (next_shape plan h now dst body) body h)
 
--- the packet that a send row gives, over what the host did and met
-unfoldable pub intended : ℕ → HostPlan → History → ℕ → Address → ℕ → Made
-intended node plan h now dst payload =
-    next_made node plan h dst payload (carried_by plan.version (next_shape plan h now dst payload))
+-- the packet that a host sends to a destination with an upper part, over what the host did and met
+unfoldable pub intended : ℕ → HostPlan → History → ℕ → Address → ℕ → Upper → Made
+intended node plan h now dst payload above =
+    next_made node plan h dst payload (carried_by plan.version (next_shape plan h now dst payload)) above
     (next_shape plan h now dst payload)
 
--- a send row is noted for the policy, and its packet is prepared and made
+-- its destination is noted for the policy, and it is prepared and made
 unfoldable pub after_intending : HostPlan → History → ℕ → Address → ℕ → History
 after_intending plan h now dst payload = with_made plan now dst payload (with_deed (Sent dst) h)

@@ -3,25 +3,27 @@ ghost use Rattle.std.specs.Prelude.{◌≡◌, ◌≤◌, ◌+◌, min, ◌==◌
 ghost use Rattle.tva_base.specs.Plan.{IsHostPlan};
 ghost use Rattle.tva_base.specs.Versions.{IsVersion};
 ghost use Rattle.tva_shim.specs.Shims.{IsReturn};
-ghost use Rattle.tva_shim.specs.Packets.{IsCarried};
+ghost use Rattle.tva_shim.specs.Packets.{IsCarried, IsUpper, Fills, upper_size};
 ghost use Rattle.tva_shim.specs.Shows.{back_in};
 ghost use Rattle.tva_policy.specs.Grants.{Sent};
 ghost use Rattle.tva_sender.specs.Showable.{IsShowable};
 ghost use Rattle.tva_host.specs.History.{History, with_deed, with_packet, with_prepared};
-ghost use Rattle.tva_host.specs.Sending.{next_packet, next_shape, intended};
-ghost use Rattle.tva_host.specs.Receiving.{taken_or_ignored, became_of, after_back, claim_in, answer_to, after_answer, reply_of, after_reply, receipt_of};
+ghost use Rattle.tva_host.specs.Sending.{next_packet, next_with, next_shape, intended};
+ghost use Rattle.tva_host.specs.Receiving.{taken_or_ignored, became_of, after_back, claim_in, answer_to, after_answer, brought_by, body_of, reply_of, after_reply, receipt_of};
 ghost use Rattle.tva_host.specs.Calls.{Call, Intended, Injected, Received, history_of};
 ghost use Rattle.tva_host.specs.Stands.{Keeps, StandsFor, with_room, at_time};
 
 use crate::made::{Made, Receipt};
 use crate::packets::{carried_by, kind_shown_of, shim_of};
-use crate::received::{claim_in, granted, notice_for, return_size, stray, what_of};
+use crate::received::{brought_by, claim_in, granted, notice_for, return_size, stray, what_of};
 use std::alloc::{AllocError, Global};
 use std::marker::Model;
-use tva_base::{Address, BackKind, Flow, HostPlan, Listed, Name, PacketId, PolicyPlan, Time};
+use tva_base::{
+    Address, BackKind, Flow, HostPlan, Listed, Name, PacketId, PolicyPlan, Time, Upper,
+};
 use tva_policy::Policy;
 use tva_sender::{Sender, Shape};
-use tva_shim::{Carried, Packet, ReturnInfo};
+use tva_shim::{Carried, Packet, ReturnInfo, upper_size};
 
 /// How many nonces there are: they have 48 bits.
 const NONCES: u64 = 1 << 48;
@@ -82,7 +84,7 @@ impl Host {
             → StandsFor self.new (calls ++ Injected flow payload carried ∷ []) }
         ensures after { self.new ≡ record self.old { next = min (self.old.next + 1) 18446744073709551615 } }
     {
-        self.number(flow, payload, carried)
+        self.number(flow, payload, carried, Upper::Nothing)
     }
 
     /// The packet of a send row to a destination, with that payload in bytes, and its shape. The
@@ -98,9 +100,61 @@ impl Host {
         requires time { self.old.last ≤ now.0 }
         requires payload { payload ≤ 1600 }
         ensures made { (calls : List Call) → StandsFor self.old calls
-            → IfOk result (λ made. made ≡ intended self.old.node self.old.plan (history_of self.old.plan calls) now.0 dst payload) }
+            → IfOk result (λ made. made
+            ≡ intended self.old.node self.old.plan (history_of self.old.plan calls) now.0 dst payload Upper.Nothing) }
         ensures stands { (calls : List Call) → StandsFor self.old calls
-            → IfOk result (λ made. StandsFor self.new (calls ++ Intended now.0 dst payload ∷ [])) }
+            → IfOk result (λ made. StandsFor self.new (calls ++ Intended now.0 dst payload Upper.Nothing ∷ [])) }
+        ensures same { (self.new.node ≡ self.old.node) × (self.new.plan ≡ self.old.plan) }
+        ensures last { self.new.last ≡ now.0 }
+        ensures refused { OnErr result ((calls : List Call) → StandsFor self.old calls → StandsFor self.new calls) }
+        ensures err { OnErr result (self.new ≡ with_room self.new.sender (at_time now.0 self.old)) }
+    {
+        self.send(alloc, now, dst, payload, Upper::Nothing)
+    }
+
+    /// A packet to a destination with an upper part, whose bytes are its payload, and its shape. The
+    /// destination is noted for the policy. The time is in nanoseconds, and times never fall. The error is
+    /// want of memory.
+    pub fn intend_with(
+        &mut self,
+        alloc: Global,
+        now: Time,
+        dst: Address,
+        upper: Upper,
+    ) -> Result<Made, AllocError>
+        requires time { self.old.last ≤ now.0 }
+        requires upper { IsUpper upper }
+        ensures made { (calls : List Call) → StandsFor self.old calls
+            → IfOk result (λ made. made
+            ≡ intended self.old.node self.old.plan (history_of self.old.plan calls) now.0 dst (upper_size upper) upper) }
+        ensures stands { (calls : List Call) → StandsFor self.old calls
+            → IfOk result (λ made. StandsFor self.new (calls ++ Intended now.0 dst (upper_size upper) upper ∷ [])) }
+        ensures same { (self.new.node ≡ self.old.node) × (self.new.plan ≡ self.old.plan) }
+        ensures last { self.new.last ≡ now.0 }
+        ensures refused { OnErr result ((calls : List Call) → StandsFor self.old calls → StandsFor self.new calls) }
+        ensures err { OnErr result (self.new ≡ with_room self.new.sender (at_time now.0 self.old)) }
+    {
+        self.send(alloc, now, dst, upper_size(upper), upper)
+    }
+
+    // The packet to a destination with that payload and upper part.
+    fn send(
+        &mut self,
+        alloc: Global,
+        now: Time,
+        dst: Address,
+        payload: u16,
+        upper: Upper,
+    ) -> Result<Made, AllocError>
+        requires time { self.old.last ≤ now.0 }
+        requires payload { payload ≤ 1600 }
+        requires upper { IsUpper upper }
+        requires fills { Fills upper payload }
+        ensures made { (calls : List Call) → StandsFor self.old calls
+            → IfOk result (λ made. made
+            ≡ intended self.old.node self.old.plan (history_of self.old.plan calls) now.0 dst payload upper) }
+        ensures stands { (calls : List Call) → StandsFor self.old calls
+            → IfOk result (λ made. StandsFor self.new (calls ++ Intended now.0 dst payload upper ∷ [])) }
         ensures same { (self.new.node ≡ self.old.node) × (self.new.plan ≡ self.old.plan) }
         ensures last { self.new.last ≡ now.0 }
         ensures refused { OnErr result ((calls : List Call) → StandsFor self.old calls → StandsFor self.new calls) }
@@ -112,7 +166,7 @@ impl Host {
         let shape = self.prepare(now, dst, u32::from(payload));
         let kind = kind_shown_of(&shape);
         let flow = self.flow_to(dst);
-        let packet = self.number(flow, payload, carried_by(version, shape));
+        let packet = self.number(flow, payload, carried_by(version, shape), upper);
         Ok(Made {
             packet,
             shape: kind,
@@ -132,9 +186,35 @@ impl Host {
     ) -> Result<Receipt, AllocError>
         requires time { self.old.last ≤ now.0 }
         ensures receipt { (calls : List Call) → StandsFor self.old calls
-            → IfOk result (λ receipt. receipt ≡ receipt_of self.old.node self.old.plan (history_of self.old.plan calls) now.0 packet) }
+            → IfOk result (λ receipt. receipt
+            ≡ receipt_of self.old.node self.old.plan (history_of self.old.plan calls) now.0 packet Upper.Nothing) }
         ensures stands { (calls : List Call) → StandsFor self.old calls
-            → IfOk result (λ receipt. StandsFor self.new (calls ++ Received now.0 packet ∷ [])) }
+            → IfOk result (λ receipt. StandsFor self.new (calls ++ Received now.0 packet Upper.Nothing ∷ [])) }
+        ensures same { (self.new.node ≡ self.old.node) × (self.new.plan ≡ self.old.plan) }
+        ensures last { self.new.last ≡ now.0 }
+        ensures refused { OnErr result ((calls : List Call) → StandsFor self.old calls → StandsFor self.new calls) }
+        ensures err { OnErr result (self.new ≡ with_room self.new.sender (at_time now.0 self.old)) }
+    {
+        self.receive_with(alloc, now, packet, Upper::Nothing)
+    }
+
+    /// The same with an upper part that is to be answered. It rides on the reply, whose payload it is;
+    /// where the packet has no other answer, the reply has no return info. A packet for another host is
+    /// answered with nothing.
+    pub fn receive_with(
+        &mut self,
+        alloc: Global,
+        now: Time,
+        packet: Packet,
+        upper: Upper,
+    ) -> Result<Receipt, AllocError>
+        requires time { self.old.last ≤ now.0 }
+        requires upper { IsUpper upper }
+        ensures receipt { (calls : List Call) → StandsFor self.old calls
+            → IfOk result (λ receipt. receipt
+            ≡ receipt_of self.old.node self.old.plan (history_of self.old.plan calls) now.0 packet upper) }
+        ensures stands { (calls : List Call) → StandsFor self.old calls
+            → IfOk result (λ receipt. StandsFor self.new (calls ++ Received now.0 packet upper ∷ [])) }
         ensures same { (self.new.node ≡ self.old.node) × (self.new.plan ≡ self.old.plan) }
         ensures last { self.new.last ≡ now.0 }
         ensures refused { OnErr result ((calls : List Call) → StandsFor self.old calls → StandsFor self.new calls) }
@@ -148,7 +228,7 @@ impl Host {
         self.make_room()?;
         let answer = self.answer(alloc, src, &packet.carried)?;
         let back = self.take_back(src, &packet.carried);
-        let reply = self.reply(now, src, answer);
+        let reply = self.reply(now, src, brought_by(upper, answer), upper);
         Ok(Receipt {
             what: what_of(&packet.carried),
             back,
@@ -157,11 +237,13 @@ impl Host {
     }
 
     // The next packet of the host.
-    fn number(&mut self, flow: Flow, payload: u16, carried: Carried) -> Packet
+    fn number(&mut self, flow: Flow, payload: u16, carried: Carried, upper: Upper) -> Packet
         requires payload { payload ≤ 1600 }
         requires carried { IsCarried carried }
+        requires upper { IsUpper upper }
+        requires fills { Fills upper payload }
         ensures packet { (h : History) → Keeps self.old h
-            → result ≡ next_packet self.old.node h flow payload carried }
+            → result ≡ next_with self.old.node h flow payload carried upper }
         ensures keeps { (h : History) → Keeps self.old h → Keeps self.new (with_packet h) }
         ensures rest { self.new ≡ record self.old { next = min (self.old.next + 1) 18446744073709551615 } }
     {
@@ -170,7 +252,7 @@ impl Host {
             ordinal: self.next,
         };
         self.next = self.next.saturating_add(1);
-        Packet::made(id, flow, payload, carried)
+        Packet::made_with(id, flow, payload, carried, upper)
     }
 
     // Notes a send row, when there is room for its peer.
@@ -292,23 +374,32 @@ impl Host {
         }
     }
 
-    // The reply that brings an answer to the source, at the last time.
-    fn reply(&mut self, now: Time, src: Address, answer: Option<ReturnInfo>) -> Option<Made>
+    // The reply that brings an answer and an upper part to the source, at the last time.
+    fn reply(
+        &mut self,
+        now: Time,
+        src: Address,
+        answer: Option<ReturnInfo>,
+        upper: Upper,
+    ) -> Option<Made>
         requires time { self.old.last ≡ now.0 }
         requires room { 1 ≤ self.old.sender.spare }
         requires fits { IfSome answer (IsReturn self.old.plan.version) }
+        requires upper { IsUpper upper }
         ensures reply { (h : History) → Keeps self.old h
-            → result ≡ reply_of self.old.node self.old.plan h now.0 src answer }
+            → result ≡ reply_of self.old.node self.old.plan h now.0 src answer upper }
         ensures keeps { (h : History) → Keeps self.old h
-            → Keeps self.new (after_reply self.old.plan now.0 src answer h) }
+            → Keeps self.new (after_reply self.old.plan now.0 src answer upper h) }
         ensures rest { (self.new.node ≡ self.old.node) × (self.new.plan ≡ self.old.plan) × (self.new.last ≡ self.old.last) }
     {
         let back = answer?;
         let version = self.version();
-        let shape = self.prepare(now, src, return_size(version, &back));
+        let payload = upper_size(upper);
+        let shape = self.prepare(now, src, return_size(version, &back) + u32::from(payload));
         let kind = kind_shown_of(&shape);
         let flow = self.flow_to(src);
-        let packet = self.number(flow, 0, Carried::Shim(shim_of(version, shape, back)));
+        let carried = Carried::Shim(shim_of(version, shape, back));
+        let packet = self.number(flow, payload, carried, upper);
         Some(Made {
             packet,
             shape: kind,

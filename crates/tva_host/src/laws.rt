@@ -1,6 +1,7 @@
 // What holds of every history of a host.
 ghost use Rattle.std.specs.Prelude.{◌≡◌, ℕ, ◌+◌, false, List, IfSome, Some};
 ghost use Rattle.tva_base.specs.declared.addresses.Address.{Address};
+ghost use Rattle.tva_base.specs.declared.packet.Upper.{Upper};
 ghost use Rattle.tva_base.specs.declared.plan.HostPlan.{HostPlan};
 ghost use Rattle.tva_shim.specs.declared.kinds.ReturnInfo.{ReturnInfo};
 ghost use Rattle.tva_shim.specs.declared.packets.Carried.TheVariants as carried;
@@ -12,7 +13,7 @@ ghost use Rattle.tva_sender.specs.Played.{IsPlayed, NoneLater};
 ghost use Rattle.tva_sender.specs.Book.{of_peer};
 ghost use Rattle.tva_host.specs.History.{History};
 ghost use Rattle.tva_host.specs.Sending.{is_legacy, shim_of, next_shape, intended};
-ghost use Rattle.tva_host.specs.Receiving.{reply_of};
+ghost use Rattle.tva_host.specs.Receiving.{body_of, reply_of};
 ghost use Rattle.tva_host.specs.Calls.{Call, history_of, last_time, NeverFall};
 
 /// What a host's calls make with each of its peers is what a sender can have with it, and no packet is
@@ -30,11 +31,12 @@ pub fn lengths_are_counted()
     ensures shape { (version : ℕ) (shape : Shape) (back : ReturnInfo) (p : PacketData) → is_legacy shape ≡ false
         → p.carried ≡ carried.Shim (shim_of version shape back)
         → packet_length p ≡ length_of version shape (p.payload + return_size version back) }
-    ensures intended { (node : ℕ) (plan : HostPlan) (h : History) (now : ℕ) (dst : Address) (payload : ℕ)
+    ensures intended { (node : ℕ) (plan : HostPlan) (h : History) (now : ℕ) (dst : Address) (payload : ℕ) (above : Upper)
         → is_legacy (next_shape plan h now dst payload) ≡ false
-        → packet_length (intended node plan h now dst payload).packet ≡ length_of plan.version (next_shape plan h now dst payload) payload }
-    ensures reply { (node : ℕ) (plan : HostPlan) (h : History) (now : ℕ) (src : Address) (back : ReturnInfo)
-        → is_legacy (next_shape plan h now src (return_size plan.version back)) ≡ false
-        → IfSome (reply_of node plan h now src (Some back)) (λ made. packet_length made.packet
-        ≡ length_of plan.version (next_shape plan h now src (return_size plan.version back)) (return_size plan.version back)) }
+        → packet_length (intended node plan h now dst payload above).packet
+        ≡ length_of plan.version (next_shape plan h now dst payload) payload }
+    ensures reply { (node : ℕ) (plan : HostPlan) (h : History) (now : ℕ) (src : Address) (back : ReturnInfo) (above : Upper)
+        → is_legacy (next_shape plan h now src (body_of plan.version back above)) ≡ false
+        → IfSome (reply_of node plan h now src (Some back) above) (λ made. packet_length made.packet
+        ≡ length_of plan.version (next_shape plan h now src (body_of plan.version back above)) (body_of plan.version back above)) }
 {}

@@ -6,12 +6,12 @@ ghost use Rattle.tva_shim.specs.Shims.{IsReturn};
 ghost use Rattle.tva_shim.specs.Changes.{nonzero_tags};
 ghost use Rattle.tva_shim.specs.Layout.{return_size};
 ghost use Rattle.tva_caps.specs.Formula.{capability_of};
-ghost use Rattle.tva_host.specs.Receiving.{what_kind, what_of, claim_of, claim_in, shows_grant, is_nothing, notice_for, granted, stray};
+ghost use Rattle.tva_host.specs.Receiving.{what_kind, what_of, claim_of, claim_in, shows_grant, is_nothing, notice_for, granted, stray, brought_by};
 ghost use Rattle.tva_host.specs.Claims.{claim_view};
 
 use crate::made::Receipt;
 use arrayvec::ArrayVec;
-use tva_base::{BackKind, Caps, Rights, WhatKind, rights_size};
+use tva_base::{BackKind, Caps, Rights, Upper, WhatKind, rights_size};
 use tva_caps::capability;
 use tva_shim::{Carried, Entries, Kind, ReturnInfo, Shown};
 
@@ -191,6 +191,19 @@ fn capabilities(rights: Rights, precaps: &Caps) -> Caps
         caps.push(capability(*precap, rights));
     }
     caps
+}
+
+/// The return info of a reply that brings an upper part too: that of the other answer, and none where
+/// there is no other.
+pub fn brought_by(upper: Upper, answer: Option<ReturnInfo>) -> Option<ReturnInfo>
+    ensures back { result ≡ brought_by upper answer }
+    ensures fits { (version : ℕ) → IfSome answer (IsReturn version) → IfSome result (IsReturn version) }
+{
+    match (answer, upper) {
+        (Some(back), _) => Some(back),
+        (None, Upper::Nothing) => None,
+        (None, Upper::Data { .. } | Upper::Ack { .. }) => Some(ReturnInfo::Nothing),
+    }
 }
 
 /// The bytes of return info in a shim of that version.

@@ -1,7 +1,9 @@
 -- What a packet is, and which packets there are.
-use Rattle.std.specs.Prelude.{ℕ, ◌+◌, ◌≤◌, length, if◌then◌else◌}
+use Rattle.std.specs.Prelude.{◌≡◌, ℕ, ◌+◌, ◌^◌, ◌<◌, ◌≤◌, length, if◌then◌else◌}
 use Rattle.tva_base.specs.declared.packet.PacketId.{PacketId}
 use Rattle.tva_base.specs.declared.packet.Flow.{Flow}
+use Rattle.tva_base.specs.declared.packet.Upper as uppers
+use Rattle.tva_base.specs.declared.packet.Upper.TheVariants as upper
 use Rattle.tva_base.specs.declared.packet.Class.{Class}
 use Rattle.tva_base.specs.declared.packet.Class.TheVariants as classes
 use Rattle.tva_shim.specs.declared.kinds.Kind.{Kind}
@@ -18,15 +20,40 @@ pub record PacketData : Type 0 where
   pub hops : ℕ
   pub payload : ℕ
   pub carried : Carried
+  pub upper : uppers.Upper
 
--- the packet of these parts
+-- the packet of these parts, and one without an upper part
+abbrev pub packet_with : PacketId → Flow → ℕ → ℕ → Carried → uppers.Upper → PacketData
+packet_with id flow hops payload carries above =
+    record { id = id; flow = flow; hops = hops; payload = payload; carried = carries; upper = above }
+
 abbrev pub packet_data : PacketId → Flow → ℕ → ℕ → Carried → PacketData
-packet_data id flow hops payload carries =
-    record { id = id; flow = flow; hops = hops; payload = payload; carried = carries }
+packet_data id flow hops payload carries = packet_with id flow hops payload carries upper.Nothing
 
--- a packet as it is made, which passed no router
+-- a packet as it is made, which passed no router, and one without an upper part
+abbrev pub made_with : PacketId → Flow → ℕ → Carried → uppers.Upper → PacketData
+made_with id flow payload carries above = packet_with id flow 0 payload carries above
+
 abbrev pub made_packet : PacketId → Flow → ℕ → Carried → PacketData
-made_packet id flow payload carries = packet_data id flow 0 payload carries
+made_packet id flow payload carries = made_with id flow payload carries upper.Nothing
+
+-- the bytes of an upper part: a header of 8, and those of its range
+abbrev pub upper_size : uppers.Upper → ℕ
+upper_size upper.Nothing = 0
+upper_size (upper.Data transfer first bytes) = 8 + bytes
+upper_size (upper.Ack transfer next) = 8
+
+-- a range has at most 1,500 bytes, and ends below 2^32
+abbrev pub IsUpper : uppers.Upper → Type 0
+IsUpper upper.Nothing = Unit {0}
+IsUpper (upper.Data transfer first bytes) = (bytes ≤ 1500) × (first + bytes < 2 ^ 32)
+IsUpper (upper.Ack transfer next) = Unit {0}
+
+-- an upper part is all of a payload
+abbrev pub Fills : uppers.Upper → ℕ → Type 0
+Fills upper.Nothing payload = Unit {0}
+Fills (upper.Data transfer first bytes) payload = payload ≡ 8 + bytes
+Fills (upper.Ack transfer next) payload = payload ≡ 8
 
 -- a malformed shim has at most 400 bytes
 abbrev pub IsCarried : Carried → Type 0
@@ -39,6 +66,8 @@ pub record IsPacket (p : PacketData) : Type 0 where
   pub hops : p.hops ≤ 32
   pub payload : p.payload ≤ 1600
   pub carried : IsCarried p.carried
+  pub upper : IsUpper p.upper
+  pub fills : Fills p.upper p.payload
 
 -- a shim has at most 16 of each: entries, capabilities that it shows, and capabilities that it grants
 pub record HasFew (s : ShimData) : Type 0 where

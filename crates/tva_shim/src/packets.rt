@@ -1,11 +1,11 @@
 // Packets, their lengths and their classes.
 ghost use Rattle.std.specs.Prelude.{◌≡◌, ◌≤◌, ◌+◌};
-ghost use Rattle.tva_shim.specs.Packets.{IsCarried, CarriesFew, IsSizedPacket, class_by_shim, packet_length, carried_bytes, carried_size, made_packet, packet_data};
+ghost use Rattle.tva_shim.specs.Packets.{IsCarried, CarriesFew, IsSizedPacket, class_by_shim, packet_length, carried_bytes, carried_size, made_packet, made_with, packet_data, IsUpper, Fills, upper_size};
 
 use crate::kinds::Kind;
 use crate::shims::{Shim, shim_bytes_of};
 use std::marker::Model;
-use tva_base::{Class, Flow, PacketId};
+use tva_base::{Class, Flow, PacketId, Upper};
 
 /// What a packet carries below its payload: nothing, a shim, or so many bytes that are none.
 #[derive(Debug, Drop)]
@@ -16,8 +16,9 @@ pub enum Carried {
 }
 
 /// A packet: the node that made it with its number there, its source and destination, how many
-/// routers it passed, the bytes of its payload, and its shim. A payload has at most 1,600 bytes, a
-/// malformed shim at most 400, and a packet passes at most 32 routers.
+/// routers it passed, the bytes of its payload, its shim, and its upper part, which is all of the
+/// payload where there is one. A payload has at most 1,600 bytes, a malformed shim at most 400, a range
+/// of a file at most 1,500, and a packet passes at most 32 routers.
 #[derive(Debug, Drop)]
 pub struct Packet {
     pub id: PacketId,
@@ -25,6 +26,7 @@ pub struct Packet {
     pub hops: u8,
     pub payload: u16,
     pub carried: Carried,
+    pub upper: Upper,
 }
 
 impl Model for Packet {
@@ -53,7 +55,7 @@ impl Carried {
 }
 
 impl Packet {
-    /// A packet of these parts, within the bounds of its numbers.
+    /// A packet of these parts without an upper part, within the bounds of its numbers.
     pub fn new(id: PacketId, flow: Flow, hops: u8, payload: u16, carried: Carried) -> Packet
         requires hops { hops ≤ 32 }
         requires payload { payload ≤ 1600 }
@@ -66,10 +68,35 @@ impl Packet {
             hops,
             payload,
             carried,
+            upper: Upper::Nothing,
         }
     }
 
-    /// A packet as it is made: it passed no router.
+    /// A packet as it is made, with an upper part: it passed no router.
+    pub fn made_with(
+        id: PacketId,
+        flow: Flow,
+        payload: u16,
+        carried: Carried,
+        upper: Upper,
+    ) -> Packet
+        requires payload { payload ≤ 1600 }
+        requires carried { IsCarried carried }
+        requires upper { IsUpper upper }
+        requires fills { Fills upper payload }
+        ensures { result ≡ made_with id flow payload carried upper }
+    {
+        Packet {
+            id,
+            flow,
+            hops: 0,
+            payload,
+            carried,
+            upper,
+        }
+    }
+
+    /// A packet as it is made, without an upper part.
     pub fn made(id: PacketId, flow: Flow, payload: u16, carried: Carried) -> Packet
         requires payload { payload ≤ 1600 }
         requires carried { IsCarried carried }
@@ -88,7 +115,22 @@ impl Packet {
             hops: self.hops,
             payload: self.payload,
             carried: self.carried.copied(),
+            upper: self.upper,
         }
+    }
+}
+
+/// The bytes of an upper part, which are those of its packet's payload: a header of 8, and the range.
+pub fn upper_size(upper: Upper) -> u16
+    requires { IsUpper upper }
+    ensures bytes { result ≡ upper_size upper }
+    ensures fills { Fills upper result }
+    ensures few { result ≤ 1508 }
+{
+    match upper {
+        Upper::Nothing => 0,
+        Upper::Data { bytes, .. } => 8 + bytes,
+        Upper::Ack { .. } => 8,
     }
 }
 
