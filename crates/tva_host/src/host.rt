@@ -285,7 +285,8 @@ impl Host {
         self.plan.version
     }
 
-    fn is_for(&self, dst: Address) -> bool
+    /// Whether a destination is the host.
+    pub fn is_for(&self, dst: Address) -> bool
         ensures { result ≡ (dst.0 == self.now.plan.address.0) }
     {
         dst == self.plan.address

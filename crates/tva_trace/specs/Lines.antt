@@ -8,8 +8,9 @@ use Rattle.tva_base.specs.declared.packet.Outcome as outcome
 use Rattle.tva_base.specs.declared.packet.Outcome.TheVariants.{Queued, Dropped}
 use Rattle.tva_base.specs.declared.event.Event.{Event}
 use Rattle.tva_base.specs.declared.event.Happened as happened
-use Rattle.tva_base.specs.declared.event.Happened.TheVariants.{Arrived, Sent, Received, Started}
+use Rattle.tva_base.specs.declared.event.Happened.TheVariants.{Arrived, Sent, Received, Started, Ticked}
 use Rattle.tva_base.specs.declared.event.ReplyLine.{ReplyLine}
+use Rattle.tva_base.specs.declared.event.DataLine.{DataLine}
 use Rattle.tva_base.specs.declared.event.Totals.{Totals}
 use Rattle.tva_plan.specs.declared.config.Config.{Config}
 use Rattle.tva_plan.specs.Names.{name_at}
@@ -51,6 +52,12 @@ reply_word config (Some r) =
     (id_word config r.id ∷ decimal r.length ∷ shape_word r.shape ∷ back_word r.back
     ∷ outcome_word config r.outcome ∷ [])
 
+-- a range that was delivered is one word more, whose numbers are joined by `:`
+abbrev pub range_words : Option DataLine → List (List ℕ)
+range_words None = []
+range_words (Some r) =
+    join_with_byte 58 (codes "data" ∷ decimal r.transfer ∷ decimal r.first ∷ decimal r.bytes ∷ []) ∷ []
+
 -- the words of what happened
 abbrev pub happened_words : Config → happened.Happened → List (List ℕ)
 happened_words config (Arrived id bytes from fate) =
@@ -58,11 +65,12 @@ happened_words config (Arrived id bytes from fate) =
     ∷ class_word fate.class ∷ cause_or_dash fate.cause ∷ outcome_word config fate.outcome ∷ []
 happened_words config (Sent id bytes shape outcome) =
     codes "send" ∷ id_word config id ∷ decimal bytes ∷ shape_word shape ∷ outcome_word config outcome ∷ []
-happened_words config (Received id bytes from payload what back reply) =
+happened_words config (Received id bytes from payload what back reply range) =
     codes "recv" ∷ id_word config id ∷ decimal bytes ∷ name_before config from
-    ∷ what_word what ∷ back_word back ∷ reply_word config reply ∷ []
+    ∷ what_word what ∷ back_word back ∷ reply_word config reply ∷ range_words range
 happened_words config (Started id bytes link class end) =
     codes "start" ∷ id_word config id ∷ decimal bytes ∷ name_behind config link ∷ class_word class ∷ decimal end.0 ∷ []
+happened_words config Ticked = codes "tick" ∷ []
 
 -- the text of an event, and that of the sums
 abbrev pub text_of_event : Config → Event → List ℕ
@@ -115,9 +123,10 @@ abbrev pub HasHappened : Config → happened.Happened → Type 0
 HasHappened config (Arrived id bytes from fate) =
     HasNode config id.node × HasSource config from × HasOutcome config fate.outcome
 HasHappened config (Sent id bytes shape outcome) = HasNode config id.node × HasOutcome config outcome
-HasHappened config (Received id bytes from payload what back reply) =
+HasHappened config (Received id bytes from payload what back reply range) =
     HasNode config id.node × HasLink config from × HasReply config reply
 HasHappened config (Started id bytes link class end) = HasNode config id.node × HasLink config link
+HasHappened config Ticked = Unit {0}
 
 -- the nodes and links that an event names are the configuration's
 abbrev pub HasEvent : Config → Event → Type 0
@@ -131,11 +140,18 @@ abbrev pub FitsReply : Option ReplyLine → Type 0
 FitsReply None = Unit {0}
 FitsReply (Some r) = FitsId r.id × (r.length < 2 ^ 32)
 
+-- numbers of transfers and lengths of ranges have 16 bits, and their places 32
+abbrev pub FitsRange : Option DataLine → Type 0
+FitsRange None = Unit {0}
+FitsRange (Some r) = (r.transfer < 2 ^ 16) × (r.first < 2 ^ 32) × (r.bytes < 2 ^ 16)
+
 abbrev pub FitsHappened : happened.Happened → Type 0
 FitsHappened (Arrived id bytes from fate) = FitsId id × (bytes < 2 ^ 32)
 FitsHappened (Sent id bytes shape outcome) = FitsId id × (bytes < 2 ^ 32)
-FitsHappened (Received id bytes from payload what back reply) = FitsId id × (bytes < 2 ^ 32) × FitsReply reply
+FitsHappened (Received id bytes from payload what back reply range) =
+    FitsId id × (bytes < 2 ^ 32) × FitsReply reply × FitsRange range
 FitsHappened (Started id bytes link class end) = FitsId id × (bytes < 2 ^ 32) × (end.0 < 2 ^ 64)
+FitsHappened Ticked = Unit {0}
 
 -- the numbers of an event, and the sums, are within their widths
 pub record FitsEvent (event : Event) : Type 0 where

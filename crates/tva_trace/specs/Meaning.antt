@@ -32,6 +32,8 @@ CarriedBy (Built shim) c = c ≡ carried.Shim shim
 
 abbrev pub MeansWhat : saids.SaidWhat → whats.RowWhat → Type 0
 MeansWhat (say.Send dst payload) w = w ≡ what.Send dst payload
+MeansWhat (say.File dst size segment) w = w ≡ what.File dst size segment
+MeansWhat (say.Tick dst) w = w ≡ what.Tick dst
 MeansWhat (say.Inject flow payload shim) w =
     (c : carries.Carried) × CarriedBy shim c × (w ≡ what.Inject flow payload c)
 

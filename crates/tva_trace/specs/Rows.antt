@@ -1,5 +1,5 @@
 -- The rows of a trace, or the first rule that its first bad record breaks.
-use Rattle.std.specs.Prelude.{ℕ, ◌+◌, ◌==◌, ◌&&◌, nat_le, if◌then◌else◌, Bool, List, [], ◌∷◌, length, Result, Ok, Err, Option, Some, None, unwrap_or, codes, ◌++◌}
+use Rattle.std.specs.Prelude.{ℕ, ◌+◌, ◌==◌, ◌&&◌, nat_le, nat_lt, if◌then◌else◌, Bool, List, [], ◌∷◌, length, count_by, Result, Ok, Err, Option, Some, None, unwrap_or, codes, ◌++◌}
 use Rattle.std.specs.Option.{option_and_then, ok_or}
 use Rattle.std.specs.Str.{bytes_eq}
 use Rattle.csv.specs.Reading.{records, default_config, strip_bom}
@@ -54,18 +54,26 @@ kind_of word =
     else if bytes_eq word (codes "list") then Some kind.List
     else if bytes_eq word (codes "renew") then Some kind.Renew
     else if bytes_eq word (codes "nonce") then Some kind.Nonce
+    else if bytes_eq word (codes "file") then Some kind.File
+    else if bytes_eq word (codes "tick") then Some kind.Tick
     else None
 
--- only a host sends
-abbrev pub allowed : Bool → kinds.RowKind → Option kinds.RowKind
-allowed at_host kind.Send = if at_host then Some kind.Send else None
-allowed at_host kind.Raw = Some kind.Raw
-allowed at_host kind.List = Some kind.List
-allowed at_host kind.Renew = Some kind.Renew
-allowed at_host kind.Nonce = Some kind.Nonce
+-- only a host sends, and it begins a transfer only where there is room for one more
+abbrev pub allowed : Bool → Bool → kinds.RowKind → Option kinds.RowKind
+allowed at_host room kind.Send = if at_host then Some kind.Send else None
+allowed at_host room kind.Raw = Some kind.Raw
+allowed at_host room kind.List = Some kind.List
+allowed at_host room kind.Renew = Some kind.Renew
+allowed at_host room kind.Nonce = Some kind.Nonce
+allowed at_host room kind.File = if at_host && room then Some kind.File else None
+allowed at_host room kind.Tick = if at_host then Some kind.Tick else None
 
-unfoldable pub kind_at : List NodePlan → ℕ → List ℕ → Option kinds.RowKind
-kind_at plans node word = option_and_then (allowed (is_host plans node)) (kind_of word)
+-- the nodes of the rows before that begin a transfer: a node has at most 65,536 of them
+abbrev pub has_room : List ℕ → ℕ → Bool
+has_room filed node = nat_lt (count_by (λ n. n == node) filed) 65536
+
+unfoldable pub kind_at : List NodePlan → List ℕ → ℕ → List ℕ → Option kinds.RowKind
+kind_at plans filed node word = option_and_then (allowed (is_host plans node) (has_room filed node)) (kind_of word)
 
 -- what a row that sends says: its source and its shim are empty
 unfoldable pub sending_of : List (List ℕ) → Judged said.SaidWhat
@@ -75,6 +83,30 @@ sending_of fields = do
   payload ← demand rule.Payload (decimal_of (field fields 5) 1600)
   none ← hold rule.Shim (is_empty (field fields 6))
   Ok (say.Send dst payload)
+
+-- a number that isn't 0
+abbrev pub positive : Option ℕ → Option ℕ
+positive None = None
+positive (Some n) = if nat_lt 0 n then Some n else None
+
+-- what a row that begins a transfer says: the bytes of a segment stand where a payload does, those of the file
+-- where a shim does
+unfoldable pub filing_of : List (List ℕ) → Judged said.SaidWhat
+filing_of fields = do
+  own ← hold rule.Src (is_empty (field fields 3))
+  dst ← demand rule.Dst (address_of (field fields 4))
+  segment ← demand rule.Payload (positive (decimal_of (field fields 5) 1500))
+  size ← demand rule.Shim (positive (decimal_of (field fields 6) 100000000))
+  Ok (say.File dst size segment)
+
+-- what a tick says: its payload is 0
+unfoldable pub ticking_of : List (List ℕ) → Judged said.SaidWhat
+ticking_of fields = do
+  own ← hold rule.Src (is_empty (field fields 3))
+  dst ← demand rule.Dst (address_of (field fields 4))
+  zero ← demand rule.Payload (decimal_of (field fields 5) 0)
+  none ← hold rule.Shim (is_empty (field fields 6))
+  Ok (say.Tick dst)
 
 abbrev pub flow_from : Address → Address → Flow
 flow_from src dst = record { src = src; dst = dst }
@@ -94,16 +126,19 @@ what_of plans kind.Raw fields = injection_of plans kind.Raw fields
 what_of plans kind.List fields = injection_of plans kind.List fields
 what_of plans kind.Renew fields = injection_of plans kind.Renew fields
 what_of plans kind.Nonce fields = injection_of plans kind.Nonce fields
+what_of plans kind.File fields = filing_of fields
+what_of plans kind.Tick fields = ticking_of fields
 
--- what the record of that number says, behind a row of that time
-unfoldable pub row_of : Config → ℕ → ℕ → List (List ℕ) → Judged SaidRow
-row_of config number last fields = do
+-- what the record of that number says, behind a row of that time, and behind rows of those nodes that begin a
+-- transfer
+unfoldable pub row_of : Config → ℕ → ℕ → List ℕ → List (List ℕ) → Judged SaidRow
+row_of config number last filed fields = do
   few ← hold rule.Rows (nat_le number 1000001)
   seven ← hold rule.Fields (length fields == 7)
   time ← demand rule.Time (decimal_of (field fields 0) config.horizon.0)
   later ← hold rule.Order (nat_le last time)
   node ← demand rule.Node (node_named config.nodes (field fields 1))
-  k ← demand rule.Kind (kind_at config.nodes node (field fields 2))
+  k ← demand rule.Kind (kind_at config.nodes filed node (field fields 2))
   what ← what_of config.nodes k fields
   Ok (record { time = record { 0 = time }; node = node; what = what })
 
@@ -116,17 +151,26 @@ abbrev pub behind : List SaidRow → Result (List SaidRow) TraceFault → Result
 behind rows (Ok more) = Ok (rows ++ more)
 behind rows (Err fault) = Err fault
 
+-- the node of a row that begins a transfer
+abbrev pub filed_by : ℕ → said.SaidWhat → List ℕ
+filed_by node (say.Send dst payload) = []
+filed_by node (say.Inject flow payload shim) = []
+filed_by node (say.File dst size segment) = node ∷ []
+filed_by node (say.Tick dst) = []
+
 -- a row and those behind it, or the rule that it breaks
-abbrev pub then_rows : ℕ → Judged SaidRow → (ℕ → Result (List SaidRow) TraceFault)
+abbrev pub then_rows : ℕ → Judged SaidRow → (SaidRow → Result (List SaidRow) TraceFault)
     → Result (List SaidRow) TraceFault
 then_rows number (Err broken) more = Err (fault_at number broken)
-then_rows number (Ok row) more = behind (row ∷ []) (more row.time.0)
+then_rows number (Ok row) more = behind (row ∷ []) (more row)
 
--- the rows of records of which the first has that number, behind a row of that time
-unfoldable pub rows_from : Config → ℕ → ℕ → List (List (List ℕ)) → Result (List SaidRow) TraceFault
-rows_from config number last [] = Ok []
-rows_from config number last (fields ∷ records) =
-    then_rows number (row_of config number last fields) (λ time. rows_from config (number + 1) time records)
+-- the rows of records of which the first has that number, behind a row of that time, and behind rows of those nodes
+-- that begin a transfer
+unfoldable pub rows_from : Config → ℕ → ℕ → List ℕ → List (List (List ℕ)) → Result (List SaidRow) TraceFault
+rows_from config number last filed [] = Ok []
+rows_from config number last filed (fields ∷ records) =
+    then_rows number (row_of config number last filed fields)
+    (λ row. rows_from config (number + 1) row.time.0 (filed ++ filed_by row.node row.what) records)
 
 -- the first record names the fields
 abbrev pub is_header : List (List ℕ) → Bool
@@ -144,14 +188,14 @@ abbrev pub some_row : Judged SaidRow → Judged (Option SaidRow)
 some_row (Ok row) = Ok (Some row)
 some_row (Err broken) = Err broken
 
-abbrev pub said_by : Bool → Config → ℕ → ℕ → List (List ℕ) → Judged (Option SaidRow)
-said_by first config number last fields =
-    if first then header_of fields else some_row (row_of config number last fields)
+abbrev pub said_by : Bool → Config → ℕ → ℕ → List ℕ → List (List ℕ) → Judged (Option SaidRow)
+said_by first config number last filed fields =
+    if first then header_of fields else some_row (row_of config number last filed fields)
 
 unfoldable pub rows_under : Config → List (List (List ℕ)) → Result (List SaidRow) TraceFault
 rows_under config [] = Err (fault_at 1 rule.Header)
 rows_under config (fields ∷ records) =
-    if is_header fields then rows_from config 2 0 records else Err (fault_at 1 rule.Header)
+    if is_header fields then rows_from config 2 0 [] records else Err (fault_at 1 rule.Header)
 
 -- the records that `csv` gives for a text, without a byte order mark
 abbrev pub records_in : List ℕ → List (List (List ℕ))

@@ -1,5 +1,5 @@
 -- What every row keeps that was read under a configuration.
-use Rattle.std.specs.Prelude.{◌≡◌, ◌≤◌, ◌<◌, ℕ, Bool, true, List, [], ◌∷◌, length, All}
+use Rattle.std.specs.Prelude.{◌≡◌, ◌≤◌, ◌<◌, ◌==◌, ◌&&◌, ℕ, Bool, true, false, List, [], ◌∷◌, length, count_by, All}
 use Rattle.tva_shim.specs.Shims.{IsShim}
 use Rattle.tva_shim.specs.declared.packets.Carried.{Carried}
 use Rattle.tva_shim.specs.declared.packets.Carried.TheVariants as carried
@@ -22,10 +22,19 @@ IsWithinWidths carried.Nothing = Unit {0}
 IsWithinWidths (carried.Shim shim) = IsShim shim
 IsWithinWidths (carried.Malformed bytes) = bytes ≤ 400
 
+-- a file has 1 to 100,000,000 bytes, and each of its segments 1 to 1,500
+pub record IsFile (size segment : ℕ) : Type 0 where
+  pub some : 1 ≤ size
+  pub most : size ≤ 100000000
+  pub bytes : 1 ≤ segment
+  pub few : segment ≤ 1500
+
 -- what may stand at a node, which is a host or not
 abbrev pub IsRowWhat : Bool → whats.RowWhat → Type 0
 IsRowWhat at_host (what.Send dst payload) = (at_host ≡ true) × (payload ≤ 1600)
 IsRowWhat at_host (what.Inject flow payload carries) = (payload ≤ 1600) × IsWithinWidths carries
+IsRowWhat at_host (what.File dst size segment) = (at_host ≡ true) × IsFile size segment
+IsRowWhat at_host (what.Tick dst) = at_host ≡ true
 
 -- a row of a node, up to the horizon
 pub record IsRow (config : Config) (row : Row) : Type 0 where
@@ -38,11 +47,22 @@ abbrev pub NeverFall : ℕ → List Row → Type 0
 NeverFall last [] = Unit {0}
 NeverFall last (row ∷ rows) = (last ≤ row.time.0) × NeverFall row.time.0 rows
 
+abbrev pub begins : whats.RowWhat → Bool
+begins (what.Send dst payload) = false
+begins (what.Inject flow payload carries) = false
+begins (what.File dst size segment) = true
+begins (what.Tick dst) = false
+
+-- how many rows of a node begin a transfer
+abbrev pub files_at : ℕ → List Row → ℕ
+files_at node rows = count_by (λ row. (row.node == node) && begins row.what) rows
+
 -- rows that a network can be given
 pub record AreTraceRows (config : Config) (rows : List Row) : Type 0 where
   pub few : length rows ≤ 1000000
   pub each : All (IsRow config) rows
   pub order : NeverFall 0 rows
+  pub files : (node : ℕ) → files_at node rows ≤ 65536
 
 -- the same of what is said, before the bytes of a raw shim are taken for what they are
 abbrev pub IsSaidShim : says.SaidShim → Type 0
@@ -55,10 +75,14 @@ IsAllowed at_host kind.Raw = Unit {0}
 IsAllowed at_host kind.List = Unit {0}
 IsAllowed at_host kind.Renew = Unit {0}
 IsAllowed at_host kind.Nonce = Unit {0}
+IsAllowed at_host kind.File = at_host ≡ true
+IsAllowed at_host kind.Tick = at_host ≡ true
 
 abbrev pub IsSaidWhat : Bool → saids.SaidWhat → Type 0
 IsSaidWhat at_host (say.Send dst payload) = (at_host ≡ true) × (payload ≤ 1600)
 IsSaidWhat at_host (say.Inject flow payload shim) = (payload ≤ 1600) × IsSaidShim shim
+IsSaidWhat at_host (say.File dst size segment) = (at_host ≡ true) × IsFile size segment
+IsSaidWhat at_host (say.Tick dst) = at_host ≡ true
 
 pub record IsSaid (config : Config) (last : ℕ) (said : SaidRow) : Type 0 where
   pub later : last ≤ said.time.0

@@ -8,8 +8,9 @@ use std::mem::size_of;
 use tva_base::{Address, Flow, Time};
 use tva_shim::{Carried, Shim};
 
-/// What a row asks of its node: to send bytes to a destination, or to inject a packet as it stands.
-/// Payloads are in bytes, at most 1,600.
+/// What a row asks of its node: to send bytes to a destination; to inject a packet as it stands; to
+/// begin the transfer of a file in segments; or to send again what is next of one. Payloads are in
+/// bytes, at most 1,600; a file has 1 to 100,000,000 bytes, and each of its segments 1 to 1,500.
 #[derive(Debug, Drop)]
 pub enum RowWhat {
     Send {
@@ -20,6 +21,14 @@ pub enum RowWhat {
         flow: Flow,
         payload: u16,
         carried: Carried,
+    },
+    File {
+        dst: Address,
+        size: u32,
+        segment: u16,
+    },
+    Tick {
+        dst: Address,
     },
 }
 
@@ -73,6 +82,8 @@ pub enum RowKind {
     List,
     Renew,
     Nonce,
+    File,
+    Tick,
 }
 
 impl TraceRule {

@@ -69,6 +69,14 @@ pub enum SaidWhat {
         payload: u16,
         shim: SaidShim,
     },
+    File {
+        dst: Address,
+        size: u32,
+        segment: u16,
+    },
+    Tick {
+        dst: Address,
+    },
 }
 
 /// A row: its time in nanoseconds, the number of its node, and what it asks.
