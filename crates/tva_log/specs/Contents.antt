@@ -6,7 +6,11 @@ use Rattle.tva_base.specs.declared.packet.Outcome.{Outcome}
 use Rattle.tva_base.specs.declared.plan.RouterPlan.{RouterPlan}
 use Rattle.tva_base.specs.declared.plan.HostPlan.{HostPlan}
 use Rattle.tva_base.specs.declared.event.ShapeKind.TheVariants as shape
-use Rattle.tva_shim.specs.Packets.{PacketData, class_by_shim, made_packet}
+use Rattle.tva_base.specs.declared.packet.Upper.{Upper}
+use Rattle.tva_base.specs.declared.packet.Upper.TheVariants as upper
+use Rattle.tva_base.specs.declared.addresses.Address.{Address}
+use Rattle.tva_base.specs.declared.event.DataLine.{DataLine}
+use Rattle.tva_shim.specs.Packets.{PacketData, class_by_shim, made_packet, upper_size}
 use Rattle.tva_base.specs.Changes.{in_force}
 use Rattle.tva_router.specs.Handling.{Handled, handle, sent}
 use Rattle.tva_router.specs.Boots.{charges_at}
@@ -17,15 +21,16 @@ use Rattle.tva_host.specs.History.{History}
 use Rattle.tva_host.specs.Calls.{history_of}
 use Rattle.tva_host.specs.Sending.{intended, next_packet}
 use Rattle.tva_host.specs.Receiving.{receipt_of}
+use Rattle.tva_transfer.specs.Files.{Files, answered, delivered, first_segment, segment_due}
 use Rattle.tva_plan.specs.declared.config.NodePlan.TheVariants.{Router, Host}
 use Rattle.tva_trace.specs.declared.rows.RowWhat.{RowWhat}
-use Rattle.tva_trace.specs.declared.rows.RowWhat.TheVariants.{Send, Inject}
+use Rattle.tva_trace.specs.declared.rows.RowWhat.TheVariants.{Send, Inject, File, Tick}
 use Rattle.tva_plan.specs.declared.config.NodePlan.{NodePlan}
 use Rattle.tva_log.specs.declared.kinds.Input.{Input}
 use Rattle.tva_log.specs.declared.kinds.Input.TheVariants.{FromTrace, Arrival}
 use Rattle.tva_log.specs.Sites.{Site, limits_out}
-use Rattle.tva_log.specs.Entries.{Content, Arrived, Sent, Received, Entry}
-use Rattle.tva_log.specs.Parts.{charges, port_logs, rows_in, calls}
+use Rattle.tva_log.specs.Entries.{Content, Arrived, Sent, Ticked, Received, Entry}
+use Rattle.tva_log.specs.Parts.{charges, port_logs, rows_in, calls, files}
 
 -- ## at a router
 
@@ -33,6 +38,8 @@ use Rattle.tva_log.specs.Parts.{charges, port_logs, rows_in, calls}
 abbrev pub packet_of_row : PacketId → RowWhat → Option PacketData
 packet_of_row id (Send dst payload) = None
 packet_of_row id (Inject flow payload carried) = Some (made_packet id flow payload carried)
+packet_of_row id (File dst size segment) = None
+packet_of_row id (Tick dst) = None
 
 -- the next packet from the trace: they are numbered from 1 on, and those of links are not counted
 abbrev pub next_id : ℕ → List Entry → PacketId
@@ -60,24 +67,37 @@ abbrev pub goes_out : Site → HostPlan → List Entry → PacketData → Outcom
 goes_out site plan before packet =
     sent (port_logs before) (class_by_shim packet.carried) packet (limits_out site plan.uplink)
 
--- the packet that a host makes for a row, or that the row injects
-abbrev pub made_for : ℕ → HostPlan → History → ℕ → RowWhat → Made
-made_for number plan h now (Send dst payload) = intended number plan h now dst payload
-made_for number plan h now (Inject flow payload carried) =
-    record { packet = next_packet number h flow payload carried; shape = shape.Trace }
+-- the packet of a host to a destination that brings a segment
+abbrev pub sent_with : ℕ → HostPlan → History → ℕ → Address → Upper → Made
+sent_with number plan h now dst above = intended number plan h now dst (upper_size above) above
 
-abbrev pub sent_out : Site → HostPlan → List Entry → Made → Content
-sent_out site plan before made = Sent made (goes_out site plan before made.packet)
+-- the packet that a host makes for a row, or that the row injects; for a tick there may be none
+abbrev pub made_for : ℕ → HostPlan → History → Files → ℕ → RowWhat → Option Made
+made_for number plan h known now (Send dst payload) = Some (intended number plan h now dst payload upper.Nothing)
+made_for number plan h known now (Inject flow payload carried) =
+    Some (record { packet = next_packet number h flow payload carried; shape = shape.Trace })
+made_for number plan h known now (File dst size segment) =
+    Some (sent_with number plan h now dst (first_segment known dst size segment))
+made_for number plan h known now (Tick dst) = option_map (sent_with number plan h now dst) (segment_due known dst)
 
-abbrev pub received : Site → HostPlan → List Entry → ℕ → PacketData → Receipt → Content
-received site plan before link packet receipt =
-    Received link packet receipt (option_map (λ made. goes_out site plan before made.packet) receipt.reply)
+abbrev pub sent_out : Site → HostPlan → List Entry → Option Made → Content
+sent_out site plan before None = Ticked
+sent_out site plan before (Some made) = Sent made (goes_out site plan before made.packet)
 
+abbrev pub received : Site → HostPlan → List Entry → ℕ → PacketData → Receipt → Option DataLine → Content
+received site plan before link packet receipt range =
+    Received link packet receipt (option_map (λ made. goes_out site plan before made.packet) receipt.reply) range
+
+-- a packet that comes in is answered, and delivers, by what the host knows of files
 abbrev pub hosted : Site → HostPlan → List Entry → Input → Content
 hosted site plan before (FromTrace row) =
-    sent_out site plan before (made_for site.number plan (history_of plan (calls before)) row.time.0 row.what)
+    sent_out site plan before
+    (made_for site.number plan (history_of plan (calls before)) (files plan before) row.time.0 row.what)
 hosted site plan before (Arrival time link packet) =
-    received site plan before link packet (receipt_of site.number plan (history_of plan (calls before)) time.0 packet)
+    received site plan before link packet
+    (receipt_of site.number plan (history_of plan (calls before)) time.0 packet
+    (answered plan.address (files plan before) packet))
+    (delivered plan.address (files plan before) packet)
 
 -- ## at a node
 

@@ -3,6 +3,7 @@ use Rattle.std.specs.Prelude.{ℕ, suc, Option}
 use Rattle.tva_base.specs.declared.packet.Class.{Class}
 use Rattle.tva_base.specs.declared.packet.Fate.{Fate}
 use Rattle.tva_base.specs.declared.packet.Outcome.{Outcome}
+use Rattle.tva_base.specs.declared.event.DataLine.{DataLine}
 use Rattle.tva_shim.specs.Packets.{PacketData}
 use Rattle.tva_host.specs.declared.made.Made.{Made}
 use Rattle.tva_host.specs.declared.made.Receipt.{Receipt}
@@ -16,9 +17,11 @@ pub data Content : Type 0 where
   Arrived : (from : Option ℕ) (packet : PacketData) (fate : Fate) (onward : PacketData) → Content
   -- a host, at a row: the packet that it made or that the row injects, and where that ended up
   Sent : (made : Made) (outcome : Outcome) → Content
-  -- a host: the link on which a packet came, the packet, what the host made of it, and where its
-  -- reply ended up
-  Received : (from : ℕ) (packet : PacketData) (receipt : Receipt) (went : Option Outcome) → Content
+  -- a host, at a tick for which it sends nothing
+  Ticked : Content
+  -- a host: the link on which a packet came, the packet, what the host made of it, where its reply
+  -- ended up, and the range of a file that it delivered
+  Received : (from : ℕ) (packet : PacketData) (receipt : Receipt) (went : Option Outcome) (range : Option DataLine) → Content
 
 -- an entry of a node's log: an input is taken, or at a time a link starts a packet of a class
 pub data Entry : Type 0 where

@@ -4,6 +4,9 @@ use Rattle.std.specs.Option.{option_map, option_and_then}
 use Rattle.std.specs.List.{filter_map}
 use Rattle.tva_base.specs.declared.packet.Class.{Class}
 use Rattle.tva_base.specs.declared.packet.Grant.{Grant}
+use Rattle.tva_base.specs.declared.packet.Upper.{Upper}
+use Rattle.tva_base.specs.declared.packet.Upper.TheVariants as upper
+use Rattle.tva_base.specs.declared.plan.HostPlan.{HostPlan}
 use Rattle.tva_base.specs.declared.packet.Outcome.{Outcome}
 use Rattle.tva_base.specs.declared.packet.Outcome.TheVariants.{Queued, Dropped}
 use Rattle.tva_shim.specs.Packets.{PacketData, packet_length, class_by_shim}
@@ -13,8 +16,10 @@ use Rattle.tva_port.specs.Log as port
 use Rattle.tva_router.specs.Handling.{Logs}
 use Rattle.tva_host.specs.declared.made.Made.{Made}
 use Rattle.tva_host.specs.Calls.{Call, Intended, Injected, Received}
+use Rattle.tva_host.specs.Receiving.{upper_of}
+use Rattle.tva_transfer.specs.Files.{Files, Act, Filed, Ticked, Came, files_of}
 use Rattle.tva_trace.specs.declared.rows.RowWhat.{RowWhat}
-use Rattle.tva_trace.specs.declared.rows.RowWhat.TheVariants.{Send, Inject}
+use Rattle.tva_trace.specs.declared.rows.RowWhat.TheVariants.{Send, Inject, File, Tick}
 use Rattle.tva_log.specs.declared.kinds.Input.{Input}
 use Rattle.tva_log.specs.declared.kinds.Input.TheVariants.{FromTrace, Arrival}
 use Rattle.tva_log.specs.Entries.{Content, Entry, Took, Started, input_time}
@@ -38,7 +43,8 @@ reply_at link time reply went = option_and_then (λ made. option_and_then (made_
 abbrev pub content_at : ℕ → ℕ → Content → Option port.Entry
 content_at link time (entry.Arrived from packet fate onward) = queued_at link time fate.outcome fate.class onward
 content_at link time (entry.Sent made outcome) = made_at link time made outcome
-content_at link time (entry.Received from packet receipt went) = reply_at link time receipt.reply went
+content_at link time entry.Ticked = None
+content_at link time (entry.Received from packet receipt went range) = reply_at link time receipt.reply went
 
 -- what an entry is in the log of a link's port
 abbrev pub port_entry : ℕ → Entry → Option port.Entry
@@ -59,7 +65,8 @@ abbrev pub charge_of : Entry → Option Charge
 charge_of (Took input (entry.Arrived from packet fate onward)) =
     option_map (charged (input_time input) packet) fate.charge
 charge_of (Took input (entry.Sent made outcome)) = None
-charge_of (Took input (entry.Received from packet receipt went)) = None
+charge_of (Took input entry.Ticked) = None
+charge_of (Took input (entry.Received from packet receipt went range)) = None
 charge_of (Started time link class packet) = None
 
 abbrev pub charges : List Entry → List Charge
@@ -77,19 +84,57 @@ rows_in log = count_by is_row log
 
 -- ## the calls on a host
 
--- a row is a packet that is sent, or one that is injected
-abbrev pub call_of_row : ℕ → RowWhat → Call
-call_of_row time (Send dst payload) = Intended time dst payload
-call_of_row time (Inject flow payload carried) = Injected flow payload carried
+-- a row is a packet that is injected, or one that is sent, with the segment of a file that it brings
+abbrev pub call_of_row : ℕ → RowWhat → PacketData → Call
+call_of_row time (Send dst payload) packet = Intended time dst payload upper.Nothing
+call_of_row time (Inject flow payload carried) packet = Injected flow payload carried
+call_of_row time (File dst size segment) packet = Intended time dst packet.payload packet.upper
+call_of_row time (Tick dst) packet = Intended time dst packet.payload packet.upper
 
-abbrev pub call_of_input : Input → Call
-call_of_input (FromTrace row) = call_of_row row.time.0 row.what
-call_of_input (Arrival time link packet) = Received time.0 packet
+-- the packet that a host made for a row, and what it answered to one that came in
+abbrev pub packet_sent : Content → Option PacketData
+packet_sent (entry.Arrived from packet fate onward) = None
+packet_sent (entry.Sent made outcome) = Some made.packet
+packet_sent entry.Ticked = None
+packet_sent (entry.Received from packet receipt went range) = None
+
+abbrev pub answer_in : Content → Upper
+answer_in (entry.Arrived from packet fate onward) = upper.Nothing
+answer_in (entry.Sent made outcome) = upper.Nothing
+answer_in entry.Ticked = upper.Nothing
+answer_in (entry.Received from packet receipt went range) = upper_of receipt.reply
+
+abbrev pub call_of_input : Input → Content → Option Call
+call_of_input (FromTrace row) content = option_map (call_of_row row.time.0 row.what) (packet_sent content)
+call_of_input (Arrival time link packet) content = Some (Received time.0 packet (answer_in content))
 
 abbrev pub call_of : Entry → Option Call
-call_of (Took input content) = Some (call_of_input input)
+call_of (Took input content) = call_of_input input content
 call_of (Started time link class packet) = None
 
--- the calls of these entries: one an input, in the same order
+-- the calls of these entries: one an input for which something is sent or that comes in, in the same order
 abbrev pub calls : List Entry → List Call
 calls log = filter_map call_of log
+
+-- ## the transfers of a host
+
+abbrev pub act_of_row : RowWhat → Option Act
+act_of_row (Send dst payload) = None
+act_of_row (Inject flow payload carried) = None
+act_of_row (File dst size segment) = Some (Filed dst size segment)
+act_of_row (Tick dst) = Some (Ticked dst)
+
+abbrev pub act_of_input : Input → Option Act
+act_of_input (FromTrace row) = act_of_row row.what
+act_of_input (Arrival time link packet) = Some (Came packet)
+
+abbrev pub act_of : Entry → Option Act
+act_of (Took input content) = act_of_input input
+act_of (Started time link class packet) = None
+
+-- what happened with files in these entries, and what the host knows of them then
+abbrev pub acts : List Entry → List Act
+acts log = filter_map act_of log
+
+abbrev pub files : HostPlan → List Entry → Files
+files plan log = files_of plan.address (acts log)

@@ -17,7 +17,7 @@ use Rattle.tva_host.specs.declared.made.Made.{Made}
 use Rattle.tva_shim.specs.Shows.{back_in}
 use Rattle.tva_log.specs.declared.kinds.Sending.{Sending}
 use Rattle.tva_log.specs.Sites.{Site, link_out}
-use Rattle.tva_log.specs.Entries.{Content, Arrived, Sent, Received, Entry, Took, Started, entry_time}
+use Rattle.tva_log.specs.Entries.{Content, Arrived, Sent, Ticked, Received, Entry, Took, Started, entry_time}
 
 abbrev pub at_time : ℕ → Time
 at_time time = record { 0 = time }
@@ -66,9 +66,10 @@ reply_told reply went = option_and_then (λ made. option_map (reply_line made) w
 abbrev pub content_told : Content → happened.Happened
 content_told (Arrived from packet fate onward) = happens.Arrived packet.id (packet_length packet) from fate
 content_told (Sent made outcome) = happens.Sent made.packet.id (packet_length made.packet) made.shape outcome
-content_told (Received from packet receipt went) =
+content_told Ticked = happens.Ticked
+content_told (Received from packet receipt went range) =
     happens.Received packet.id (packet_length packet) from packet.payload receipt.what receipt.back
-    (reply_told receipt.reply went)
+    (reply_told receipt.reply went) range
 
 abbrev pub entry_told : Site → Entry → happened.Happened
 entry_told site (Took input content) = content_told content
