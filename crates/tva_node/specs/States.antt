@@ -10,9 +10,10 @@ use Rattle.tva_shim.specs.Packets.{IsCarried}
 use Rattle.tva_port.specs.Stands as port
 use Rattle.tva_router.specs.Boots.{charges_of_boot}
 use Rattle.tva_router.specs.Stands as router
-use Rattle.tva_host.specs.Stands as host
+use Rattle.tva_transfer.specs.Stands as courier
 use Rattle.tva_plan.specs.declared.config.NodePlan.{NodePlan}
 use Rattle.tva_plan.specs.declared.config.NodePlan.TheVariants as plans
+use Rattle.tva_trace.specs.Valid.{IsFile}
 use Rattle.tva_trace.specs.declared.rows.RowWhat.{RowWhat}
 use Rattle.tva_trace.specs.declared.rows.RowWhat.TheVariants as rows
 use Rattle.tva_log.specs.declared.kinds.Input.{Input}
@@ -20,7 +21,7 @@ use Rattle.tva_log.specs.declared.kinds.Input.TheVariants.{FromTrace, Arrival}
 use Rattle.tva_log.specs.declared.kinds.Sending.{Sending}
 use Rattle.tva_log.specs.Sites.{Site, site_of, limits_out, IsSite}
 use Rattle.tva_log.specs.Entries.{Entry, input_time}
-use Rattle.tva_log.specs.Parts.{port_logs, charges, rows_in, calls}
+use Rattle.tva_log.specs.Parts.{port_logs, charges, rows_in, calls, acts}
 use Rattle.tva_log.specs.NodeLog.{IsNodeLog, in_turn, due}
 use Rattle.tva_log.specs.Told.{events, sendings}
 use Rattle.tva_log.specs.Next.{IsWorkAt, next_on}
@@ -39,7 +40,7 @@ use Rattle.tva_node.specs.Turns.{AreLeft}
 
 abbrev pub role_plan : Role → NodePlan
 role_plan (roles.Router r) = plans.Router r.router.built
-role_plan (roles.Host h) = plans.Host h.host.plan
+role_plan (roles.Host h) = plans.Host h.courier.host.plan
 
 -- the restarts of a router's plan
 abbrev pub restarts_in : NodePlan → List (Time × List ℕ)
@@ -53,11 +54,11 @@ pub record StandsAsRouter (r : Routed) (log : List Entry) : Type 0 where
   pub boots : AllByRecursion (λ c. boot_at r.router.built c.time ≤ r.changes.boot) (charges log)
   pub next : r.next ≡ ordinal_behind (rows_in log)
 
--- a host stands for its calls, and the port of its one link for that link's log
+-- a host stands for its calls and its files, and the port of its one link for that link's log
 pub record StandsAsHost (site : Site) (h : Hosted) (log : List Entry) : Type 0 where
-  pub host : host.StandsFor h.host (calls log)
-  pub node : h.host.node ≡ site.number
-  pub uplink : h.uplink ≡ h.host.plan.uplink
+  pub courier : courier.StandsFor h.courier (calls log) (acts log)
+  pub node : h.courier.host.node ≡ site.number
+  pub uplink : h.uplink ≡ h.courier.host.plan.uplink
   pub limits : limits_out site h.uplink ≡ Some (h.uplink, h.port.limits)
   pub port : port.StandsFor h.port (port_logs log h.uplink)
 
@@ -79,14 +80,18 @@ pub record IsRoutedBy (now : ℕ) (r : Routed) : Type 0 where
 -- it was called no later than that
 abbrev pub IsBy : ℕ → Role → Type 0
 IsBy now (roles.Router r) = IsRoutedBy now r
-IsBy now (roles.Host h) = (h.host.last ≤ now) × (h.port.last ≤ now)
+IsBy now (roles.Host h) = (h.courier.host.last ≤ now) × (h.port.last ≤ now)
 
 -- an input that a node can take: a row that sends is for a host
 abbrev pub FitsRow : NodePlan → RowWhat → Type 0
 FitsRow (plans.Router plan) (rows.Send dst payload) = ⊥
 FitsRow (plans.Router plan) (rows.Inject flow payload carried) = (payload ≤ 1600) × IsCarried carried
+FitsRow (plans.Router plan) (rows.File dst size segment) = ⊥
+FitsRow (plans.Router plan) (rows.Tick dst) = ⊥
 FitsRow (plans.Host plan) (rows.Send dst payload) = payload ≤ 1600
 FitsRow (plans.Host plan) (rows.Inject flow payload carried) = (payload ≤ 1600) × IsCarried carried
+FitsRow (plans.Host plan) (rows.File dst size segment) = IsFile size segment
+FitsRow (plans.Host plan) (rows.Tick dst) = Unit {0}
 
 abbrev pub Fits : NodePlan → Input → Type 0
 Fits plan (FromTrace row) = FitsRow plan row.what

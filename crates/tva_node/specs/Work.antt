@@ -52,7 +52,8 @@ link_of (Dropped cause) = None
 abbrev pub queued_on : Happened → Option ℕ
 queued_on (happens.Arrived id length from fate) = link_of fate.outcome
 queued_on (happens.Sent id length shape outcome) = link_of outcome
-queued_on (happens.Received id length from payload what back reply) =
+queued_on happens.Ticked = None
+queued_on (happens.Received id length from payload what back reply range) =
     option_and_then (λ line. link_of line.outcome) reply
 queued_on (happens.Started id length link class end) = None
 

@@ -16,10 +16,10 @@ use Rattle.tva_flow.specs.Charges.{same_flow}
 use Rattle.tva_router.specs.Marks.{is_marked}
 use Rattle.tva_host.specs.declared.made.Made.{Made}
 use Rattle.tva_trace.specs.declared.rows.RowWhat.{RowWhat}
-use Rattle.tva_trace.specs.declared.rows.RowWhat.TheVariants.{Send, Inject}
+use Rattle.tva_trace.specs.declared.rows.RowWhat.TheVariants.{Send, Inject, File, Tick}
 use Rattle.tva_log.specs.declared.kinds.Input.{Input}
 use Rattle.tva_log.specs.declared.kinds.Input.TheVariants.{FromTrace, Arrival}
-use Rattle.tva_log.specs.Entries.{Content, Arrived, Sent, Received, Entry, Took, Started, input_time}
+use Rattle.tva_log.specs.Entries.{Content, Arrived, Sent, Ticked, Received, Entry, Took, Started, input_time}
 
 -- ## at a host
 
@@ -34,6 +34,8 @@ pub data Deal : Type 0 where
 abbrev pub sent_for : Address → ℕ → RowWhat → PacketData → List Deal
 sent_for peer time (Send dst payload) packet = if peer.0 == dst.0 then Prepared time packet ∷ [] else []
 sent_for peer time (Inject flow payload carries) packet = []
+sent_for peer time (File dst size segment) packet = if peer.0 == dst.0 then Prepared time packet ∷ [] else []
+sent_for peer time (Tick dst) packet = if peer.0 == dst.0 then Prepared time packet ∷ [] else []
 
 abbrev pub sent_at : Address → Input → PacketData → List Deal
 sent_at peer (FromTrace row) packet = sent_for peer row.time.0 row.what packet
@@ -59,7 +61,8 @@ replied time (Some made) = Prepared time made.packet ∷ []
 abbrev pub dealt_in : Address → Input → Content → List Deal
 dealt_in peer input (Arrived from packet fate onward) = []
 dealt_in peer input (Sent made outcome) = sent_at peer input made.packet
-dealt_in peer input (Received from packet receipt went) =
+dealt_in peer input Ticked = []
+dealt_in peer input (Received from packet receipt went range) =
     if peer.0 == packet.flow.src.0
     then brought receipt.back (back_in packet.carried) ++ replied (input_time input) receipt.reply
     else []
@@ -87,7 +90,8 @@ abbrev pub came_in : Flow → Input → Content → Option Coming
 came_in flow input (Arrived from packet fate onward) =
     if same_flow packet.flow flow && not (is_marked packet.carried) then Some (coming input packet fate) else None
 came_in flow input (Sent made outcome) = None
-came_in flow input (Received from packet receipt went) = None
+came_in flow input Ticked = None
+came_in flow input (Received from packet receipt went range) = None
 
 abbrev pub came_at : Flow → Entry → Option Coming
 came_at flow (Took input content) = came_in flow input content

@@ -9,7 +9,7 @@ use Rattle.tva_shim.specs.declared.packets.Carried.TheVariants as carried
 use Rattle.tva_shim.specs.Shims.{ShimData}
 use Rattle.tva_shim.specs.Packets.{PacketData}
 use Rattle.tva_log.specs.declared.kinds.Input.{Input}
-use Rattle.tva_log.specs.Entries.{Content, Arrived, Sent, Received, Entry, Took}
+use Rattle.tva_log.specs.Entries.{Content, Arrived, Sent, Ticked, Received, Entry, Took}
 use Rattle.tva_run.specs.Reaching.{Logs, log_at}
 
 -- ## what stays as it was made
@@ -48,6 +48,7 @@ pub record Keeps (a b : PacketData) : Type 0 where
   pub flow : b.flow ≡ a.flow
   pub payload : b.payload ≡ a.payload
   pub carried : KeepsCarried a.carried b.carried
+  pub upper : b.upper ≡ a.upper
 
 -- ## where it was made
 
@@ -56,13 +57,15 @@ abbrev pub made_in : Content → Option PacketData
 made_in (Arrived None packet fate onward) = Some packet
 made_in (Arrived (Some link) packet fate onward) = None
 made_in (Sent made outcome) = Some made.packet
-made_in (Received from packet receipt went) = option_map (λ made. made.packet) receipt.reply
+made_in Ticked = None
+made_in (Received from packet receipt went range) = option_map (λ made. made.packet) receipt.reply
 
 -- the packet that comes to a node
 abbrev pub comes_in : Content → Option PacketData
 comes_in (Arrived from packet fate onward) = Some packet
 comes_in (Sent made outcome) = None
-comes_in (Received from packet receipt went) = Some packet
+comes_in Ticked = None
+comes_in (Received from packet receipt went range) = Some packet
 
 -- at a place of the log of the node that its identity names the packet was made, and it kept what no router changes
 pub record HasOrigin (logs : Logs) (packet : PacketData) : Type 0 where

@@ -15,7 +15,7 @@ use Rattle.tva_port.specs.Bounds.{AreRequestsServed, AreRegularsServed, ServesAl
 use Rattle.tva_plan.specs.declared.config.NodePlan.TheVariants.{Router}
 use Rattle.tva_log.specs.declared.kinds.Input.{Input}
 use Rattle.tva_log.specs.Sites.{Site, limits_out}
-use Rattle.tva_log.specs.Entries.{Content, Arrived, Sent, Received, Entry, Took, input_time}
+use Rattle.tva_log.specs.Entries.{Content, Arrived, Sent, Ticked, Received, Entry, Took, input_time}
 use Rattle.tva_log.specs.Parts.{port_logs, charges}
 use Rattle.tva_log.specs.Contents.{content}
 use Rattle.tva_promises.specs.Fates.{IsFate}
@@ -46,7 +46,8 @@ IsHandled plan before input (Arrived from packet fate onward) =
     IsFate (in_force plan (input_time input)) (charges_at plan (input_time input) (charges before)) (port_logs before)
     (input_time input) from packet fate onward
 IsHandled plan before input (Sent made outcome) = ⊥
-IsHandled plan before input (Received from packet receipt went) = ⊥
+IsHandled plan before input Ticked = ⊥
+IsHandled plan before input (Received from packet receipt went range) = ⊥
 
 -- a node's log up to a time: at each place an input became what the node makes of it over what stands before it, a
 -- router's charges of each boot keep their grants, the log of each link out of the node keeps its service, and each

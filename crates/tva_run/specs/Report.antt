@@ -9,7 +9,7 @@ use Rattle.tva_base.specs.declared.packet.Outcome as outcomes
 use Rattle.tva_base.specs.declared.packet.Outcome.TheVariants.{Queued, Dropped}
 use Rattle.tva_base.specs.declared.event.Event.{Event}
 use Rattle.tva_base.specs.declared.event.Happened as happened
-use Rattle.tva_base.specs.declared.event.Happened.TheVariants.{Arrived, Sent, Received, Started}
+use Rattle.tva_base.specs.declared.event.Happened.TheVariants.{Arrived, Sent, Received, Started, Ticked}
 use Rattle.tva_base.specs.declared.event.ReplyLine.{ReplyLine}
 use Rattle.tva_base.specs.declared.event.WhatKind as whats
 use Rattle.tva_base.specs.declared.event.WhatKind.TheVariants as what
@@ -75,15 +75,16 @@ reply_drops (Some reply) = drops reply.outcome
 abbrev pub is_dropped : happened.Happened → Bool
 is_dropped (Arrived id bytes from fate) = drops fate.outcome
 is_dropped (Sent id bytes shape outcome) = drops outcome
-is_dropped (Received id bytes from payload w back reply) = reply_drops reply
+is_dropped (Received id bytes from payload w back reply range) = reply_drops reply
 is_dropped (Started id bytes link class end) = false
+is_dropped Ticked = false
 
 abbrev pub is_started : happened.Happened → Bool
 is_started (Started id bytes link class end) = true
 is_started _ = false
 
 abbrev pub is_received : happened.Happened → Bool
-is_received (Received id bytes from payload w back reply) = true
+is_received (Received id bytes from payload w back reply range) = true
 is_received _ = false
 
 -- the payload of a receipt that isn't stray
@@ -92,7 +93,7 @@ payload_of payload what.Stray = 0
 payload_of payload _ = payload
 
 abbrev pub received_bytes : happened.Happened → ℕ
-received_bytes (Received id bytes from payload w back reply) = payload_of payload w
+received_bytes (Received id bytes from payload w back reply range) = payload_of payload w
 received_bytes _ = 0
 
 unfoldable pub totals_of : List Event → Totals
