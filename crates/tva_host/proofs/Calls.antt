@@ -18,15 +18,15 @@ time_after from c = last_time from (c ∷ [])
 
 pub last_time-push : (from : ℕ) (cs : List Call) (c : Call) → last_time from (cs ++ c ∷ []) ≡ time_after (last_time from cs) c
 last_time-push from [] c = refl
-last_time-push from (Intended now dst payload ∷ ds) c = last_time-push now ds c
+last_time-push from (Intended now dst payload above ∷ ds) c = last_time-push now ds c
 last_time-push from (Injected flow payload carries ∷ ds) c = last_time-push from ds c
-last_time-push from (Received now packet ∷ ds) c = last_time-push now ds c
+last_time-push from (Received now packet above ∷ ds) c = last_time-push now ds c
 
 pub never_fall-push : (from : ℕ) (cs : List Call) (c : Call) → NeverFall from cs → NeverFall (last_time from cs) (c ∷ []) → NeverFall from (cs ++ c ∷ [])
 never_fall-push from [] c k l = l
-never_fall-push from (Intended now dst payload ∷ ds) c k l = (k.0, never_fall-push now ds c k.1 l)
+never_fall-push from (Intended now dst payload above ∷ ds) c k l = (k.0, never_fall-push now ds c k.1 l)
 never_fall-push from (Injected flow payload carries ∷ ds) c k l = never_fall-push from ds c k l
-never_fall-push from (Received now packet ∷ ds) c k l = (k.0, never_fall-push now ds c k.1 l)
+never_fall-push from (Received now packet above ∷ ds) c k l = (k.0, never_fall-push now ds c k.1 l)
 
 -- a host stands for its calls with one more
 pub stands-push : (v w : HostData) (cs : List Call) (c : Call) → StandsFor v cs → w.plan ≡ v.plan → NeverFall (last_time 0 cs) (c ∷ []) → time_after (last_time 0 cs) c ≤ w.last

@@ -3,6 +3,7 @@ use Rattle.std.proofs.Common.{◌≡◌, ℕ, ◌++◌, ◌∷◌, [], true, fal
 use Rattle.std.specs.Option.{is_some}
 use Rattle.tva_base.specs.declared.addresses.Address.{Address}
 use Rattle.tva_base.specs.declared.packet.Rights.{Rights}
+use Rattle.tva_base.specs.declared.packet.Upper.{Upper}
 use Rattle.tva_base.specs.declared.plan.HostPlan.{HostPlan}
 use Rattle.tva_shim.specs.declared.packets.Carried.{Carried}
 use Rattle.tva_shim.specs.Packets.{PacketData}
@@ -16,7 +17,7 @@ use Rattle.tva_host.specs.declared.made.Receipt.{Receipt}
 use Rattle.tva_host.specs.History.{History}
 use Rattle.tva_host.specs.Stands.{HostData, Keeps}
 use Rattle.tva_shim.specs.Shows.{back_in}
-use Rattle.tva_host.specs.Receiving.{ClaimData, became_of, what_of, reply_of, claim_in, decided_on, answer_to, after_answer, after_reply, before_reply, stray, received, receipt_of, after_receipt}
+use Rattle.tva_host.specs.Receiving.{ClaimData, became_of, what_of, reply_of, claim_in, decided_on, answer_to, brought_by, after_answer, after_reply, before_reply, stray, received, receipt_of, after_receipt}
 use Rattle.tva_host.proofs.Standing.{noted, keeps-deed}
 
 -- the policy decided on a claim
@@ -31,34 +32,34 @@ keeps-answer v notes h src carries claim rights k claims decides more =
     (keeps-deed v notes (Decided src (is_some (decision v.plan.policy h.deeds src claim.tags))) h k decided)
 
 -- a packet for another host
-pub receipt-stray : (node : ℕ) (plan : HostPlan) (h : History) (now : ℕ) (p : PacketData) → eqb p.flow.dst.0 plan.address.0 ≡ false → stray ≡ receipt_of node plan h now p
+pub receipt-stray : (node : ℕ) (plan : HostPlan) (h : History) (now : ℕ) (p : PacketData) (above : Upper) → eqb p.flow.dst.0 plan.address.0 ≡ false → stray ≡ receipt_of node plan h now p above
 unfolding receipt_of
-receipt-stray node plan h now p apart = rw apart refl
+receipt-stray node plan h now p above apart = rw apart refl
 
-pub keeps-stray : (plan : HostPlan) (v : HostData) (h : History) (now : ℕ) (p : PacketData) → eqb p.flow.dst.0 plan.address.0 ≡ false → Keeps v h → Keeps v (after_receipt plan h now p)
+pub keeps-stray : (plan : HostPlan) (v : HostData) (h : History) (now : ℕ) (p : PacketData) (above : Upper) → eqb p.flow.dst.0 plan.address.0 ≡ false → Keeps v h → Keeps v (after_receipt plan h now p above)
 unfolding after_receipt
-keeps-stray plan v h now p apart k = rw apart k
+keeps-stray plan v h now p above apart k = rw apart k
 
 -- a packet for this host
-pub receipt-here : (node : ℕ) (plan : HostPlan) (h : History) (now : ℕ) (p : PacketData) → eqb p.flow.dst.0 plan.address.0 ≡ true → received node plan h now p.flow.src p.carried ≡ receipt_of node plan h now p
+pub receipt-here : (node : ℕ) (plan : HostPlan) (h : History) (now : ℕ) (p : PacketData) (above : Upper) → eqb p.flow.dst.0 plan.address.0 ≡ true → received node plan h now p.flow.src p.carried above ≡ receipt_of node plan h now p above
 unfolding receipt_of
-receipt-here node plan h now p here = rw here refl
+receipt-here node plan h now p above here = rw here refl
 
-pub keeps-here : (plan : HostPlan) (v : HostData) (h : History) (now : ℕ) (p : PacketData) → eqb p.flow.dst.0 plan.address.0 ≡ true
-    → Keeps v (after_reply plan now p.flow.src (answer_to plan h.deeds p.flow.src p.carried (claim_in p.carried)) (before_reply plan p.flow.src p.carried h))
-    → Keeps v (after_receipt plan h now p)
+pub keeps-here : (plan : HostPlan) (v : HostData) (h : History) (now : ℕ) (p : PacketData) (above : Upper) → eqb p.flow.dst.0 plan.address.0 ≡ true
+    → Keeps v (after_reply plan now p.flow.src (brought_by above (answer_to plan h.deeds p.flow.src p.carried (claim_in p.carried))) above (before_reply plan p.flow.src p.carried h))
+    → Keeps v (after_receipt plan h now p above)
 unfolding after_receipt
-keeps-here plan v h now p here k = rw here k
+keeps-here plan v h now p above here k = rw here k
 
 abbrev told : WhatKind → BackKind → Option Made → Receipt
 told what back reply = record { what = what; back = back; reply = reply }
 
 -- the parts of a receipt, one by one
-pub receipt-received : (node : ℕ) (plan : HostPlan) (h : History) (now : ℕ) (src : Address) (carries : Carried) (what : WhatKind) (back : BackKind) (answer : Option ReturnInfo) (reply : Option Made)
-    → what ≡ what_of carries → back ≡ became_of plan.version h.contacts src (back_in carries) → answer ≡ answer_to plan h.deeds src carries (claim_in carries)
-    → reply ≡ reply_of node plan (before_reply plan src carries h) now src answer
-    → told what back reply ≡ received node plan h now src carries
-receipt-received node plan h now src carries what back answer reply is became answers replies =
+pub receipt-received : (node : ℕ) (plan : HostPlan) (h : History) (now : ℕ) (src : Address) (carries : Carried) (what : WhatKind) (back : BackKind) (answer : Option ReturnInfo) (above : Upper) (reply : Option Made)
+    → what ≡ what_of carries → back ≡ became_of plan.version h.contacts src (back_in carries) → answer ≡ brought_by above (answer_to plan h.deeds src carries (claim_in carries))
+    → reply ≡ reply_of node plan (before_reply plan src carries h) now src answer above
+    → told what back reply ≡ received node plan h now src carries above
+receipt-received node plan h now src carries what back answer above reply is became answers replies =
     ap (λ (w : WhatKind). told w back reply) is
     ∙ ap (λ (b : BackKind). told (what_of carries) b reply) became
-    ∙ ap (told (what_of carries) (became_of plan.version h.contacts src (back_in carries))) (replies ∙ ap (reply_of node plan (before_reply plan src carries h) now src) answers)
+    ∙ ap (told (what_of carries) (became_of plan.version h.contacts src (back_in carries))) (replies ∙ ap (λ (o : Option ReturnInfo). reply_of node plan (before_reply plan src carries h) now src o above) answers)

@@ -1,6 +1,7 @@
 -- The length of a packet in a shape is the one that its sender counts.
 use Rattle.std.proofs.Common.{◌≡◌, ℕ, ◌+◌, false, length, refl, ap, ◌∙◌, arith}
 use Rattle.tva_base.specs.declared.addresses.Address.{Address}
+use Rattle.tva_base.specs.declared.packet.Upper.{Upper}
 use Rattle.tva_base.specs.declared.plan.HostPlan.{HostPlan}
 use Rattle.tva_shim.specs.declared.kinds.ReturnInfo.{ReturnInfo}
 use Rattle.tva_shim.specs.declared.kinds.ReturnInfo.TheVariants as backs
@@ -27,11 +28,11 @@ pub made-length : (version : ℕ) (shape : Shape) (back : ReturnInfo) (p : Packe
     → packet_length p ≡ length_of version shape (p.payload + return_size version back)
 made-length version shape back p counted carries = ap (λ (c : Carried). 20 + carried_bytes c + p.payload) carries ∙ shim-length version shape back p.payload counted
 
-pub intended-length : (node : ℕ) (plan : HostPlan) (h : History) (now : ℕ) (dst : Address) (payload : ℕ) → is_legacy (next_shape plan h now dst payload) ≡ false
-    → packet_length (intended node plan h now dst payload).packet ≡ length_of plan.version (next_shape plan h now dst payload) payload
+pub intended-length : (node : ℕ) (plan : HostPlan) (h : History) (now : ℕ) (dst : Address) (payload : ℕ) (above : Upper) → is_legacy (next_shape plan h now dst payload) ≡ false
+    → packet_length (intended node plan h now dst payload above).packet ≡ length_of plan.version (next_shape plan h now dst payload) payload
 unfolding intended
-intended-length node plan h now dst payload counted =
+intended-length node plan h now dst payload above counted =
     let shape = next_shape plan h now dst payload in
     let carries : carried_by plan.version shape ≡ carried.Shim (shim_of plan.version shape backs.Nothing) = rw counted refl in
     let size : payload + return_size plan.version backs.Nothing ≡ payload = omega arith in
-    made-length plan.version shape backs.Nothing (intended node plan h now dst payload).packet counted carries ∙ ap (length_of plan.version shape) size
+    made-length plan.version shape backs.Nothing (intended node plan h now dst payload above).packet counted carries ∙ ap (length_of plan.version shape) size

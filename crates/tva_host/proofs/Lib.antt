@@ -4,3 +4,4 @@ mod Hearing
 pub mod Calls
 pub mod Played
 pub mod Lengths
+pub mod Shown

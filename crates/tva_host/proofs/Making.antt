@@ -2,42 +2,42 @@
 use Rattle.std.proofs.Common.{◌≡◌, ℕ, Option, Some, ap, sym, subst, ◌∙◌}
 use Rattle.tva_base.specs.declared.addresses.Address.{Address}
 use Rattle.tva_base.specs.declared.packet.Flow.{Flow}
+use Rattle.tva_base.specs.declared.packet.Upper.{Upper}
 use Rattle.tva_base.specs.declared.plan.HostPlan.{HostPlan}
 use Rattle.tva_base.specs.declared.event.ShapeKind.{ShapeKind}
 use Rattle.tva_shim.specs.declared.kinds.ReturnInfo.{ReturnInfo}
 use Rattle.tva_shim.specs.declared.packets.Carried.{Carried}
 use Rattle.tva_shim.specs.declared.packets.Carried.TheVariants as carried
-use Rattle.tva_shim.specs.Packets.{PacketData}
-use Rattle.tva_shim.specs.Layout.{return_size}
+use Rattle.tva_shim.specs.Packets.{PacketData, upper_size}
 use Rattle.tva_policy.specs.Grants.{Sent}
 use Rattle.tva_sender.specs.declared.shape.Shape.{Shape}
 use Rattle.tva_host.specs.declared.made.Made.{Made}
 use Rattle.tva_host.specs.History.{History, with_deed, with_packet, with_prepared}
 use Rattle.tva_host.specs.Stands.{HostData, Keeps}
-use Rattle.tva_host.specs.Sending.{next_packet, next_shape, next_made, with_made, kind_shown_of, carried_by, shim_of, intended, after_intending}
-use Rattle.tva_host.specs.Receiving.{reply_of, after_reply}
+use Rattle.tva_host.specs.Sending.{next_with, next_shape, next_made, with_made, kind_shown_of, carried_by, shim_of, intended, after_intending}
+use Rattle.tva_host.specs.Receiving.{body_of, reply_of, after_reply}
 
 abbrev made : PacketData → ShapeKind → Made
 made packet shape = record { packet = packet; shape = shape }
 
 -- a packet from the host's address, numbered next
-pub made-next : (node : ℕ) (plan : HostPlan) (h : History) (dst : Address) (payload : ℕ) (shape : Shape) (n : ℕ) (p : HostPlan) (flow : Flow) (carries : Carried) (packet : PacketData) (kind : ShapeKind)
-    → n ≡ node → p ≡ plan → flow ≡ record { src = p.address; dst = dst } → packet ≡ next_packet n h flow payload carries → kind ≡ kind_shown_of shape
-    → made packet kind ≡ next_made node plan h dst payload carries shape
-made-next node plan h dst payload shape n p flow carries packet kind same here to is told =
-    let from : Flow → Made = λ f. made (next_packet node h f payload carries) (kind_shown_of shape) in
-    ap (λ q. made q kind) (is ∙ ap (λ (m : ℕ). next_packet m h flow payload carries) same) ∙ ap (made (next_packet node h flow payload carries)) told ∙ ap from (to ∙ ap (λ (q : HostPlan). record { src = q.address; dst = dst }) here)
+pub made-next : (node : ℕ) (plan : HostPlan) (h : History) (dst : Address) (payload : ℕ) (shape : Shape) (n : ℕ) (p : HostPlan) (flow : Flow) (carries : Carried) (above : Upper) (packet : PacketData) (kind : ShapeKind)
+    → n ≡ node → p ≡ plan → flow ≡ record { src = p.address; dst = dst } → packet ≡ next_with n h flow payload carries above → kind ≡ kind_shown_of shape
+    → made packet kind ≡ next_made node plan h dst payload carries above shape
+made-next node plan h dst payload shape n p flow carries above packet kind same here to is told =
+    let from : Flow → Made = λ f. made (next_with node h f payload carries above) (kind_shown_of shape) in
+    ap (λ q. made q kind) (is ∙ ap (λ (m : ℕ). next_with m h flow payload carries above) same) ∙ ap (made (next_with node h flow payload carries above)) told ∙ ap from (to ∙ ap (λ (q : HostPlan). record { src = q.address; dst = dst }) here)
 
 -- the shape by the plan and the size of the body
 shape-by : (plan p : HostPlan) (h : History) (now : ℕ) (dst : Address) (body size : ℕ) (shape : Shape) → p ≡ plan → body ≡ size → shape ≡ next_shape p h now dst body → shape ≡ next_shape plan h now dst size
 shape-by plan p h now dst body size shape here sized is = is ∙ ap (λ (q : HostPlan). next_shape q h now dst body) here ∙ ap (next_shape plan h now dst) sized
 
 -- what a send row gives, by its shape
-pub made-intended : (node : ℕ) (plan p : HostPlan) (h : History) (now : ℕ) (dst : Address) (payload body : ℕ) (shape : Shape) (carries : Carried) (m : Made)
-    → p ≡ plan → body ≡ payload → shape ≡ next_shape p h now dst body → carries ≡ carried_by plan.version shape → m ≡ next_made node plan h dst payload carries shape → m ≡ intended node plan h now dst payload
+pub made-intended : (node : ℕ) (plan p : HostPlan) (h : History) (now : ℕ) (dst : Address) (payload body : ℕ) (shape : Shape) (carries : Carried) (above : Upper) (m : Made)
+    → p ≡ plan → body ≡ payload → shape ≡ next_shape p h now dst body → carries ≡ carried_by plan.version shape → m ≡ next_made node plan h dst payload carries above shape → m ≡ intended node plan h now dst payload above
 unfolding intended
-made-intended node plan p h now dst payload body shape carries m here size e f is =
-    is ∙ ap (λ (c : Carried). next_made node plan h dst payload c shape) f ∙ ap (λ (s : Shape). next_made node plan h dst payload (carried_by plan.version s) s) (shape-by plan p h now dst body payload shape here size e)
+made-intended node plan p h now dst payload body shape carries above m here size e f is =
+    is ∙ ap (λ (c : Carried). next_made node plan h dst payload c above shape) f ∙ ap (λ (s : Shape). next_made node plan h dst payload (carried_by plan.version s) above s) (shape-by plan p h now dst body payload shape here size e)
 
 pub keeps-intended : (plan p : HostPlan) (v : HostData) (h : History) (now : ℕ) (dst : Address) (payload body : ℕ) (shape : Shape)
     → p ≡ plan → body ≡ payload → shape ≡ next_shape p h now dst body → Keeps v (with_packet (with_prepared p.version now dst shape body (with_deed (Sent dst) h))) → Keeps v (after_intending plan h now dst payload)
@@ -49,17 +49,17 @@ keeps-intended plan p v h now dst payload body shape here size e was =
     subst (λ (x : Shape). Keeps v (with_packet (with_prepared plan.version now dst x payload (with_deed (Sent dst) h)))) (shape-by plan p h now dst body payload shape here size e) sized
 
 -- a reply, by its return info and its shape
-pub reply-made : (node : ℕ) (plan : HostPlan) (h : History) (now : ℕ) (src : Address) (answer : Option ReturnInfo) (back : ReturnInfo) (body : ℕ) (shape : Shape) (m : Made)
-    → answer ≡ Some back → body ≡ return_size plan.version back → shape ≡ next_shape plan h now src body → m ≡ next_made node plan h src 0 (carried.Shim (shim_of plan.version shape back)) shape
-    → Some m ≡ reply_of node plan h now src answer
-reply-made node plan h now src answer back body shape m there size e is =
+pub reply-made : (node : ℕ) (plan : HostPlan) (h : History) (now : ℕ) (src : Address) (answer : Option ReturnInfo) (back : ReturnInfo) (above : Upper) (body : ℕ) (shape : Shape) (m : Made)
+    → answer ≡ Some back → body ≡ body_of plan.version back above → shape ≡ next_shape plan h now src body → m ≡ next_made node plan h src (upper_size above) (carried.Shim (shim_of plan.version shape back)) above shape
+    → Some m ≡ reply_of node plan h now src answer above
+reply-made node plan h now src answer back above body shape m there size e is =
     let whole = e ∙ ap (next_shape plan h now src) size in
-    ap Some (is ∙ ap (λ (s : Shape). next_made node plan h src 0 (carried.Shim (shim_of plan.version s back)) s) whole) ∙ ap (reply_of node plan h now src) (sym there)
+    ap Some (is ∙ ap (λ (s : Shape). next_made node plan h src (upper_size above) (carried.Shim (shim_of plan.version s back)) above s) whole) ∙ ap (λ (o : Option ReturnInfo). reply_of node plan h now src o above) (sym there)
 
-pub keeps-reply : (plan : HostPlan) (v : HostData) (h : History) (now : ℕ) (src : Address) (answer : Option ReturnInfo) (back : ReturnInfo) (body : ℕ) (shape : Shape)
-    → answer ≡ Some back → body ≡ return_size plan.version back → shape ≡ next_shape plan h now src body → Keeps v (with_packet (with_prepared plan.version now src shape body h))
-    → Keeps v (after_reply plan now src answer h)
-keeps-reply plan v h now src answer back body shape there size e k =
-    let sized : Keeps v (with_packet (with_prepared plan.version now src shape (return_size plan.version back) h)) = subst (λ b. Keeps v (with_packet (with_prepared plan.version now src shape b h))) size k in
-    let shaped : Keeps v (with_made plan now src (return_size plan.version back) h) = subst (λ (x : Shape). Keeps v (with_packet (with_prepared plan.version now src x (return_size plan.version back) h))) (e ∙ ap (next_shape plan h now src) size) sized in
-    subst (λ (o : Option ReturnInfo). Keeps v (after_reply plan now src o h)) (sym there) shaped
+pub keeps-reply : (plan : HostPlan) (v : HostData) (h : History) (now : ℕ) (src : Address) (answer : Option ReturnInfo) (back : ReturnInfo) (above : Upper) (body : ℕ) (shape : Shape)
+    → answer ≡ Some back → body ≡ body_of plan.version back above → shape ≡ next_shape plan h now src body → Keeps v (with_packet (with_prepared plan.version now src shape body h))
+    → Keeps v (after_reply plan now src answer above h)
+keeps-reply plan v h now src answer back above body shape there size e k =
+    let sized : Keeps v (with_packet (with_prepared plan.version now src shape (body_of plan.version back above) h)) = subst (λ b. Keeps v (with_packet (with_prepared plan.version now src shape b h))) size k in
+    let shaped : Keeps v (with_made plan now src (body_of plan.version back above) h) = subst (λ (x : Shape). Keeps v (with_packet (with_prepared plan.version now src x (body_of plan.version back above) h))) (e ∙ ap (next_shape plan h now src) size) sized in
+    subst (λ (o : Option ReturnInfo). Keeps v (after_reply plan now src o above h)) (sym there) shaped

@@ -4,10 +4,10 @@ use Rattle.std.proofs.lemmas.Bool.{and_parts}
 use Rattle.std.proofs.lemmas.List.Elements.{All-nil}
 use Rattle.tva_base.specs.declared.addresses.Address.{Address}
 use Rattle.tva_base.specs.declared.packet.Rights.{Rights}
+use Rattle.tva_base.specs.declared.packet.Upper.{Upper}
 use Rattle.tva_base.specs.declared.plan.HostPlan.{HostPlan}
 use Rattle.tva_shim.specs.declared.kinds.ReturnInfo.{ReturnInfo}
 use Rattle.tva_shim.specs.declared.kinds.ReturnInfo.TheVariants as backs
-use Rattle.tva_shim.specs.Layout.{return_size}
 use Rattle.tva_shim.specs.Packets.{PacketData}
 use Rattle.tva_policy.specs.Grants.{Sent}
 use Rattle.tva_sender.specs.Contacts.{Contact, Prepared, Taken, Notice, awaits, is_within, takes}
@@ -19,7 +19,7 @@ use Rattle.tva_sender.proofs.Standing.{each-more}
 use Rattle.tva_host.specs.History.{History, beginning, with_deed, offered}
 use Rattle.tva_host.specs.Sending.{next_shape, with_made, after_intending}
 use Rattle.tva_shim.specs.Shows.{back_in}
-use Rattle.tva_host.specs.Receiving.{met_by, claim_in, answer_to, after_reply, before_reply, after_receipt}
+use Rattle.tva_host.specs.Receiving.{met_by, claim_in, answer_to, brought_by, body_of, after_reply, before_reply, after_receipt}
 use Rattle.tva_host.specs.Calls.{Call, Intended, Injected, Received, after_call, history_from, history_of, last_time, NeverFall}
 
 -- each peer's contacts are played, and none is later than that
@@ -59,30 +59,30 @@ met plan time contacts src backs.Nothing k = rw (append-nil contacts) k
 met plan time contacts src backs.Notice k = more plan time contacts src Notice k tt tt
 met plan time contacts src (backs.Grant rights caps) k = taken plan time contacts src rights caps (takes plan.version (of_peer src contacts) rights) refl k
 
-replied : (plan : HostPlan) (h : History) (now : ℕ) (src : Address) (answer : Option ReturnInfo) → ArePlayed plan now h.contacts → ArePlayed plan now (after_reply plan now src answer h).contacts
-replied plan h now src None k = k
-replied plan h now src (Some back) k = made plan h now src (return_size plan.version back) k
+replied : (plan : HostPlan) (h : History) (now : ℕ) (src : Address) (answer : Option ReturnInfo) (above : Upper) → ArePlayed plan now h.contacts → ArePlayed plan now (after_reply plan now src answer above h).contacts
+replied plan h now src None above k = k
+replied plan h now src (Some back) above k = made plan h now src (body_of plan.version back above) k
 
 intending : (plan : HostPlan) (h : History) (now : ℕ) (dst : Address) (payload : ℕ) → ArePlayed plan now h.contacts → ArePlayed plan now (after_intending plan h now dst payload).contacts
 unfolding after_intending
 intending plan h now dst payload k = made plan (with_deed (Sent dst) h) now dst payload k
 
-receiving : (plan : HostPlan) (h : History) (now : ℕ) (p : PacketData) → ArePlayed plan now h.contacts → ArePlayed plan now (after_receipt plan h now p).contacts
+receiving : (plan : HostPlan) (h : History) (now : ℕ) (p : PacketData) (above : Upper) → ArePlayed plan now h.contacts → ArePlayed plan now (after_receipt plan h now p above).contacts
 unfolding after_receipt
-receiving plan h now p k =
+receiving plan h now p above k =
     let before = before_reply plan p.flow.src p.carried h in
     let heard : ArePlayed plan now before.contacts = met plan now h.contacts p.flow.src (back_in p.carried) k in
-    let answer = answer_to plan h.deeds p.flow.src p.carried (claim_in p.carried) in
-    elim (eqb p.flow.dst.0 plan.address.0) as (λ b. ArePlayed plan now (cond b (after_reply plan now p.flow.src answer before) h).contacts)
-    [ true ↦ replied plan before now p.flow.src answer heard | false ↦ k ]
+    let answer = brought_by above (answer_to plan h.deeds p.flow.src p.carried (claim_in p.carried)) in
+    elim (eqb p.flow.dst.0 plan.address.0) as (λ b. ArePlayed plan now (cond b (after_reply plan now p.flow.src answer above before) h).contacts)
+    [ true ↦ replied plan before now p.flow.src answer above heard | false ↦ k ]
 
 pub played-from : (plan : HostPlan) (from : ℕ) (h : History) (cs : List Call) → NeverFall from cs → ArePlayed plan from h.contacts → ArePlayed plan (last_time from cs) (history_from plan h cs).contacts
 played-from plan from h [] order k = k
-played-from plan from h (Intended now dst payload ∷ cs) order k =
-    played-from plan now (after_call plan h (Intended now dst payload)) cs order.1 (intending plan h now dst payload (later plan from now h.contacts order.0 k))
+played-from plan from h (Intended now dst payload above ∷ cs) order k =
+    played-from plan now (after_call plan h (Intended now dst payload above)) cs order.1 (intending plan h now dst payload (later plan from now h.contacts order.0 k))
 played-from plan from h (Injected flow payload carries ∷ cs) order k = played-from plan from (after_call plan h (Injected flow payload carries)) cs order k
-played-from plan from h (Received now p ∷ cs) order k =
-    played-from plan now (after_call plan h (Received now p)) cs order.1 (receiving plan h now p (later plan from now h.contacts order.0 k))
+played-from plan from h (Received now p above ∷ cs) order k =
+    played-from plan now (after_call plan h (Received now p above)) cs order.1 (receiving plan h now p above (later plan from now h.contacts order.0 k))
 
 none : (plan : HostPlan) → ArePlayed plan 0 []
 none plan = record { played = λ a. tt; times = λ a. All-nil (IsUpTo 0) }

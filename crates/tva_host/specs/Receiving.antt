@@ -138,6 +138,11 @@ reply_of node plan h now src (Some back) above =
     (carried.Shim (shim_of plan.version (next_shape plan h now src (body_of plan.version back above)) back)) above
     (next_shape plan h now src (body_of plan.version back above)))
 
+-- the upper part of a reply, if there is one
+abbrev pub upper_of : Option Made → Upper
+upper_of None = upper.Nothing
+upper_of (Some made) = made.packet.upper
+
 abbrev pub after_reply : HostPlan → ℕ → Address → Option ReturnInfo → Upper → History → History
 after_reply plan now src None above h = h
 after_reply plan now src (Some back) above h = with_made plan now src (body_of plan.version back above) h

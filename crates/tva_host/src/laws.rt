@@ -1,7 +1,8 @@
 // What holds of every history of a host.
-ghost use Rattle.std.specs.Prelude.{◌≡◌, ℕ, ◌+◌, false, List, IfSome, Some};
+ghost use Rattle.std.specs.Prelude.{◌≡◌, ℕ, ◌+◌, ◌==◌, true, false, List, IfSome, Some};
 ghost use Rattle.tva_base.specs.declared.addresses.Address.{Address};
 ghost use Rattle.tva_base.specs.declared.packet.Upper.{Upper};
+ghost use Rattle.tva_base.specs.declared.packet.Upper.TheVariants as upper;
 ghost use Rattle.tva_base.specs.declared.plan.HostPlan.{HostPlan};
 ghost use Rattle.tva_shim.specs.declared.kinds.ReturnInfo.{ReturnInfo};
 ghost use Rattle.tva_shim.specs.declared.packets.Carried.TheVariants as carried;
@@ -13,7 +14,7 @@ ghost use Rattle.tva_sender.specs.Played.{IsPlayed, NoneLater};
 ghost use Rattle.tva_sender.specs.Book.{of_peer};
 ghost use Rattle.tva_host.specs.History.{History};
 ghost use Rattle.tva_host.specs.Sending.{is_legacy, shim_of, next_shape, intended};
-ghost use Rattle.tva_host.specs.Receiving.{body_of, reply_of};
+ghost use Rattle.tva_host.specs.Receiving.{body_of, reply_of, upper_of, receipt_of};
 ghost use Rattle.tva_host.specs.Calls.{Call, history_of, last_time, NeverFall};
 
 /// What a host's calls make with each of its peers is what a sender can have with it, and no packet is
@@ -39,4 +40,15 @@ pub fn lengths_are_counted()
         → is_legacy (next_shape plan h now src (body_of plan.version back above)) ≡ false
         → IfSome (reply_of node plan h now src (Some back) above) (λ made. packet_length made.packet
         ≡ length_of plan.version (next_shape plan h now src (body_of plan.version back above)) (body_of plan.version back above)) }
+{}
+
+/// An upper part that is to be answered is that of the reply: a packet to the host gets a reply that has it,
+/// whatever else is answered, and no reply has another. Where nothing is to be answered, none has any.
+pub fn answers_are_shown()
+    ensures here { (node : ℕ) (plan : HostPlan) (h : History) (now : ℕ) (p : PacketData) (above : Upper)
+        → (p.flow.dst.0 == plan.address.0) ≡ true → upper_of (receipt_of node plan h now p above).reply ≡ above }
+    ensures nothing { (node : ℕ) (plan : HostPlan) (h : History) (now : ℕ) (p : PacketData)
+        → upper_of (receipt_of node plan h now p upper.Nothing).reply ≡ upper.Nothing }
+    ensures reply { (node : ℕ) (plan : HostPlan) (h : History) (now : ℕ) (p : PacketData) (above : Upper)
+        → IfSome (receipt_of node plan h now p above).reply (λ made. made.packet.upper ≡ above) }
 {}

@@ -11,5 +11,5 @@ mod packets;
 mod received;
 
 pub use host::Host;
-pub use laws::{lengths_are_counted, peers_are_played};
+pub use laws::{answers_are_shown, lengths_are_counted, peers_are_played};
 pub use made::{Made, Receipt};

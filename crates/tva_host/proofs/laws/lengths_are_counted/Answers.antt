@@ -1,8 +1,10 @@
 use Rattle.std.proofs.Common.{◌≡◌, ◌+◌, refl, ap, ◌∙◌, arith}
 use Rattle.tva_shim.specs.declared.packets.Carried.TheVariants as carried
 use Rattle.tva_shim.specs.Layout.{return_size}
+use Rattle.tva_shim.specs.Packets.{upper_size}
 use Rattle.tva_sender.specs.Shapes.{length_of}
 use Rattle.tva_host.specs.Sending.{shim_of, next_shape, next_made}
+use Rattle.tva_host.specs.Receiving.{body_of}
 use Rattle.tva_host.proofs.Lengths.{made-length, intended-length}
 use Rattle.tva_host.proofs.laws.lengths_are_counted.Goals as goal
 
@@ -10,10 +12,11 @@ pub returns-clause-shape : goal.returns-clause-shape
 returns-clause-shape c version shape back p counted carries = made-length version shape back p counted carries
 
 pub returns-clause-intended : goal.returns-clause-intended
-returns-clause-intended c node plan h now dst payload counted = intended-length node plan h now dst payload counted
+returns-clause-intended c node plan h now dst payload above counted = intended-length node plan h now dst payload above counted
 
 pub returns-clause-reply : goal.returns-clause-reply
-returns-clause-reply c node plan h now src back counted =
-    let shape = next_shape plan h now src (return_size plan.version back) in
-    let size : 0 + return_size plan.version back ≡ return_size plan.version back = omega arith in
-    made-length plan.version shape back (next_made node plan h src 0 (carried.Shim (shim_of plan.version shape back)) shape).packet counted refl ∙ ap (length_of plan.version shape) size
+returns-clause-reply c node plan h now src back above counted =
+    let shape = next_shape plan h now src (body_of plan.version back above) in
+    let size : upper_size above + return_size plan.version back ≡ body_of plan.version back above = omega arith in
+    made-length plan.version shape back (next_made node plan h src (upper_size above) (carried.Shim (shim_of plan.version shape back)) above shape).packet counted refl
+    ∙ ap (length_of plan.version shape) size

@@ -1,9 +1,11 @@
-use Rattle.std.proofs.Common.{ℕ, ◌∙◌, ap}
+use Rattle.std.proofs.Common.{◌≡◌, ℕ, ◌+◌, ◌∙◌, ap}
 use Rattle.tva_shim.specs.declared.packets.Carried.TheVariants as carried
 use Rattle.tva_shim.specs.Shims.{ShimData}
-use Rattle.tva_host.specs.History.{with_prepared}
 use Rattle.tva_shim.specs.Layout.{return_size}
+use Rattle.tva_shim.specs.Packets.{upper_size}
+use Rattle.tva_host.specs.History.{with_prepared}
 use Rattle.tva_host.specs.Sending.{next_made, shim_of}
+use Rattle.tva_host.specs.Receiving.{body_of}
 use Rattle.tva_host.specs.Stands.{HostData}
 use Rattle.tva_host.proofs.Making.{made-next, reply-made, keeps-reply}
 use Rattle.tva_host.proofs.host.Host.reply.Goals as goal
@@ -14,16 +16,27 @@ returns-clause-reply c h k =
     let shape = c.prepare-shape.ensures.shape h k in
     let same = c.prepare-shape.ensures.rest in
     let known = c.version-version.ensures.version in
-    reply-made v.node v.plan h c.args.now.0 c.args.src c.args.answer c.in_ok-back.back c.return_size.result c.prepare-shape.result _
-    c.in_ok-back.was (c.return_size.ensures.bytes ∙ ap (λ (k : ℕ). return_size k c.in_ok-back.back) known) shape
-    (made-next v.node v.plan h c.args.src 0 c.prepare-shape.result c.prepare-shape.new.self.node c.prepare-shape.new.self.plan c.flow_to-flow.result (carried.Shim c.shim_of.result) c.number-packet.result c.kind_shown_of-kind.result
+    let bytes = c.upper_size-payload.ensures.bytes in
+    let back : c.return_size.result ≡ return_size v.plan.version c.in_ok-back.back = c.return_size.ensures.bytes ∙ ap (λ (n : ℕ). return_size n c.in_ok-back.back) known in
+    let body : c.return_size.result + c.from.result ≡ body_of v.plan.version c.in_ok-back.back c.args.upper =
+    ap (λ (n : ℕ). n + c.from.result) back ∙ ap (λ (n : ℕ). return_size v.plan.version c.in_ok-back.back + n) (c.from.ensures ∙ bytes) in
+    reply-made v.node v.plan h c.args.now.0 c.args.src c.args.answer c.in_ok-back.back c.args.upper (c.return_size.result + c.from.result) c.prepare-shape.result _
+    c.in_ok-back.was body shape
+    (made-next v.node v.plan h c.args.src c.upper_size-payload.result c.prepare-shape.result c.prepare-shape.new.self.node c.prepare-shape.new.self.plan c.flow_to-flow.result (carried.Shim c.shim_of.result) c.args.upper c.number-packet.result c.kind_shown_of-kind.result
     (ap (λ (w : HostData). w.node) same) (ap (λ (w : HostData). w.plan) same) c.flow_to-flow.ensures
-    (c.number-packet.ensures.packet (with_prepared c.args.self.now.plan.version c.args.now.0 c.args.src c.prepare-shape.result c.return_size.result h) (c.prepare-shape.ensures.keeps h k))
+    (c.number-packet.ensures.packet (with_prepared v.plan.version c.args.now.0 c.args.src c.prepare-shape.result (c.return_size.result + c.from.result) h) (c.prepare-shape.ensures.keeps h k))
     c.kind_shown_of-kind.ensures
-    ∙ ap (λ (z : ShimData). next_made v.node v.plan h c.args.src 0 (carried.Shim z) c.prepare-shape.result) (c.shim_of.ensures ∙ ap (λ (k : ℕ). shim_of k c.prepare-shape.result c.in_ok-back.back) known))
+    ∙ ap (λ (n : ℕ). next_made v.node v.plan h c.args.src n (carried.Shim c.shim_of.result) c.args.upper c.prepare-shape.result) bytes
+    ∙ ap (λ (z : ShimData). next_made v.node v.plan h c.args.src (upper_size c.args.upper) (carried.Shim z) c.args.upper c.prepare-shape.result)
+    (c.shim_of.ensures ∙ ap (λ (n : ℕ). shim_of n c.prepare-shape.result c.in_ok-back.back) known))
 
 pub returns-clause-keeps : goal.returns-clause-keeps
 returns-clause-keeps c h k =
-    keeps-reply c.args.self.now.plan c.number-packet.new.self h c.args.now.0 c.args.src c.args.answer c.in_ok-back.back c.return_size.result c.prepare-shape.result
-    c.in_ok-back.was (c.return_size.ensures.bytes ∙ ap (λ (k : ℕ). return_size k c.in_ok-back.back) c.version-version.ensures.version) (c.prepare-shape.ensures.shape h k)
-    (c.number-packet.ensures.keeps (with_prepared c.args.self.now.plan.version c.args.now.0 c.args.src c.prepare-shape.result c.return_size.result h) (c.prepare-shape.ensures.keeps h k))
+    let v = c.args.self.now in
+    let bytes = c.upper_size-payload.ensures.bytes in
+    let back : c.return_size.result ≡ return_size v.plan.version c.in_ok-back.back = c.return_size.ensures.bytes ∙ ap (λ (n : ℕ). return_size n c.in_ok-back.back) c.version-version.ensures.version in
+    let body : c.return_size.result + c.from.result ≡ body_of v.plan.version c.in_ok-back.back c.args.upper =
+    ap (λ (n : ℕ). n + c.from.result) back ∙ ap (λ (n : ℕ). return_size v.plan.version c.in_ok-back.back + n) (c.from.ensures ∙ bytes) in
+    keeps-reply v.plan c.number-packet.new.self h c.args.now.0 c.args.src c.args.answer c.in_ok-back.back c.args.upper (c.return_size.result + c.from.result) c.prepare-shape.result
+    c.in_ok-back.was body (c.prepare-shape.ensures.shape h k)
+    (c.number-packet.ensures.keeps (with_prepared v.plan.version c.args.now.0 c.args.src c.prepare-shape.result (c.return_size.result + c.from.result) h) (c.prepare-shape.ensures.keeps h k))

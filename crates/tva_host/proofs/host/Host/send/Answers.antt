@@ -7,7 +7,7 @@ use Rattle.tva_host.specs.Stands.{HostData, host_data, Keeps}
 use Rattle.tva_host.proofs.Standing.{keeps-timed}
 use Rattle.tva_host.proofs.Making.{made-next, made-intended, keeps-intended}
 use Rattle.tva_host.proofs.Calls.{stands-push}
-use Rattle.tva_host.proofs.host.Host.intend.Goals as goal
+use Rattle.tva_host.proofs.host.Host.send.Goals as goal
 
 pub returns-clause-made : goal.returns-clause-made
 returns-clause-made c calls s =
@@ -20,9 +20,9 @@ returns-clause-made c calls s =
     let prepared = c.prepare-shape.ensures.keeps (with_deed (Sent c.args.dst) h) noted in
     let plan : c.note.new.self.plan ≡ told.plan = ap (λ (w : HostData). w.plan) c.in_ok-note.ensures.rest ∙ ap (λ (w : HostData). w.plan) c.self.view_is in
     let node : c.note.new.self.node ≡ told.node = ap (λ (w : HostData). w.node) c.in_ok-note.ensures.rest ∙ ap (λ (w : HostData). w.node) c.self.view_is in
-    made-intended told.node told.plan c.note.new.self.plan h c.args.now.0 c.args.dst c.args.payload c.from.result c.prepare-shape.result c.carried_by.result _
+    made-intended told.node told.plan c.note.new.self.plan h c.args.now.0 c.args.dst c.args.payload c.from.result c.prepare-shape.result c.carried_by.result c.args.upper _
     plan c.from.ensures (c.prepare-shape.ensures.shape (with_deed (Sent c.args.dst) h) noted) (c.carried_by.ensures.carried ∙ ap (λ (k : ℕ). carried_by k c.prepare-shape.result) c.version-version.ensures.version)
-    (made-next told.node told.plan h c.args.dst c.args.payload c.prepare-shape.result c.prepare-shape.new.self.node c.prepare-shape.new.self.plan c.flow_to-flow.result c.carried_by.result c.number-packet.result c.kind_shown_of-kind.result
+    (made-next told.node told.plan h c.args.dst c.args.payload c.prepare-shape.result c.prepare-shape.new.self.node c.prepare-shape.new.self.plan c.flow_to-flow.result c.carried_by.result c.args.upper c.number-packet.result c.kind_shown_of-kind.result
     (ap (λ (w : HostData). w.node) c.prepare-shape.ensures.rest ∙ node) (ap (λ (w : HostData). w.plan) c.prepare-shape.ensures.rest ∙ plan) c.flow_to-flow.ensures
     (c.number-packet.ensures.packet (with_prepared c.note.new.self.plan.version c.args.now.0 c.args.dst c.prepare-shape.result c.from.result (with_deed (Sent c.args.dst) h)) prepared)
     c.kind_shown_of-kind.ensures)
@@ -39,7 +39,7 @@ returns-clause-stands c calls s =
     let prepared = c.prepare-shape.ensures.keeps (with_deed (Sent c.args.dst) h) noted in
     let plan : c.note.new.self.plan ≡ told.plan = ap (λ (w : HostData). w.plan) c.in_ok-note.ensures.rest ∙ ap (λ (w : HostData). w.plan) c.self.view_is in
     let last : done.last ≡ c.args.now.0 = ap (λ (w : HostData). w.last) c.number-packet.ensures.rest ∙ ap (λ (w : HostData). w.last) c.prepare-shape.ensures.rest ∙ ap (λ (w : HostData). w.last) c.in_ok-note.ensures.rest in
-    stands-push told done calls (Intended c.args.now.0 c.args.dst c.args.payload) s
+    stands-push told done calls (Intended c.args.now.0 c.args.dst c.args.payload c.args.upper) s
     (ap (λ (w : HostData). w.plan) c.number-packet.ensures.rest ∙ ap (λ (w : HostData). w.plan) c.prepare-shape.ensures.rest ∙ plan)
     (omega (arith, s.past, c.requires.time), tt) (omega (arith, last))
     (keeps-intended told.plan c.note.new.self.plan done h c.args.now.0 c.args.dst c.args.payload c.from.result c.prepare-shape.result plan c.from.ensures

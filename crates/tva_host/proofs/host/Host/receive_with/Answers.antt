@@ -6,13 +6,13 @@ use Rattle.tva_shim.specs.Packets.{PacketData}
 use Rattle.tva_shim.specs.Fields.{packet_of_fields}
 use Rattle.tva_host.specs.declared.made.Receipt.{Receipt}
 use Rattle.tva_shim.specs.Shows.{back_in}
-use Rattle.tva_host.specs.Receiving.{after_back, became_of, claim_in, answer_to, after_answer, reply_of, after_reply, before_reply, receipt_of, after_receipt}
+use Rattle.tva_host.specs.Receiving.{after_back, became_of, claim_in, answer_to, brought_by, after_answer, reply_of, after_reply, before_reply, receipt_of, after_receipt}
 use Rattle.tva_host.specs.Calls.{Received, history_of}
 use Rattle.tva_host.specs.Stands.{HostData, host_data, Keeps}
 use Rattle.tva_host.proofs.Standing.{timed, keeps-timed}
 use Rattle.tva_host.proofs.Hearing.{receipt-stray, keeps-stray, receipt-here, keeps-here, receipt-received}
 use Rattle.tva_host.proofs.Calls.{stands-push}
-use Rattle.tva_host.proofs.host.Host.receive.Goals as goal
+use Rattle.tva_host.proofs.host.Host.receive_with.Goals as goal
 
 pub returns-then-not-is_for-clause-receipt : goal.returns-then-not-is_for-clause-receipt
 returns-then-not-is_for-clause-receipt c calls s =
@@ -20,8 +20,8 @@ returns-then-not-is_for-clause-receipt c calls s =
     let h = history_of told.plan calls in
     let packet : PacketData = packet_of_fields c.packet.inside in
     let apart : eqb packet.flow.dst.0 told.plan.address.0 ≡ false = sym (c.if-not-is_for.ensures ∙ ap (λ (w : HostData). eqb packet.flow.dst.0 w.plan.address.0) c.self.view_is) in
-    subst (λ (z : PacketData). c.stray.result ≡ receipt_of told.node told.plan h c.args.now.0 z) c.packet.view_is
-    (c.stray.ensures ∙ receipt-stray told.node told.plan h c.args.now.0 packet apart)
+    subst (λ (z : PacketData). c.stray.result ≡ receipt_of told.node told.plan h c.args.now.0 z c.args.upper) c.packet.view_is
+    (c.stray.ensures ∙ receipt-stray told.node told.plan h c.args.now.0 packet c.args.upper apart)
 
 pub returns-then-not-is_for-clause-stands : goal.returns-then-not-is_for-clause-stands
 returns-then-not-is_for-clause-stands c calls s =
@@ -32,10 +32,10 @@ returns-then-not-is_for-clause-stands c calls s =
     let packet : PacketData = packet_of_fields c.packet.inside in
     let apart : eqb packet.flow.dst.0 told.plan.address.0 ≡ false = sym (c.if-not-is_for.ensures ∙ ap (λ (w : HostData). eqb packet.flow.dst.0 w.plan.address.0) c.self.view_is) in
     let start = keeps-timed v c.args.now.0 h (subst (λ (w : HostData). Keeps w h) (sym c.self.view_is) s.keeps) in
-    stands-push told (timed c.args.now.0 v) calls (Received c.args.now.0 c.args.packet) s (ap (λ (w : HostData). w.plan) c.self.view_is)
+    stands-push told (timed c.args.now.0 v) calls (Received c.args.now.0 c.args.packet c.args.upper) s (ap (λ (w : HostData). w.plan) c.self.view_is)
     (omega (arith, s.past, c.requires.time), tt) (le_refl c.args.now.0)
-    (subst (λ (z : PacketData). Keeps (timed c.args.now.0 v) (after_receipt told.plan h c.args.now.0 z)) c.packet.view_is
-    (keeps-stray told.plan (timed c.args.now.0 v) h c.args.now.0 packet apart start))
+    (subst (λ (z : PacketData). Keeps (timed c.args.now.0 v) (after_receipt told.plan h c.args.now.0 z c.args.upper)) c.packet.view_is
+    (keeps-stray told.plan (timed c.args.now.0 v) h c.args.now.0 packet c.args.upper apart start))
 
 pub returns-clause-receipt : goal.returns-clause-receipt
 returns-clause-receipt c calls s =
@@ -59,15 +59,15 @@ returns-clause-receipt c calls s =
     (c.take_back-back.ensures.keeps (after_answer told.plan src carries h) decided) in
     let replied = c.reply-reply.ensures.reply (before_reply told.plan src carries h) heard in
     let receipt : Receipt = record { what = c.what_of.result; back = c.take_back-back.result; reply = c.reply-reply.result } in
-    subst (λ (z : PacketData). receipt ≡ receipt_of told.node told.plan h c.args.now.0 z) c.packet.view_is
-    (receipt-received told.node told.plan h c.args.now.0 src carries c.what_of.result c.take_back-back.result c.in_ok-answer.answer c.reply-reply.result
+    subst (λ (z : PacketData). receipt ≡ receipt_of told.node told.plan h c.args.now.0 z c.args.upper) c.packet.view_is
+    (receipt-received told.node told.plan h c.args.now.0 src carries c.what_of.result c.take_back-back.result c.brought_by.result c.args.upper c.reply-reply.result
     c.what_of.ensures
     (c.take_back-back.ensures.became (after_answer told.plan src carries h) decided
     ∙ ap (λ (q : HostPlan). became_of q.version h.contacts src (back_in carries)) asked_plan)
-    (c.in_ok-answer.ensures.answer h roomy ∙ ap (λ (q : HostPlan). answer_to q h.deeds src carries (claim_in carries)) plan)
-    (replied ∙ ap (λ n. reply_of n c.take_back-back.new.self.plan (before_reply told.plan src carries h) c.args.now.0 src c.in_ok-answer.answer) heard_node
-    ∙ ap (λ (q : HostPlan). reply_of told.node q (before_reply told.plan src carries h) c.args.now.0 src c.in_ok-answer.answer) heard_plan)
-    ∙ receipt-here told.node told.plan h c.args.now.0 packet here)
+    (c.brought_by.ensures.back ∙ ap (brought_by c.args.upper) (c.in_ok-answer.ensures.answer h roomy ∙ ap (λ (q : HostPlan). answer_to q h.deeds src carries (claim_in carries)) plan))
+    (replied ∙ ap (λ n. reply_of n c.take_back-back.new.self.plan (before_reply told.plan src carries h) c.args.now.0 src c.brought_by.result c.args.upper) heard_node
+    ∙ ap (λ (q : HostPlan). reply_of told.node q (before_reply told.plan src carries h) c.args.now.0 src c.brought_by.result c.args.upper) heard_plan)
+    ∙ receipt-here told.node told.plan h c.args.now.0 packet c.args.upper here)
 
 pub returns-clause-stands : goal.returns-clause-stands
 returns-clause-stands c calls s =
@@ -88,12 +88,12 @@ returns-clause-stands c calls s =
     let asked_plan : c.answer.new.self.plan ≡ told.plan = ap (λ (w : HostData). w.plan) c.in_ok-answer.ensures.rest ∙ plan in
     let heard = subst (λ (q : HostPlan). Keeps c.take_back-back.new.self (after_back q.version src (back_in carries) (after_answer told.plan src carries h))) asked_plan
     (c.take_back-back.ensures.keeps (after_answer told.plan src carries h) decided) in
-    let answers = c.in_ok-answer.ensures.answer h roomy ∙ ap (λ (q : HostPlan). answer_to q h.deeds src carries (claim_in carries)) plan in
-    let replied = subst (λ (q : HostPlan). Keeps done (after_reply q c.args.now.0 src c.in_ok-answer.answer (before_reply told.plan src carries h))) heard_plan
+    let answers = c.brought_by.ensures.back ∙ ap (brought_by c.args.upper) (c.in_ok-answer.ensures.answer h roomy ∙ ap (λ (q : HostPlan). answer_to q h.deeds src carries (claim_in carries)) plan) in
+    let replied = subst (λ (q : HostPlan). Keeps done (after_reply q c.args.now.0 src c.brought_by.result c.args.upper (before_reply told.plan src carries h))) heard_plan
     (c.reply-reply.ensures.keeps (before_reply told.plan src carries h) heard) in
     let last : done.last ≡ c.args.now.0 = c.reply-reply.ensures.rest.2 ∙ ap (λ (w : HostData). w.last) c.take_back-back.ensures.rest ∙ ap (λ (w : HostData). w.last) c.in_ok-answer.ensures.rest ∙ ap (λ (w : HostData). w.last) c.in_ok-make_room.ensures.rest in
-    stands-push told done calls (Received c.args.now.0 c.args.packet) s (c.reply-reply.ensures.rest.1 ∙ heard_plan)
+    stands-push told done calls (Received c.args.now.0 c.args.packet c.args.upper) s (c.reply-reply.ensures.rest.1 ∙ heard_plan)
     (omega (arith, s.past, c.requires.time), tt) (omega (arith, last))
-    (subst (λ (z : PacketData). Keeps done (after_receipt told.plan h c.args.now.0 z)) c.packet.view_is
-    (keeps-here told.plan done h c.args.now.0 packet here
-    (subst (λ (a : Option ReturnInfo). Keeps done (after_reply told.plan c.args.now.0 src a (before_reply told.plan src carries h))) answers replied)))
+    (subst (λ (z : PacketData). Keeps done (after_receipt told.plan h c.args.now.0 z c.args.upper)) c.packet.view_is
+    (keeps-here told.plan done h c.args.now.0 packet c.args.upper here
+    (subst (λ (a : Option ReturnInfo). Keeps done (after_reply told.plan c.args.now.0 src a c.args.upper (before_reply told.plan src carries h))) answers replied)))
