@@ -147,11 +147,6 @@ abbrev pub after_reply : HostPlan → ℕ → Address → Option ReturnInfo → 
 after_reply plan now src None above h = h
 after_reply plan now src (Some back) above h = with_made plan now src (body_of plan.version back above) h
 
--- the upper part of a reply
-abbrev pub upper_of : Option Made → Upper
-upper_of None = upper.Nothing
-upper_of (Some made) = made.packet.upper
-
 -- what is told of a packet for another host, of which nothing comes
 abbrev pub stray : Receipt
 stray = record { what = what.Stray; back = became.Nothing; reply = None }
