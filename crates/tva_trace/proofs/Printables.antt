@@ -23,8 +23,9 @@ use Rattle.tva_base.specs.declared.event.BackKind.{BackKind}
 use Rattle.tva_base.specs.declared.event.BackKind.TheVariants as back
 use Rattle.tva_base.specs.declared.event.Event.{Event}
 use Rattle.tva_base.specs.declared.event.Happened.{Happened}
-use Rattle.tva_base.specs.declared.event.Happened.TheVariants.{Arrived, Sent, Received, Started}
+use Rattle.tva_base.specs.declared.event.Happened.TheVariants.{Arrived, Sent, Received, Started, Ticked}
 use Rattle.tva_base.specs.declared.event.ReplyLine.{ReplyLine}
+use Rattle.tva_base.specs.declared.event.DataLine.{DataLine}
 use Rattle.tva_base.specs.declared.event.Totals.{Totals}
 use Rattle.tva_base.specs.declared.plan.LinkPlan.{LinkPlan}
 use Rattle.tva_base.specs.Printable.{IsPrintable}
@@ -33,7 +34,7 @@ use Rattle.tva_plan.specs.declared.config.NodePlan.{NodePlan}
 use Rattle.tva_plan.specs.Names.{is_name_byte, name_at}
 use Rattle.tva_plan.specs.Valid.{IsConfig, IsName}
 use Rattle.tva_trace.specs.Words.{class_word, cause_word, drop_word, shape_word, what_word, back_word}
-use Rattle.tva_trace.specs.Lines.{name_of, name_before, name_behind, id_word, from_word, outcome_word, cause_or_dash, reply_word, happened_words, text_of_event, text_of_totals}
+use Rattle.tva_trace.specs.Lines.{name_of, name_before, name_behind, id_word, from_word, outcome_word, cause_or_dash, reply_word, range_words, happened_words, text_of_event, text_of_totals}
 
 abbrev IsPlain : List ℕ → Type 0
 IsPlain text = All IsPrintable text
@@ -212,6 +213,14 @@ reply_plain config (Some r) valid =
       ),
     )
 
+range_plain : (range : Option DataLine) → AllByRecursion IsPlain (range_words range)
+range_plain None = tt
+range_plain (Some r) = (
+  joined 58 (omega arith, omega arith) (codes "data" ∷ decimal r.transfer ∷ decimal r.first ∷ decimal r.bytes ∷ [])
+      (tested (codes "data") refl, (decimal_plain r.transfer, (decimal_plain r.first, (decimal_plain r.bytes, tt)))),
+  tt,
+)
+
 happened_plain : (config : Config) (h : Happened) → IsConfig config → AllByRecursion IsPlain (happened_words config h)
 happened_plain config (Arrived id bytes from fate) valid = (
   tested (codes "in") refl,
@@ -236,7 +245,7 @@ happened_plain config (Sent id bytes shape outcome) valid = (
     ),
   ),
 )
-happened_plain config (Received id bytes from payload what back reply) valid = (
+happened_plain config (Received id bytes from payload what back reply range) valid = (
   tested (codes "recv") refl,
   (
     id_plain config id valid,
@@ -244,7 +253,7 @@ happened_plain config (Received id bytes from payload what back reply) valid = (
       decimal_plain bytes,
       (
         before_plain config from valid,
-        (tested (what_word what) (what_tested what), (tested (back_word back) (back_tested back), (reply_plain config reply valid, tt))),
+        (tested (what_word what) (what_tested what), (tested (back_word back) (back_tested back), (reply_plain config reply valid, range_plain range))),
       ),
     ),
   ),
@@ -262,6 +271,7 @@ happened_plain config (Started id bytes link class end) valid = (
     ),
   ),
 )
+happened_plain config Ticked valid = (tested (codes "tick") refl, tt)
 
 -- ---- texts
 

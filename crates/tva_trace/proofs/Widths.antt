@@ -22,8 +22,9 @@ use Rattle.tva_base.specs.declared.event.BackKind.{BackKind}
 use Rattle.tva_base.specs.declared.event.BackKind.TheVariants as back
 use Rattle.tva_base.specs.declared.event.Event.{Event}
 use Rattle.tva_base.specs.declared.event.Happened.{Happened}
-use Rattle.tva_base.specs.declared.event.Happened.TheVariants.{Arrived, Sent, Received, Started}
+use Rattle.tva_base.specs.declared.event.Happened.TheVariants.{Arrived, Sent, Received, Started, Ticked}
 use Rattle.tva_base.specs.declared.event.ReplyLine.{ReplyLine}
+use Rattle.tva_base.specs.declared.event.DataLine.{DataLine}
 use Rattle.tva_base.specs.declared.event.Totals.{Totals}
 use Rattle.tva_base.specs.declared.plan.LinkPlan.{LinkPlan}
 use Rattle.tva_base.specs.Printable.{IsLine}
@@ -32,7 +33,7 @@ use Rattle.tva_plan.specs.declared.config.NodePlan.{NodePlan}
 use Rattle.tva_plan.specs.Names.{name_at}
 use Rattle.tva_plan.specs.Valid.{IsConfig, IsName}
 use Rattle.tva_trace.specs.Words.{class_word, drop_word, shape_word, what_word, back_word}
-use Rattle.tva_trace.specs.Lines.{FitsEvent, FitsHappened, FitsId, FitsReply, FitsTotals, name_of, name_before, name_behind, id_word, from_word, outcome_word, cause_or_dash, reply_word, happened_words, text_of_event, text_of_totals}
+use Rattle.tva_trace.specs.Lines.{FitsEvent, FitsHappened, FitsId, FitsRange, FitsReply, FitsTotals, name_of, name_before, name_behind, id_word, from_word, outcome_word, cause_or_dash, reply_word, range_words, happened_words, text_of_event, text_of_totals}
 use Rattle.tva_trace.proofs.Printables.{event_printable, totals_printable}
 
 -- ---- words
@@ -87,6 +88,9 @@ number_short n h = length-decimal-le 20 n (omega arith) (omega arith) h
 
 length_short : (n : ℕ) → n < 2 ^ 32 → length (decimal n) ≤ 10
 length_short n h = length-decimal-le 10 n (omega arith) (omega arith) (omega arith)
+
+short_short : (n : ℕ) → n < 2 ^ 16 → length (decimal n) ≤ 5
+short_short n h = length-decimal-le 5 n (omega arith) (omega arith) (omega arith)
 
 -- ---- names
 
@@ -145,15 +149,27 @@ reply_short config (Some r) valid fits =
       outcome_short config r.outcome valid,
     )
 
-happened_short : (config : Config) (h : Happened) → IsConfig config → FitsHappened h → spaced_length (happened_words config h) ≤ 178
+range_short : (range : Option DataLine) → FitsRange range → spaced_length (range_words range) ≤ 29
+range_short None fits = omega arith
+range_short (Some r) fits =
+    omega (
+      arith,
+      joined 58 (codes "data" ∷ decimal r.transfer ∷ decimal r.first ∷ decimal r.bytes ∷ []),
+      short_short r.transfer fits.0,
+      length_short r.first fits.1,
+      short_short r.bytes fits.2,
+    )
+
+happened_short : (config : Config) (h : Happened) → IsConfig config → FitsHappened h → spaced_length (happened_words config h) ≤ 207
 happened_short config (Arrived id bytes from fate) valid fits =
     omega (arith, id_short config id valid fits.0, length_short bytes fits.1, from_short config from valid, class_short fate.class, cause_short fate.cause, outcome_short config fate.outcome valid)
 happened_short config (Sent id bytes shape outcome) valid fits =
     omega (arith, id_short config id valid fits.0, length_short bytes fits.1, shape_short shape, outcome_short config outcome valid)
-happened_short config (Received id bytes from payload what back reply) valid fits =
-    omega (arith, id_short config id valid fits.0, length_short bytes fits.1, before_short config from valid, what_short what, back_short back, reply_short config reply valid fits.2)
+happened_short config (Received id bytes from payload what back reply range) valid fits =
+    omega (arith, id_short config id valid fits.0, length_short bytes fits.1, before_short config from valid, what_short what, back_short back, reply_short config reply valid fits.2, range_short range fits.3)
 happened_short config (Started id bytes link class end) valid fits =
     omega (arith, id_short config id valid fits.0, length_short bytes fits.1, behind_short config link valid, class_short class, number_short end.0 fits.2)
+happened_short config Ticked valid fits = omega arith
 
 pub event_some : (config : Config) (event : Event) → 1 ≤ length (text_of_event config event)
 event_some config event = simp length-append (omega arith)

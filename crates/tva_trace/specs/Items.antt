@@ -107,10 +107,12 @@ raw_of text = if nat_le (length text) 800 then hex_bytes_of (length text / 2) te
 abbrev pub plain_shim : ℕ → Kind → ShimData
 plain_shim version k = record { version = version; demoted = false; protocol = 6; kind = k; back = backs.Nothing }
 
--- what a row's shim is, by the row's kind; a row that sends has none. The version is 2 only where the
+-- what a row's shim is, by the row's kind; a row that sends or ticks has none. The version is 2 only where the
 -- rights ask for it
 unfoldable pub shim_of : List NodePlan → kinds.RowKind → Flow → List ℕ → Option said.SaidShim
 shim_of plans kind.Send flow text = None
+shim_of plans kind.File flow text = None
+shim_of plans kind.Tick flow text = None
 shim_of plans kind.Raw flow text = option_map Bytes (raw_of text)
 shim_of plans kind.List flow text =
     option_map (λ shown. Built (plain_shim (version_for shown.rights) (shims.List shown))) (shown_of plans flow text)

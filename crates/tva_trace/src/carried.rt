@@ -31,6 +31,8 @@ fn what_from(said: SaidWhat) -> RowWhat
             payload,
             carried: carried_from(shim),
         },
+        SaidWhat::File { dst, size, segment } => RowWhat::File { dst, size, segment },
+        SaidWhat::Tick { dst } => RowWhat::Tick { dst },
     }
 }
 

@@ -217,7 +217,7 @@ pub fn shim_of(
     ensures valid { IfSome result IsSaidShim }
 {
     match kind {
-        RowKind::Send => None,
+        RowKind::Send | RowKind::File | RowKind::Tick => None,
         RowKind::Raw => Some(SaidShim::Bytes(RawBytes::from_digits(text)?)),
         RowKind::List => {
             let shown = shown_of(plans, numbers, secrets, flow, text)?;

@@ -2,25 +2,26 @@
 ghost use Rattle.std.specs.Prelude.{◌≡◌, ◌≤◌, ◌+◌, ◌∷◌, [], ◌++◌, codes, decimal, length};
 ghost use Rattle.std.specs.List.{join_with_byte};
 ghost use Rattle.tva_trace.specs.Words.{back_word, class_word, shape_word, what_word};
-ghost use Rattle.tva_trace.specs.Lines.{HasEvent, HasHappened, HasLink, HasNode, HasOutcome, HasReply, HasSource, LinksJoinNodes, cause_or_dash, from_word, happened_words, id_word, line_of, name_behind, name_before, outcome_word, reply_word, summary_of, text_of_event, text_of_totals};
+ghost use Rattle.tva_trace.specs.Lines.{HasEvent, HasHappened, HasLink, HasNode, HasOutcome, HasReply, HasSource, LinksJoinNodes, cause_or_dash, from_word, happened_words, id_word, line_of, name_behind, name_before, outcome_word, range_words, reply_word, summary_of, text_of_event, text_of_totals};
 ghost use Rattle.tva_base.specs.Printable.{IsLine};
 ghost use Rattle.tva_plan.specs.Valid.{IsConfig};
 
 use crate::parts::{
     cause_or_dash, name_before, name_behind, node_name, put_id, put_length, put_number,
-    put_outcome, put_reply, source_word,
+    put_outcome, put_range, put_reply, source_word,
 };
 use crate::words::{back_word, class_word, shape_word, what_word};
 use arrayvec::ArrayString;
 use tva_base::{
-    BackKind, Class, Event, Fate, Happened, Outcome, PacketId, ReplyLine, ShapeKind, Time, Totals,
-    WhatKind,
+    BackKind, Class, DataLine, Event, Fate, Happened, Outcome, PacketId, ReplyLine, ShapeKind,
+    Time, Totals, WhatKind,
 };
 use tva_plan::Config;
 
 /// Leaves the event's line in `line`, with its line feed and nothing else. No line is longer than
-/// 255 bytes: names have at most 16 bytes, times and numbers of packets at most 20 digits and lengths
-/// at most ten, and the longest line of an event, that of a receipt with a reply, has 214 bytes then.
+/// 255 bytes: names have at most 16 bytes, times and numbers of packets at most 20 digits, lengths of
+/// packets and places in a file at most ten, and numbers of transfers and lengths of ranges at most five.
+/// The longest line of an event, that of a receipt with a reply and a range, has 242 bytes then.
 /// Under a valid configuration each byte before the line feed is from the blank to `~`.
 pub fn line_text(config: &Config, event: &Event, line: &mut ArrayString<256>)
     requires ends { LinksJoinNodes config.now }
@@ -49,7 +50,7 @@ fn put_event(config: &Config, event: &Event, line: &mut ArrayString<256>)
     requires ends { LinksJoinNodes config.now }
     requires known { HasEvent config.now event.now }
     ensures text { line.new.bytes ≡ text_of_event config.now event.now }
-    ensures short { length line.new.bytes ≤ 214 }
+    ensures short { length line.new.bytes ≤ 242 }
 {
     line.clear();
     put_number(line, event.time.0);
@@ -76,7 +77,7 @@ fn put_happened(config: &Config, happened: &Happened, line: &mut ArrayString<256
     requires known { HasHappened config.now happened.now }
     requires room { length line.old.bytes ≤ 38 }
     ensures bytes { line.new.bytes ≡ line.old.bytes ++ join_with_byte 32 (happened_words config.now happened.now) }
-    ensures short { length line.new.bytes ≤ length line.old.bytes + 176 }
+    ensures short { length line.new.bytes ≤ length line.old.bytes + 204 }
 {
     match happened {
         Happened::Arrived {
@@ -105,9 +106,10 @@ fn put_happened(config: &Config, happened: &Happened, line: &mut ArrayString<256
             what,
             back,
             reply,
+            range,
         } => {
             put_head(config, "recv", *id, *length, line);
-            put_receipt(config, *from, *what, *back, reply, line);
+            put_receipt(config, *from, *what, *back, reply, range, line);
         }
         Happened::Started {
             id,
@@ -119,10 +121,11 @@ fn put_happened(config: &Config, happened: &Happened, line: &mut ArrayString<256
             put_head(config, "start", *id, *length, line);
             put_start(config, *link, *class, *end, line);
         }
+        Happened::Ticked => line.push_str("tick"),
     }
 }
 
-/// The three words with which each event begins: what happened, the packet and its length.
+/// The three words with which an event of a packet begins: what happened, the packet and its length.
 fn put_head(config: &Config, word: &str, id: PacketId, bytes: u32, line: &mut ArrayString<256>)
     requires known { HasNode config.now id.node }
     requires word { length word.now ≤ 5 }
@@ -177,14 +180,15 @@ fn put_receipt(
     what: WhatKind,
     back: BackKind,
     reply: &Option<ReplyLine>,
+    range: &Option<DataLine>,
     line: &mut ArrayString<256>,
 )
     requires ends { LinksJoinNodes config.now }
     requires source { HasLink config.now from }
     requires reply { HasReply config.now reply.now }
     requires room { length line.old.bytes ≤ 92 }
-    ensures bytes { line.new.bytes ≡ line.old.bytes ++ 32 ∷ join_with_byte 32 (name_before config.now from ∷ what_word what ∷ back_word back ∷ reply_word config.now reply.now ∷ []) }
-    ensures short { length line.new.bytes ≤ length line.old.bytes + 122 }
+    ensures bytes { line.new.bytes ≡ line.old.bytes ++ 32 ∷ join_with_byte 32 (name_before config.now from ∷ what_word what ∷ back_word back ∷ reply_word config.now reply.now ∷ range_words range.now) }
+    ensures short { length line.new.bytes ≤ length line.old.bytes + 150 }
 {
     line.push_str(" ");
     line.push_str(name_before(config, from));
@@ -193,7 +197,30 @@ fn put_receipt(
     line.push_str(" ");
     line.push_str(back_word(back));
     line.push_str(" ");
+    put_reply_and_range(config, reply, range, line);
+}
+
+/// With what a line of a receipt ends: the reply, and the range that was delivered, if one was.
+fn put_reply_and_range(
+    config: &Config,
+    reply: &Option<ReplyLine>,
+    range: &Option<DataLine>,
+    line: &mut ArrayString<256>,
+)
+    requires ends { LinksJoinNodes config.now }
+    requires reply { HasReply config.now reply.now }
+    requires room { length line.old.bytes ≤ 126 }
+    ensures bytes { line.new.bytes ≡ line.old.bytes ++ join_with_byte 32 (reply_word config.now reply.now ∷ range_words range.now) }
+    ensures short { length line.new.bytes ≤ length line.old.bytes + 116 }
+{
     put_reply(config, reply, line);
+    match range {
+        None => {}
+        Some(range) => {
+            line.push_str(" ");
+            put_range(range, line);
+        }
+    }
 }
 
 /// What else a line says of a start on a link.

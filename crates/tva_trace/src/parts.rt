@@ -7,7 +7,7 @@ ghost use Rattle.tva_trace.specs.Lines.{HasLink, HasNode, HasOutcome, HasReply, 
 use crate::words::{back_word, cause_word, drop_word, shape_word};
 use arrayvec::ArrayString;
 use itoa::Buffer;
-use tva_base::{Cause, Outcome, PacketId, ReplyLine};
+use tva_base::{Cause, DataLine, Outcome, PacketId, ReplyLine};
 use tva_plan::{Config, NodePlan};
 
 /// A number, in at most 20 digits.
@@ -19,13 +19,22 @@ pub fn put_number(line: &mut ArrayString<256>, number: u64)
     line.push_str(Buffer::new().format(number));
 }
 
-/// A length in bytes, in at most ten digits.
+/// A length or a place in bytes, in at most ten digits.
 pub fn put_length(line: &mut ArrayString<256>, bytes: u32)
     requires { length line.old.bytes ≤ 246 }
     ensures bytes { line.new.bytes ≡ line.old.bytes ++ decimal bytes }
     ensures short { length line.new.bytes ≤ length line.old.bytes + 10 }
 {
     line.push_str(Buffer::new().format(bytes));
+}
+
+/// A number of a transfer, or a length of a range in bytes, in at most five digits.
+fn put_short(line: &mut ArrayString<256>, number: u16)
+    requires { length line.old.bytes ≤ 251 }
+    ensures bytes { line.new.bytes ≡ line.old.bytes ++ decimal number }
+    ensures short { length line.new.bytes ≤ length line.old.bytes + 5 }
+{
+    line.push_str(Buffer::new().format(number));
 }
 
 /// The name of a node.
@@ -159,4 +168,18 @@ fn put_made(config: &Config, reply: &ReplyLine, line: &mut ArrayString<256>)
     put_length(line, reply.length);
     line.push_str("/");
     line.push_str(shape_word(reply.shape));
+}
+
+/// A range that was delivered, as one word.
+pub fn put_range(range: &DataLine, line: &mut ArrayString<256>)
+    requires room { length line.old.bytes ≤ 229 }
+    ensures bytes { line.new.bytes ≡ line.old.bytes ++ join_with_byte 58 (codes "data" ∷ decimal range.now.transfer ∷ decimal range.now.first ∷ decimal range.now.bytes ∷ []) }
+    ensures short { length line.new.bytes ≤ length line.old.bytes + 27 }
+{
+    line.push_str("data:");
+    put_short(line, range.transfer);
+    line.push_str(":");
+    put_length(line, range.first);
+    line.push_str(":");
+    put_short(line, range.bytes);
 }
