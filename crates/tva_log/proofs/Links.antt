@@ -30,6 +30,7 @@ use Rattle.tva_router.specs.Routes.{link_to}
 use Rattle.tva_router.specs.Boots.{charges_at}
 use Rattle.tva_host.specs.declared.made.Made.{Made}
 use Rattle.tva_host.specs.Calls.{history_of}
+use Rattle.tva_transfer.specs.Files.{answered}
 use Rattle.tva_host.specs.Receiving.{receipt_of}
 use Rattle.tva_plan.specs.declared.config.NodePlan.{NodePlan}
 use Rattle.tva_plan.specs.declared.config.NodePlan.TheVariants as plans
@@ -40,8 +41,8 @@ use Rattle.tva_log.specs.declared.kinds.Input.TheVariants.{FromTrace, Arrival}
 use Rattle.tva_log.specs.Sites.{Site, IsSite, IsPlanned, limits_out}
 use Rattle.tva_log.specs.Entries.{Content, Arrived, Entry, Took, Started, input_time, entry_time}
 use Rattle.tva_log.specs.Entries as entry
-use Rattle.tva_log.specs.Parts.{charges, calls, content_at, queued_at, reply_at, port_entry, port_logs}
-use Rattle.tva_log.specs.Contents.{packet_of_row, next_id, arrived, routed, goes_out, made_for, hosted, content_by, content}
+use Rattle.tva_log.specs.Parts.{charges, calls, content_at, queued_at, reply_at, port_entry, port_logs, files}
+use Rattle.tva_log.specs.Contents.{packet_of_row, next_id, arrived, routed, goes_out, made_for, hosted, content_by, content, sent_out}
 use Rattle.tva_log.specs.Legal.{IsShort}
 use Rattle.tva_log.specs.NodeLog.{start_of, start_after, starts, LeavesNone}
 
@@ -129,7 +130,8 @@ reply_time link time (Some m) (Some outcome) = queued_time link time outcome (cl
 port_time : (link : ℕ) (e : Entry) → IfSome (port_entry link e) (λ x. port.entry_time x ≡ entry_time e)
 port_time link (Took input (Arrived from packet fate onward)) = queued_time link (input_time input) fate.outcome fate.class onward
 port_time link (Took input (entry.Sent m outcome)) = queued_time link (input_time input) outcome (class_by_shim m.packet.carried) m.packet
-port_time link (Took input (entry.Received from packet receipt went)) = reply_time link (input_time input) receipt.reply went
+port_time link (Took input entry.Ticked) = tt
+port_time link (Took input (entry.Received from packet receipt went range)) = reply_time link (input_time input) receipt.reply went
 port_time link (Started time on class packet) = elim (link == on) as (λ b. IfSome (cond b (Some (port.Started time class packet)) None) (λ x. port.entry_time x ≡ time)) [ true ↦ refl | false ↦ tt ]
 
 past_option : (now t : ℕ) (o : Option port.Entry) (xs : List port.Entry) → t ≤ now → IfSome o (λ x. port.entry_time x ≡ t) → AllByRecursion (λ x. port.entry_time x ≤ now) xs → AllByRecursion (λ x. port.entry_time x ≤ now) (cons_option o xs)
@@ -238,12 +240,20 @@ reply_follows : (site : Site) (plan : HostPlan) (link : ℕ) (l : LinkLimits) (b
 reply_follows site plan link l before now None out past = tt
 reply_follows site plan link l before now (Some m) out past = out_follows site plan link l before now m.packet out past
 
+sent_out_follows : (site : Site) (plan : HostPlan) (link : ℕ) (l : LinkLimits) (before : List Entry) (now : ℕ) (made : Option Made) → limits_out site link ≡ Some (link, l) → port.NoneLater now (port_logs before link)
+    → FollowsAt l before link now (sent_out site plan before made)
+sent_out_follows site plan link l before now None out past = tt
+sent_out_follows site plan link l before now (Some m) out past = out_follows site plan link l before now m.packet out past
+
 hosted_follows : (site : Site) (plan : HostPlan) (link : ℕ) (l : LinkLimits) (before : List Entry) (input : Input) → limits_out site link ≡ Some (link, l) → port.NoneLater (input_time input) (port_logs before link)
     → FollowsAt l before link (input_time input) (hosted site plan before input)
 hosted_follows site plan link l before (FromTrace row) out past =
-    out_follows site plan link l before row.time.0 (made_for site.number plan (history_of plan (calls before)) row.time.0 row.what).packet out past
+    sent_out_follows site plan link l before row.time.0
+    (made_for site.number plan (history_of plan (calls before)) (files plan before) row.time.0 row.what) out past
 hosted_follows site plan link l before (Arrival time from packet) out past =
-    reply_follows site plan link l before time.0 (receipt_of site.number plan (history_of plan (calls before)) time.0 packet).reply out past
+    reply_follows site plan link l before time.0
+    (receipt_of site.number plan (history_of plan (calls before)) time.0 packet (answered plan.address (files plan before) packet)).reply
+    out past
 
 -- ## at a node
 
