@@ -5,6 +5,7 @@ ghost use Rattle.tva_shim.specs.Packets.{IsCarried, CarriesFew, IsSizedPacket, c
 use crate::kinds::Kind;
 use crate::shims::{Shim, shim_bytes_of};
 use std::marker::Model;
+use std::mem::size_of;
 use tva_base::{Class, Flow, PacketId, Upper};
 
 /// What a packet carries below its payload: nothing, a shim, or so many bytes that are none.
@@ -25,9 +26,12 @@ pub struct Packet {
     pub flow: Flow,
     pub hops: u8,
     pub payload: u16,
-    pub carried: Carried,
     pub upper: Upper,
+    pub carried: Carried,
 }
+
+// The upper part fits into what stands beside the payload.
+const _: () = prove!(size_of::<Packet>() <= 480);
 
 impl Model for Packet {
     ghost use Rattle.tva_shim.specs.Packets.{PacketData, IsPacket};
