@@ -1,6 +1,6 @@
 ghost use Rattle.std.specs.Prelude.{◌≡◌, ◌≤◌, IfOk};
 ghost use Rattle.tva_base.specs.Plan.{IsHostPlan};
-ghost use Rattle.tva_shim.specs.Packets.{IsCarried};
+ghost use Rattle.tva_shim.specs.Packets.{IsCarried, IsUpper};
 
 use arrayvec::ArrayVec;
 use std::alloc::{AllocError, Global};
@@ -8,10 +8,10 @@ use std::process::Abort;
 use std::test::Fail;
 use tva_base::{
     Address, BackKind, Flow, HostPlan, Listed, Name, PacketId, PolicyKind, PolicyPlan, Rights,
-    ShapeKind, Time, WhatKind, address, decimal, seconds_max, units_max,
+    ShapeKind, Time, Upper, WhatKind, address, decimal, seconds_max, units_max,
 };
 use tva_host::{Host, Made, Receipt};
-use tva_shim::{Carried, Packet, decode, encode, length};
+use tva_shim::{Carried, Packet, decode, encode, length, upper_size};
 
 mod cases;
 
@@ -128,6 +128,40 @@ fn parts_of(
     Ok((Flow { src, dst }, payload, carried))
 }
 
+/// The upper part of a word: its kind and its numbers, with a slash between two.
+fn upper_of(word: Option<&str>) -> Upper
+    ensures { IsUpper result }
+{
+    let mut parts = word.unwrap_or("").split('/');
+    let kind = parts.next();
+    let transfer = number(parts.next(), 65535) as u16;
+    let first = number(parts.next(), 100_000_000) as u32;
+    match kind {
+        Some("data") => Upper::Data {
+            transfer,
+            first,
+            bytes: number(parts.next(), 1500) as u16,
+        },
+        Some("ack") => Upper::Ack {
+            transfer,
+            next: first,
+        },
+        _ => Upper::Nothing,
+    }
+}
+
+fn upper_word(alloc: Global, upper: Upper) -> Result<String, AllocError> {
+    match upper {
+        Upper::Nothing => String::from_str(alloc, "-"),
+        Upper::Data {
+            transfer,
+            first,
+            bytes,
+        } => format!(in alloc; "data/{transfer}/{first}/{bytes}"),
+        Upper::Ack { transfer, next } => format!(in alloc; "ack/{transfer}/{next}"),
+    }
+}
+
 fn shape_word(shape: ShapeKind) -> &'static str {
     match shape {
         ShapeKind::Request => "request",
@@ -172,7 +206,8 @@ fn digits_of(alloc: Global, carried: &Carried) -> Result<String, AllocError> {
     }
 }
 
-/// A packet that the host of a node and an address made for a peer, in words.
+/// A packet that the host of a node and an address made for a peer, in words. Its upper part, if it has
+/// one, is all of its payload, and stands last.
 fn made_words(
     rt: &impl Abort,
     alloc: Global,
@@ -186,11 +221,16 @@ fn made_words(
     let (ordinal, bytes) = (packet.id.ordinal, length(packet));
     let shape = shape_word(made.shape);
     let digits = digits_of(alloc, &packet.carried)?;
-    Ok(format!(in alloc; "#{ordinal} {bytes} {shape} {digits}")?)
+    if packet.upper == Upper::Nothing {
+        return Ok(format!(in alloc; "#{ordinal} {bytes} {shape} {digits}")?);
+    }
+    assert_eq!(rt; packet.payload, upper_size(packet.upper));
+    let upper = upper_word(alloc, packet.upper)?;
+    Ok(format!(in alloc; "#{ordinal} {bytes} {shape} {digits} {upper}")?)
 }
 
-/// What the host answers at a time to a send row, or to a packet that it receives, in words.
-fn timed(
+/// What the host sends at a time to a destination, with a payload or with an upper part, in words.
+fn sent(
     rt: &impl Abort,
     alloc: Global,
     from: (u16, Address),
@@ -201,21 +241,45 @@ fn timed(
     requires { host.old.last ≤ now }
     ensures { IfOk result (λ told. host.new.last ≤ now) }
 {
-    if call.starts_with("send") {
-        let mut words = call.split(' ').skip(2);
-        let dst = address_of(rt, words.next());
-        let payload = number(words.next(), 1600) as u16;
-        let made = host.intend(alloc, Time(now), dst, payload)?;
-        assert_eq!(rt; made.packet.payload, payload);
+    let mut words = call.split(' ').skip(2);
+    let dst = address_of(rt, words.next());
+    if call.starts_with("send_with") {
+        let made = host.intend_with(alloc, Time(now), dst, upper_of(words.next()))?;
         return made_words(rt, alloc, from, &made, dst);
     }
+    let payload = number(words.next(), 1600) as u16;
+    let made = host.intend(alloc, Time(now), dst, payload)?;
+    assert_eq!(rt;
+        (made.packet.payload, made.packet.upper),
+        (payload, Upper::Nothing)
+    );
+    made_words(rt, alloc, from, &made, dst)
+}
+
+/// What the host makes at a time of a packet that it receives, perhaps with an upper part that is to be
+/// answered, in words.
+fn received(
+    rt: &impl Abort,
+    alloc: Global,
+    from: (u16, Address),
+    host: &mut Host,
+    now: u64,
+    call: &str,
+) -> Result<String, Fail>
+    requires { host.old.last ≤ now }
+    ensures { IfOk result (λ told. host.new.last ≤ now) }
+{
     let (flow, payload, carried) = parts_of(rt, alloc, call, 2)?;
     let id = PacketId {
         node: 0,
         ordinal: 1,
     };
     let packet = Packet::new(id, flow, 1, payload, carried);
-    let receipt = host.receive(alloc, Time(now), packet)?;
+    let receipt = if call.starts_with("recv_with") {
+        host.receive_with(alloc, Time(now), packet, upper_of(call.split(' ').nth(6)))?
+    } else {
+        host.receive(alloc, Time(now), packet)?
+    };
     let (what, back) = (what_word(receipt.what), back_word(receipt.back));
     let reply = match &receipt.reply {
         None => String::from_str(alloc, "-")?,
@@ -261,7 +325,10 @@ fn answer(
     let now = number(call.split(' ').nth(1), 1_000_000_000_000_000);
     assert!(rt; *last <= now);
     *last = now;
-    timed(rt, alloc, from, host, now, call)
+    if call.starts_with("send") {
+        return sent(rt, alloc, from, host, now, call);
+    }
+    received(rt, alloc, from, host, now, call)
 }
 
 /// Plays the calls of a case, and counts them.
@@ -293,6 +360,6 @@ fn replays_of_one_host(rt: HostRuntime) -> Result<(), Fail> {
     for case in CASES.split("case ") {
         calls = calls.wrapping_add(play(&rt, rt.alloc(), case)?);
     }
-    assert_eq!(rt; calls, 113);
+    assert_eq!(rt; calls, 156);
     Ok(())
 }

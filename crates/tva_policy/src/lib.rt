@@ -4,9 +4,11 @@
 //! without a grant and want of memory change nothing.
 #![tactic(auto)]
 
+mod laws;
 mod policies;
 mod sets;
 
+pub use laws::noted_once_is_noted;
 pub use policies::Policy;
 
 #[cfg(test)]

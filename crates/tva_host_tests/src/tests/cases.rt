@@ -7,7 +7,9 @@
 // its calls, each with its answer. `send TIME DESTINATION PAYLOAD` gives the ordinal, length, shape and
 // shim of the packet, `inject SOURCE DESTINATION PAYLOAD SHIM` the ordinal, length and shim, and `recv TIME
 // SOURCE DESTINATION PAYLOAD SHIM` what the packet is, what became of its return info, and the reply as for
-// `send`.
+// `send`. `send_with TIME DESTINATION UPPER` sends a packet with an upper part, and `recv_with` has behind
+// the shim the one that is to be answered: `data/TRANSFER/FIRST/BYTES`, `ack/TRANSFER/NEXT`, or `-` for
+// none. A packet with an upper part has it last in its answer.
 pub const CASES: &str = "\
 case a request, a grant, a list, a nonce and a renewal, at the asking host
 host 1 10.0.0.1 1 client 32/10 1000 - -
@@ -166,4 +168,61 @@ send 0 10.0.1.1 77 -> #1 100 request 200600
 recv 4002900 10.0.1.1 10.0.0.1 0 240601000200263cb02c88654d02010002004000b9ab06d46a5d2a -> request grant #2 56 list 250600000000000201000002004000b9ab06d46a5d2a02010002004000d99aa2bd20bed5
 send 10000000 10.0.1.1 1000 -> #3 1042 list 210600000000000201000002004000b9ab06d46a5d2a
 send 20000000 10.0.1.1 10 -> #4 38 nonce 2206000000000002
+case segments of a file, and a note that is made again
+host 1 10.0.0.1 1 client 32/10 1 - -
+recv_with 1000000 10.0.1.1 10.0.0.1 77 100601000200263cb02c88654d ack/0/69 -> request - #1 31 request 100600 ack/0/69
+send_with 2000000 10.0.1.1 data/0/0/69 -> #2 97 legacy - data/0/0/69
+send_with 2000001 10.0.1.1 data/0/0/69 -> #3 97 legacy - data/0/0/69
+send 2000002 10.0.1.1 77 -> #4 97 legacy -
+recv 4002900 10.0.1.1 10.0.0.1 8 140601000200263cb02c88654d0201080a0037c8bc805abd1b -> request grant #5 52 list 15060000000000050100080a0037c8bc805abd1b0201080a00c86041492f6960
+recv 5002900 10.0.1.1 10.0.0.1 8 100601000200263cb02c88654d -> request - -
+send_with 10000000 10.0.1.1 data/0/69/1500 -> #6 1536 nonce 1206000000000005 data/0/69/1500
+recv_with 11000000 10.0.1.1 10.0.0.1 8 1206000000000002 data/0/1569/1500 -> regular - #7 1536 nonce 1206000000000005 data/0/1569/1500
+recv_with 12000000 10.0.1.1 10.0.0.9 8 1206000000000002 data/0/3069/1500 -> stray - -
+recv_with 12000001 10.0.1.1 10.0.0.9 8 160600000000000201 ack/0/1 -> stray - -
+recv 13000000 10.0.1.1 10.0.0.1 8 1206000000000002 -> regular - -
+recv_with 13000001 10.0.1.1 10.0.0.1 8 1206000000000002 - -> regular - -
+send_with 14000000 10.0.1.1 ack/3/4000000 -> #8 36 nonce 1206000000000005 ack/3/4000000
+send_with 15000000 10.0.1.1 - -> #9 28 nonce 1206000000000005
+case acknowledgements on a grant and on notices, and of their own
+host 2 10.0.1.1 1 server 32/10 1000 - -
+recv_with 2002100 10.0.0.1 10.0.1.1 77 100601000100d1a87cf486b23f ack/0/69 -> request - #1 43 request 1406000201080a0037c8bc805abd1b ack/0/69
+recv_with 6003940 10.0.0.1 10.0.1.1 77 15060000000000020101080a0037c8bc805abd1b0201080a00c86041492f6960 ack/0/138 -> regular grant #2 48 list 11060000000000020100080a00c86041492f6960 ack/0/138
+recv_with 12020560 10.0.0.1 10.0.1.1 1508 1206000000000002 ack/0/1638 -> regular - #3 36 nonce 1206000000000002 ack/0/1638
+recv_with 22000560 10.0.0.1 10.0.1.1 77 1a06ffffffffffff ack/0/1638 -> demoted - #4 37 nonce 160600000000000201 ack/0/1638
+recv_with 22000560 10.0.0.1 10.0.1.1 77 190600000000000a0000080a ack/1/0 -> demoted - #5 37 nonce 160600000000000201 ack/1/0
+recv_with 32002400 10.0.0.1 10.0.1.1 77 - ack/65535/100000000 -> legacy - #6 36 nonce 1206000000000002 ack/65535/100000000
+recv_with 32002401 10.0.0.1 10.0.1.1 77 1006 ack/2/7 -> legacy - #7 36 nonce 1206000000000002 ack/2/7
+recv_with 32002402 10.0.0.1 10.0.1.9 77 - ack/2/7 -> stray - -
+case acknowledgements of their own that may not ask
+host 2 10.0.1.1 1 deny 32/10 1000 - -
+recv_with 2002100 10.0.0.1 10.0.1.1 77 100601000100d1a87cf486b23f ack/0/69 -> request - #1 31 request 100600 ack/0/69
+recv_with 3002100 10.0.0.1 10.0.1.1 77 100601000100d1a87cf486b23f ack/0/69 -> request - #2 31 legacy 180600 ack/0/69
+recv_with 3002101 10.0.0.1 10.0.1.1 77 1206000000000002 ack/0/69 -> regular - #3 31 legacy 180600 ack/0/69
+recv_with 3002102 10.0.0.1 10.0.1.1 77 1a06000000000002 ack/0/69 -> demoted - #4 32 legacy 1c060001 ack/0/69
+recv_with 2002002099 10.0.0.1 10.0.1.1 77 - ack/0/69 -> legacy - #5 31 legacy 180600 ack/0/69
+recv_with 2002002100 10.0.0.1 10.0.1.1 77 - ack/0/69 -> legacy - #6 31 request 100600 ack/0/69
+case bodies that reach the end of one unit, without return info and with a notice
+host 1 10.0.0.1 1 client 32/10 1000 - -
+send_with 0 10.0.1.1 data/0/0/60 -> #1 91 request 100600 data/0/0/60
+recv 4000000 10.0.1.1 10.0.0.1 8 1c06000201004a0037c8bc805abd1b -> demoted grant -
+send_with 5000000 10.0.1.1 data/0/60/977 -> #2 1005 legacy - data/0/60/977
+recv_with 5000001 10.0.1.1 10.0.0.1 8 1206000000000002 data/0/60/977 -> regular - #3 1008 legacy 180600 data/0/60/977
+recv_with 5000002 10.0.1.1 10.0.0.1 8 1a06ffffffffffff data/0/60/976 -> demoted - #4 1008 legacy 1c060001 data/0/60/976
+recv_with 5000003 10.0.1.1 10.0.0.1 8 1a06ffffffffffff data/0/60/975 -> demoted - #5 1024 list 15060000000000050100004a0037c8bc805abd1b01 data/0/60/975
+case the same with a grant
+host 1 10.0.0.1 1 client 32/10 1000 - -
+send_with 0 10.0.1.1 data/0/0/60 -> #1 91 request 100600 data/0/0/60
+recv 4000000 10.0.1.1 10.0.0.1 8 1c06000201004a0037c8bc805abd1b -> demoted grant -
+recv_with 5000000 10.0.1.1 10.0.0.1 8 100601000200263cb02c88654d data/0/60/965 -> request - #2 1008 legacy 1c06000201080a00c86041492f6960 data/0/60/965
+recv_with 5000001 10.0.1.1 10.0.0.1 8 100601000200263cb02c88654d data/0/60/964 -> request - #3 1024 list 15060000000000030100004a0037c8bc805abd1b0201080a00c86041492f6960 data/0/60/964
+case the same where a segment is sent
+host 1 10.0.0.1 1 client 32/10 1000 - -
+send_with 0 10.0.1.1 data/0/0/60 -> #1 91 request 100600 data/0/0/60
+recv 4000000 10.0.1.1 10.0.0.1 8 1c06000201004a0037c8bc805abd1b -> demoted grant -
+send_with 5000000 10.0.1.1 data/0/60/977 -> #2 1005 legacy - data/0/60/977
+send_with 5000001 10.0.1.1 data/0/60/976 -> #3 1024 list 11060000000000030100004a0037c8bc805abd1b data/0/60/976
+case an acknowledgement on a grant of version 2
+host2 2 10.0.1.1 1 server 32/10 1000 - -
+recv_with 2002100 10.0.0.1 10.0.1.1 77 200601000100d1a87cf486b23f ack/0/69 -> request - #1 45 request 24060002010000100a0037c8bc805abd1b ack/0/69
 ";
