@@ -1,4 +1,5 @@
 pub mod Digits
+pub mod FileCounts
 pub mod ItemLists
 pub mod Joins
 pub mod Printables

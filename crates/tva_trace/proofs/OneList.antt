@@ -36,6 +36,8 @@ carried_is_one (Built shim) a b p q = p ∙ sym q
 
 what_is_one : (said : SaidWhat) (a b : RowWhat) → MeansWhat said a → MeansWhat said b → a ≡ b
 what_is_one (say.Send dst payload) a b p q = p ∙ sym q
+what_is_one (say.File dst size segment) a b p q = p ∙ sym q
+what_is_one (say.Tick dst) a b p q = p ∙ sym q
 what_is_one (say.Inject flow payload shim) a b p q =
     p.2 ∙ ap (what.Inject flow payload) (carried_is_one shim p.0 q.0 p.1 q.1) ∙ sym q.2
 

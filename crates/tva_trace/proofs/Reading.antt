@@ -20,7 +20,8 @@ use Rattle.tva_trace.specs.declared.rows.TraceRule.{TraceRule}
 use Rattle.tva_trace.specs.declared.rows.TraceRule.TheVariants as rule
 use Rattle.tva_trace.specs.declared.rows.TraceFault.{TraceFault}
 use Rattle.tva_trace.specs.declared.said.SaidRow.{SaidRow}
-use Rattle.tva_trace.specs.Rows.{Judged, behind, fault_at, is_header, row_of, rows_from, rows_of, rows_under, said_by, some_row, then_rows}
+use Rattle.tva_trace.specs.Files.{Counts, FindsRoom, filed_in}
+use Rattle.tva_trace.specs.Rows.{Judged, behind, fault_at, filed_by, has_room, is_header, row_of, rows_from, rows_of, rows_under, said_by, some_row, then_rows, times}
 use Rattle.tva_trace.specs.Meaning.{AreRows, CarriedBy, IsPut, Means, MeansWhat}
 use Rattle.std.proofs.Common.{IfSome, subst}
 use Rattle.std.specs.Prelude.{All}
@@ -32,20 +33,22 @@ use Rattle.tva_trace.specs.declared.said.SaidShim.TheVariants.{Bytes, Built}
 use Rattle.tva_trace.specs.declared.said.SaidWhat.{SaidWhat}
 use Rattle.tva_trace.specs.declared.said.SaidWhat.TheVariants as say
 use Rattle.tva_plan.specs.Names.{is_host}
-use Rattle.tva_trace.specs.Valid.{AreTraceRows, IsWithinWidths, IsRow, IsRowWhat, IsSaid, IsSaidShim, IsSaidWhat, NeverFall}
+use Rattle.tva_trace.specs.Valid.{AreTraceRows, IsWithinWidths, IsRow, IsRowWhat, IsSaid, IsSaidShim, IsSaidWhat, NeverFall, files_at}
+use Rattle.tva_trace.proofs.FileCounts.{counts_more, counts_same, files_more, finds_room, room_left}
 use Rattle.tva_trace.proofs.RecordsLeft.{left_of, left-none, left-read}
 
 -- what records say of which the first has that number
-abbrev pub rows_left : Bool → Config → ℕ → ℕ → List (List (List ℕ)) → Result (List SaidRow) TraceFault
-rows_left first config number last records = cond first (rows_under config records) (rows_from config number last records)
+abbrev pub rows_left : Bool → Config → ℕ → ℕ → List ℕ → List (List (List ℕ)) → Result (List SaidRow) TraceFault
+rows_left first config number last filed records = cond first (rows_under config records) (rows_from config number last filed records)
 
 -- the time of the last row, or that before all
 abbrev pub ends_at : ℕ → List Row → ℕ
 ends_at last [] = last
 ends_at last (row ∷ rows) = ends_at row.time.0 rows
 
--- a text was read as far as a reader stands: its rows are those that were pushed and those that are left
-pub record IsReadTo (config : Config) (text : List ℕ) (reader : Reader (Bor (List ℕ))) (number last : ℕ) (rows : List Row) : Type 0 where
+-- a text was read as far as a reader stands: its rows are those that were pushed and those that are left; of those
+-- that were pushed as many begin a transfer at each node
+pub record IsReadTo (config : Config) (text : List ℕ) (reader : Reader (Bor (List ℕ))) (number last : ℕ) (files : ℕ → ℕ) (rows : List Row) : Type 0 where
   pub untrimmed : reader.trim ≡ trim.None
   pub is_ready : Ready reader
   pub by_default : reader.config ≡ default_config
@@ -53,11 +56,16 @@ pub record IsReadTo (config : Config) (text : List ℕ) (reader : Reader (Bor (L
   pub source : source_of (λ s. Some s.now) reader ≡ Some unread
   pub said : List SaidRow
   pub means : AllZip Means said rows
-  pub rest : rows_of config text ≡ behind said (rows_left (number == 1) config number last (left_of default_config reader.state unread))
+  pub filed : List ℕ
+  pub rest : rows_of config text ≡ behind said (rows_left (number == 1) config number last filed (left_of default_config reader.state unread))
   pub counted : (1 ≤ number) × (number ≤ 1000002)
   pub few : length rows ≤ number - 2
   pub flexible : reader.flexible ≡ true
   pub from_zero : number ≡ 1 → last ≡ 0
+  pub from_none : number ≡ 1 → filed ≡ []
+  pub counts : files ≡ times filed
+  pub told : (node : ℕ) → files_at node rows ≡ times filed node
+  pub room : (node : ℕ) → times filed node ≤ 65536
   pub each : All (IsRow config) rows
   pub order : NeverFall 0 rows
   pub ends : ends_at 0 rows ≡ last
@@ -69,19 +77,23 @@ if_header b = cond b (Ok None) (Err rule.Header)
 not_first : (n : ℕ) → 1 ≤ n → (n + 1 == 1) ≡ false
 not_first n h = elim (eqb_tells (n + 1) 1) [ inl t ↦ absurd (omega arith) | inr f ↦ f.0 ]
 
+-- what records say that stand behind that of a row
+abbrev rows_behind : Config → ℕ → List ℕ → List (List (List ℕ)) → SaidRow → Result (List SaidRow) TraceFault
+rows_behind config number filed records row = rows_from config (number + 1) row.time.0 (filed ++ filed_by row.node row.what) records
+
 -- a record that breaks a rule
 fault_first : (b : Bool) (rest : Result (List SaidRow) TraceFault) (broken : TraceRule) (number : ℕ) → number ≡ 1 → if_header b ≡ Err broken → cond b rest (Err (fault_at 1 rule.Header)) ≡ Err (fault_at number broken)
 fault_first true rest broken number one e = cc
 fault_first false rest broken number one e = cc
 
-fault_row : (r : Result SaidRow TraceRule) (broken : TraceRule) (number : ℕ) (more : ℕ → Result (List SaidRow) TraceFault) → some_row r ≡ Err broken → then_rows number r more ≡ Err (fault_at number broken)
+fault_row : (r : Result SaidRow TraceRule) (broken : TraceRule) (number : ℕ) (more : SaidRow → Result (List SaidRow) TraceFault) → some_row r ≡ Err broken → then_rows number r more ≡ Err (fault_at number broken)
 fault_row (Ok row) broken number more e = cc
 fault_row (Err b) broken number more e = cc
 
-fault_by : (first : Bool) (config : Config) (number last : ℕ) (fields : List (List ℕ)) (records : List (List (List ℕ))) (broken : TraceRule) → (first ≡ true → number ≡ 1) → said_by first config number last fields ≡ Err broken → rows_left first config number last (fields ∷ records) ≡ Err (fault_at number broken)
+fault_by : (first : Bool) (config : Config) (number last : ℕ) (filed : List ℕ) (fields : List (List ℕ)) (records : List (List (List ℕ))) (broken : TraceRule) → (first ≡ true → number ≡ 1) → said_by first config number last (times filed) fields ≡ Err broken → rows_left first config number last filed (fields ∷ records) ≡ Err (fault_at number broken)
 unfolding rows_under rows_from
-fault_by true config number last fields records broken one e = fault_first (is_header fields) (rows_from config 2 0 records) broken number (one refl) e
-fault_by false config number last fields records broken one e = fault_row (row_of config number last fields) broken number (λ time. rows_from config (number + 1) time records) e
+fault_by true config number last filed fields records broken one e = fault_first (is_header fields) (rows_from config 2 0 [] records) broken number (one refl) e
+fault_by false config number last filed fields records broken one e = fault_row (row_of config number last (times filed) fields) broken number (rows_behind config number filed records) e
 
 -- the first record, which names the fields
 header_first : (b : Bool) (rest : Result (List SaidRow) TraceFault) → if_header b ≡ Ok None → cond b rest (Err (fault_at 1 rule.Header)) ≡ rest
@@ -92,24 +104,24 @@ no_row : (r : Result SaidRow TraceRule) → some_row r ≡ Ok None → ⊥
 no_row (Ok row) e = cc
 no_row (Err b) e = cc
 
-header_by : (first : Bool) (config : Config) (number last : ℕ) (fields : List (List ℕ)) (records : List (List (List ℕ))) → (first ≡ true → (number ≡ 1) × (last ≡ 0)) → said_by first config number last fields ≡ Ok None → rows_left first config number last (fields ∷ records) ≡ rows_from config (number + 1) last records
+header_by : (first : Bool) (config : Config) (number last : ℕ) (filed : List ℕ) (fields : List (List ℕ)) (records : List (List (List ℕ))) → (first ≡ true → (number ≡ 1) × (last ≡ 0) × (filed ≡ [])) → said_by first config number last (times filed) fields ≡ Ok None → rows_left first config number last filed (fields ∷ records) ≡ rows_from config (number + 1) last filed records
 unfolding rows_under
-header_by true config number last fields records start e = header_first (is_header fields) (rows_from config 2 0 records) e ∙ (rw ((start refl).0, (start refl).1) refl)
-header_by false config number last fields records start e = absurd (no_row (row_of config number last fields) e)
+header_by true config number last filed fields records start e = header_first (is_header fields) (rows_from config 2 0 [] records) e ∙ (rw ((start refl).0, (start refl).1, (start refl).2) refl)
+header_by false config number last filed fields records start e = absurd (no_row (row_of config number last (times filed) fields) e)
 
 -- a row
 row_first : (b : Bool) (said : SaidRow) → if_header b ≡ Ok (Some said) → ⊥
 row_first true said e = cc
 row_first false said e = cc
 
-row_then : (r : Result SaidRow TraceRule) (said : SaidRow) (number : ℕ) (more : ℕ → Result (List SaidRow) TraceFault) → some_row r ≡ Ok (Some said) → then_rows number r more ≡ behind (said ∷ []) (more said.time.0)
-row_then (Ok row) said number more e = let same : row ≡ said = cc in ap (λ r. behind (r ∷ []) (more r.time.0)) same
+row_then : (r : Result SaidRow TraceRule) (said : SaidRow) (number : ℕ) (more : SaidRow → Result (List SaidRow) TraceFault) → some_row r ≡ Ok (Some said) → then_rows number r more ≡ behind (said ∷ []) (more said)
+row_then (Ok row) said number more e = let same : row ≡ said = cc in ap (λ r. behind (r ∷ []) (more r)) same
 row_then (Err b) said number more e = cc
 
-row_by : (first : Bool) (config : Config) (number last : ℕ) (fields : List (List ℕ)) (records : List (List (List ℕ))) (said : SaidRow) → said_by first config number last fields ≡ Ok (Some said) → rows_left first config number last (fields ∷ records) ≡ behind (said ∷ []) (rows_from config (number + 1) said.time.0 records)
+row_by : (first : Bool) (config : Config) (number last : ℕ) (filed : List ℕ) (fields : List (List ℕ)) (records : List (List (List ℕ))) (said : SaidRow) → said_by first config number last (times filed) fields ≡ Ok (Some said) → rows_left first config number last filed (fields ∷ records) ≡ behind (said ∷ []) (rows_behind config number filed records said)
 unfolding rows_from
-row_by true config number last fields records said e = absurd (row_first (is_header fields) said e)
-row_by false config number last fields records said e = row_then (row_of config number last fields) said number (λ time. rows_from config (number + 1) time records) e
+row_by true config number last filed fields records said e = absurd (row_first (is_header fields) said e)
+row_by false config number last filed fields records said e = row_then (row_of config number last (times filed) fields) said number (rows_behind config number filed records) e
 
 behind-behind : (a b : List SaidRow) (r : Result (List SaidRow) TraceFault) → behind a (behind b r) ≡ behind (a ++ b) r
 behind-behind a b (Ok rows) = ap Ok (sym (append_assoc a b rows))
@@ -132,8 +144,8 @@ abbrev pub told : Bor (List ℕ) → Option (List ℕ)
 told s = Some s.now
 
 -- nothing was read
-pub read-start : (config : Config) (text : List ℕ) (reader : Source) → reader.trim ≡ trim.None → Ready reader → reader.config ≡ default_config → source_of told reader ≡ Some (strip_bom text) → reader.state ≡ st.StartRecord → reader.flexible ≡ true → IsReadTo config text reader 1 0 []
-read-start config text reader t r c s st flexible = record {
+pub read-start : (config : Config) (text : List ℕ) (reader : Source) (files : ℕ → ℕ) → files ≡ times [] → reader.trim ≡ trim.None → Ready reader → reader.config ≡ default_config → source_of told reader ≡ Some (strip_bom text) → reader.state ≡ st.StartRecord → reader.flexible ≡ true → IsReadTo config text reader 1 0 files []
+read-start config text reader files none t r c s st flexible = record {
   untrimmed = t;
   is_ready = r;
   by_default = c;
@@ -141,33 +153,42 @@ read-start config text reader t r c s st flexible = record {
   source = s;
   said = [];
   means = tt;
+  filed = [];
   rest = rw st (sym (behind-none (rows_of config text)));
   counted = (omega arith, omega arith);
   few = omega arith;
   flexible = flexible;
   from_zero = λ _. refl;
+  from_none = λ _. refl;
+  counts = none;
+  told = λ node. refl;
+  room = λ node. omega arith;
   each = λ k d below. absurd (omega (arith, below));
   order = tt;
   ends = refl;
 }
 
 -- the record that is read is the first that was left
-rest-read : (config : Config) (text : List ℕ) (a b : Source) (number last : ℕ) (rows : List Row) (fields : List (List ℕ)) (d : IsReadTo config text a number last rows) → ReadRecord told a b true fields
-    → (z : List ℕ) × (source_of told b ≡ Some z) × (rows_of config text ≡ behind d.said (rows_left (number == 1) config number last (fields ∷ left_of default_config b.state z)))
-rest-read config text a b number last rows fields d r =
+rest-read : (config : Config) (text : List ℕ) (a b : Source) (number last : ℕ) (files : ℕ → ℕ) (rows : List Row) (fields : List (List ℕ)) (d : IsReadTo config text a number last files rows) → ReadRecord told a b true fields
+    → (z : List ℕ) × (source_of told b ≡ Some z) × (rows_of config text ≡ behind d.said (rows_left (number == 1) config number last d.filed (fields ∷ left_of default_config b.state z)))
+rest-read config text a b number last files rows fields d r =
     let m = left-read told a b fields default_config d.unread d.by_default d.source r in
-    (m.0, m.1, d.rest ∙ ap (λ l. behind d.said (rows_left (number == 1) config number last l)) m.2)
+    (m.0, m.1, d.rest ∙ ap (λ l. behind d.said (rows_left (number == 1) config number last d.filed l)) m.2)
+
+-- what a record says behind so many rows of each node that begin a transfer
+said_at : (config : Config) (number last : ℕ) (files : ℕ → ℕ) (filed : List ℕ) (fields : List (List ℕ)) (answer : Judged (Option SaidRow)) → files ≡ times filed → said_by (number == 1) config number last files fields ≡ answer → said_by (number == 1) config number last (times filed) fields ≡ answer
+said_at config number last files filed fields answer are e = ap (λ (f : ℕ → ℕ). said_by (number == 1) config number last f fields) (sym are) ∙ e
 
 -- a record that breaks a rule
-pub read-fault : (config : Config) (text : List ℕ) (a b : Source) (number last : ℕ) (rows : List Row) (fields : List (List ℕ)) (broken : TraceRule) → IsReadTo config text a number last rows → ReadRecord told a b true fields → said_by (number == 1) config number last fields ≡ Err broken → rows_of config text ≡ Err (fault_at number broken)
-read-fault config text a b number last rows fields broken d r e =
-    let m = rest-read config text a b number last rows fields d r in
-    m.2 ∙ ap (behind d.said) (fault_by (number == 1) config number last fields (left_of default_config b.state m.0) broken (eqb-true number 1) e)
+pub read-fault : (config : Config) (text : List ℕ) (a b : Source) (number last : ℕ) (files : ℕ → ℕ) (rows : List Row) (fields : List (List ℕ)) (broken : TraceRule) → IsReadTo config text a number last files rows → ReadRecord told a b true fields → said_by (number == 1) config number last files fields ≡ Err broken → rows_of config text ≡ Err (fault_at number broken)
+read-fault config text a b number last files rows fields broken d r e =
+    let m = rest-read config text a b number last files rows fields d r in
+    m.2 ∙ ap (behind d.said) (fault_by (number == 1) config number last d.filed fields (left_of default_config b.state m.0) broken (eqb-true number 1) (said_at config number last files d.filed fields (Err broken) d.counts e))
 
 -- the header
-pub read-header : (config : Config) (text : List ℕ) (a b : Source) (number last : ℕ) (rows : List Row) (fields : List (List ℕ)) → IsReadTo config text a number last rows → ReadRecord told a b true fields → Ready b → number ≤ 1000001 → said_by (number == 1) config number last fields ≡ Ok None → b.flexible ≡ a.flexible → IsReadTo config text b (number + 1) last rows
-read-header config text a b number last rows fields d r ready few e same =
-    let m = rest-read config text a b number last rows fields d r in
+pub read-header : (config : Config) (text : List ℕ) (a b : Source) (number last : ℕ) (files more : ℕ → ℕ) (rows : List Row) (fields : List (List ℕ)) → IsReadTo config text a number last files rows → ReadRecord told a b true fields → Ready b → number ≤ 1000001 → said_by (number == 1) config number last files fields ≡ Ok None → Counts files more [] → b.flexible ≡ a.flexible → IsReadTo config text b (number + 1) last more rows
+read-header config text a b number last files more rows fields d r ready few e count same =
+    let m = rest-read config text a b number last files rows fields d r in
     let records = left_of default_config b.state m.0 in
     record {
       untrimmed = r.3 ∙ d.untrimmed;
@@ -177,12 +198,17 @@ read-header config text a b number last rows fields d r ready few e same =
       source = m.1;
       said = d.said;
       means = d.means;
-      rest = m.2 ∙ ap (behind d.said) (header_by (number == 1) config number last fields records (λ one. (eqb-true number 1 one, d.from_zero (eqb-true number 1 one))) e
-          ∙ sym (ap (λ first. rows_left first config (number + 1) last records) (not_first number d.counted.0)));
+      filed = d.filed;
+      rest = m.2 ∙ ap (behind d.said) (header_by (number == 1) config number last d.filed fields records (λ one. (eqb-true number 1 one, d.from_zero (eqb-true number 1 one), d.from_none (eqb-true number 1 one))) (said_at config number last files d.filed fields (Ok None) d.counts e)
+          ∙ sym (ap (λ first. rows_left first config (number + 1) last d.filed records) (not_first number d.counted.0)));
       counted = (omega arith, omega arith);
       few = omega (arith, d.few);
       flexible = same ∙ d.flexible;
       from_zero = λ one. absurd (omega (arith, d.counted.0));
+      from_none = λ one. absurd (omega (arith, d.counted.0));
+      counts = counts_same files more d.filed d.counts count;
+      told = d.told;
+      room = d.room;
       each = d.each;
       order = d.order;
       ends = d.ends;
@@ -204,32 +230,35 @@ carried-fits (Bytes bytes) (carried.Shim shim) h m = m.0
 carried-fits (Bytes bytes) (carried.Malformed count) h m = omega (arith, m.2)
 carried-fits (Built shim) c h m = let P : Carried → Type 0 = λ x. IsWithinWidths x in subst P (sym m) h
 
-what-fits : (b : Bool) (said : SaidWhat) (w : RowWhat) → IsSaidWhat b said → MeansWhat said w → IsRowWhat b w
-what-fits b (say.Send dst payload) w h m = let P : RowWhat → Type 0 = λ x. IsRowWhat b x in subst P (sym m) h
-what-fits b (say.Inject flow payload shim) w h m = let P : RowWhat → Type 0 = λ x. IsRowWhat b x in subst P (sym m.2) (h.0, carried-fits shim m.0 h.1 m.1)
+what-fits : (b r : Bool) (said : SaidWhat) (w : RowWhat) → IsSaidWhat b r said → MeansWhat said w → IsRowWhat b w
+what-fits b r (say.Send dst payload) w h m = let P : RowWhat → Type 0 = λ x. IsRowWhat b x in subst P (sym m) h
+what-fits b r (say.File dst size segment) w h m = let P : RowWhat → Type 0 = λ x. IsRowWhat b x in subst P (sym m) (h.0, h.2)
+what-fits b r (say.Tick dst) w h m = let P : RowWhat → Type 0 = λ x. IsRowWhat b x in subst P (sym m) h
+what-fits b r (say.Inject flow payload shim) w h m = let P : RowWhat → Type 0 = λ x. IsRowWhat b x in subst P (sym m.2) (h.0, carried-fits shim m.0 h.1 m.1)
 
-row-fits : (config : Config) (last : ℕ) (said : SaidRow) (row : Row) → IsSaid config last said → Means said row → IsRow config row
-row-fits config last said row h m = record {
+row-fits : (config : Config) (last : ℕ) (files : ℕ → ℕ) (said : SaidRow) (row : Row) → IsSaid config last files said → Means said row → IsRow config row
+row-fits config last files said row h m = record {
   time = rw (m.0) h.time;
   node = rw (m.1) h.node;
-  what = rw (m.1) (what-fits (is_host config.nodes said.node) said.what row.what h.what m.2);
+  what = rw (m.1) (what-fits (is_host config.nodes said.node) (has_room files said.node) said.what row.what h.what m.2);
 }
 
 -- a record that says a row isn't the first
-not_the_first : (first : Bool) (config : Config) (number last : ℕ) (fields : List (List ℕ)) (said : SaidRow) → said_by first config number last fields ≡ Ok (Some said) → first ≡ false
-not_the_first true config number last fields said e = absurd (row_first (is_header fields) said e)
-not_the_first false config number last fields said e = refl
+not_the_first : (first : Bool) (config : Config) (number last : ℕ) (files : ℕ → ℕ) (fields : List (List ℕ)) (said : SaidRow) → said_by first config number last files fields ≡ Ok (Some said) → first ≡ false
+not_the_first true config number last files fields said e = absurd (row_first (is_header fields) said e)
+not_the_first false config number last files fields said e = refl
 
-behind_header : (config : Config) (number last : ℕ) (fields : List (List ℕ)) (said : SaidRow) → 1 ≤ number → said_by (number == 1) config number last fields ≡ Ok (Some said) → 2 ≤ number
-behind_header config number last fields said some e =
-    let other : (number == 1) ≡ false = not_the_first (number == 1) config number last fields said e in
+behind_header : (config : Config) (number last : ℕ) (files : ℕ → ℕ) (fields : List (List ℕ)) (said : SaidRow) → 1 ≤ number → said_by (number == 1) config number last files fields ≡ Ok (Some said) → 2 ≤ number
+behind_header config number last files fields said some e =
+    let other : (number == 1) ≡ false = not_the_first (number == 1) config number last files fields said e in
     elim (eqb_tells number 1) [ inl t ↦ absurd (cc (t.0, other)) | inr f ↦ omega (arith, f.1) ]
 
 -- a row
-pub read-row : (config : Config) (text : List ℕ) (a b : Source) (number last : ℕ) (rows : List Row) (fields : List (List ℕ)) (said : SaidRow) (row : Row) → IsReadTo config text a number last rows → ReadRecord told a b true fields → Ready b → number ≤ 1000001 → said_by (number == 1) config number last fields ≡ Ok (Some said) → IsSaid config last said → Means said row → b.flexible ≡ a.flexible → IsReadTo config text b (number + 1) said.time.0 (rows ++ row ∷ [])
-read-row config text a b number last rows fields said row d r ready few e valid means same =
-    let later : 2 ≤ number = behind_header config number last fields said d.counted.0 e in
-    let m = rest-read config text a b number last rows fields d r in
+pub read-row : (config : Config) (text : List ℕ) (a b : Source) (number last : ℕ) (files more : ℕ → ℕ) (rows : List Row) (fields : List (List ℕ)) (said : SaidRow) (row : Row) → IsReadTo config text a number last files rows → ReadRecord told a b true fields → Ready b → number ≤ 1000001 → said_by (number == 1) config number last files fields ≡ Ok (Some said) → IsSaid config last files said → Means said row → Counts files more (filed_by said.node said.what) → b.flexible ≡ a.flexible → IsReadTo config text b (number + 1) said.time.0 more (rows ++ row ∷ [])
+read-row config text a b number last files more rows fields said row d r ready few e valid means count same =
+    let later : 2 ≤ number = behind_header config number last files fields said d.counted.0 e in
+    let finds = subst (λ (f : ℕ → ℕ). FindsRoom f said.node said.what) d.counts (finds_room (is_host config.nodes said.node) files said.node said.what valid.what) in
+    let m = rest-read config text a b number last files rows fields d r in
     let records = left_of default_config b.state m.0 in
     record {
       untrimmed = r.3 ∙ d.untrimmed;
@@ -239,60 +268,70 @@ read-row config text a b number last rows fields said row d r ready few e valid 
       source = m.1;
       said = d.said ++ said ∷ [];
       means = AllZip-push d.said rows said row d.means means;
-      rest = m.2 ∙ ap (behind d.said) (row_by (number == 1) config number last fields records said e
-          ∙ sym (ap (λ first. behind (said ∷ []) (rows_left first config (number + 1) said.time.0 records)) (not_first number d.counted.0)))
-          ∙ behind-behind d.said (said ∷ []) (rows_left (number + 1 == 1) config (number + 1) said.time.0 records);
+      filed = d.filed ++ filed_by said.node said.what;
+      rest = m.2 ∙ ap (behind d.said) (row_by (number == 1) config number last d.filed fields records said (said_at config number last files d.filed fields (Ok (Some said)) d.counts e)
+          ∙ sym (ap (λ first. behind (said ∷ []) (rows_left first config (number + 1) said.time.0 (d.filed ++ filed_by said.node said.what) records)) (not_first number d.counted.0)))
+          ∙ behind-behind d.said (said ∷ []) (rows_left (number + 1 == 1) config (number + 1) said.time.0 (d.filed ++ filed_by said.node said.what) records);
       counted = (omega arith, omega arith);
       few = rw (length-append rows (row ∷ [])) (omega (arith, d.few, later));
       flexible = same ∙ d.flexible;
       from_zero = λ one. absurd (omega (arith, d.counted.0));
-      each = All-push (IsRow config) rows row d.each (row-fits config last said row valid means);
+      from_none = λ one. absurd (omega (arith, d.counted.0));
+      counts = counts_more files more d.filed (filed_by said.node said.what) d.counts count;
+      told = λ node. files_more node rows d.filed said row (d.told node) means;
+      room = λ node. room_left d.filed said.node node said.what finds (d.room node);
+      each = All-push (IsRow config) rows row d.each (row-fits config last files said row valid means);
       order = NeverFall-push 0 rows row d.order (rw (d.ends, means.0) valid.later);
       ends = ends_at-push 0 rows row ∙ ap (λ t. t.0) means.0;
     }
 
 -- no record is left
-rest-none : (config : Config) (text : List ℕ) (a b : Source) (number last : ℕ) (rows : List Row) (fields : List (List ℕ)) (d : IsReadTo config text a number last rows) → ReadRecord told a b false fields → rows_of config text ≡ behind d.said (rows_left (number == 1) config number last [])
-rest-none config text a b number last rows fields d r =
-    d.rest ∙ ap (λ l. behind d.said (rows_left (number == 1) config number last l)) (left-none default_config a.state d.unread (rows-end told a b fields default_config d.unread d.by_default d.source r))
+rest-none : (config : Config) (text : List ℕ) (a b : Source) (number last : ℕ) (files : ℕ → ℕ) (rows : List Row) (fields : List (List ℕ)) (d : IsReadTo config text a number last files rows) → ReadRecord told a b false fields → rows_of config text ≡ behind d.said (rows_left (number == 1) config number last d.filed [])
+rest-none config text a b number last files rows fields d r =
+    d.rest ∙ ap (λ l. behind d.said (rows_left (number == 1) config number last d.filed l)) (left-none default_config a.state d.unread (rows-end told a b fields default_config d.unread d.by_default d.source r))
 
-no_header : (first : Bool) (config : Config) (number last : ℕ) (said : List SaidRow) → first ≡ true → behind said (rows_left first config number last []) ≡ Err (fault_at 1 rule.Header)
+no_header : (first : Bool) (config : Config) (number last : ℕ) (filed : List ℕ) (said : List SaidRow) → first ≡ true → behind said (rows_left first config number last filed []) ≡ Err (fault_at 1 rule.Header)
 unfolding rows_under
-no_header true config number last said e = refl
-no_header false config number last said e = cc
+no_header true config number last filed said e = refl
+no_header false config number last filed said e = cc
 
-pub read-nothing : (config : Config) (text : List ℕ) (a b : Source) (number last : ℕ) (rows : List Row) (fields : List (List ℕ)) → IsReadTo config text a number last rows → ReadRecord told a b false fields → number ≡ 1 → rows_of config text ≡ Err (fault_at 1 rule.Header)
-read-nothing config text a b number last rows fields d r one =
-    rest-none config text a b number last rows fields d r ∙ no_header (number == 1) config number last d.said (eq-eqb number 1 one)
+pub read-nothing : (config : Config) (text : List ℕ) (a b : Source) (number last : ℕ) (files : ℕ → ℕ) (rows : List Row) (fields : List (List ℕ)) → IsReadTo config text a number last files rows → ReadRecord told a b false fields → number ≡ 1 → rows_of config text ≡ Err (fault_at 1 rule.Header)
+read-nothing config text a b number last files rows fields d r one =
+    rest-none config text a b number last files rows fields d r ∙ no_header (number == 1) config number last d.filed d.said (eq-eqb number 1 one)
 
-all_rows : (first : Bool) (config : Config) (number last : ℕ) (said : List SaidRow) → first ≡ false → behind said (rows_left first config number last []) ≡ Ok said
+all_rows : (first : Bool) (config : Config) (number last : ℕ) (filed : List ℕ) (said : List SaidRow) → first ≡ false → behind said (rows_left first config number last filed []) ≡ Ok said
 unfolding rows_from
-all_rows true config number last said e = cc
-all_rows false config number last said e = ap Ok (append-nil said)
+all_rows true config number last filed said e = cc
+all_rows false config number last filed said e = ap Ok (append-nil said)
 
 not_one : (n : ℕ) → (n ≡ 1 → ⊥) → (n == 1) ≡ false
 not_one n h = elim (eqb_tells n 1) [ inl t ↦ absurd (h t.1) | inr f ↦ f.0 ]
 
-pub read-whole : (config : Config) (text : List ℕ) (a b : Source) (number last : ℕ) (rows : List Row) (fields : List (List ℕ)) → IsReadTo config text a number last rows → ReadRecord told a b false fields → (number ≡ 1 → ⊥) → AreRows config text rows
-read-whole config text a b number last rows fields d r more =
-    (d.said, rest-none config text a b number last rows fields d r ∙ all_rows (number == 1) config number last d.said (not_one number more), d.means)
+pub read-whole : (config : Config) (text : List ℕ) (a b : Source) (number last : ℕ) (files : ℕ → ℕ) (rows : List Row) (fields : List (List ℕ)) → IsReadTo config text a number last files rows → ReadRecord told a b false fields → (number ≡ 1 → ⊥) → AreRows config text rows
+read-whole config text a b number last files rows fields d r more =
+    (d.said, rest-none config text a b number last files rows fields d r ∙ all_rows (number == 1) config number last d.filed d.said (not_one number more), d.means)
 
 -- what a record says is put behind the rows
-pub read-on : (said : Option SaidRow) (config : Config) (text : List ℕ) (a b : Source) (number last time : ℕ) (rows new : List Row) (fields : List (List ℕ)) → IsReadTo config text a number last rows → ReadRecord told a b true fields → Ready b → number ≤ 1000001 → said_by (number == 1) config number last fields ≡ Ok said → IfSome said (IsSaid config last) → IsPut rows new last time said → b.flexible ≡ a.flexible → IsReadTo config text b (number + 1) time new
-read-on None config text a b number last time rows new fields d r ready few e valid put same =
-    rw (put.0, put.1) (read-header config text a b number last rows fields d r ready few e same)
-read-on (Some said) config text a b number last time rows new fields d r ready few e valid put same =
-    rw (put.2, put.3) (read-row config text a b number last rows fields said put.0 d r ready few e valid put.1 same)
+pub read-on : (said : Option SaidRow) (config : Config) (text : List ℕ) (a b : Source) (number last time : ℕ) (files more : ℕ → ℕ) (rows new : List Row) (fields : List (List ℕ)) → IsReadTo config text a number last files rows → ReadRecord told a b true fields → Ready b → number ≤ 1000001 → said_by (number == 1) config number last files fields ≡ Ok said → IfSome said (IsSaid config last files) → IsPut rows new last time said → Counts files more (filed_in said) → b.flexible ≡ a.flexible → IsReadTo config text b (number + 1) time more new
+read-on None config text a b number last time files more rows new fields d r ready few e valid put count same =
+    rw (put.0, put.1) (read-header config text a b number last files more rows fields d r ready few e count same)
+read-on (Some said) config text a b number last time files more rows new fields d r ready few e valid put count same =
+    rw (put.2, put.3) (read-row config text a b number last files more rows fields said put.0 d r ready few e valid put.1 count same)
 
 -- the rows that were read are within the limits
-pub read-valid : (config : Config) (text : List ℕ) (a : Source) (number last : ℕ) (rows : List Row) → IsReadTo config text a number last rows → AreTraceRows config rows
-read-valid config text a number last rows d = record { few = omega (arith, d.few, d.counted.1); each = d.each; order = d.order }
+pub read-valid : (config : Config) (text : List ℕ) (a : Source) (number last : ℕ) (files : ℕ → ℕ) (rows : List Row) → IsReadTo config text a number last files rows → AreTraceRows config rows
+read-valid config text a number last files rows d = record {
+  few = omega (arith, d.few, d.counted.1);
+  each = d.each;
+  order = d.order;
+  files = λ node. omega (arith, d.told node, d.room node);
+}
 
 -- an error of a reader that takes any number of fields is want of memory, or of the bytes below it
-pub read-short : (config : Config) (text : List ℕ) (a b : Source) (number last : ℕ) (rows : List Row) (why : ErrorKind) → IsReadTo config text a number last rows → ExplainsRead told a b false why → IsShortage why
-read-short config text a b number last rows (why.Io e) d x = tt
-read-short config text a b number last rows why.OutOfMemory d x = tt
-read-short config text a b number last rows (why.UnequalLengths pos expected len) d x = let flexible = d.flexible in let not = x.0 in absurd (cc)
-read-short config text a b number last rows (why.Utf8 pos err) d x = let of_text = x.0 in absurd (cc)
-read-short config text a b number last rows (why.Serialize what) d x = absurd x
-read-short config text a b number last rows (why.Deserialize pos err) d x = absurd x
+pub read-short : (config : Config) (text : List ℕ) (a b : Source) (number last : ℕ) (files : ℕ → ℕ) (rows : List Row) (why : ErrorKind) → IsReadTo config text a number last files rows → ExplainsRead told a b false why → IsShortage why
+read-short config text a b number last files rows (why.Io e) d x = tt
+read-short config text a b number last files rows why.OutOfMemory d x = tt
+read-short config text a b number last files rows (why.UnequalLengths pos expected len) d x = let flexible = d.flexible in let not = x.0 in absurd (cc)
+read-short config text a b number last files rows (why.Utf8 pos err) d x = let of_text = x.0 in absurd (cc)
+read-short config text a b number last files rows (why.Serialize what) d x = absurd x
+read-short config text a b number last files rows (why.Deserialize pos err) d x = absurd x

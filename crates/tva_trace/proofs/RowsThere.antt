@@ -37,6 +37,8 @@ shim_carried (Built shim) = (carried.Shim shim, refl)
 
 what_meant : (said : SaidWhat) → (w : RowWhat) × MeansWhat said w
 what_meant (say.Send dst payload) = (what.Send dst payload, refl)
+what_meant (say.File dst size segment) = (what.File dst size segment, refl)
+what_meant (say.Tick dst) = (what.Tick dst, refl)
 what_meant (say.Inject flow payload shim) =
     let c = shim_carried shim in
     (what.Inject flow payload c.0, (c.0, c.1, refl))

@@ -7,3 +7,4 @@ pub mod ShimText
 pub mod Valid
 pub mod Words
 pub mod Shortage
+pub mod Files

@@ -68,12 +68,16 @@ allowed at_host room kind.Nonce = Some kind.Nonce
 allowed at_host room kind.File = if at_host && room then Some kind.File else None
 allowed at_host room kind.Tick = if at_host then Some kind.Tick else None
 
--- the nodes of the rows before that begin a transfer: a node has at most 65,536 of them
-abbrev pub has_room : List ℕ → ℕ → Bool
-has_room filed node = nat_lt (count_by (λ n. n == node) filed) 65536
+-- how often a number stands in a list
+abbrev pub times : List ℕ → ℕ → ℕ
+times nodes node = count_by (λ n. n == node) nodes
 
-unfoldable pub kind_at : List NodePlan → List ℕ → ℕ → List ℕ → Option kinds.RowKind
-kind_at plans filed node word = option_and_then (allowed (is_host plans node) (has_room filed node)) (kind_of word)
+-- where as many rows before begin a transfer at each node: a node has at most 65,536 of them
+abbrev pub has_room : (ℕ → ℕ) → ℕ → Bool
+has_room files node = nat_lt (files node) 65536
+
+unfoldable pub kind_at : List NodePlan → (ℕ → ℕ) → ℕ → List ℕ → Option kinds.RowKind
+kind_at plans files node word = option_and_then (allowed (is_host plans node) (has_room files node)) (kind_of word)
 
 -- what a row that sends says: its source and its shim are empty
 unfoldable pub sending_of : List (List ℕ) → Judged said.SaidWhat
@@ -129,16 +133,16 @@ what_of plans kind.Nonce fields = injection_of plans kind.Nonce fields
 what_of plans kind.File fields = filing_of fields
 what_of plans kind.Tick fields = ticking_of fields
 
--- what the record of that number says, behind a row of that time, and behind rows of those nodes that begin a
--- transfer
-unfoldable pub row_of : Config → ℕ → ℕ → List ℕ → List (List ℕ) → Judged SaidRow
-row_of config number last filed fields = do
+-- what the record of that number says, behind a row of that time, and behind rows of which as many begin a transfer
+-- at each node
+unfoldable pub row_of : Config → ℕ → ℕ → (ℕ → ℕ) → List (List ℕ) → Judged SaidRow
+row_of config number last files fields = do
   few ← hold rule.Rows (nat_le number 1000001)
   seven ← hold rule.Fields (length fields == 7)
   time ← demand rule.Time (decimal_of (field fields 0) config.horizon.0)
   later ← hold rule.Order (nat_le last time)
   node ← demand rule.Node (node_named config.nodes (field fields 1))
-  k ← demand rule.Kind (kind_at config.nodes filed node (field fields 2))
+  k ← demand rule.Kind (kind_at config.nodes files node (field fields 2))
   what ← what_of config.nodes k fields
   Ok (record { time = record { 0 = time }; node = node; what = what })
 
@@ -169,7 +173,7 @@ then_rows number (Ok row) more = behind (row ∷ []) (more row)
 unfoldable pub rows_from : Config → ℕ → ℕ → List ℕ → List (List (List ℕ)) → Result (List SaidRow) TraceFault
 rows_from config number last filed [] = Ok []
 rows_from config number last filed (fields ∷ records) =
-    then_rows number (row_of config number last filed fields)
+    then_rows number (row_of config number last (times filed) fields)
     (λ row. rows_from config (number + 1) row.time.0 (filed ++ filed_by row.node row.what) records)
 
 -- the first record names the fields
@@ -188,9 +192,9 @@ abbrev pub some_row : Judged SaidRow → Judged (Option SaidRow)
 some_row (Ok row) = Ok (Some row)
 some_row (Err broken) = Err broken
 
-abbrev pub said_by : Bool → Config → ℕ → ℕ → List ℕ → List (List ℕ) → Judged (Option SaidRow)
-said_by first config number last filed fields =
-    if first then header_of fields else some_row (row_of config number last filed fields)
+abbrev pub said_by : Bool → Config → ℕ → ℕ → (ℕ → ℕ) → List (List ℕ) → Judged (Option SaidRow)
+said_by first config number last files fields =
+    if first then header_of fields else some_row (row_of config number last files fields)
 
 unfoldable pub rows_under : Config → List (List (List ℕ)) → Result (List SaidRow) TraceFault
 rows_under config [] = Err (fault_at 1 rule.Header)

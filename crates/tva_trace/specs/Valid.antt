@@ -15,6 +15,7 @@ use Rattle.tva_trace.specs.declared.said.SaidWhat as saids
 use Rattle.tva_trace.specs.declared.said.SaidWhat.TheVariants as say
 use Rattle.tva_trace.specs.declared.said.SaidRow.{SaidRow}
 use Rattle.tva_plan.specs.Names.{is_host}
+use Rattle.tva_trace.specs.Rows.{has_room}
 
 -- a shim has its widths, and a malformed one at most 400 bytes
 abbrev pub IsWithinWidths : Carried → Type 0
@@ -69,23 +70,24 @@ abbrev pub IsSaidShim : says.SaidShim → Type 0
 IsSaidShim (Bytes bytes) = length bytes ≤ 400
 IsSaidShim (Built shim) = IsShim shim
 
-abbrev pub IsAllowed : Bool → kinds.RowKind → Type 0
-IsAllowed at_host kind.Send = at_host ≡ true
-IsAllowed at_host kind.Raw = Unit {0}
-IsAllowed at_host kind.List = Unit {0}
-IsAllowed at_host kind.Renew = Unit {0}
-IsAllowed at_host kind.Nonce = Unit {0}
-IsAllowed at_host kind.File = at_host ≡ true
-IsAllowed at_host kind.Tick = at_host ≡ true
+-- what may stand at a node, which is a host or not, and has room for one transfer more or not
+abbrev pub IsAllowed : Bool → Bool → kinds.RowKind → Type 0
+IsAllowed at_host room kind.Send = at_host ≡ true
+IsAllowed at_host room kind.Raw = Unit {0}
+IsAllowed at_host room kind.List = Unit {0}
+IsAllowed at_host room kind.Renew = Unit {0}
+IsAllowed at_host room kind.Nonce = Unit {0}
+IsAllowed at_host room kind.File = (at_host ≡ true) × (room ≡ true)
+IsAllowed at_host room kind.Tick = at_host ≡ true
 
-abbrev pub IsSaidWhat : Bool → saids.SaidWhat → Type 0
-IsSaidWhat at_host (say.Send dst payload) = (at_host ≡ true) × (payload ≤ 1600)
-IsSaidWhat at_host (say.Inject flow payload shim) = (payload ≤ 1600) × IsSaidShim shim
-IsSaidWhat at_host (say.File dst size segment) = (at_host ≡ true) × IsFile size segment
-IsSaidWhat at_host (say.Tick dst) = at_host ≡ true
+abbrev pub IsSaidWhat : Bool → Bool → saids.SaidWhat → Type 0
+IsSaidWhat at_host room (say.Send dst payload) = (at_host ≡ true) × (payload ≤ 1600)
+IsSaidWhat at_host room (say.Inject flow payload shim) = (payload ≤ 1600) × IsSaidShim shim
+IsSaidWhat at_host room (say.File dst size segment) = (at_host ≡ true) × (room ≡ true) × IsFile size segment
+IsSaidWhat at_host room (say.Tick dst) = at_host ≡ true
 
-pub record IsSaid (config : Config) (last : ℕ) (said : SaidRow) : Type 0 where
+pub record IsSaid (config : Config) (last : ℕ) (files : ℕ → ℕ) (said : SaidRow) : Type 0 where
   pub later : last ≤ said.time.0
   pub time : said.time.0 ≤ config.horizon.0
   pub node : said.node < length config.nodes
-  pub what : IsSaidWhat (is_host config.nodes said.node) said.what
+  pub what : IsSaidWhat (is_host config.nodes said.node) (has_room files said.node) said.what

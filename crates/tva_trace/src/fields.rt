@@ -66,16 +66,24 @@ pub fn kind_of(word: &[u8]) -> Option<RowKind>
     if is_word(word, "nonce") {
         return Some(RowKind::Nonce);
     }
+    if is_word(word, "file") {
+        return Some(RowKind::File);
+    }
+    if is_word(word, "tick") {
+        return Some(RowKind::Tick);
+    }
     None
 }
 
-/// Whether a row of a kind may stand at a node, which is a host or not.
-pub fn allowed(at_host: bool, kind: RowKind) -> Option<RowKind>
-    ensures kind { result ≡ allowed at_host kind }
-    ensures valid { IfSome result (IsAllowed at_host) }
+/// Whether a row of a kind may stand at a node, which is a host or not, and has room for one transfer
+/// more or not.
+pub fn allowed(at_host: bool, room: bool, kind: RowKind) -> Option<RowKind>
+    ensures kind { result ≡ allowed at_host room kind }
+    ensures valid { IfSome result (IsAllowed at_host room) }
 {
     match kind {
-        RowKind::Send if !at_host => None,
+        RowKind::Send | RowKind::Tick if !at_host => None,
+        RowKind::File if !(at_host && room) => None,
         kind => Some(kind),
     }
 }

@@ -1,12 +1,15 @@
 // What a record says, or the first rule that it breaks.
-ghost use Rattle.std.specs.Prelude.{◌≡◌, ◌<◌, ◌≤◌, Bool, true, IfOk, IfSome, OnOk, length};
+ghost use Rattle.std.specs.Prelude.{◌≡◌, ◌<◌, ◌≤◌, ℕ, Bool, true, IfOk, IfSome, OnOk, length};
 ghost use Rattle.csv.specs.Records.{fields_of};
 ghost use Rattle.tva_plan.specs.Numbers.{Numbers};
-ghost use Rattle.tva_trace.specs.Rows.{hold, injection_of, kind_at, row_of, sending_of, what_of};
+ghost use Rattle.tva_base.specs.Decimal.{decimal_of};
+ghost use Rattle.tva_trace.specs.Files.{counted};
+ghost use Rattle.tva_trace.specs.Rows.{filing_of, has_room, hold, injection_of, kind_at, positive, row_of, sending_of, ticking_of, what_of};
 ghost use Rattle.tva_plan.specs.Names.{is_host};
 ghost use Rattle.tva_trace.specs.Valid.{IsAllowed, IsSaid, IsSaidWhat};
 
 use crate::fields::{allowed, field, is_empty, kind_of};
+use crate::files::{FileCounts, has_room};
 use crate::items::shim_of;
 use crate::rows::{RowKind, TraceRule};
 use crate::said::{SaidRow, SaidWhat};
@@ -17,6 +20,11 @@ use tva_base::{Flow, Time, address, decimal};
 use tva_plan::{Config, NodePlan, is_host, number_of};
 use tva_shim::PAYLOAD_MAX;
 
+/// The most bytes of a segment, and of a file.
+const SEGMENT_MAX: u64 = 1500;
+
+const FILE_MAX: u64 = 100_000_000;
+
 /// A rule that a test meets.
 fn hold(rule: TraceRule, test: bool) -> Result<(), TraceRule>
     ensures { result ≡ hold rule test }
@@ -26,20 +34,20 @@ fn hold(rule: TraceRule, test: bool) -> Result<(), TraceRule>
 
 /// The kind of a row at a node.
 #[tactic(auto, unfolding(crate::specs::Rows::kind_at))]
-fn kind_at(plans: &[NodePlan], node: u16, word: &[u8]) -> Option<RowKind>
+fn kind_at(plans: &[NodePlan], files: &FileCounts, node: u16, word: &[u8]) -> Option<RowKind>
     requires { node < length plans.now }
-    ensures kind { result ≡ kind_at plans.now node word.now }
-    ensures valid { IfSome result (IsAllowed (is_host plans.now node)) }
+    ensures kind { result ≡ kind_at plans.now (counted files.now) node word.now }
+    ensures valid { IfSome result (IsAllowed (is_host plans.now node) (has_room (counted files.now) node)) }
 {
     let kind = kind_of(word)?;
-    allowed(is_host(plans, node), kind)
+    allowed(is_host(plans, node), has_room(files, node), kind)
 }
 
 /// What a row that sends says.
 #[tactic(auto, unfolding(crate::specs::Rows::sending_of))]
 fn sending_of(row: &ByteRecord) -> Result<SaidWhat, TraceRule>
     ensures said { result ≡ sending_of (fields_of row.now) }
-    ensures valid { IfOk result (λ said. (b : Bool) → b ≡ true → IsSaidWhat b said) }
+    ensures valid { IfOk result (λ said. (b r : Bool) → b ≡ true → IsSaidWhat b r said) }
 {
     hold(TraceRule::Src, is_empty(field(row, 3)))?;
     let dst = address(field(row, 4)).ok_or(TraceRule::Dst)?;
@@ -49,6 +57,46 @@ fn sending_of(row: &ByteRecord) -> Result<SaidWhat, TraceRule>
         dst,
         payload: payload as u16,
     })
+}
+
+/// A number that isn't 0, and is at most that one.
+fn positive(text: &[u8], most: u64) -> Option<u64>
+    ensures value { result ≡ positive (decimal_of text.now most) }
+    ensures some { IfSome result (λ n. 1 ≤ n) }
+    ensures within { IfSome result (λ n. n ≤ most) }
+{
+    let number = decimal(text, most)?;
+    if number > 0 { Some(number) } else { None }
+}
+
+/// What a row that begins a transfer says.
+#[tactic(auto, unfolding(crate::specs::Rows::filing_of))]
+fn filing_of(row: &ByteRecord) -> Result<SaidWhat, TraceRule>
+    ensures said { result ≡ filing_of (fields_of row.now) }
+    ensures valid { IfOk result (λ said. (b r : Bool) → b ≡ true → r ≡ true → IsSaidWhat b r said) }
+{
+    hold(TraceRule::Src, is_empty(field(row, 3)))?;
+    let dst = address(field(row, 4)).ok_or(TraceRule::Dst)?;
+    let segment = positive(field(row, 5), SEGMENT_MAX).ok_or(TraceRule::Payload)?;
+    let size = positive(field(row, 6), FILE_MAX).ok_or(TraceRule::Shim)?;
+    Ok(SaidWhat::File {
+        dst,
+        size: size as u32,
+        segment: segment as u16,
+    })
+}
+
+/// What a tick says.
+#[tactic(auto, unfolding(crate::specs::Rows::ticking_of))]
+fn ticking_of(row: &ByteRecord) -> Result<SaidWhat, TraceRule>
+    ensures said { result ≡ ticking_of (fields_of row.now) }
+    ensures valid { IfOk result (λ said. (b r : Bool) → b ≡ true → IsSaidWhat b r said) }
+{
+    hold(TraceRule::Src, is_empty(field(row, 3)))?;
+    let dst = address(field(row, 4)).ok_or(TraceRule::Dst)?;
+    decimal(field(row, 5), 0).ok_or(TraceRule::Payload)?;
+    hold(TraceRule::Shim, is_empty(field(row, 6)))?;
+    Ok(SaidWhat::Tick { dst })
 }
 
 /// What a row that injects a packet says.
@@ -62,7 +110,7 @@ fn injection_of(
 ) -> Result<SaidWhat, TraceRule>
     requires { Numbers plans.now numbers.now }
     ensures said { result ≡ injection_of plans.now kind (fields_of row.now) }
-    ensures valid { IfOk result (λ said. (b : Bool) → IsSaidWhat b said) }
+    ensures valid { IfOk result (λ said. (b r : Bool) → IsSaidWhat b r said) }
 {
     let src = address(field(row, 3)).ok_or(TraceRule::Src)?;
     let dst = address(field(row, 4)).ok_or(TraceRule::Dst)?;
@@ -85,28 +133,32 @@ fn what_of(
 ) -> Result<SaidWhat, TraceRule>
     requires { Numbers plans.now numbers.now }
     ensures said { result ≡ what_of plans.now kind (fields_of row.now) }
-    ensures valid { IfOk result (λ said. (b : Bool) → IsAllowed b kind → IsSaidWhat b said) }
+    ensures valid { IfOk result (λ said. (b r : Bool) → IsAllowed b r kind → IsSaidWhat b r said) }
 {
     match kind {
         RowKind::Send => sending_of(row),
+        RowKind::File => filing_of(row),
+        RowKind::Tick => ticking_of(row),
         kind => injection_of(plans, numbers, secrets, kind, row),
     }
 }
 
-/// What the record of that number says, behind a row of that time.
+/// What the record of that number says, behind a row of that time, and behind rows of which so many
+/// begin a transfer at each node.
 #[tactic(auto, unfolding(crate::specs::Rows::row_of))]
 pub fn row_of(
     config: &Config,
     numbers: &HashMap<&[u8], u16>,
     secrets: &mut KeptSecrets,
+    files: &FileCounts,
     number: u64,
     last: u64,
     row: &ByteRecord,
 ) -> Result<SaidRow, TraceRule>
     requires { Numbers config.now.nodes numbers.now }
-    ensures said { result ≡ row_of config.now number last (fields_of row.now) }
+    ensures said { result ≡ row_of config.now number last (counted files.now) (fields_of row.now) }
     ensures few { OnOk result (number ≤ 1000001) }
-    ensures valid { IfOk result (IsSaid config.now last) }
+    ensures valid { IfOk result (IsSaid config.now last (counted files.now)) }
 {
     let plans = config.nodes.as_slice();
     hold(TraceRule::Rows, number <= 1_000_001)?;
@@ -114,7 +166,7 @@ pub fn row_of(
     let time = decimal(field(row, 0), config.horizon.0).ok_or(TraceRule::Time)?;
     hold(TraceRule::Order, last <= time)?;
     let node = number_of(plans, numbers, field(row, 1)).ok_or(TraceRule::Node)?;
-    let kind = kind_at(plans, node, field(row, 2)).ok_or(TraceRule::Kind)?;
+    let kind = kind_at(plans, files, node, field(row, 2)).ok_or(TraceRule::Kind)?;
     let what = what_of(plans, numbers, secrets, kind, row)?;
     Ok(SaidRow {
         time: Time(time),

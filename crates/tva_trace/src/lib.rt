@@ -5,6 +5,7 @@
 
 mod carried;
 mod fields;
+mod files;
 mod items;
 mod judge;
 mod laws;

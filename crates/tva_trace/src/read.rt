@@ -3,6 +3,7 @@ ghost use Rattle.std.specs.Prelude.{◌≡◌, ◌≤◌, ◌==◌, List, IfOk, 
 ghost use Rattle.csv.specs.Records.{fields_of};
 ghost use Rattle.tva_trace.specs.declared.rows.Row.{Row};
 ghost use Rattle.tva_trace.specs.declared.rows.TraceError.TheVariants as error;
+ghost use Rattle.tva_trace.specs.Files.{Counts, FindsRoom, counted, filed_in};
 ghost use Rattle.tva_trace.specs.Meaning.{Answers, AreRows, IsPut};
 ghost use Rattle.tva_plan.specs.Numbers.{Numbers};
 ghost use Rattle.tva_trace.specs.Rows.{said_by};
@@ -11,6 +12,7 @@ ghost use Rattle.tva_trace.specs.Valid.{AreTraceRows, IsSaid};
 
 use crate::carried::row_from;
 use crate::fields::is_header;
+use crate::files::{FileCounts, count_file};
 use crate::judge::row_of;
 use crate::rows::{Row, TraceError, TraceFault, TraceRule};
 use crate::said::SaidRow;
@@ -25,8 +27,9 @@ const SHORTEST_ROW: usize = 20;
 
 /// The rows of a trace, or the first record that breaks a rule with the first rule that it breaks.
 /// The configuration has at most 65,536 nodes, as each that was read has. Rows stand in the order
-/// of their times, up to the horizon; only hosts send; payloads are at most 1,600 bytes, and
-/// malformed shims at most 400.
+/// of their times, up to the horizon; only hosts send, begin transfers and tick, and each begins at most
+/// 65,536 of them; payloads are at most 1,600 bytes, malformed shims at most 400, files have 1 to
+/// 100,000,000 bytes, and their segments 1 to 1,500.
 pub fn read_trace(alloc: Global, text: &[u8], config: &Config) -> Result<Vec<Row>, TraceError>
     requires { length config.now.nodes ≤ 65536 }
     ensures answer { Answers config.now text.now result }
@@ -53,6 +56,7 @@ fn read_rows(
     let mut rows = Vec::new(alloc);
     let room = room_for_rows(text);
     let mut secrets = KeptSecrets::new();
+    let mut files = HashMap::new(alloc);
     let mut number = 1u64;
     let mut last = 0u64;
     let mut reader = ReaderBuilder::new()
@@ -74,11 +78,11 @@ fn read_rows(
             }
             return Ok(rows);
         }
-        let said = match said_by(config, numbers, &mut secrets, number, last, &record) {
+        let said = match said_by(config, numbers, &mut secrets, &files, number, last, &record) {
             Ok(said) => said,
             Err(rule) => return Err(TraceError::Fault(TraceFault { row: number, rule })),
         };
-        let Ok(time) = put_row(&mut rows, room, last, said) else {
+        let Ok(time) = put_row(&mut rows, &mut files, room, last, said) else {
             return Err(TraceError::OutOfMemory);
         };
         last = time;
@@ -105,15 +109,18 @@ fn shortage(kind: &ErrorKind) -> TraceError
     }
 }
 
-/// Puts a row last, if there is one, and answers the last row's time. Where there is none, that is
-/// behind the header, room is made for so many.
+/// Puts a row last, if there is one, counts it where it begins a transfer, and answers the last row's
+/// time. Where there is none, that is behind the header, room is made for so many.
 fn put_row(
     rows: &mut Vec<Row>,
+    files: &mut FileCounts,
     room: usize,
     last: u64,
     said: Option<SaidRow>,
 ) -> Result<u64, AllocError>
-    ensures { IfOk result (λ time. IsPut rows.old.items rows.new.items last time said) }
+    requires { IfSome said (λ row. FindsRoom (counted files.old) row.node row.what) }
+    ensures put { IfOk result (λ time. IsPut rows.old.items rows.new.items last time said) }
+    ensures counts { OnOk result (Counts (counted files.old) (counted files.new) (filed_in said)) }
 {
     match said {
         None => {
@@ -122,28 +129,31 @@ fn put_row(
         }
         Some(said) => {
             let time = said.time.0;
+            count_file(files, said.node, &said.what)?;
             rows.push(row_from(said))?;
             Ok(time)
         }
     }
 }
 
-/// What the record of that number says, behind a row of that time; the first names the fields.
+/// What the record of that number says, behind a row of that time, and behind rows of which so many
+/// begin a transfer at each node; the first names the fields.
 fn said_by(
     config: &Config,
     numbers: &HashMap<&[u8], u16>,
     secrets: &mut KeptSecrets,
+    files: &FileCounts,
     number: u64,
     last: u64,
     row: &ByteRecord,
 ) -> Result<Option<SaidRow>, TraceRule>
     requires { Numbers config.now.nodes numbers.now }
-    ensures said { result ≡ said_by (number == 1) config.now number last (fields_of row.now) }
+    ensures said { result ≡ said_by (number == 1) config.now number last (counted files.now) (fields_of row.now) }
     ensures few { OnOk result (number ≤ 1000001) }
-    ensures valid { IfOk result (λ said. IfSome said (IsSaid config.now last)) }
+    ensures valid { IfOk result (λ said. IfSome said (IsSaid config.now last (counted files.now))) }
 {
     if number != 1 {
-        let said = row_of(config, numbers, secrets, number, last, row)?;
+        let said = row_of(config, numbers, secrets, files, number, last, row)?;
         return Ok(Some(said));
     }
     if is_header(row) {

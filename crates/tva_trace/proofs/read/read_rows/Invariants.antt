@@ -1,9 +1,10 @@
 use Rattle.std.proofs.Common.{◌-◌}
+use Rattle.tva_trace.specs.Files.{counted}
 use Rattle.tva_trace.proofs.Reading.{IsReadTo}
 use Rattle.tva_trace.proofs.read.read_rows.Given as goal
 
 abbrev pub invariant-records : goal.invariant-records
-invariant-records l = IsReadTo l.config l.text l.reader l.number l.last l.rows.items
+invariant-records l = IsReadTo l.config l.text l.reader l.number l.last (counted l.files) l.rows.items
 
 -- a record past the last that may be breaks a rule
 abbrev pub decreases-records : goal.decreases-records
