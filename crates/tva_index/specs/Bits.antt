@@ -1,5 +1,6 @@
 -- Kit: a tree of keys by their bits, for the invariant and the contracts of the functions on it.
-use Rattle.std.specs.Prelude.{◌≡◌, ℕ, zero, suc, ◌+◌, ◌*◌, ◌/◌, ◌%◌, ◌^◌, ◌<◌, ◌≤◌, List, length, slice_index, slice_index_or, slice_set, Option, Some, None, option_and_then}
+use Rattle.std.specs.Prelude.{◌≡◌, ℕ, zero, suc, ◌+◌, ◌*◌, ◌/◌, ◌%◌, ◌^◌, ◌<◌, ◌≤◌, List, length}
+use Rattle.std.specs.Prelude.{slice_index, slice_index_or, slice_set, Option, Some, None, option_and_then}
 use Rattle.tva_index.specs.declared.bits.Numbered.{Numbered}
 use Rattle.tva_index.specs.declared.bits.Led.{Led}
 use Rattle.tva_index.specs.declared.bits.End.{End}
@@ -52,9 +53,11 @@ pub record IsKeyTree (links : List (Option ℕ)) (es : List (Option Numbered)) (
   pub some : 1 ≤ length es
   pub few : length es ≤ 2 ^ 31
   pub first : entry_at es 0 ≡ None
-  pub leads : (e p : ℕ) → link_at links e ≡ Some p → (0 < p) × (p < length es) × (n : Numbered) × (entry_at es p ≡ Some n)
+  pub leads : (e p : ℕ) → link_at links e ≡ Some p
+      → (0 < p) × (p < length es) × (n : Numbered) × (entry_at es p ≡ Some n)
   pub once : (e f p : ℕ) → link_at links e ≡ Some p → link_at links f ≡ Some p → e ≡ f
-  pub reached : (p : ℕ) (n : Numbered) → entry_at es p ≡ Some n → (depth : ℕ) × (depth ≤ 32) × (spot links n.key depth ≡ Some p)
+  pub reached : (p : ℕ) (n : Numbered) → entry_at es p ≡ Some n
+      → (depth : ℕ) × (depth ≤ 32) × (spot links n.key depth ≡ Some p)
   pub alone : (p q : ℕ) (n m : Numbered) → entry_at es p ≡ Some n → entry_at es q ≡ Some m → n.key ≡ m.key → p ≡ q
   pub small : (p : ℕ) (n : Numbered) → entry_at es p ≡ Some n → n.key < 2 ^ 32
   pub spare : (i : ℕ) → i < length free → IsFree links es (slice_index free i)
@@ -84,7 +87,8 @@ IsEnd links es key (Found led) = IsFound links es key led
 IsEnd links es key (Missing link) = IsMissing links es key link
 
 -- the walk to the key at the place goes by that one, after so many steps or more
-pub record IsBelow (links : List (Option ℕ)) (es : List (Option Numbered)) (above : ℕ) (led : Led) (steps : ℕ) : Type 0 where
+pub record IsBelow (links : List (Option ℕ)) (es : List (Option Numbered)) (above : ℕ) (led : Led) (steps : ℕ)
+    : Type 0 where
   pub key : Numbered
   pub entry : entry_at es led.at ≡ Some key
   pub link : link_at links led.link ≡ Some led.at

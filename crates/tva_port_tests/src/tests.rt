@@ -11,9 +11,11 @@ use tva_shim::{Carried, Entries, Entry, Kind, Packet, ReturnInfo, Shim, length};
 
 mod cases;
 mod level_cases;
+mod long_cases;
 
 use cases::CASES;
 use level_cases::LEVEL_CASES;
+use long_cases::LONG_CASES;
 
 fn crosses<T: Send + Sync>() {}
 
@@ -271,7 +273,8 @@ fn calls_of(rt: &impl Abort, alloc: Global, cases: &str) -> Result<u64, Fail> {
 /// On links with two levels, whose cases come last, the neighbours behind one tag take turns.
 #[test]
 fn sequences_of_queueings_and_decisions(rt: HostRuntime) -> Result<(), Fail> {
-    assert_eq!(rt; calls_of(&rt, rt.alloc(), CASES)?, 559);
+    assert_eq!(rt; calls_of(&rt, rt.alloc(), CASES)?, 317);
+    assert_eq!(rt; calls_of(&rt, rt.alloc(), LONG_CASES)?, 242);
     assert_eq!(rt; calls_of(&rt, rt.alloc(), LEVEL_CASES)?, 179);
     Ok(())
 }
