@@ -4,28 +4,13 @@ ghost use Rattle.std.specs.Prelude.{IfOk};
 ghost use Rattle.tva_node.specs.States.{Stands};
 ghost use Rattle.tva_node_tests.specs.Ready.{IsReady};
 
-use super::makers::{BACK, COUNTING, THERE, changing_router, network};
+use super::makers::{A1, A2, A3, A4, A5, B1, B2, BACK, COUNTING, THERE, changing_router, network};
 use super::playing::{Arriving, Case, Part, Told, play_node};
-use super::walk::{A1, A2, A3, B1, GRANTED, LIST, NONCE};
+use super::walk::{GRANTED, LIST, NONCE};
 use std::alloc::{AllocError, Global};
 use std::process::Abort;
-use tva_base::{Cause, Class, Listed, PacketId, Time};
+use tva_base::{Cause, Class, Listed, Time};
 use tva_node::Node;
-
-const A4: PacketId = PacketId {
-    node: 1,
-    ordinal: 4,
-};
-
-const A5: PacketId = PacketId {
-    node: 1,
-    ordinal: 5,
-};
-
-const B2: PacketId = PacketId {
-    node: 2,
-    ordinal: 2,
-};
 
 const OTHER: [u8; 32] = [7; 32];
 

@@ -1,51 +1,11 @@
 // A link that waits, two links at one time, a host that sends to itself, and inputs at the horizon: what
 // happens there was worked out apart from this code.
-use super::makers::{B, BACK, HORIZON, THERE};
+use super::makers::{A1, A2, A3, A4, A5, A6, A7, B, B1, B2, B3, BACK, HORIZON, THERE};
 use super::playing::{Arriving, Case, NodeRow, Part, Reply, Told};
-use super::walk::{A1, B1, GRANT, GRANTED, LIST, REQUEST, SERVER};
-use tva_base::{BackKind, Class, Flow, PacketId, ShapeKind, Time, WhatKind};
+use super::walk::{GRANT, GRANTED, LIST, REQUEST, SERVER};
+use tva_base::{BackKind, Class, Flow, ShapeKind, Time, WhatKind};
 
 const ITSELF: Flow = Flow { src: B, dst: B };
-
-const A2: PacketId = PacketId {
-    node: 1,
-    ordinal: 2,
-};
-
-const A3: PacketId = PacketId {
-    node: 1,
-    ordinal: 3,
-};
-
-const A4: PacketId = PacketId {
-    node: 1,
-    ordinal: 4,
-};
-
-const A5: PacketId = PacketId {
-    node: 1,
-    ordinal: 5,
-};
-
-const A6: PacketId = PacketId {
-    node: 1,
-    ordinal: 6,
-};
-
-const A7: PacketId = PacketId {
-    node: 1,
-    ordinal: 7,
-};
-
-const B2: PacketId = PacketId {
-    node: 2,
-    ordinal: 2,
-};
-
-const B3: PacketId = PacketId {
-    node: 2,
-    ordinal: 3,
-};
 
 // What B sent to itself, behind the router: a request, the reply with the grant, and a list.
 const REQUEST_BACK: &[u8] = &[

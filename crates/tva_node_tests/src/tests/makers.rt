@@ -27,6 +27,57 @@ pub const THERE: Flow = Flow { src: A, dst: B };
 
 pub const BACK: Flow = Flow { src: B, dst: A };
 
+// The packets of A and of B, by their ordinals.
+pub const A1: PacketId = PacketId {
+    node: 1,
+    ordinal: 1,
+};
+
+pub const A2: PacketId = PacketId {
+    node: 1,
+    ordinal: 2,
+};
+
+pub const A3: PacketId = PacketId {
+    node: 1,
+    ordinal: 3,
+};
+
+pub const A4: PacketId = PacketId {
+    node: 1,
+    ordinal: 4,
+};
+
+pub const A5: PacketId = PacketId {
+    node: 1,
+    ordinal: 5,
+};
+
+pub const A6: PacketId = PacketId {
+    node: 1,
+    ordinal: 6,
+};
+
+pub const A7: PacketId = PacketId {
+    node: 1,
+    ordinal: 7,
+};
+
+pub const B1: PacketId = PacketId {
+    node: 2,
+    ordinal: 1,
+};
+
+pub const B2: PacketId = PacketId {
+    node: 2,
+    ordinal: 2,
+};
+
+pub const B3: PacketId = PacketId {
+    node: 2,
+    ordinal: 3,
+};
+
 fn queues() -> DrrLimits
     ensures { AreClassLimits result }
 {

@@ -1,27 +1,10 @@
 // The nodes of the worked network, when A sends a packet with a wrong nonce later: the router demotes it,
 // and B tells A. What comes to each and what happens there behind the walk were worked out apart from this
 // code.
-use super::makers::{BACK, THERE};
+use super::makers::{A4, B2, BACK, THERE};
 use super::playing::{Arriving, Case, NodeRow, Part, Reply, Told};
-use super::walk::{AT_A, AT_B, AT_ROUTER, CLIENT, SERVER};
-use tva_base::{BackKind, Cause, Class, Grant, PacketId, Rights, ShapeKind, WhatKind};
-
-const A4: PacketId = PacketId {
-    node: 1,
-    ordinal: 4,
-};
-
-const B2: PacketId = PacketId {
-    node: 2,
-    ordinal: 2,
-};
-
-// What A grants B.
-const GRANTED_BACK: Grant = Grant {
-    flow: BACK,
-    rights: Rights { n: 32, t: 10 },
-    second: 0,
-};
+use super::walk::{AT_A, AT_B, AT_ROUTER, CLIENT, GRANTED_BACK, SERVER};
+use tva_base::{BackKind, Cause, Class, ShapeKind, WhatKind};
 
 // A's wrong nonce, before the router, and demoted behind it.
 const NONCE: &[u8] = &[0x12, 0x06, 0xff, 0xff, 0xff, 0xff, 0xff, 0xff];

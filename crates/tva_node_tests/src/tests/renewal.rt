@@ -1,33 +1,12 @@
 // The nodes of the worked network, when six seconds later A's next packet asks for a new grant, which B
 // gives, and A shows with a list: what comes to each and what happens there behind the walk were worked out
 // apart from this code.
-use super::makers::{B, BACK, THERE};
+use super::makers::{A4, A5, B, B2, BACK, THERE};
 use super::playing::{Arriving, Case, NodeRow, Part, Reply, Told};
-use super::walk::{AT_A, AT_B, AT_ROUTER, CLIENT, GRANTED, SERVER};
-use tva_base::{BackKind, Class, Grant, PacketId, Rights, ShapeKind, WhatKind};
+use super::walk::{AT_A, AT_B, AT_ROUTER, CLIENT, GRANTED, GRANTED_BACK, SERVER};
+use tva_base::{BackKind, Class, Grant, Rights, ShapeKind, WhatKind};
 
-const A4: PacketId = PacketId {
-    node: 1,
-    ordinal: 4,
-};
-
-const A5: PacketId = PacketId {
-    node: 1,
-    ordinal: 5,
-};
-
-const B2: PacketId = PacketId {
-    node: 2,
-    ordinal: 2,
-};
-
-// What A grants B, in second 0, and what B grants A anew, in second 6.
-const GRANTED_BACK: Grant = Grant {
-    flow: BACK,
-    rights: Rights { n: 32, t: 10 },
-    second: 0,
-};
-
+// What B grants A anew, in second 6.
 const GRANTED_ANEW: Grant = Grant {
     flow: THERE,
     rights: Rights { n: 32, t: 10 },

@@ -1,29 +1,9 @@
 // The router and the two hosts of a worked network, each by itself: what comes to it, what happens there
 // and what its links send were worked out apart from this code. Host A asks host B for a grant, which B
 // gives and A answers; then A sends a packet with a nonce alone.
-use super::makers::{A, B, BACK, THERE};
+use super::makers::{A, A1, A2, A3, B, B1, BACK, THERE};
 use super::playing::{Arriving, Case, HostAt, NodeRow, Part, Reply, Told};
-use tva_base::{BackKind, Class, Grant, PacketId, PolicyKind, Rights, ShapeKind, WhatKind};
-
-pub const A1: PacketId = PacketId {
-    node: 1,
-    ordinal: 1,
-};
-
-pub const A2: PacketId = PacketId {
-    node: 1,
-    ordinal: 2,
-};
-
-pub const A3: PacketId = PacketId {
-    node: 1,
-    ordinal: 3,
-};
-
-pub const B1: PacketId = PacketId {
-    node: 2,
-    ordinal: 1,
-};
+use tva_base::{BackKind, Class, Grant, PolicyKind, Rights, ShapeKind, WhatKind};
 
 pub const CLIENT: HostAt = HostAt {
     number: 1,
@@ -39,9 +19,15 @@ pub const SERVER: HostAt = HostAt {
     uplink: 3,
 };
 
-// What B grants A, in second 0.
+// What B grants A, and A grants B, in second 0.
 pub const GRANTED: Grant = Grant {
     flow: THERE,
+    rights: Rights { n: 32, t: 10 },
+    second: 0,
+};
+
+pub const GRANTED_BACK: Grant = Grant {
+    flow: BACK,
     rights: Rights { n: 32, t: 10 },
     second: 0,
 };
