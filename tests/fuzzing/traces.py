@@ -4,6 +4,7 @@ from . import changes, networks
 from .networks import SECOND, chance
 
 from model import hashes, router, shims
+from model import run as runs
 
 HEADER = "time,node,kind,src,dst,payload,shim"
 NONCES = ["00000000000a", "00000000000b", "000000000001", "000000000002", "000000000003", "ffffffffffff", "000000000000"]
@@ -33,7 +34,7 @@ class Sources:
         self.rights += [(1, 2), (1, 1), (2, 4), (3, 10), (1, 63), (rng.choice([0, 1, 1_024, 5_000]), rng.choice([0, 3, 64, 127]))]
         self.flow = rng.choice(self.addresses), rng.choice(self.addresses)
         self.shown = rng.choice(self.rights), rng.choice(NONCES)
-        packets = [it.packet for it in seen]
+        packets = [it.packet for it in seen if not isinstance(it, runs.Ticked)]
         self.packets = [it for it in packets if isinstance(it.carried, shims.Shim)]
         self.times = [it.time for it in seen] + [it.end for it in seen if hasattr(it, "end")]
         nodes = run.nodes if run else []
