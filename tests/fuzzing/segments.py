@@ -203,11 +203,11 @@ def _(self, source, data):
     return data, right_deliver(self, source, data)[1]
 
 
-@reading("gap", "a segment is acknowledged when it is sent, and delivered behind a gap", Transfers, "segment", BREACHES)
-def _(self, number):
-    data = right_segment(self, number)
-    self.taken.append(Ack(number, data.first + data.bytes))
-    return data
+@reading("gap", "every other segment is left out, and what comes behind a gap is delivered", transfers, "segment", BREACHES)
+def _(file, taken, number):
+    first = transfers.acknowledged(taken, number)
+    first = min(first + file.segment, file.size - 1) if first else 0
+    return Data(number, first, min(file.segment, file.size - first))
 
 
 @also(transfers, "is_next", BREACHES)
