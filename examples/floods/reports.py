@@ -18,12 +18,13 @@ CLASS_OF_SHAPE = {"request": "request", "list": "regular", "nonce": "regular", "
 
 def events(path):
     """The events of a report, without its last line, each as (time, node, what, id, length, fields):
-    the fields are what stands behind the length."""
+    the fields are what stands behind the length. A tick that sends nothing has no packet: no id, and length 0."""
     with open(path, encoding="ascii") as file:
         for line in file:
             words = line.split()
             if words and words[0] != "total":
-                yield Event(int(words[0]), words[1], words[2], words[3], int(words[4]), words[5:])
+                name, length, *fields = words[3:] or ["", 0]
+                yield Event(int(words[0]), words[1], words[2], name, int(length), fields)
 
 
 class Packet:
@@ -74,6 +75,8 @@ def packets(path):
     """The packets of a report by their names, in the order in which they were made."""
     found = {}
     for event in events(path):
+        if event.what == "tick":
+            continue
         packet = found.get(event.id) or found.setdefault(event.id, Packet(event.id))
         packet.ended = event.time
         if event.what == "send":

@@ -1,7 +1,9 @@
-"""How often each cause, outcome, shape, word of a receipt, fault and status came, and when restarts and reroutes did."""
+"""How often each cause, outcome, shape, word of a receipt, fault and status came, when restarts and reroutes did, and what
+came of files."""
 from collections import Counter
 
 from model import run as runs
+from model.shims import Ack, Data
 
 CONFIG_FAULTS = """syntax top, unknown top, unknown router, unknown host, unknown link, unknown route, missing top, missing router,
 missing host, missing link, missing route, value top, value router, value host, value link, value route, count host, count link,
@@ -11,6 +13,7 @@ value reroute, count restart, count reroute, owner restart, times restart, owner
 times reroute"""
 OUTCOMES = "queued, dropped:hop-limit, dropped:no-route, dropped:no-queue, dropped:queue-full"
 WHEN = "at an arrival, between arrivals, before all arrivals, behind all arrivals"
+RIDES = "by itself, on a grant, on a notice"
 
 # all that is to come, by what is counted
 EXPECTED = {
@@ -23,9 +26,17 @@ EXPECTED = {
     "receipt": "stray, demoted, request, renewal, regular, legacy",
     "return": "-, notice, grant, ignored",
     "shape of a reply": "request, list, nonce, renewal, legacy",
-    "reply": "notice, grant",
+    "reply": "notice, grant, -",
     "outcome of a reply": "queued, dropped:no-queue, dropped:queue-full",
     "start": "request, regular, legacy",
+    "range": "first, further",
+    "receipt with a range": "demoted, request, renewal, regular, legacy",
+    "data": "delivered, delivered before, stray",
+    "acknowledgement": "goes on, is the last, told before, stray",
+    "row with a segment": "file, tick",
+    "tick": "without a packet",
+    "acknowledgement that is sent": RIDES,
+    "segment that answers": RIDES,
     "restart": WHEN,
     "reroute": WHEN,
     "fault of a configuration": CONFIG_FAULTS,
@@ -78,9 +89,14 @@ class Coverage:
             case [_, _, "send", _, _, shape, way]:
                 self.add("shape of a row", shape)
                 self.add("outcome of a row", outcome(way))
-            case [_, _, "recv", _, _, _, what, back, reply]:
+            case [_, _, "tick"]:
+                self.add("tick", "without a packet")
+            case [_, _, "recv", _, _, _, what, back, reply, *delivered]:
                 self.add("receipt", what)
                 self.add("return", back)
+                for it in delivered:
+                    self.add("range", "first" if it.split(":")[2] == "0" else "further")
+                    self.add("receipt with a range", what)
                 if reply != "-":
                     _, _, shape, word, way = reply.split("/")
                     self.add("shape of a reply", shape)
@@ -88,6 +104,35 @@ class Coverage:
                     self.add("outcome of a reply", outcome(way))
             case [_, _, "start", _, _, _, kind, _]:
                 self.add("start", kind)
+
+    def see_run(self, run):
+        """What a run of the model tells and a report doesn't."""
+        self.see_changes(run)
+        acked = {}
+        for it in run.happened:
+            if isinstance(it, runs.Sent) and it.packet.upper:
+                transfer = it.node, it.packet.upper.transfer
+                self.add("row with a segment", "tick" if transfer in acked else "file")
+                acked.setdefault(transfer, 0)
+            elif isinstance(it, runs.Received) and it.packet.upper:
+                self.see_upper(it.node, it.packet.upper, it.receipt, acked)
+
+    def see_upper(self, node, upper, receipt, acked):
+        """What came of the upper part of a packet that was received, and what answers it. `acked` has how much of each
+        transfer its sender knows to be delivered."""
+        answer = receipt.upper
+        if receipt.what == "stray":
+            self.add("data" if isinstance(upper, Data) else "acknowledgement", "stray")
+        elif isinstance(upper, Data):
+            self.add("data", "delivered" if receipt.delivered else "delivered before")
+        else:
+            is_new = upper.next > acked[node, upper.transfer]
+            self.add("acknowledgement", "goes on" if answer else "is the last" if is_new else "told before")
+            acked[node, upper.transfer] = max(acked[node, upper.transfer], upper.next)
+        if answer:
+            back = receipt.answer
+            rides = "by itself" if back is None else "on a notice" if back.rights is None else "on a grant"
+            self.add("acknowledgement that is sent" if isinstance(answer, Ack) else "segment that answers", rides)
 
     def see_changes(self, run):
         """The changes of a run of the model."""

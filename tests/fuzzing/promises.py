@@ -3,6 +3,7 @@ was charged to and under which key it waits, is the model's, whose lines are the
 from collections import defaultdict
 
 from model import shims
+from model.transfers import File
 
 UNIT, PACKET_MOST = 1_024, 2_048
 
@@ -17,7 +18,7 @@ def broken(run, report):
         found += budgets(node, of_node) if hasattr(node, "charges") else []
         for link in node.links.values():
             found += rates(run, link, of_node) + waits(run, link, of_node, last)
-    return found
+    return found + ranges(run, lines)
 
 
 def budgets(node, lines):
@@ -33,6 +34,27 @@ def budgets(node, lines):
         sums[boot, charge.grant] += length
     over = [(*of, had) for of, had in sums.items() if had >= 2 * UNIT * of[1].rights.n]
     return [f"{node.plan.name}: {grant} has {had} bytes in boot {boot}" for boot, grant, had in over]
+
+
+def ranges(run, lines):
+    """The ranges of each file are delivered by the host with its address, one behind the other from 0 on, and end within
+    its size."""
+    had, found = defaultdict(int), []
+    for line in lines:
+        if line[2:3] == ["recv"] and line[9:]:
+            source, (number, first, count) = line[3].rpartition("#")[0], map(int, line[9].split(":")[1:])
+            file = files_of(run, source)[number]
+            [address] = [it.address for it in run.config.hosts if it.name == line[1]]
+            is_next = first == had[source, number] and count >= 1 and first + count <= file.size
+            if not is_next or address != file.destination:
+                found.append(f"{line[1]}: {line[9]} of {source} comes behind {had[source, number]} of {file.size} bytes")
+            had[source, number] = first + count
+    return found
+
+
+def files_of(run, name):
+    """The files of a host, by the rows of its trace."""
+    return [it.carried for it in run.rows if run.config.nodes[it.node].name == name and isinstance(it.carried, File)]
 
 
 def rates(run, link, lines):

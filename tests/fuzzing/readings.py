@@ -278,9 +278,9 @@ def _(plan, entries, rights):
 
 
 @reading("client", "a client grants to whom it replied", Host, "prepare")
-def _(self, now, peer, payload, back=None):
+def _(self, now, peer, *more):
     self.sent.append(peer)
-    return right_prepare(self, now, peer, payload, back)
+    return right_prepare(self, now, peer, *more)
 
 
 @reading("marked-back", "the return info of a marked packet isn't looked at", Host, "receive")

@@ -1,15 +1,19 @@
-"""Random traces over a network: honest rows, forged ones, and what was seen in a run of the same network before, shown
-again by those who own it, by others, and too late."""
+"""Random traces over a network: honest rows, forged ones, files with ticks that go on with them, and what was seen in a
+run of the same network before, shown again by those who own it, by others, and too late."""
 from . import changes, networks
 from .networks import SECOND, chance
 
 from model import hashes, router, shims
+from model import run as runs
+from model.transfers import File
 
 HEADER = "time,node,kind,src,dst,payload,shim"
 NONCES = ["00000000000a", "00000000000b", "000000000001", "000000000002", "000000000003", "ffffffffffff", "000000000000"]
 PAYLOADS = [0, 0, 1, 20, 77, 100, 472, 500, 984, 1_000, 1_500, 1_600]
 HALVES = [472, 470, 464, 462, 984, 982, 976, 974, 0, 100, 1_000]
 LARGE = [0, 500, 1_000, 1_000, 1_500, 1_500, 1_600]
+SEGMENTS = [1, 1, 2, 7, 20, 69, 92, 100, 464, 500, 964, 1_000, 1_499, 1_500]
+OWN = ("send", "file", "tick")
 TALKS = [0, 10**6, 3 * 10**8, 6 * 10**8, SECOND, SECOND + 10**6]
 STORMS = [0, 0, 0, 0, 1, 1_000, 10_000, 100_000]
 STEPS = [0, 0, 0, 1, 20, 28, 100, 1_000, 100_000, 10**6, 10**6, 10**8, 5 * 10**8, SECOND - 1, SECOND]
@@ -33,7 +37,7 @@ class Sources:
         self.rights += [(1, 2), (1, 1), (2, 4), (3, 10), (1, 63), (rng.choice([0, 1, 1_024, 5_000]), rng.choice([0, 3, 64, 127]))]
         self.flow = rng.choice(self.addresses), rng.choice(self.addresses)
         self.shown = rng.choice(self.rights), rng.choice(NONCES)
-        packets = [it.packet for it in seen]
+        packets = [it.packet for it in seen if not isinstance(it, runs.Ticked)]
         self.packets = [it for it in packets if isinstance(it.carried, shims.Shim)]
         self.times = [it.time for it in seen] + [it.end for it in seen if hasattr(it, "end")]
         nodes = run.nodes if run else []
@@ -42,6 +46,7 @@ class Sources:
         self.changes = changes.all_times(network)
         self.restarted = [(node, place, it) for node, place in self.charged for it in later_restarts(node, place)]
         self.talks = False
+        self.files = [(run.config.nodes[it.node].name, dotted(it.flow.destination)) for it in run.rows if is_file(it)] if run else []
 
     def a_flow(self):
         """The flow that this trace is about, or another."""
@@ -61,6 +66,20 @@ class Sources:
         if self.talks:
             return self.rng.choice(HALVES)
         return self.rng.choice(PAYLOADS) if chance(self.rng, 0.9) else self.rng.randrange(1_601)
+
+    def a_file(self):
+        """The bytes of a segment and of a file: a few segments, mostly, and just that, a byte more or less, or anything;
+        and as many as may be where the events end it."""
+        rng = self.rng
+        segment = rng.choice(SEGMENTS) if chance(rng, 0.8) else rng.randrange(1, 1_501)
+        if self.network.top["max_events"] < 1_000 and chance(rng, 0.04):
+            return segment, rng.choice([100_000_000, 99_999_999, 1 << 24])
+        size = segment * rng.choice([1, 1, 2, 2, 3, 4, 6]) + rng.choice([0, 0, 0, 1, -1, rng.randrange(segment)])
+        return segment, max(1, size)
+
+
+def is_file(row):
+    return isinstance(row.carried, File)
 
 
 def later_restarts(node, place):
@@ -184,25 +203,38 @@ def damaged(rng, data):
 
 
 KNOWN = [(5, "05a306372d5b388a"), (127, "7f5b095cc11fa77a")]
-MIXED = ["send"] * 8 + ["list"] * 5 + ["nonce"] * 3 + ["renew"] * 2 + ["raw"] * 4
-TALK = ["send"] * 20 + ["nonce", "list", "raw"]
-STORM = ["raw"] * 8 + ["list"] * 4 + ["nonce", "send"]
+MIXED = ["send"] * 8 + ["list"] * 5 + ["nonce"] * 3 + ["renew"] * 2 + ["raw"] * 4 + ["file", "tick"]
+TALK = ["send"] * 20 + ["nonce", "list", "raw", "file", "tick"]
+FILES = ["file"] * 6 + ["tick"] * 9 + ["send"] * 4 + ["nonce", "list", "raw"]
+STORM = ["raw"] * 8 + ["list"] * 4 + ["nonce", "send", "file"]
 
 
 def row(sources, now, node, kinds):
     """A row of a kind by chance."""
     rng, flow, payload = sources.rng, sources.a_flow(), sources.payload()
     kind = rng.choice(kinds)
-    if node in sources.hosts and kind != "send" and chance(rng, 0.5):
+    if node in sources.hosts and kind not in OWN and chance(rng, 0.5):
         flow = sources.hosts[node]["address"], flow[1]
-    if kind == "send" and node in sources.hosts:
+    if kind in OWN and node in sources.hosts:
         flow = flow[::-1] if flow[1] == sources.hosts[node]["address"] and chance(rng, 0.95) else flow
-        return now, node, kind, "", flow[1], payload, ""
+        return own_row(sources, now, node, kind, flow[1], payload)
     if kind in ("list", "renew"):
         return now, node, kind, *flow, payload, shown(sources, now, node, flow)
     if kind == "nonce":
         return now, node, kind, *flow, payload, sources.a_grant()[1]
     return now, node, "raw", *flow, payload, raw(sources)
+
+
+def own_row(sources, now, node, kind, destination, payload):
+    """A row whose packet the host makes. A tick is for a file of this host, mostly."""
+    if kind == "send":
+        return now, node, kind, "", destination, payload, ""
+    own = [it for name, it in sources.files if name == node]
+    if kind == "tick":
+        return now, node, kind, "", sources.rng.choice(own) if own and chance(sources.rng, 0.9) else destination, 0, ""
+    destination = sources.rng.choice(own) if own and chance(sources.rng, 0.3) else destination
+    sources.files.append((node, destination))
+    return now, node, kind, "", destination, *sources.a_file()
 
 
 def dotted(address):
@@ -321,7 +353,7 @@ def known(sources):
 
 def twin(sources, told):
     """The same row at another node, where it may be."""
-    node = sources.rng.choice(sources.nodes if told[2] != "send" else list(sources.hosts))
+    node = sources.rng.choice(sources.nodes if told[2] not in OWN else list(sources.hosts))
     return told[:1] + (node,) + told[2:]
 
 
@@ -359,12 +391,15 @@ def rows(rng, network, run=None):
     elif network.mode == "storm":
         count, kinds = rng.choice([10, 20, 30]), STORM
         busy = busy[:2]
+    if sources.hosts and network.mode != "storm" and chance(rng, 0.35):
+        kinds = FILES
+        busy = busy if sources.talks else rng.sample(list(sources.hosts), min(len(sources.hosts), rng.choice([1, 2, 2, 3])))
     count = count if run is None else rng.choice([1, 2, 4, 8])
     found = [] if chance(rng, 0.95) else known(sources)
     found += spending(sources) if network.restart and chance(rng, 0.3) else []
     for now in times(sources, count):
         found += a_row(sources, now, rng.choice(busy), kinds)
-        if chance(rng, 0.15) and (found[-1][2] != "send" or len(sources.hosts) > 1):
+        if chance(rng, 0.15) and (found[-1][2] not in OWN or len(sources.hosts) > 1):
             found.append(twin(sources, found[-1]))
     return merged([], [it for it in found if it[0] <= network.top["horizon_ns"]])
 

@@ -175,9 +175,9 @@ def is_first_of_boot(node, now):
 
 
 @reading("restart-items", "an item of a row is of the master in force at the row's time", trace, "read_row")
-def _(config, names, record, fields, last):
+def _(config, names, record, fields, before):
     config.now = int(fields[0]) if fields[0].isdigit() else 0
-    return right_row(config, names, record, fields, last)
+    return right_row(config, names, record, fields, before)
 
 
 @also(trace, "read_item")

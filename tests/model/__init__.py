@@ -10,6 +10,7 @@ what happened and sums over them, and takes one time after another; so it is slo
 - router: what changes in time, charges, verdicts, and what becomes of an arrival
 - link: fair queues, request credit, and what a link starts next
 - host: senders, policies and receipts
+- transfers: files that hosts send in segments, and what is delivered of them
 - run: the nodes of a network, time after time
 - report: the lines
 - generator: traces of a seed

@@ -1,7 +1,7 @@
 """A host: what its sender shows, whom its policy grants, and what it makes of what it receives."""
 from typing import NamedTuple
 
-from . import hashes, router, shims
+from . import hashes, router, shims, transfers
 from .shims import Back, Rights, Shim, length
 
 NONCES = 1 << 48
@@ -131,21 +131,26 @@ def takes(plan, entries, rights):
 
 
 class Receipt(NamedTuple):
-    """What a packet was, what became of its return info, and what comes back: a notice, a grant, or None."""
+    """What a packet was, what became of its return info, and what comes back: a notice, a grant, or None, and an upper
+    part or None; and the range that was delivered, if any."""
 
     what: str
     back: str = "-"
     answer: Back = None
+    upper: object = None
+    delivered: shims.Data = None
 
 
 class Host:
-    """A host with all that it did: the lists of its peers, whom it sent to, whom it granted, and what it made."""
+    """A host with all that it did: the lists of its peers, whom it sent to, whom it granted, its transfers, and what it
+    made."""
 
     def __init__(self, plan, number):
         self.plan, self.number = plan, number
         self.peers = {}
         self.sent = []
         self.granted = []
+        self.transfers = transfers.Transfers()
         self.made = 0
         self.prepared = 0
 
@@ -161,19 +166,20 @@ class Host:
         """The nonce that goes with the next packet that is prepared."""
         return (self.plan.nonce + self.prepared) % NONCES
 
-    def prepare(self, now, peer, payload, back=None):
-        """A packet of the host's own to a peer, and its shape. It is a reply where it brings something back."""
+    def prepare(self, now, peer, payload, upper=None, back=None, is_reply=False):
+        """A packet of the host's own to a peer, and its shape."""
         entries = self.entries(peer)
         body = payload + shims.back_bytes(self.plan.version, back)
         kind = shape(self.plan, entries, now, body)
         flow = shims.Flow(self.plan.address, peer)
-        packet = shims.Packet(self.identity(), flow, payload, self.carried(entries, kind, back))
+        carried = self.carried(entries, kind, back, is_reply)
+        packet = shims.Packet(self.identity(), flow, payload, carried, upper=upper)
         entries.append(Prepared(now, kind, length(packet), self.offered()))
         self.prepared += 1
         return packet, kind
 
-    def carried(self, entries, kind, back):
-        if kind == "legacy" and back is None:
+    def carried(self, entries, kind, back, is_reply):
+        if kind == "legacy" and not is_reply:
             return None
         shim = Shim(self.plan.version, kind, back=back)
         if kind in ("legacy", "request"):
@@ -189,6 +195,23 @@ class Host:
         self.sent.append(destination)
         return self.prepare(now, destination, payload)
 
+    def send_file(self, now, file):
+        """A row with a file."""
+        self.sent.append(file.destination)
+        return self.prepare_upper(now, file.destination, self.transfers.start(file))
+
+    def repeat(self, now, destination):
+        """A tick: a packet with its shape, or None."""
+        upper = self.transfers.repeat(destination)
+        return None if upper is None else self.prepare_upper(now, destination, upper)
+
+    def prepare_upper(self, now, peer, upper):
+        return self.prepare(now, peer, shims.upper_bytes(upper), upper)
+
+    def reply(self, now, peer, receipt):
+        """What comes back, with return info, with an upper part, or with both."""
+        return self.prepare(now, peer, shims.upper_bytes(receipt.upper), receipt.upper, receipt.answer, True)
+
     def decide(self, source, tags):
         """Whether the policy grants, which is noted."""
         if not grants(self.plan, self.sent, self.granted, source, tags):
@@ -197,9 +220,14 @@ class Host:
         return True
 
     def receive(self, packet):
-        """What a packet is to the host. Its return info is handed to the sender first."""
+        """What a packet is to the host. Its upper part counts whatever its shim says."""
         if packet.flow.destination != self.plan.address:
             return Receipt("stray")
+        delivered, upper = self.transfers.receive(packet.flow.source, packet.upper)
+        return self.judge(packet)._replace(upper=upper, delivered=delivered)
+
+    def judge(self, packet):
+        """What the shim of a packet makes of it. Its return info is handed to the sender first."""
         shim = packet.carried
         if not isinstance(shim, Shim):
             return Receipt("legacy")

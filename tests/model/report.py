@@ -13,7 +13,13 @@ def identity(config, packet):
 
 
 def back_word(back):
+    if back is None:
+        return "-"
     return "notice" if back.rights is None else "grant"
+
+
+def range_words(delivered):
+    return [] if delivered is None else [f"data:{delivered.transfer}:{delivered.first}:{delivered.bytes}"]
 
 
 def reply_word(config, happened):
@@ -26,6 +32,8 @@ def reply_word(config, happened):
 
 def told(config, happened):
     """The words of an event behind its time and node."""
+    if isinstance(happened, run.Ticked):
+        return ["tick"]
     name = identity(config, happened.packet)
     size = length(happened.packet)
     match happened:
@@ -36,7 +44,8 @@ def told(config, happened):
             return ["send", name, size, shape, outcome]
         case run.Received(link=number, receipt=receipt):
             source = config.nodes[config.links[number].source].name
-            return ["recv", name, size, source, receipt.what, receipt.back, reply_word(config, happened)]
+            words = ["recv", name, size, source, receipt.what, receipt.back, reply_word(config, happened)]
+            return words + range_words(receipt.delivered)
         case run.Started(link=number, kind=kind, end=end):
             return ["start", name, size, config.nodes[config.links[number].target].name, kind, end]
 
@@ -59,6 +68,8 @@ def sums(happened):
             return {"received": 1, "bytes": payload, "dropped": reply is not None and is_dropped(reply.outcome)}
         case run.Started():
             return {"started": 1}
+        case run.Ticked():
+            return {}
 
 
 def is_dropped(outcome):

@@ -3,7 +3,8 @@ import heapq
 from typing import NamedTuple
 
 from . import host, link, router, shims
-from .trace import SEND
+from .trace import SEND, TICK
+from .transfers import File
 
 
 class Input(NamedTuple):
@@ -45,6 +46,13 @@ class Received(NamedTuple):
     link: int
     receipt: host.Receipt
     reply: Sent
+
+
+class Ticked(NamedTuple):
+    """A tick that sent nothing."""
+
+    time: int
+    node: int
 
 
 class Started(NamedTuple):
@@ -123,6 +131,11 @@ class HostNode(Node):
             return self.received(now, reaching.link, reaching.packet)
         if row.carried is SEND:
             return self.sent(now, *self.host.intend(now, row.flow.destination, row.payload))
+        if row.carried is TICK:
+            made = self.host.repeat(now, row.flow.destination)
+            return Ticked(now, self.number) if made is None else self.sent(now, *made)
+        if isinstance(row.carried, File):
+            return self.sent(now, *self.host.send_file(now, row.carried))
         return self.sent(now, shims.Packet(self.host.identity(), row.flow, row.payload, row.carried), "trace")
 
     def sent(self, now, packet, shape):
@@ -130,8 +143,8 @@ class HostNode(Node):
 
     def received(self, now, number, packet):
         receipt, reply = self.host.receive(packet), None
-        if receipt.answer is not None:
-            reply = self.sent(now, *self.host.prepare(now, packet.flow.source, 0, receipt.answer))
+        if receipt.answer is not None or receipt.upper is not None:
+            reply = self.sent(now, *self.host.reply(now, packet.flow.source, receipt))
         return Received(now, self.number, packet, number, receipt, reply)
 
 
@@ -147,7 +160,7 @@ class Run:
     """A run up to a time, and the queue of what is still to reach a node, by time, node, turn and place."""
 
     def __init__(self, config, rows):
-        self.config = config
+        self.config, self.rows = config, rows
         makes = [RouterNode] * len(config.routers) + [HostNode] * len(config.hosts)
         self.nodes = [make(config, number) for number, make in enumerate(makes)]
         self.queue, self.put = [], 0

@@ -1,7 +1,7 @@
 """What is sent: packets, the bytes of their shims, and the words that `shim` writes of them."""
 from typing import NamedTuple
 
-HEADER = 20
+HEADER, UPPER_HEADER = 20, 8
 CAPABILITIES_MOST = 16
 KINDS = ["request", "list", "nonce", "renewal"]
 DEMOTED_BIT, BACK_BIT = 8, 4
@@ -54,14 +54,31 @@ class Malformed(NamedTuple):
     size: int
 
 
+class Data(NamedTuple):
+    """So many bytes of a file, from `first` on. Transfers have numbers at the host that sends the file."""
+
+    transfer: int
+    first: int
+    bytes: int
+
+
+class Ack(NamedTuple):
+    """An acknowledgement: all of a file before `next` was delivered."""
+
+    transfer: int
+    next: int
+
+
 class Packet(NamedTuple):
-    """`carried` is a shim, a malformed one, or None; the identity is the node's number and the packet's there."""
+    """`carried` is a shim, a malformed one, or None; the identity is the node's number and the packet's there. The upper
+    part is data, an acknowledgement, or None, and counts within the payload."""
 
     identity: tuple
     flow: Flow
     payload: int
     carried: object
     hops: int = 0
+    upper: object = None
 
 
 # ## versions
@@ -94,6 +111,13 @@ def version_of(rights):
 def length(packet):
     """The bytes of a packet."""
     return HEADER + shim_bytes(packet.carried) + packet.payload
+
+
+def upper_bytes(upper):
+    """The payload of a packet with an upper part, or of one with neither that nor a payload of its own."""
+    if upper is None:
+        return 0
+    return UPPER_HEADER + (upper.bytes if isinstance(upper, Data) else 0)
 
 
 def shim_bytes(carried):

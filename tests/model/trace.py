@@ -1,12 +1,15 @@
 """Reads a trace: its rows, or the first broken rule of its first bad record."""
 import re
+from collections import Counter
 from typing import NamedTuple
 
 from . import hashes, shims, texts
+from .transfers import File
 
 HEADER = b"time,node,kind,src,dst,payload,shim".split(b",")
 ROWS_MOST = 1_000_000
 PAYLOAD_MOST = 1_600
+SEGMENT_MOST, SIZE_MOST, FILES_MOST = 1_500, 100_000_000, 65_536
 SHIM_MOST = 400
 SECOND_MOST = 2_000_000
 MARK = b"\xef\xbb\xbf"
@@ -24,7 +27,8 @@ class Fault(Exception):
 
 
 class Row(NamedTuple):
-    """What happens at a node: a host sends where `carried` is SEND, else a packet that carries this is injected."""
+    """What happens at a node: a host sends where `carried` is SEND, begins a transfer where it is a file, and repeats a
+    segment where it is TICK; else a packet that carries this is injected."""
 
     time: int
     node: int
@@ -33,7 +37,21 @@ class Row(NamedTuple):
     carried: object
 
 
-SEND = "send"
+SEND, TICK = "send", "tick"
+INJECTED, OWN = [b"raw", b"list", b"renew", b"nonce"], [b"send", b"file", b"tick"]
+PAYLOADS = {b"file": (1, SEGMENT_MOST), b"tick": (0, 0)}
+
+
+class Before:
+    """What counts of the rows before: the time of the last, and the number of files of each node."""
+
+    def __init__(self):
+        self.last, self.files = 0, Counter()
+
+    def note(self, row):
+        self.last = row.time
+        if isinstance(row.carried, File):
+            self.files[row.node] += 1
 
 
 def records(data):
@@ -55,14 +73,14 @@ def records(data):
 
 def read(data, config):
     """The rows of a text. Raises its first fault."""
-    rows, number, last = [], 0, 0
+    rows, number, before = [], 0, Before()
     names = [node.name.encode() for node in config.nodes]
     for number, fields in enumerate(records(data), 1):
         if number == 1:
             check(fields == HEADER, 1, "header")
         else:
-            rows.append(read_row(config, names, number, fields, last))
-            last = rows[-1].time
+            rows.append(read_row(config, names, number, fields, before))
+            before.note(rows[-1])
     check(number, 1, "header")
     return rows
 
@@ -72,41 +90,63 @@ def check(holds, record, rule):
         raise Fault(record, rule)
 
 
-def read_row(config, names, record, fields, last):
+def is_kind(config, kind, node, before):
+    """Whether a node may have a row of a kind behind those before."""
+    is_own = kind in OWN and node >= len(config.routers)
+    return kind in INJECTED or is_own and (kind != b"file" or before.files[node] < FILES_MOST)
+
+
+def payload_of(kind, text):
+    """The payload of a row: at a file the bytes of a segment."""
+    least, most = PAYLOADS.get(kind, (0, PAYLOAD_MOST))
+    payload = texts.decimal(text, most)
+    return payload if payload is not None and payload >= least else None
+
+
+def read_row(config, names, record, fields, before):
     check(record <= ROWS_MOST + 1, record, "rows")
     check(len(fields) == len(HEADER), record, "fields")
     time, node, kind, source, destination, payload, shim = fields
     time = texts.decimal(time, config.top.horizon)
     check(time is not None, record, "time")
-    check(time >= last, record, "order")
+    check(time >= before.last, record, "order")
     check(node in names, record, "node")
     node = names.index(node)
-    sends = kind == b"send"
-    check(kind in (b"raw", b"list", b"renew", b"nonce") or sends and node >= len(config.routers), record, "kind")
-    check(source == b"" or not sends, record, "src")
-    source = config.nodes[node].address if sends else texts.address(source)
+    check(is_kind(config, kind, node, before), record, "kind")
+    check(source == b"" or kind not in OWN, record, "src")
+    source = config.nodes[node].address if kind in OWN else texts.address(source)
     check(source is not None, record, "src")
     destination = texts.address(destination)
     check(destination is not None, record, "dst")
     flow = shims.Flow(source, destination)
-    payload = texts.decimal(payload, PAYLOAD_MOST)
+    payload = payload_of(kind, payload)
     check(payload is not None, record, "payload")
-    if sends:
-        check(shim == b"", record, "shim")
-        return Row(time, node, flow, payload, SEND)
     try:
-        return Row(time, node, flow, payload, READERS[kind](shim, config, flow))
+        carried = read_file(shim, flow, payload) if kind == b"file" else READERS[kind](shim, config, flow)
+        return Row(time, node, flow, payload, carried)
     except ValueError:
         raise Fault(record, "shim") from None
 
 
-# ## shims: each reader gives what a packet carries, or raises ValueError
+# ## shims: each reader gives what a row carries, or raises ValueError
 
 
 def meant(value):
     if value is None:
         raise ValueError
     return value
+
+
+def read_nothing(word):
+    def read(text, _config, _flow):
+        return meant(word if text == b"" else None)
+
+    return read
+
+
+def read_file(text, flow, segment):
+    size = meant(texts.decimal(text, SIZE_MOST))
+    return File(flow.destination, meant(size or None), segment)
 
 
 def read_raw(text, _config, _flow):
@@ -156,4 +196,11 @@ def read_item(item, config, flow, rights):
     return hashes.capability(hashes.precapability(master, flow, second), rights)
 
 
-READERS = {b"raw": read_raw, b"list": read_list, b"renew": read_renewal, b"nonce": read_nonce_packet}
+READERS = {
+    b"raw": read_raw,
+    b"list": read_list,
+    b"renew": read_renewal,
+    b"nonce": read_nonce_packet,
+    b"send": read_nothing(SEND),
+    b"tick": read_nothing(TICK),
+}
