@@ -1,4 +1,5 @@
 pub mod Digits
+pub mod FewFiles
 pub mod FileCounts
 pub mod ItemLists
 pub mod Joins

@@ -1,5 +1,5 @@
 // What holds of every text of a trace, of all bytes, and of every line of a report.
-ghost use Rattle.std.specs.Prelude.{◌≡◌, ℕ, List, Ok};
+ghost use Rattle.std.specs.Prelude.{◌≡◌, ◌≤◌, ℕ, List, Ok};
 ghost use Rattle.std.specs.List.{All};
 ghost use Rattle.tva_base.specs.declared.event.Event.{Event};
 ghost use Rattle.tva_base.specs.declared.event.Totals.{Totals};
@@ -10,6 +10,7 @@ ghost use Rattle.tva_trace.specs.declared.rows.Row.{Row};
 ghost use Rattle.tva_trace.specs.declared.said.SaidRow.{SaidRow};
 ghost use Rattle.tva_trace.specs.Rows.{rows_of};
 ghost use Rattle.tva_trace.specs.Meaning.{AreRows};
+ghost use Rattle.tva_trace.specs.Valid.{files_at};
 ghost use Rattle.tva_trace.specs.ShimText.{IsTextOf};
 ghost use Rattle.tva_trace.specs.Lines.{FitsEvent, FitsTotals, text_of_event, text_of_totals};
 
@@ -23,6 +24,12 @@ pub fn texts_have_one_meaning()
 pub fn rows_are_there()
     ensures { (config : Config) (text : List ℕ) (said : List SaidRow) → rows_of config text ≡ Ok said
         → (rows : List Row) × AreRows config text rows }
+{}
+
+/// In the rows of a text each node begins at most 65,536 transfers, so that each has a number of 16 bits.
+pub fn transfers_are_few()
+    ensures { (config : Config) (text : List ℕ) (rows : List Row) → AreRows config text rows
+        → (node : ℕ) → files_at node rows ≤ 65536 }
 {}
 
 /// Bytes have a text of their shim, and one alone.

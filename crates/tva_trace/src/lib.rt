@@ -19,7 +19,10 @@ mod secrets;
 mod texts;
 mod words;
 
-pub use laws::{bytes_have_one_text, lines_are_printable, rows_are_there, texts_have_one_meaning};
+pub use laws::{
+    bytes_have_one_text, lines_are_printable, rows_are_there, texts_have_one_meaning,
+    transfers_are_few,
+};
 pub use lines::{line_text, summary_text};
 pub use read::read_trace;
 pub use rows::{Row, RowWhat, TraceError, TraceFault, TraceRule};
