@@ -23,12 +23,14 @@ use Rattle.tva_run.proofs.Reports.{no_more_events}
 use Rattle.tva_promises.proofs.Runs.{read_run_keeps}
 use Rattle.tva_paths.proofs.Read.{read_given}
 use Rattle.tva_paths.proofs.Steady.{honest_regular}
+use Rattle.tva_delivery.proofs.Kept.{files_kept}
+use Rattle.tva_trace.proofs.FewFiles.{files_few}
 use Rattle.tva_existence.proofs.Whole.{read_events}
 use Rattle.tva_gen.specs.Text.{generated}
 use Rattle.tva.specs.Check.{check_line}
 use Rattle.tva.specs.Command.{Command, command_of, replay, check, shim, gen}
 use Rattle.tva.specs.Expected.{Expected, writes, shows, replays, refuses, Found, followed, ◌>>=◌, within_limit, plan_at, plan_or_fault, trace_or_fault, of_plan, told, Ends, EndsReplay}
-use Rattle.tva.specs.Network.{ArePromisesKept, AreHonestTaken}
+use Rattle.tva.specs.Network.{ArePromisesKept, AreHonestTaken, AreFilesKept}
 use Rattle.tva_run.specs.Shown.{IsPastLimit, IsWithinLimit}
 use Rattle.tva.specs.Wanted.{wanted, HasOneEnd}
 use Rattle.tva.specs.declared.status.Status as status
@@ -122,6 +124,21 @@ honest_of_each = record {
 -- and takes what honest senders show
 pub honest_of_wanted : (words : List (List ℕ)) (files : Held) → IfSome (wanted (Some files) words) AreHonestTaken
 honest_of_wanted = of_wanted AreHonestTaken honest_of_each
+
+-- ## files
+
+files_of_each : HoldsOfEach AreFilesKept
+files_of_each = record {
+  of_text = λ text. tt;
+  of_shim = λ bytes. tt;
+  of_trace =
+      λ plan trace said valid read rows are until logs run. files_kept plan rows until logs valid (files_few plan trace rows are) run;
+  of_refusal = λ r. tt;
+}
+
+-- and its files
+pub files_of_wanted : (words : List (List ℕ)) (files : Held) → IfSome (wanted (Some files) words) AreFilesKept
+files_of_wanted = of_wanted AreFilesKept files_of_each
 
 -- ## one end
 

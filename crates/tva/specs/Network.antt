@@ -8,6 +8,7 @@ use Rattle.tva_run.specs.Reaching.{Logs, log_at, site_at}
 use Rattle.tva_run.specs.Run.{IsRunTo}
 use Rattle.tva_promises.specs.Promises.{KeepsPromises}
 use Rattle.tva_paths.specs.Paths.{AreHonestRegular}
+use Rattle.tva_delivery.specs.Delivery.{KeepsFiles}
 use Rattle.tva.specs.Expected.{Expected, replays}
 
 -- in every run up to any time the log of each node keeps its promises, a router's for each of its boots
@@ -27,3 +28,10 @@ abbrev pub AreHonestTaken : Expected → Type 0
 AreHonestTaken (replays plan trace) = (rows : List Row) → AreRows plan trace rows
     → (until : ℕ) (logs : Logs) → IsRunTo plan rows until logs → AreHonestRegular plan logs
 AreHonestTaken x = Unit {0}
+
+-- in every such run, up to any time, each receiver delivers the ranges of a transfer in order and once, no more than its
+-- file has, and no sender believes more than was delivered
+abbrev pub AreFilesKept : Expected → Type 0
+AreFilesKept (replays plan trace) = (rows : List Row) → AreRows plan trace rows
+    → (until : ℕ) (logs : Logs) → IsRunTo plan rows until logs → KeepsFiles plan logs
+AreFilesKept x = Unit {0}

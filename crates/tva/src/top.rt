@@ -8,7 +8,7 @@ ghost use Rattle.tva.specs.Asked.{asked};
 ghost use Rattle.tva.specs.Command.{command_of, texts, replay, check, shim, gen};
 ghost use Rattle.tva.specs.Expected.{told, shows, refuses};
 ghost use Rattle.tva.specs.Answer.{Answers, BeginsEach, WroteAll, WroteEach, WroteLines, WrotePart};
-ghost use Rattle.tva.specs.Network.{AreHonestTaken, ArePromisesKept};
+ghost use Rattle.tva.specs.Network.{AreFilesKept, AreHonestTaken, ArePromisesKept};
 ghost use Rattle.tva.specs.Wanted.{wanted, HasOneEnd, IsRefusal, NeedsNoFile, Settles, SettlesRefusal};
 
 use crate::check::put_check_line;
@@ -81,6 +81,10 @@ pub fn run<R: Threads + Sync, S: Shelf, W: Sink, G: Gate>(
     // Honest senders, in each such run: what shows a grant is charged and regular at each router to
     // which the path of its host is steady, in a boot of that router.
     ensures honest { (files : Held) → IfSome (wanted (Some files) (texts words.now)) AreHonestTaken }
+
+    // Files, in each such run: whatever is lost, dropped, demoted, repeated or late, a receiver delivers
+    // each range of a transfer once and in order, and its sender never believes more than was delivered.
+    ensures delivered { (files : Held) → IfSome (wanted (Some files) (texts words.now)) AreFilesKept }
 
     // What stays. Words that need no file leave the shelf as it was, and usage the sink, whatever
     // they are.
