@@ -1,5 +1,6 @@
 -- An offer of an item with a key.
-use Rattle.std.specs.Prelude.{ℕ, ◌+◌, ◌==◌, nat_lt, nat_le, Bool, not, ◌&&◌, ◌||◌, if◌then◌else◌, List, [], ◌∷◌, ◌++◌, length}
+use Rattle.std.specs.Prelude.{ℕ, ◌+◌, ◌==◌, nat_lt, nat_le, Bool, not, ◌&&◌, ◌||◌, if◌then◌else◌, List, [], ◌∷◌, ◌++◌}
+use Rattle.std.specs.Prelude.{length}
 use Rattle.tva_drr.specs.declared.offered.Offered.{Offered}
 use Rattle.tva_drr.specs.declared.offered.Offered.TheVariants.{Queued, NoQueue, QueueFull}
 use Rattle.tva_drr.specs.Queues.{Queue, Fair, queue, fair, has_key, items_of, bytes_in, all_bytes}

@@ -1,5 +1,6 @@
 -- How fair queues serve a key, whatever is offered to them.
-use Rattle.std.specs.Prelude.{◌≡◌, ℕ, zero, suc, ◌+◌, ◌-◌, ◌*◌, ◌≤◌, ◌==◌, Bool, true, false, if◌then◌else◌, List, [], ◌∷◌}
+use Rattle.std.specs.Prelude.{◌≡◌, ℕ, zero, suc, ◌+◌, ◌-◌, ◌*◌, ◌≤◌, ◌==◌, Bool, true, false, if◌then◌else◌, List, []}
+use Rattle.std.specs.Prelude.{◌∷◌}
 use Rattle.std.specs.Int.{div_ceil}
 use Rattle.tva_base.specs.declared.limits.DrrLimits.{DrrLimits}
 use Rattle.tva_drr.specs.Queues.{Queue, Fair, has_key}

@@ -1,9 +1,11 @@
 -- Kit: the steps of a flow cache on one entry, for the contracts of the functions that take them.
-use Rattle.std.specs.Prelude.{◌≡◌, ℕ, ◌+◌, ◌*◌, ◌^◌, ◌==◌, ◌≤◌, ◌<◌, nat_lt, nat_le, Bool, not, ◌&&◌, if◌then◌else◌, List, [], ◌∷◌, ◌++◌}
+use Rattle.std.specs.Prelude.{◌≡◌, ℕ, ◌+◌, ◌*◌, ◌^◌, ◌==◌, ◌≤◌, ◌<◌, nat_lt, nat_le, Bool, not, ◌&&◌, if◌then◌else◌}
+use Rattle.std.specs.Prelude.{List, [], ◌∷◌, ◌++◌}
 use Rattle.tva_base.specs.declared.packet.Grant.{Grant}
 use Rattle.tva_base.specs.Credit.{credit_of}
 use Rattle.tva_flow.specs.declared.verdicts.Verdict.{Verdict}
-use Rattle.tva_flow.specs.declared.verdicts.Verdict.TheVariants.{Authorised, Expired, OverN, UnknownNonce, CacheFull, Superseded}
+use Rattle.tva_flow.specs.declared.verdicts.Verdict.TheVariants.{Authorised, Expired, OverN, UnknownNonce, CacheFull}
+use Rattle.tva_flow.specs.declared.verdicts.Verdict.TheVariants.{Superseded}
 use Rattle.tva_flow.specs.declared.kept.Entry.{Entry}
 use Rattle.tva_flow.specs.Charges.{Charge, same_grant}
 use Rattle.tva_flow.specs.Verdicts.{charged}

@@ -1,10 +1,12 @@
 -- The verdict on a packet, over all charges of its router so far.
-use Rattle.std.specs.Prelude.{◌≡◌, ◌⊎◌, ℕ, ◌+◌, ◌*◌, ◌==◌, nat_lt, nat_le, Bool, true, false, not, ◌&&◌, ◌||◌, if◌then◌else◌, List, [], ◌∷◌, Option, Some, None}
+use Rattle.std.specs.Prelude.{◌≡◌, ◌⊎◌, ℕ, ◌+◌, ◌*◌, ◌==◌, nat_lt, nat_le, Bool, true, false, not, ◌&&◌, ◌||◌}
+use Rattle.std.specs.Prelude.{if◌then◌else◌, List, [], ◌∷◌, Option, Some, None}
 use Rattle.tva_base.specs.declared.packet.Flow.{Flow}
 use Rattle.tva_base.specs.declared.packet.Grant.{Grant}
 use Rattle.tva_base.specs.Clock.{router_second}
 use Rattle.tva_flow.specs.declared.verdicts.Verdict.{Verdict}
-use Rattle.tva_flow.specs.declared.verdicts.Verdict.TheVariants.{Authorised, Expired, OverN, UnknownNonce, CacheFull, Superseded}
+use Rattle.tva_flow.specs.declared.verdicts.Verdict.TheVariants.{Authorised, Expired, OverN, UnknownNonce, CacheFull}
+use Rattle.tva_flow.specs.declared.verdicts.Verdict.TheVariants.{Superseded}
 use Rattle.tva_flow.specs.Charges.{Charge, charge, same_grant, lives, holder, used, living_count}
 
 -- the holder's grant isn't this one, and its second isn't earlier

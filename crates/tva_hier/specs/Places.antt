@@ -1,6 +1,7 @@
 -- Kit: where an outer key's group stands in the list, and the groups that are kept for new keys, for the
 -- invariant and the contracts of the functions on them.
-use Rattle.std.specs.Prelude.{◌≡◌, ℕ, ◌+◌, ◌<◌, false, List, [], ◌∷◌, length, map, take, slice_index_or, Option, Some, None}
+use Rattle.std.specs.Prelude.{◌≡◌, ℕ, ◌+◌, ◌<◌, false, List, [], ◌∷◌, length, map, take, slice_index_or, Option, Some}
+use Rattle.std.specs.Prelude.{None}
 use Rattle.tva_base.specs.declared.limits.DrrLimits.{DrrLimits}
 use Rattle.tva_drr.specs.Queues.{fair}
 use Rattle.tva_hier.specs.Groups.{Group, has_group}

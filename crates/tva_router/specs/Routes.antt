@@ -1,5 +1,6 @@
 -- Which link leads to a destination.
-use Rattle.std.specs.Prelude.{◌≡◌, ◌≤◌, ℕ, ◌==◌, ◌&&◌, max, Bool, true, if◌then◌else◌, List, map, filter, Option, All, Contains}
+use Rattle.std.specs.Prelude.{◌≡◌, ◌≤◌, ℕ, ◌==◌, ◌&&◌, max, Bool, true, if◌then◌else◌, List, map, filter, Option, All}
+use Rattle.std.specs.Prelude.{Contains}
 use Rattle.std.specs.Option.{option_map}
 use Rattle.std.specs.List.{fold, find}
 use Rattle.tva_base.specs.declared.addresses.Address.{Address}

@@ -1,5 +1,6 @@
 -- Kit: the parts of a layout, one after the other, and what it is to read one, for the proof of what decodes.
-use Rattle.std.specs.Prelude.{◌≡◌, ℕ, ◌<◌, ◌≤◌, List, [], ◌∷◌, ◌++◌, length, All, flat_map, if◌then◌else◌, Bool, ◌+◌, ◌*◌, Option, Some, None, IfSome}
+use Rattle.std.specs.Prelude.{◌≡◌, ℕ, ◌<◌, ◌≤◌, List, [], ◌∷◌, ◌++◌, length, All, flat_map, if◌then◌else◌, Bool, ◌+◌}
+use Rattle.std.specs.Prelude.{◌*◌, Option, Some, None, IfSome}
 use Rattle.std.specs.Borrow.{Bor}
 use Rattle.tva_base.specs.declared.packet.Rights.{Rights}
 use Rattle.tva_base.specs.Versions.{AreRights, IsVersion}

@@ -1,5 +1,6 @@
 -- The lines of a report: each a text of words, joined by blanks, that a line feed ends.
-use Rattle.std.specs.Prelude.{◌<◌, ◌^◌, ℕ, List, [], ◌∷◌, ◌++◌, length, All, Option, Some, None, codes, decimal, slice_get}
+use Rattle.std.specs.Prelude.{◌<◌, ◌^◌, ℕ, List, [], ◌∷◌, ◌++◌, length, All, Option, Some, None, codes, decimal}
+use Rattle.std.specs.Prelude.{slice_get}
 use Rattle.std.specs.Option.{option_map_or}
 use Rattle.std.specs.List.{join_with_byte}
 use Rattle.tva_base.specs.declared.packet.PacketId.{PacketId}
