@@ -1,5 +1,5 @@
 // What a record says, or the first rule that it breaks.
-ghost use Rattle.std.specs.Prelude.{◌≡◌, ◌<◌, ◌≤◌, ℕ, Bool, true, IfOk, IfSome, OnOk, length};
+ghost use Rattle.std.specs.Prelude.{◌≡◌, ◌<◌, ◌≤◌, Bool, true, IfOk, IfSome, OnOk, length};
 ghost use Rattle.csv.specs.Records.{fields_of};
 ghost use Rattle.tva_plan.specs.Numbers.{Numbers};
 ghost use Rattle.tva_base.specs.Decimal.{decimal_of};
@@ -20,9 +20,10 @@ use tva_base::{Flow, Time, address, decimal};
 use tva_plan::{Config, NodePlan, is_host, number_of};
 use tva_shim::PAYLOAD_MAX;
 
-/// The most bytes of a segment, and of a file.
+/// The most bytes of a segment.
 const SEGMENT_MAX: u64 = 1500;
 
+/// The most bytes of a file.
 const FILE_MAX: u64 = 100_000_000;
 
 /// A rule that a test meets.

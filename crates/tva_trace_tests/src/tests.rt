@@ -1,6 +1,7 @@
 // The networks of the tests.
-ghost use Rattle.std.specs.Prelude.{◌≤◌, length};
+ghost use Rattle.std.specs.Prelude.{◌≡◌, ◌≤◌, length};
 
+mod lines;
 mod rows;
 
 use std::alloc::{AllocError, Global};
@@ -12,14 +13,16 @@ use tva_base::{
 use tva_plan::{Config, NodePlan};
 use tva_trace::Row;
 
-// The router R1, whose master is the bytes 0 to 31.
-fn router(alloc: Global) -> NodePlan {
+// A router whose master is the bytes 0 to 31.
+fn router(alloc: Global, name: &str) -> NodePlan
+    requires { length name.now ≤ 16 }
+{
     let mut master = [0u8; 32];
     for i in 0..32 {
         master[i] = i as u8;
     }
     NodePlan::Router(RouterPlan {
-        name: Name::new("R1"),
+        name: Name::new(name),
         master,
         clock_offset: 0,
         slots: 8,
@@ -53,7 +56,10 @@ fn host(alloc: Global, name: &str, address: u32, uplink: u16) -> NodePlan
     })
 }
 
-fn link(from: u16, to: u16, tag: u16) -> LinkPlan {
+fn link(from: u16, to: u16, tag: u16) -> LinkPlan
+    ensures from { result.from ≡ from }
+    ensures to { result.to ≡ to }
+{
     let queues = DrrLimits {
         queues: 64,
         ring: 32,
@@ -80,7 +86,10 @@ fn link(from: u16, to: u16, tag: u16) -> LinkPlan {
     }
 }
 
-fn network(horizon: u64, nodes: Vec<NodePlan>, links: Vec<LinkPlan>) -> Config {
+fn network(horizon: u64, nodes: Vec<NodePlan>, links: Vec<LinkPlan>) -> Config
+    ensures nodes { result.nodes ≡ nodes.items }
+    ensures links { result.links ≡ links.items }
+{
     Config {
         horizon: Time(horizon),
         max_events: 1000,
@@ -91,13 +100,13 @@ fn network(horizon: u64, nodes: Vec<NodePlan>, links: Vec<LinkPlan>) -> Config {
 
 // One router without links.
 fn edge(alloc: Global) -> Result<Config, AllocError> {
-    let nodes = vec![in alloc; router(alloc)]?;
+    let nodes = vec![in alloc; router(alloc, "R1")]?;
     Ok(network(1_000_000_000_000, nodes, Vec::new(alloc)))
 }
 
 fn walk_nodes(alloc: Global) -> Result<Vec<NodePlan>, AllocError> {
     let nodes = vec![in alloc;
-        router(alloc),
+        router(alloc, "R1"),
         host(alloc, "A", 0x0a00_0001, 0),
         host(alloc, "B", 0x0a00_0101, 3),
     ]?;

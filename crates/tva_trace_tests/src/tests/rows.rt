@@ -1,5 +1,5 @@
 // Rows with what they ask of their nodes: capabilities by another program, and shims by their layout. What is no
-// row, texts of shims, and lines are shown by `tests/commands` and `tests/replays`.
+// row and texts of shims are shown by `tests/commands`.
 ghost use Rattle.std.specs.Prelude.{◌≤◌, length};
 
 use super::{edge, expect_same, walk};
@@ -94,7 +94,7 @@ const AT_ROUTERS: [(&str, &str); 19] = [
 ];
 
 // At a router between two hosts.
-const AT_HOSTS: [(&str, &str); 3] = [
+const AT_HOSTS: [(&str, &str); 8] = [
     (
         "1000000000,A,send,,10.0.1.1,1600,",
         "1000000000 1 send 0a000101 1600",
@@ -104,6 +104,17 @@ const AT_HOSTS: [(&str, &str); 3] = [
         "5,B,raw,9.9.9.9,10.0.1.1,1,",
         "5 2 09090909>0a000101 1 nothing",
     ),
+    (
+        "3,A,file,,10.0.1.1,1500,100000000",
+        "3 1 file 0a000101 100000000 1500",
+    ),
+    ("0,B,file,,10.0.0.1,01,1", "0 2 file 0a000001 1 1"),
+    (
+        "1000000000,A,file,,9.9.9.9,69,00000000000000000100",
+        "1000000000 1 file 09090909 100 69",
+    ),
+    ("4,A,tick,,10.0.1.1,0,", "4 1 tick 0a000101"),
+    ("0,B,tick,,255.255.255.255,000,", "0 2 tick ffffffff"),
 ];
 
 // A row in words, the shim of a packet by its digits.
@@ -122,6 +133,10 @@ fn told(alloc: Global, row: &Row) -> Result<String, AllocError> {
             let (src, dst) = (flow.src.0, flow.dst.0);
             format!(in alloc; "{time} {node} {src:08x}>{dst:08x} {payload} {digits}")
         }
+        RowWhat::File { dst, size, segment } => {
+            format!(in alloc; "{time} {node} file {:08x} {size} {segment}", dst.0)
+        }
+        RowWhat::Tick { dst } => format!(in alloc; "{time} {node} tick {:08x}", dst.0),
     }
 }
 
