@@ -1,5 +1,5 @@
 -- Look-ups by a comparison of keys find what look-ups by a test find. A key is an address with a number.
-use Rattle.std.proofs.Common.{◌≡◌, ℕ, ◌||◌, ◌&&◌, Bool, true, false, cond, eqb, ltb, ◌≤◌, List, [], ◌∷◌, Option, Some, None, Ordering, refl, ap, sym, ◌∙◌, arith}
+use Rattle.std.proofs.Common.{◌≡◌, ℕ, ◌||◌, ◌&&◌, Bool, true, false, cond, eqb, ltb, ◌≤◌, List, [], ◌∷◌, Option, Some, Ordering, refl, ap, sym, ◌∙◌, arith}
 use Rattle.std.specs.List.{list_any}
 use Rattle.std.specs.declared.cmp.Ordering.TheVariants.{Less, Equal, Greater}
 use Rattle.std.specs.Map.{lookup}

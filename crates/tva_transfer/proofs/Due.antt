@@ -1,13 +1,14 @@
 -- Which transfers are due, after a transfer begins and after more of one is acknowledged.
-use Rattle.std.proofs.Common.{◌≡◌, ℕ, ◌<◌, ◌≤◌, ◌&&◌, Bool, true, false, cond, eqb, ltb, List, [], ◌∷◌, ◌++◌, length, set, Option, Some, None, refl, sym, ap, ◌∙◌, ⊎_elim, arith}
-use Rattle.std.specs.List.{slice_get}
-use Rattle.std.specs.Option.{option_map, option_map_or}
-use Rattle.std.proofs.lemmas.Bool.{cases_Bool, and_parts, and_right, eqb-true, eq-eqb, lt-ltb, le-ltb, ltb-true}
+use Rattle.std.proofs.Common.{◌≡◌, ℕ, ◌<◌, ◌≤◌, ◌&&◌, Bool, true, false, cond, eqb, ltb, List, [], ◌∷◌, ◌++◌, length, get_or, set, Some, None, refl, sym, ap, ◌∙◌, ⊎_elim, arith}
+use Rattle.std.specs.List.{position, position_or_len, slice_get}
+use Rattle.std.specs.Option.{option_map_or}
+use Rattle.std.proofs.lemmas.Bool.{cases_Bool, and_parts, and_right, eqb-true, lt-ltb, le-ltb, cases_lt, false≢true}
 use Rattle.std.proofs.lemmas.Bool.Decides.{nat_tests}
-use Rattle.std.proofs.lemmas.Option.{slice_get_past}
+use Rattle.std.proofs.lemmas.List.Sums.{position_or_len_is}
+use Rattle.std.proofs.lemmas.Option.{slice_get_past, slice_get_within, slice_get-get_or}
 use Rattle.tva_base.specs.declared.addresses.Address.{Address}
 use Rattle.tva_transfer.specs.declared.transfers.Transfer.{Transfer}
-use Rattle.tva_transfer.specs.Files.{begun, is_due}
+use Rattle.tva_transfer.specs.Files.{Files, begun, is_due, segment_due, segment_of}
 use Rattle.tva_transfer.specs.Sound.{IsSized, IsSound, has_key, is_due_at}
 use Rattle.tva_transfer.proofs.Places.{slice_get-push, slice_get-set}
 
@@ -29,8 +30,8 @@ sound_filed ts old new dst size segment some most fits s e = record {
       (cases_Bool (eqb place (length ts)));
   due = λ d p. e d p ∙ rw (eqb-sym (length ts) p, slice_get-push ts (begun dst size segment) p) (⊎_elim
       (λ yes. let here = eqb-true p (length ts) yes in
-          let none : has_key old d p ≡ false = s.due d p ∙ rw (slice_get_past ts p (omega arith)) refl in
-          rw (yes, none) (started (eqb dst.0 d.0) (ltb 0 size) (lt-ltb 0 size (omega arith))))
+      let none : has_key old d p ≡ false = s.due d p ∙ rw (slice_get_past ts p (omega arith)) refl in
+      rw (yes, none) (started (eqb dst.0 d.0) (ltb 0 size) (lt-ltb 0 size (omega arith))))
       (λ no. rw no (rw (and_right (eqb dst.0 d.0) false refl) (s.due d p)))
       (cases_Bool (eqb p (length ts))));
 }
@@ -41,7 +42,7 @@ sound_undone ts old with new dst s e u = record {
   sized = s.sized;
   due = λ d p. ⊎_elim
       (λ yes. let here = eqb-true (length ts) p (and_parts (eqb dst.0 d.0) (eqb (length ts) p) yes).1 in
-          u d p ∙ rw (yes, slice_get_past ts p (omega arith)) refl)
+      u d p ∙ rw (yes, slice_get_past ts p (omega arith)) refl)
       (λ no. u d p ∙ rw (no, e d p) (rw no (s.due d p)))
       (cases_Bool (eqb dst.0 d.0 && eqb (length ts) p));
 }
@@ -51,10 +52,10 @@ module _ (ts : List Transfer) (old new : List (Address × ℕ)) (place next : �
   sized : (p : ℕ) (u : Transfer) → slice_get (set ts place (record t { acked = next })) p ≡ Some u → IsSized u
   sized p u at = let e = slice_get-set ts place (record t { acked = next }) p in ⊎_elim
       (λ yes. let same = eqb-true p place yes in
-          let now : slice_get ts p ≡ Some t = rw same here in
-          let is : Some (record t { acked = next }) ≡ Some u = sym (rw (yes, now) at e) ∙ at in
-          let is' : record t { acked = next } ≡ u = cc in
-          rw (← is') (s.sized place t here))
+      let now : slice_get ts p ≡ Some t = rw same here in
+      let is : Some (record t { acked = next }) ≡ Some u = sym (rw (yes, now) at e) ∙ at in
+      let is' : record t { acked = next } ≡ u = cc in
+      rw (← is') (s.sized place t here))
       (λ no. s.sized p u (sym (rw no at e) ∙ at))
       (cases_Bool (eqb p place))
 
@@ -63,8 +64,8 @@ module _ (ts : List Transfer) (old new : List (Address × ℕ)) (place next : �
     sized = sized;
     due = λ d p. s.due d p ∙ rw (slice_get-set ts place (record t { acked = next }) p) (⊎_elim
         (λ yes. let same = eqb-true p place yes in
-            let now : slice_get ts p ≡ Some t = rw same here in
-            rw (yes, now) (ap (λ b. eqb t.dst.0 d.0 && b) (lt-ltb t.acked t.size (omega arith) ∙ sym (lt-ltb next t.size less))))
+        let now : slice_get ts p ≡ Some t = rw same here in
+        rw (yes, now) (ap (λ b. eqb t.dst.0 d.0 && b) (lt-ltb t.acked t.size (omega arith) ∙ sym (lt-ltb next t.size less))))
         (λ no. rw no refl)
         (cases_Bool (eqb p place)));
   }
@@ -74,10 +75,43 @@ module _ (ts : List Transfer) (old new : List (Address × ℕ)) (place next : �
     sized = sized;
     due = λ d p. e d p ∙ rw (eqb-sym place p, slice_get-set ts place (record t { acked = next }) p) (⊎_elim
         (λ yes. let same = eqb-true p place yes in
-            let now : slice_get ts p ≡ Some t = rw same here in
-            let none = le-ltb next t.size all in
-            let before = s.due d p in
-            rw (yes, now) (ended (eqb t.dst.0 d.0) (ltb t.acked t.size) (ltb next t.size) (has_key old d p) none (before ∙ rw now refl)))
+        let now : slice_get ts p ≡ Some t = rw same here in
+        let none = le-ltb next t.size all in
+        let before = s.due d p in
+        rw (yes, now) (ended (eqb t.dst.0 d.0) (ltb t.acked t.size) (ltb next t.size) (has_key old d p) none (before ∙ rw now refl)))
         (λ no. rw no (rw (and_right (eqb t.dst.0 d.0) false refl) (s.due d p)))
         (cases_Bool (eqb p place)));
   }
+
+-- ## the first one that is due
+
+due_or : (ts : List Transfer) (dst : Address) (k : ℕ) (t : Transfer) → k < length ts → is_due dst (get_or ts k t) ≡ is_due_at ts dst k
+due_or ts dst k t within = sym (ap (λ o. option_map_or (is_due dst) o false) (slice_get-get_or ts k t within))
+
+pub segment_due-first : (files : Files) (dst : Address) (place : ℕ) (t : Transfer) → slice_get files.transfers place ≡ Some t → is_due_at files.transfers dst place ≡ true → ((k : ℕ) → k < place → is_due_at files.transfers dst k ≡ false) → segment_due files dst ≡ Some (segment_of place t)
+unfolding segment_due
+segment_due-first files dst place t at due none =
+    let ts = files.transfers in
+    let within : place < length ts = slice_get_within ts place t at in
+    let first : position_or_len (is_due dst) ts ≡ place = position_or_len_is (is_due dst) ts place t (omega (arith, within))
+    (λ k before. due_or ts dst k t (omega (arith, within)) ∙ none k before)
+    (λ within. due_or ts dst place t within ∙ due) in
+    rw (first, lt-ltb place (length ts) within, at) refl
+
+none_at : (ts : List Transfer) (dst : Address) → ((k : ℕ) → is_due_at ts dst k ≡ false) → position (is_due dst) ts ≡ None
+none_at [] dst none = refl
+none_at (x ∷ xs) dst none =
+    let all : position_or_len (is_due dst) (x ∷ xs) ≡ length (x ∷ xs) = position_or_len_is (is_due dst) (x ∷ xs) (length (x ∷ xs)) x (omega arith)
+    (λ k before. due_or (x ∷ xs) dst k x before ∙ none k)
+    (λ within. absurd (omega (arith, within))) in
+    rw (all, le-ltb (length (x ∷ xs)) (length (x ∷ xs)) (omega arith)) refl
+
+pub segment_due-none : (files : Files) (dst : Address) → ((k : ℕ) → is_due_at files.transfers dst k ≡ false) → segment_due files dst ≡ None
+unfolding segment_due
+segment_due-none files dst none = rw (none_at files.transfers dst none) refl
+
+pub due_within : (ts : List Transfer) (dst : Address) (place : ℕ) → is_due_at ts dst place ≡ true → place < length ts
+due_within ts dst place due = ⊎_elim
+    (λ within. within)
+    (λ past. let none : is_due_at ts dst place ≡ false = rw (slice_get_past ts place past) refl in absurd (false≢true (sym none ∙ due)))
+    (cases_lt place (length ts))

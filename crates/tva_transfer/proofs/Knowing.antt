@@ -1,8 +1,8 @@
 -- What a courier knows of files, after what comes in.
-use Rattle.std.proofs.Common.{◌≡◌, ℕ, ◌+◌, Bool, true, false, cond, eqb, ltb, ◌&&◌, List, [], ◌∷◌, ◌++◌, Option, Some, None, refl, sym, ap, ◌∙◌, ⊎_elim, add-zero, zero-add, set, length, ◌≤◌, arith}
+use Rattle.std.proofs.Common.{◌≡◌, ℕ, ◌+◌, true, false, cond, eqb, ltb, ◌&&◌, List, [], ◌∷◌, Some, None, refl, sym, ap, ◌∙◌, ⊎_elim, add-zero, zero-add, set, length, ◌≤◌}
 use Rattle.std.specs.Map.{lookup}
 use Rattle.std.specs.List.{filter, slice_get, sum_by}
-use Rattle.std.specs.Option.{unwrap_or, option_map_or}
+use Rattle.std.specs.Option.{unwrap_or}
 use Rattle.std.proofs.lemmas.Bool.{cases_Bool, and_parts, eqb-true, eq-eqb}
 use Rattle.std.proofs.lemmas.List.Elements.{filter-append}
 use Rattle.std.proofs.lemmas.List.Sums.{sum_by-append}
@@ -13,7 +13,7 @@ use Rattle.tva_base.specs.declared.addresses.Address.{Address}
 use Rattle.tva_base.specs.declared.packet.Upper.{Upper}
 use Rattle.tva_base.specs.declared.packet.Upper.TheVariants.{Nothing, Data, Ack}
 use Rattle.tva_base.specs.declared.event.DataLine.{DataLine}
-use Rattle.tva_transfer.specs.Files.{Files, after_upper, answer_to, acknowledged, is_more, is_of, next_of, range_of, segment_behind, segment_of, with_acked, with_range}
+use Rattle.tva_transfer.specs.Files.{Files, after_upper, answer_to, acknowledged, is_more, is_of, next_of, range_of, segment_of, with_range}
 use Rattle.tva_transfer.specs.Stands.{CourierData, Knows, next_kept}
 
 -- where a range begins is kept by the source and the transfer alone
@@ -73,7 +73,7 @@ next_of-after files source transfer first bytes s t =
     let r : DataLine = record { transfer = transfer; first = first; bytes = bytes } in
     let here = eqb source.0 s.0 && eqb transfer t in
     let step : next_of (with_range source (cond (eqb first m) (Some r) None) files) s t ≡ cond (eqb first m) (n + cond here bytes 0) n =
-        elim (eqb first m) as (λ b. next_of (with_range source (cond b (Some r) None) files) s t ≡ cond b (n + cond here bytes 0) n) [ true ↦ next_of-more files source r s t | false ↦ refl ] in
+    elim (eqb first m) as (λ b. next_of (with_range source (cond b (Some r) None) files) s t ≡ cond b (n + cond here bytes 0) n) [ true ↦ next_of-more files source r s t | false ↦ refl ] in
     step ∙ ⊎_elim
     (λ yes. rw yes (ap (λ x. cond (eqb first x) (n + bytes) n) (sym (next_of-same files source s transfer t yes))))
     (λ no. rw no (elim (eqb first m) as (λ b. cond b (n + 0) n ≡ n) [ true ↦ add-zero n | false ↦ refl ]))

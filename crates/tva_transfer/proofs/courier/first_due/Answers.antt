@@ -1,10 +1,9 @@
-use Rattle.std.proofs.Common.{◌≡◌, ℕ, List, ◌∷◌, true, false, eqb, not, Some, sym, subst, ap, ◌∙◌, refl, arith}
+use Rattle.std.proofs.Common.{◌≡◌, ℕ, List, ◌∷◌, false, eqb, sym, subst, ◌∙◌, arith}
 use Rattle.std.specs.List.{slice_get}
 use Rattle.std.specs.Option.{IfSome}
 use Rattle.std.specs.Ordering.{is_gt}
-use Rattle.std.proofs.lemmas.Bool.{eqb-true, eqb-false, false≢true, false_from_ne_true, not-false}
+use Rattle.std.proofs.lemmas.Bool.{eqb-true, eqb-false, false_from_ne_true, not-false, not-true}
 use Rattle.tva_base.specs.declared.addresses.Address.{Address}
-use Rattle.tva_transfer.specs.Sound.{has_key}
 use Rattle.tva_transfer.proofs.Compared.{has_key_by, key_before, key_cmp, key_from}
 use Rattle.tva_transfer.proofs.courier.first_due.Goals as goal
 
@@ -18,7 +17,11 @@ pub returns-then-ne-clause-none : goal.returns-then-ne-clause-none
 returns-then-ne-clause-none c place = false_from_ne_true _ (λ has.
     let key = c.in_ok-to.field-0.now in
     let first = first_at c.range.result _ key (c.args.dst, place) c.in_ok-to.ensures.steps ((c.range.ensures.in_range tt).2 (c.args.dst, place) (key_from c.args.dst place, tt) (has_key_by c.args.due.now.keys c.args.dst place ∙ has)) in
-    let within = (c.range.ensures.in_range tt).1 in ?)
+    let within = rw c.in_ok-to.ensures.steps at (c.range.ensures.in_range tt).1 in
+    let above = (key_before (c.args.dst, 0) key within.0.0).0 in
+    let below = (key_before key (c.args.dst, place) first).0 in
+    let other : eqb key.0.0 c.args.dst.0 ≡ false = not-true _ (sym c.if-ne.ensures) in
+    eqb-false key.0.0 c.args.dst.0 other (omega (arith, above, below)))
 
 pub returns-clause-first : goal.returns-clause-first
 returns-clause-first c place has =

@@ -1,12 +1,11 @@
-use Rattle.std.proofs.Common.{◌≡◌, ℕ, ◌<◌, ◌≤◌, ◌&&◌, eqb, ltb, cond, true, false, Some, List, length, get_or, set, sym, ap, subst, ◌∙◌, refl, arith}
+use Rattle.std.proofs.Common.{◌≡◌, ℕ, ◌<◌, ◌≤◌, eqb, ltb, true, false, Some, length, set, sym, subst, ◌∙◌, refl, arith}
 use Rattle.std.specs.List.{slice_get}
 use Rattle.std.proofs.lemmas.Bool.{and_parts, ltb-true}
 use Rattle.std.proofs.lemmas.Option.{slice_get_read}
 use Rattle.tva_base.specs.declared.addresses.Address.{Address}
 use Rattle.tva_transfer.specs.declared.transfers.Transfer.{Transfer}
-use Rattle.tva_transfer.specs.Files.{Files, acknowledged, after_upper, is_more}
+use Rattle.tva_transfer.specs.Files.{acknowledged, is_more}
 use Rattle.tva_transfer.specs.Stands.{CourierData, Knows}
-use Rattle.tva_transfer.specs.Sound.{IsSound, has_key}
 use Rattle.tva_transfer.proofs.Compared.{has_key-changed}
 use Rattle.tva_transfer.proofs.Due.{sound_acked, sound_done}
 use Rattle.tva_transfer.proofs.Knowing.{acknowledged-less, acknowledged-more, acknowledged-none, knows_acked}
@@ -47,7 +46,7 @@ returns-then-next-sent-clause-knows c files k =
     let at : slice_get items c.from-place.result ≡ Some c.index.result.now = slice_get_read items (length items) c.from-place.result c.index.result.now refl (omega (arith, c.if-place-len.false, c.len.ensures, c.self.inside.transfers.ok.0)) c.index.ensures in
     let here = subst (λ (v : CourierData). Knows v files) (sym c.self.view_is) k in
     let is : set items c.from-place.result c.acknowledged.result ≡ acknowledged c.args.source c.args.transfer c.args.next items =
-        rw (c.acknowledged.ensures, c.from-place.ensures) (acknowledged-more c.args.source c.args.transfer c.args.next items c.index.result.now (rw c.from-place.ensures at at) (sym c.is_more.ensures ∙ c.if-not-is_more.false)) in
+    rw (c.acknowledged.ensures, c.from-place.ensures) (acknowledged-more c.args.source c.args.transfer c.args.next items c.index.result.now (rw c.from-place.ensures at at) (sym c.is_more.ensures ∙ c.if-not-is_more.false)) in
     knows_acked _ files c.args.source c.args.transfer c.args.next (set items c.from-place.result c.acknowledged.result) is here
 
 pub returns-else-next-sent-clause-knows : goal.returns-else-next-sent-clause-knows
@@ -56,5 +55,5 @@ returns-else-next-sent-clause-knows c files k =
     let at : slice_get items c.from-place.result ≡ Some c.index.result.now = slice_get_read items (length items) c.from-place.result c.index.result.now refl (omega (arith, c.if-place-len.false, c.len.ensures, c.self.inside.transfers.ok.0)) c.index.ensures in
     let here = subst (λ (v : CourierData). Knows v files) (sym c.self.view_is) k in
     let is : set items c.from-place.result c.acknowledged.result ≡ acknowledged c.args.source c.args.transfer c.args.next items =
-        rw (c.acknowledged.ensures, c.from-place.ensures) (acknowledged-more c.args.source c.args.transfer c.args.next items c.index.result.now (rw c.from-place.ensures at at) (sym c.is_more.ensures ∙ c.if-not-is_more.false)) in
+    rw (c.acknowledged.ensures, c.from-place.ensures) (acknowledged-more c.args.source c.args.transfer c.args.next items c.index.result.now (rw c.from-place.ensures at at) (sym c.is_more.ensures ∙ c.if-not-is_more.false)) in
     knows_acked _ files c.args.source c.args.transfer c.args.next (set items c.from-place.result c.acknowledged.result) is here

@@ -1,4 +1,4 @@
-use Rattle.std.proofs.Common.{◌≡◌, sym, ap, ◌∙◌, refl}
+use Rattle.std.proofs.Common.{sym, ap, ◌∙◌, refl}
 use Rattle.tva_base.specs.declared.packet.Upper.TheVariants.{Ack}
 use Rattle.tva_transfer.specs.Files.{answer_to}
 use Rattle.tva_transfer.proofs.Knowing.{answer_to-data, behind}

@@ -1,7 +1,5 @@
-use Rattle.std.proofs.Common.{◌≡◌, ℕ, cond, eqb, ◌&&◌, sym, subst, ap, ◌∙◌, List, Some, refl}
-use Rattle.std.specs.Option.{unwrap_or, IsSome}
-use Rattle.tva_base.specs.declared.addresses.Address.{Address}
-use Rattle.tva_transfer.specs.Files.{Files}
+use Rattle.std.proofs.Common.{sym, subst, ap, ◌∙◌, refl}
+use Rattle.std.specs.Option.{IsSome}
 use Rattle.tva_transfer.specs.Stands.{CourierData, Knows, next_kept}
 use Rattle.tva_transfer.proofs.Compared.{next_kept-written, lookup_by}
 use Rattle.tva_transfer.proofs.Knowing.{knows_same, next_kept-again}

@@ -1,7 +1,6 @@
-use Rattle.std.proofs.Common.{◌≡◌, ℕ, cond, eqb, None, Some, sym, subst, ap, ◌∙◌, List}
+use Rattle.std.proofs.Common.{sym, ◌∙◌}
 use Rattle.std.proofs.lemmas.Bool.{ne_eqb, eq-eqb}
-use Rattle.tva_transfer.specs.Files.{Files, range_of}
-use Rattle.tva_transfer.specs.Stands.{CourierData, Knows, next_kept}
+use Rattle.tva_transfer.specs.Stands.{next_kept}
 use Rattle.tva_transfer.proofs.Knowing.{range_of-kept, range_of-none}
 use Rattle.tva_transfer.proofs.courier.Courier.range_of.Goals as goal
 

@@ -1,4 +1,4 @@
-use Rattle.std.proofs.Common.{◌≡◌, ℕ, ◌&&◌, ltb, true, false, None, Some, sym, ap, ◌∙◌, List, length, get_or, refl, arith}
+use Rattle.std.proofs.Common.{◌≡◌, ℕ, ◌&&◌, ltb, true, false, Some, sym, ap, ◌∙◌, List, length, get_or, refl, arith}
 use Rattle.std.specs.List.{slice_get}
 use Rattle.std.proofs.lemmas.Bool.{ltb-false, ltb-true, lt-ltb, le-ltb}
 use Rattle.std.proofs.lemmas.Option.{slice_get_read}
@@ -23,9 +23,10 @@ returns-then-not-is_more-clause-segment c files k =
     let ts : c.args.self.now.transfers ≡ c.deref.result.now = ap (λ (v : CourierData). v.transfers) (sym c.self.view_is) ∙ sym c.deref.ensures.value in
     let l = c.in-Some.ensures.lookup in
     let less : (is_more c.args.source c.args.next c.in-Some.sent.now && ltb c.args.next c.in-Some.sent.now.size) ≡ false =
-        elim c.then-not-is_more.branch
-        [ then-not-is_more-via-then-not-is_more w ↦ rw (sym c.is_more.ensures ∙ w.if-not-is_more.true) refl
-        | then-not-is_more-via-else-not-is_more+then-next-sent w ↦ rw (sym c.is_more.ensures ∙ w.if-not-is_more.false) (le-ltb c.args.next c.in-Some.sent.now.size w.if-next-sent.true) ] in
+    elim c.then-not-is_more.branch [
+      | then-not-is_more-via-then-not-is_more w ↦ rw (sym c.is_more.ensures ∙ w.if-not-is_more.true) refl
+      | then-not-is_more-via-else-not-is_more+then-next-sent w ↦ rw (sym c.is_more.ensures ∙ w.if-not-is_more.false) (le-ltb c.args.next c.in-Some.sent.now.size w.if-next-sent.true)
+    ] in
     answer_to-less c.args.self.now files k c.args.source c.args.transfer c.args.next c.in-Some.sent.now (at _ _ _ _ _ ts c.from-place.ensures l.0 l.1) less
 
 pub returns-clause-segment : goal.returns-clause-segment
@@ -33,7 +34,7 @@ returns-clause-segment c files k =
     let ts : c.args.self.now.transfers ≡ c.deref.result.now = ap (λ (v : CourierData). v.transfers) (sym c.self.view_is) ∙ sym c.deref.ensures.value in
     let l = c.in-Some.ensures.lookup in
     let more : (is_more c.args.source c.args.next c.in-Some.sent.now && ltb c.args.next c.in-Some.sent.now.size) ≡ true =
-        rw (sym c.is_more.ensures ∙ c.if-not-is_more.false) (lt-ltb c.args.next c.in-Some.sent.now.size c.if-next-sent.false) in
+    rw (sym c.is_more.ensures ∙ c.if-not-is_more.false) (lt-ltb c.args.next c.in-Some.sent.now.size c.if-next-sent.false) in
     c.next_segment.ensures.segment
     ∙ ap (λ n. segment_of n c.acknowledged.result) c.from-place.ensures
     ∙ ap (segment_of c.args.transfer) c.acknowledged.ensures
