@@ -1,6 +1,6 @@
 -- Several couriers, each at a host of its own: what passes between them.
-use Rattle.std.specs.Prelude.{◌≡◌, ℕ, ◌+◌, ◌==◌, true, if◌then◌else◌, List, [], ◌∷◌, ◌++◌, Contains, map, filter, slice_get, sum_by}
-use Rattle.std.specs.Prelude.{length, Option, Some, None}
+use Rattle.std.specs.Prelude.{◌≡◌, ℕ, ◌+◌, ◌==◌, true, if◌then◌else◌, List, [], ◌∷◌, ◌++◌, map, filter}
+use Rattle.std.specs.Prelude.{Option, Some, None}
 use Rattle.std.specs.Option.{option_map}
 use Rattle.std.specs.List.{filter_map}
 use Rattle.tva_base.specs.declared.addresses.Address.{Address}
@@ -9,8 +9,7 @@ use Rattle.tva_base.specs.declared.packet.Upper.{Upper}
 use Rattle.tva_base.specs.declared.packet.Upper.TheVariants.{Nothing, Data, Ack}
 use Rattle.tva_base.specs.declared.event.DataLine.{DataLine}
 use Rattle.tva_shim.specs.Packets.{PacketData}
-use Rattle.tva_transfer.specs.declared.transfers.Transfer.{Transfer}
-use Rattle.tva_transfer.specs.Files.{Files, Act, Filed, Ticked, Came, files_of, first_segment, segment_due, answered, is_for, is_of, next_of}
+use Rattle.tva_transfer.specs.Files.{Files, Act, Filed, Ticked, Came, files_of, first_segment, segment_due, answered, is_for, is_of}
 
 -- an act at the courier of that number
 pub record Step : Type 0 where

@@ -117,13 +117,16 @@ answer_to files source (Ack transfer next) =
 abbrev pub is_for : Address → PacketData → Bool
 is_for home p = p.flow.dst.0 == home.0
 
--- the range that a packet delivers at the host of that address, and what it is answered with: nothing of a packet
--- for another host
+-- the upper part of a packet for the host of that address; a packet for another host is stray, whatever it brings
+abbrev pub heard : Address → PacketData → Upper
+heard home p = if is_for home p then p.upper else Nothing
+
+-- the range that a packet delivers, and what it is answered with
 abbrev pub delivered : Address → Files → PacketData → Option DataLine
-delivered home files p = if is_for home p then range_of files p.flow.src p.upper else None
+delivered home files p = range_of files p.flow.src (heard home p)
 
 abbrev pub answered : Address → Files → PacketData → Upper
-answered home files p = if is_for home p then answer_to files p.flow.src p.upper else Nothing
+answered home files p = answer_to files p.flow.src (heard home p)
 
 -- ## over time
 
@@ -131,7 +134,7 @@ abbrev pub after_act : Address → Files → Act → Files
 after_act home files (Filed dst size segment) =
     record files { transfers = files.transfers ++ begun dst size segment ∷ [] }
 after_act home files (Ticked dst) = files
-after_act home files (Came p) = if is_for home p then after_upper files p.flow.src p.upper else files
+after_act home files (Came p) = after_upper files p.flow.src (heard home p)
 
 -- what the host of that address knows after these acts
 abbrev pub files_of : Address → List Act → Files

@@ -1,3 +1,4 @@
 pub mod Files
 pub mod Stands
 pub mod Couriers
+pub mod Sound

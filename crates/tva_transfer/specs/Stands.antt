@@ -9,7 +9,7 @@ use Rattle.tva_host.specs.Calls.{Call, Intended, history_of}
 use Rattle.tva_host.specs.Sending.{intended}
 use Rattle.tva_host.specs.Stands as host
 use Rattle.tva_transfer.specs.declared.transfers.Transfer.{Transfer}
-use Rattle.tva_transfer.specs.Files.{Act, files_of, next_of}
+use Rattle.tva_transfer.specs.Files.{Files, Act, files_of, next_of}
 
 -- a courier: its host, its transfers by their numbers, and where the next range begins of a source and a transfer
 pub record CourierData : Type 0 where
@@ -25,12 +25,20 @@ abbrev pub next_kept : List ((Address × ℕ) × ℕ) → Address → ℕ → �
 next_kept nexts source transfer =
     unwrap_or (lookup (λ key. (source.0 == key.0.0) && (transfer == key.1)) nexts) 0
 
--- its host stands for these calls, and it knows of files what its host knows after these acts
+-- it keeps what its host knows of files
+pub record Knows (v : CourierData) (files : Files) : Type 0 where
+  pub transfers : v.transfers ≡ files.transfers
+  pub nexts : (source : Address) (transfer : ℕ)
+      → next_kept v.nexts source transfer ≡ next_of files source transfer
+
+-- what the host knows of files after these acts
+abbrev pub known : host.HostData → List Act → Files
+known h acts = files_of h.plan.address acts
+
+-- its host stands for these calls, and it keeps what its host knows after these acts
 pub record StandsFor (v : CourierData) (calls : List Call) (acts : List Act) : Type 0 where
   pub host : host.StandsFor v.host calls
-  pub transfers : v.transfers ≡ (files_of v.host.plan.address acts).transfers
-  pub nexts : (source : Address) (transfer : ℕ)
-      → next_kept v.nexts source transfer ≡ next_of (files_of v.host.plan.address acts) source transfer
+  pub files : Knows v (known v.host acts)
 
 -- the packet that the host sends with an upper part after these calls, and that call
 abbrev pub sent_with : host.HostData → List Call → ℕ → Address → Upper → Made

@@ -1,14 +1,15 @@
 // A host that sends files.
-ghost use Rattle.std.specs.Prelude.{◌≡◌, ◌≤◌, ◌∷◌, [], ◌++◌, List, IfOk, OnErr};
+ghost use Rattle.std.specs.Prelude.{◌≡◌, ◌≤◌, ◌<◌, ◌+◌, ◌^◌, ◌==◌, if◌then◌else◌, ◌∷◌, [], ◌++◌, List, IfOk, OnErr, IfSome, IfNone, ℕ, true, false};
+ghost use Rattle.std.specs.List.{cons_option};
 ghost use Rattle.std.specs.Option.{option_map};
-ghost use Rattle.tva_base.specs.Options.{cons_option};
 ghost use Rattle.tva_base.specs.Plan.{IsHostPlan};
-ghost use Rattle.tva_shim.specs.Packets.{IsCarried};
+ghost use Rattle.tva_shim.specs.Packets.{IsCarried, IsUpper};
 ghost use Rattle.tva_host.specs.Sending.{intended, next_packet};
 ghost use Rattle.tva_host.specs.Receiving.{receipt_of};
 ghost use Rattle.tva_host.specs.Calls.{Call, Intended, Injected, Received, history_of};
-ghost use Rattle.tva_transfer.specs.Files.{Act, Filed, Ticked, Came, answered, delivered, files_of, first_segment, segment_due};
-ghost use Rattle.tva_transfer.specs.Stands.{StandsFor, call_with, sent_with};
+ghost use Rattle.tva_transfer.specs.Files.{Files, Act, Filed, Ticked, Came, after_upper, answer_to, answered, delivered, first_segment, heard, range_of, segment_due};
+ghost use Rattle.tva_transfer.specs.Stands.{Knows, StandsFor, call_with, known, next_kept, sent_with};
+ghost use Rattle.tva_transfer.specs.Sound.{HasRoom, has_key};
 
 use crate::transfers::Transfer;
 use std::alloc::{AllocError, Global};
@@ -37,10 +38,13 @@ pub struct Courier {
 
 impl Model for Courier {
     ghost use Rattle.tva_transfer.specs.Stands.{CourierData, courier_data};
+    ghost use Rattle.tva_transfer.specs.Sound.{IsSound};
 
     ghost Value = { CourierData };
 
     ghost view = { λ c. courier_data c.host c.transfers.items c.nexts.entries };
+
+    ghost invariant = { λ c. IsSound c.transfers.items c.due.keys };
 }
 
 impl Courier {
@@ -73,13 +77,15 @@ impl Courier {
     ) -> Result<Made, AllocError>
         requires time { self.old.host.last ≤ now.0 }
         requires payload { payload ≤ 1600 }
-        ensures made { (calls : List Call) (acts : List Act) → StandsFor self.old calls acts → IfOk result (λ made. made
+        ensures made { (calls : List Call) (acts : List Act) → StandsFor self.old calls acts
+            → IfOk result (λ made. made
             ≡ intended self.old.host.node self.old.host.plan (history_of self.old.host.plan calls) now.0 dst payload Upper.Nothing) }
         ensures stands { (calls : List Call) (acts : List Act) → StandsFor self.old calls acts
             → IfOk result (λ made. StandsFor self.new (calls ++ Intended now.0 dst payload Upper.Nothing ∷ []) acts) }
         ensures same { (self.new.host.node ≡ self.old.host.node) × (self.new.host.plan ≡ self.old.host.plan) }
         ensures last { self.new.host.last ≤ now.0 }
-        ensures refused { OnErr result ((calls : List Call) (acts : List Act) → StandsFor self.old calls acts → StandsFor self.new calls acts) }
+        ensures refused { OnErr result ((calls : List Call) (acts : List Act) → StandsFor self.old calls acts
+            → StandsFor self.new calls acts) }
     {
         self.host.intend(alloc, now, dst, payload)
     }
@@ -113,14 +119,17 @@ impl Courier {
         requires time { self.old.host.last ≤ now.0 }
         requires size { (1 ≤ size) × (size ≤ 100000000) }
         requires segment { (1 ≤ segment) × (segment ≤ 1500) }
-        ensures made { (calls : List Call) (acts : List Act) → StandsFor self.old calls acts → IfOk result (λ made. made
-            ≡ sent_with self.old.host calls now.0 dst (first_segment (files_of self.old.host.plan.address acts) dst size segment)) }
-        ensures stands { (calls : List Call) (acts : List Act) → StandsFor self.old calls acts → IfOk result (λ made. StandsFor self.new
-            (calls ++ call_with now.0 dst (first_segment (files_of self.old.host.plan.address acts) dst size segment) ∷ [])
+        ensures made { (calls : List Call) (acts : List Act) → StandsFor self.old calls acts
+            → IfOk result (λ made. made
+            ≡ sent_with self.old.host calls now.0 dst (first_segment (known self.old.host acts) dst size segment)) }
+        ensures stands { (calls : List Call) (acts : List Act) → StandsFor self.old calls acts
+            → IfOk result (λ made. StandsFor self.new
+            (calls ++ call_with now.0 dst (first_segment (known self.old.host acts) dst size segment) ∷ [])
             (acts ++ Filed dst size segment ∷ [])) }
         ensures same { (self.new.host.node ≡ self.old.host.node) × (self.new.host.plan ≡ self.old.host.plan) }
         ensures last { self.new.host.last ≤ now.0 }
-        ensures refused { OnErr result ((calls : List Call) (acts : List Act) → StandsFor self.old calls acts → StandsFor self.new calls acts) }
+        ensures refused { OnErr result ((calls : List Call) (acts : List Act) → StandsFor self.old calls acts
+            → StandsFor self.new calls acts) }
     {
         let place = self.transfers.len();
         let transfer = Transfer::begun(dst, size, segment);
@@ -128,7 +137,7 @@ impl Courier {
         self.due.insert((dst, place))?;
         match self
             .host
-            .intend_with(alloc, now, dst, transfer.segment(place))
+            .intend_with(alloc, now, dst, transfer.next_segment(place))
         {
             Ok(made) => {
                 self.transfers.push_reserved(transfer);
@@ -151,19 +160,21 @@ impl Courier {
         dst: Address,
     ) -> Result<Option<Made>, AllocError>
         requires time { self.old.host.last ≤ now.0 }
-        ensures made { (calls : List Call) (acts : List Act) → StandsFor self.old calls acts → IfOk result (λ made. made
-            ≡ option_map (sent_with self.old.host calls now.0 dst) (segment_due (files_of self.old.host.plan.address acts) dst)) }
-        ensures stands { (calls : List Call) (acts : List Act) → StandsFor self.old calls acts → IfOk result (λ made. StandsFor self.new
-            (calls ++ cons_option (option_map (call_with now.0 dst) (segment_due (files_of self.old.host.plan.address acts) dst)) [])
+        ensures made { (calls : List Call) (acts : List Act) → StandsFor self.old calls acts
+            → IfOk result (λ made. made
+            ≡ option_map (sent_with self.old.host calls now.0 dst) (segment_due (known self.old.host acts) dst)) }
+        ensures stands { (calls : List Call) (acts : List Act) → StandsFor self.old calls acts
+            → IfOk result (λ made. StandsFor self.new
+            (calls ++ cons_option (option_map (call_with now.0 dst) (segment_due (known self.old.host acts) dst)) [])
             (acts ++ Ticked dst ∷ [])) }
         ensures same { (self.new.host.node ≡ self.old.host.node) × (self.new.host.plan ≡ self.old.host.plan) }
         ensures last { self.new.host.last ≤ now.0 }
-        ensures refused { OnErr result ((calls : List Call) (acts : List Act) → StandsFor self.old calls acts → StandsFor self.new calls acts) }
+        ensures refused { OnErr result ((calls : List Call) (acts : List Act) → StandsFor self.old calls acts
+            → StandsFor self.new calls acts) }
     {
-        let Some(place) = self.due_to(dst) else {
+        let Some(segment) = self.segment_due(dst) else {
             return Ok(None);
         };
-        let segment = self.transfers[place].segment(place);
         let made = self.host.intend_with(alloc, now, dst, segment)?;
         Ok(Some(made))
     }
@@ -180,101 +191,121 @@ impl Courier {
         packet: Packet,
     ) -> Result<Landed, AllocError>
         requires time { self.old.host.last ≤ now.0 }
-        ensures receipt { (calls : List Call) (acts : List Act) → StandsFor self.old calls acts → IfOk result (λ landed. landed.receipt
+        ensures receipt { (calls : List Call) (acts : List Act) → StandsFor self.old calls acts
+            → IfOk result (λ landed. landed.receipt
             ≡ receipt_of self.old.host.node self.old.host.plan (history_of self.old.host.plan calls) now.0 packet
-            (answered self.old.host.plan.address (files_of self.old.host.plan.address acts) packet)) }
-        ensures range { (calls : List Call) (acts : List Act) → StandsFor self.old calls acts → IfOk result (λ landed. landed.range
-            ≡ delivered self.old.host.plan.address (files_of self.old.host.plan.address acts) packet) }
-        ensures stands { (calls : List Call) (acts : List Act) → StandsFor self.old calls acts → IfOk result (λ landed. StandsFor self.new
-            (calls ++ Received now.0 packet (answered self.old.host.plan.address (files_of self.old.host.plan.address acts) packet) ∷ [])
+            (answered self.old.host.plan.address (known self.old.host acts) packet)) }
+        ensures range { (calls : List Call) (acts : List Act) → StandsFor self.old calls acts
+            → IfOk result (λ landed. landed.range
+            ≡ delivered self.old.host.plan.address (known self.old.host acts) packet) }
+        ensures stands { (calls : List Call) (acts : List Act) → StandsFor self.old calls acts
+            → IfOk result (λ landed. StandsFor self.new
+            (calls ++ Received now.0 packet (answered self.old.host.plan.address (known self.old.host acts) packet) ∷ [])
             (acts ++ Came packet ∷ [])) }
         ensures same { (self.new.host.node ≡ self.old.host.node) × (self.new.host.plan ≡ self.old.host.plan) }
         ensures last { self.new.host.last ≤ now.0 }
-        ensures refused { OnErr result ((calls : List Call) (acts : List Act) → StandsFor self.old calls acts → StandsFor self.new calls acts) }
+        ensures refused { OnErr result ((calls : List Call) (acts : List Act) → StandsFor self.old calls acts
+            → StandsFor self.new calls acts) }
     {
-        if !self.host.is_for(packet.flow.dst) {
-            return self.land(alloc, now, packet, Upper::Nothing, None);
-        }
         let source = packet.flow.src;
-        match packet.upper {
-            Upper::Nothing => self.land(alloc, now, packet, Upper::Nothing, None),
+        let upper = self.heard(&packet);
+        self.make_room(source, upper)?;
+        let range = self.range_of(source, upper);
+        let answer = self.answer_to(source, upper);
+        let receipt = self.host.receive_with(alloc, now, packet, answer)?;
+        self.keep(source, upper);
+        Ok(Landed { receipt, range })
+    }
+
+    // The next segment of the first transfer to a destination that isn't done.
+    fn segment_due(&self, dst: Address) -> Option<Upper>
+        ensures segment { (files : Files) → Knows self.now files → result ≡ segment_due files dst }
+        ensures fits { IfSome result IsUpper }
+    {
+        let place = first_due(&self.due, dst)?;
+        Some(self.transfers[place].next_segment(place))
+    }
+
+    // The upper part of a packet for this host.
+    fn heard(&self, packet: &Packet) -> Upper
+        ensures heard { result ≡ heard self.now.host.plan.address packet.now }
+        ensures fits { IsUpper result }
+    {
+        if self.host.is_for(packet.flow.dst) {
+            packet.upper
+        } else {
+            Upper::Nothing
+        }
+    }
+
+    // Makes room for where the next range begins of what the source sends.
+    fn make_room(&mut self, source: Address, upper: Upper) -> Result<(), AllocError>
+        ensures knows { (files : Files) → Knows self.old files → Knows self.new files }
+        ensures room { IfOk result (λ _. HasRoom self.new.nexts source upper) }
+        ensures rest { self.new.host ≡ self.old.host }
+    {
+        if let Upper::Data { transfer, .. } = upper {
+            let next = self.next_of(source, transfer);
+            self.nexts.insert((source, transfer), next)?;
+        }
+        Ok(())
+    }
+
+    // Where the next range begins of a source's transfer.
+    fn next_of(&self, source: Address, transfer: u16) -> u32
+        ensures { result ≡ next_kept self.now.nexts source transfer }
+    {
+        self.nexts.get(&(source, transfer)).copied().unwrap_or(0)
+    }
+
+    // The range that an upper part of a source delivers.
+    fn range_of(&self, source: Address, upper: Upper) -> Option<DataLine>
+        ensures { (files : Files) → Knows self.now files → result ≡ range_of files source upper }
+    {
+        let Upper::Data {
+            transfer,
+            first,
+            bytes,
+        } = upper
+        else {
+            return None;
+        };
+        if first != self.next_of(source, transfer) {
+            return None;
+        }
+        Some(DataLine {
+            transfer,
+            first,
+            bytes,
+        })
+    }
+
+    // What an upper part of a source is answered with.
+    fn answer_to(&self, source: Address, upper: Upper) -> Upper
+        requires { IsUpper upper }
+        ensures answer { (files : Files) → Knows self.now files → result ≡ answer_to files source upper }
+        ensures fits { IsUpper result }
+    {
+        match upper {
+            Upper::Nothing => Upper::Nothing,
             Upper::Data {
                 transfer,
                 first,
                 bytes,
-            } => {
-                self.take_range(
-                    alloc,
-                    now,
-                    packet,
-                    DataLine {
-                        transfer,
-                        first,
-                        bytes,
-                    },
-                )
-            }
-            Upper::Ack { transfer, next } => {
-                let answer = self.answer_to(source, transfer, next);
-                let landed = self.land(alloc, now, packet, answer, None)?;
-                self.acknowledge(source, transfer, next);
-                Ok(landed)
-            }
+            } => Upper::Ack {
+                transfer,
+                next: next_behind(self.next_of(source, transfer), first, bytes),
+            },
+            Upper::Ack { transfer, next } => self.segment_behind(source, transfer, next),
         }
     }
 
-    // The place of the first transfer to a destination that isn't done.
-    fn due_to(&self, dst: Address) -> Option<usize> {
-        let mut due = self.due.range((dst, 0)..=(dst, usize::MAX));
-        match due.next() {
-            Some(key) => Some(key.1),
-            None => None,
-        }
-    }
-
-    // Hands a packet to the host, with what is answered.
-    fn land(
-        &mut self,
-        alloc: Global,
-        now: Time,
-        packet: Packet,
-        answer: Upper,
-        range: Option<DataLine>,
-    ) -> Result<Landed, AllocError> {
-        let receipt = self.host.receive_with(alloc, now, packet, answer)?;
-        Ok(Landed { receipt, range })
-    }
-
-    // Takes a range of a packet for this host. Room for where its transfer goes on is made first.
-    fn take_range(
-        &mut self,
-        alloc: Global,
-        now: Time,
-        packet: Packet,
-        line: DataLine,
-    ) -> Result<Landed, AllocError> {
-        let key = (packet.flow.src, line.transfer);
-        let next = *self.nexts.entry(key)?.or_insert(0);
-        let transfer = line.transfer;
-        if line.first != next {
-            return self.land(alloc, now, packet, Upper::Ack { transfer, next }, None);
-        }
-        let next = next + u32::from(line.bytes);
-        let landed = self.land(
-            alloc,
-            now,
-            packet,
-            Upper::Ack { transfer, next },
-            Some(line),
-        )?;
-        if let Some(kept) = self.nexts.get_mut(&key) {
-            *kept = next;
-        }
-        Ok(landed)
-    }
-
-    // What an acknowledgement is answered with.
-    fn answer_to(&self, source: Address, transfer: u16, next: u32) -> Upper {
+    // The segment behind what the source acknowledges of a transfer.
+    fn segment_behind(&self, source: Address, transfer: u16, next: u32) -> Upper
+        ensures segment { (files : Files) → Knows self.now files
+            → result ≡ answer_to files source (Upper.Ack transfer next) }
+        ensures fits { IsUpper result }
+    {
         let place = usize::from(transfer);
         let Some(sent) = self.transfers.get(place) else {
             return Upper::Nothing;
@@ -282,11 +313,46 @@ impl Courier {
         if !sent.is_more(source, next) || next >= sent.size {
             return Upper::Nothing;
         }
-        sent.acknowledged(next).segment(place)
+        sent.acknowledged(next).next_segment(place)
     }
 
-    // Takes an acknowledgement: a transfer of which all is acknowledged is done.
-    fn acknowledge(&mut self, source: Address, transfer: u16, next: u32) {
+    // Keeps what an upper part of a source says.
+    fn keep(&mut self, source: Address, upper: Upper)
+        requires upper { IsUpper upper }
+        requires room { HasRoom self.old.nexts source upper }
+        ensures knows { (files : Files) → Knows self.old files → Knows self.new (after_upper files source upper) }
+        ensures rest { self.new.host ≡ self.old.host }
+    {
+        match upper {
+            Upper::Nothing => {}
+            Upper::Data {
+                transfer,
+                first,
+                bytes,
+            } => self.deliver(source, transfer, first, bytes),
+            Upper::Ack { transfer, next } => self.acknowledge(source, transfer, next),
+        }
+    }
+
+    // Keeps where the next range begins, once a range came.
+    fn deliver(&mut self, source: Address, transfer: u16, first: u32, bytes: u16)
+        requires upper { IsUpper (Upper.Data transfer first bytes) }
+        requires room { HasRoom self.old.nexts source (Upper.Data transfer first bytes) }
+        ensures knows { (files : Files) → Knows self.old files
+            → Knows self.new (after_upper files source (Upper.Data transfer first bytes)) }
+        ensures rest { self.new.host ≡ self.old.host }
+    {
+        if let Some(next) = self.nexts.get_mut(&(source, transfer)) {
+            *next = next_behind(*next, first, bytes);
+        }
+    }
+
+    // Keeps what is acknowledged. A transfer of which all is acknowledged isn't due any more.
+    fn acknowledge(&mut self, source: Address, transfer: u16, next: u32)
+        ensures knows { (files : Files) → Knows self.old files
+            → Knows self.new (after_upper files source (Upper.Ack transfer next)) }
+        ensures rest { self.new.host ≡ self.old.host }
+    {
         let place = usize::from(transfer);
         if place >= self.transfers.len() {
             return;
@@ -300,4 +366,29 @@ impl Courier {
             self.due.remove(&(sent.dst, place));
         }
     }
+}
+
+// Where the next range begins after one that came: behind it, where it is the next one.
+fn next_behind(next: u32, first: u32, bytes: u16) -> u32
+    requires { first + bytes < 2 ^ 32 }
+    ensures { result ≡ if first == next then next + bytes else next }
+{
+    if first == next {
+        next + u32::from(bytes)
+    } else {
+        next
+    }
+}
+
+// The first place of those that are due to a destination.
+fn first_due(due: &BTreeSet<(Address, usize)>, dst: Address) -> Option<usize>
+    ensures found { IfSome result (λ place. has_key due.now.keys dst place ≡ true) }
+    ensures first { (place : ℕ) → has_key due.now.keys dst place ≡ true → IfSome result (λ first. first ≤ place) }
+    ensures none { IfNone result ((place : ℕ) → has_key due.now.keys dst place ≡ false) }
+{
+    let (to, place) = *due.range((dst, 0)..).next()?;
+    if to != dst {
+        return None;
+    }
+    Some(place)
 }

@@ -1,10 +1,13 @@
 // A transfer of a file.
 ghost use Rattle.std.specs.Prelude.{◌≡◌, ◌≤◌};
 ghost use Rattle.tva_shim.specs.Packets.{IsUpper};
-ghost use Rattle.tva_transfer.specs.Files.{begun, is_more, is_open, segment_of};
+ghost use Rattle.tva_transfer.specs.Files.{begun, is_more, segment_of};
 
 use std::cmp;
 use tva_base::{Address, Upper};
+
+/// How many numbers of transfers there are: they have 16 bits.
+const NUMBERS: usize = 1 << 16;
 
 /// A transfer: its destination, the bytes of the file and of a segment, and how many bytes are
 /// acknowledged from the first on.
@@ -29,15 +32,8 @@ impl Transfer {
         }
     }
 
-    /// Whether not all of it is acknowledged.
-    pub(crate) fn is_open(&self) -> bool
-        ensures { result ≡ is_open self.now }
-    {
-        self.acked < self.size
-    }
-
     /// Its next segment, by its place among the transfers of its host.
-    pub(crate) fn segment(&self, place: usize) -> Upper
+    pub(crate) fn next_segment(&self, place: usize) -> Upper
         requires size { self.now.size ≤ 100000000 }
         requires segment { self.now.segment ≤ 1500 }
         ensures segment { result ≡ segment_of place self.now }
@@ -46,7 +42,7 @@ impl Transfer {
         let left = self.size.saturating_sub(self.acked);
         let bytes = cmp::min(u32::from(self.segment), left);
         Upper::Data {
-            transfer: place as u16,
+            transfer: (place % NUMBERS) as u16,
             first: self.acked,
             bytes: bytes as u16,
         }
@@ -64,10 +60,8 @@ impl Transfer {
         ensures { result ≡ record self.now { acked = next } }
     {
         Transfer {
-            dst: self.dst,
-            size: self.size,
-            segment: self.segment,
             acked: next,
+            ..*self
         }
     }
 }

@@ -1,0 +1,117 @@
+-- Which transfers are due, after a transfer begins and after more of one is acknowledged.
+use Rattle.std.proofs.Common.{◌≡◌, ℕ, ◌<◌, ◌≤◌, ◌&&◌, Bool, true, false, cond, eqb, ltb, List, [], ◌∷◌, ◌++◌, length, get_or, set, Some, None, refl, sym, ap, ◌∙◌, ⊎_elim, arith}
+use Rattle.std.specs.List.{position, position_or_len, slice_get}
+use Rattle.std.specs.Option.{option_map_or}
+use Rattle.std.proofs.lemmas.Bool.{cases_Bool, and_parts, and_right, eqb-true, lt-ltb, le-ltb, cases_lt, false≢true}
+use Rattle.std.proofs.lemmas.Bool.Decides.{nat_tests}
+use Rattle.std.proofs.lemmas.List.Sums.{position_or_len_is}
+use Rattle.std.proofs.lemmas.Option.{slice_get_past, slice_get_within, slice_get-get_or}
+use Rattle.tva_base.specs.declared.addresses.Address.{Address}
+use Rattle.tva_transfer.specs.declared.transfers.Transfer.{Transfer}
+use Rattle.tva_transfer.specs.Files.{Files, begun, is_due, segment_due, segment_of}
+use Rattle.tva_transfer.specs.Sound.{IsSized, IsSound, has_key, is_due_at}
+use Rattle.tva_transfer.proofs.Places.{slice_get-push, slice_get-set}
+
+eqb-sym : (a b : ℕ) → eqb a b ≡ eqb b a
+eqb-sym a b = grind (arith, nat_tests)
+
+started : (b is : Bool) → is ≡ true → cond (b && true) true false ≡ (b && is)
+started b is so = rw so (elim b as (λ v. cond (v && true) true false ≡ (v && true)) [ true ↦ refl | false ↦ refl ])
+
+ended : (b was is has : Bool) → is ≡ false → has ≡ (b && was) → cond (b && true) false has ≡ (b && is)
+ended b was is has none h = rw (none, h) (elim b as (λ v. cond (v && true) false (v && was) ≡ (v && false)) [ true ↦ refl | false ↦ refl ])
+
+-- a transfer begins
+pub sound_filed : (ts : List Transfer) (old new : List (Address × ℕ)) (dst : Address) (size segment : ℕ) → 1 ≤ size → size ≤ 100000000 → segment ≤ 1500 → IsSound ts old → ((d : Address) (p : ℕ) → has_key new d p ≡ cond (eqb dst.0 d.0 && eqb (length ts) p) true (has_key old d p)) → IsSound (ts ++ begun dst size segment ∷ []) new
+sound_filed ts old new dst size segment some most fits s e = record {
+  sized = λ place t here. let at = slice_get-push ts (begun dst size segment) place in ⊎_elim
+      (λ yes. let same : Some (begun dst size segment) ≡ Some t = sym (rw yes at at) ∙ here in let is : begun dst size segment ≡ t = cc in rw (← is) (most, fits))
+      (λ no. s.sized place t (sym (rw no at at) ∙ here))
+      (cases_Bool (eqb place (length ts)));
+  due = λ d p. e d p ∙ rw (eqb-sym (length ts) p, slice_get-push ts (begun dst size segment) p) (⊎_elim
+      (λ yes. let here = eqb-true p (length ts) yes in
+      let none : has_key old d p ≡ false = s.due d p ∙ rw (slice_get_past ts p (omega arith)) refl in
+      rw (yes, none) (started (eqb dst.0 d.0) (ltb 0 size) (lt-ltb 0 size (omega arith))))
+      (λ no. rw no (rw (and_right (eqb dst.0 d.0) false refl) (s.due d p)))
+      (cases_Bool (eqb p (length ts))));
+}
+
+-- a transfer that was to begin doesn't
+pub sound_undone : (ts : List Transfer) (old with new : List (Address × ℕ)) (dst : Address) → IsSound ts old → ((d : Address) (p : ℕ) → has_key with d p ≡ cond (eqb dst.0 d.0 && eqb (length ts) p) true (has_key old d p)) → ((d : Address) (p : ℕ) → has_key new d p ≡ cond (eqb dst.0 d.0 && eqb (length ts) p) false (has_key with d p)) → IsSound ts new
+sound_undone ts old with new dst s e u = record {
+  sized = s.sized;
+  due = λ d p. ⊎_elim
+      (λ yes. let here = eqb-true (length ts) p (and_parts (eqb dst.0 d.0) (eqb (length ts) p) yes).1 in
+      u d p ∙ rw (yes, slice_get_past ts p (omega arith)) refl)
+      (λ no. u d p ∙ rw (no, e d p) (rw no (s.due d p)))
+      (cases_Bool (eqb dst.0 d.0 && eqb (length ts) p));
+}
+
+-- more of a transfer is acknowledged: all of it, or not
+module _ (ts : List Transfer) (old new : List (Address × ℕ)) (place next : ℕ) (t : Transfer) (here : slice_get ts place ≡ Some t) (s : IsSound ts old) where
+  sized : (p : ℕ) (u : Transfer) → slice_get (set ts place (record t { acked = next })) p ≡ Some u → IsSized u
+  sized p u at = let e = slice_get-set ts place (record t { acked = next }) p in ⊎_elim
+      (λ yes. let same = eqb-true p place yes in
+      let now : slice_get ts p ≡ Some t = rw same here in
+      let is : Some (record t { acked = next }) ≡ Some u = sym (rw (yes, now) at e) ∙ at in
+      let is' : record t { acked = next } ≡ u = cc in
+      rw (← is') (s.sized place t here))
+      (λ no. s.sized p u (sym (rw no at e) ∙ at))
+      (cases_Bool (eqb p place))
+
+  pub sound_acked : t.acked < next → next < t.size → IsSound (set ts place (record t { acked = next })) old
+  sound_acked more less = record {
+    sized = sized;
+    due = λ d p. s.due d p ∙ rw (slice_get-set ts place (record t { acked = next }) p) (⊎_elim
+        (λ yes. let same = eqb-true p place yes in
+        let now : slice_get ts p ≡ Some t = rw same here in
+        rw (yes, now) (ap (λ b. eqb t.dst.0 d.0 && b) (lt-ltb t.acked t.size (omega arith) ∙ sym (lt-ltb next t.size less))))
+        (λ no. rw no refl)
+        (cases_Bool (eqb p place)));
+  }
+
+  pub sound_done : t.size ≤ next → ((d : Address) (p : ℕ) → has_key new d p ≡ cond (eqb t.dst.0 d.0 && eqb place p) false (has_key old d p)) → IsSound (set ts place (record t { acked = next })) new
+  sound_done all e = record {
+    sized = sized;
+    due = λ d p. e d p ∙ rw (eqb-sym place p, slice_get-set ts place (record t { acked = next }) p) (⊎_elim
+        (λ yes. let same = eqb-true p place yes in
+        let now : slice_get ts p ≡ Some t = rw same here in
+        let none = le-ltb next t.size all in
+        let before = s.due d p in
+        rw (yes, now) (ended (eqb t.dst.0 d.0) (ltb t.acked t.size) (ltb next t.size) (has_key old d p) none (before ∙ rw now refl)))
+        (λ no. rw no (rw (and_right (eqb t.dst.0 d.0) false refl) (s.due d p)))
+        (cases_Bool (eqb p place)));
+  }
+
+-- ## the first one that is due
+
+due_or : (ts : List Transfer) (dst : Address) (k : ℕ) (t : Transfer) → k < length ts → is_due dst (get_or ts k t) ≡ is_due_at ts dst k
+due_or ts dst k t within = sym (ap (λ o. option_map_or (is_due dst) o false) (slice_get-get_or ts k t within))
+
+pub segment_due-first : (files : Files) (dst : Address) (place : ℕ) (t : Transfer) → slice_get files.transfers place ≡ Some t → is_due_at files.transfers dst place ≡ true → ((k : ℕ) → k < place → is_due_at files.transfers dst k ≡ false) → segment_due files dst ≡ Some (segment_of place t)
+unfolding segment_due
+segment_due-first files dst place t at due none =
+    let ts = files.transfers in
+    let within : place < length ts = slice_get_within ts place t at in
+    let first : position_or_len (is_due dst) ts ≡ place = position_or_len_is (is_due dst) ts place t (omega (arith, within))
+    (λ k before. due_or ts dst k t (omega (arith, within)) ∙ none k before)
+    (λ within. due_or ts dst place t within ∙ due) in
+    rw (first, lt-ltb place (length ts) within, at) refl
+
+none_at : (ts : List Transfer) (dst : Address) → ((k : ℕ) → is_due_at ts dst k ≡ false) → position (is_due dst) ts ≡ None
+none_at [] dst none = refl
+none_at (x ∷ xs) dst none =
+    let all : position_or_len (is_due dst) (x ∷ xs) ≡ length (x ∷ xs) = position_or_len_is (is_due dst) (x ∷ xs) (length (x ∷ xs)) x (omega arith)
+    (λ k before. due_or (x ∷ xs) dst k x before ∙ none k)
+    (λ within. absurd (omega (arith, within))) in
+    rw (all, le-ltb (length (x ∷ xs)) (length (x ∷ xs)) (omega arith)) refl
+
+pub segment_due-none : (files : Files) (dst : Address) → ((k : ℕ) → is_due_at files.transfers dst k ≡ false) → segment_due files dst ≡ None
+unfolding segment_due
+segment_due-none files dst none = rw (none_at files.transfers dst none) refl
+
+pub due_within : (ts : List Transfer) (dst : Address) (place : ℕ) → is_due_at ts dst place ≡ true → place < length ts
+due_within ts dst place due = ⊎_elim
+    (λ within. within)
+    (λ past. let none : is_due_at ts dst place ≡ false = rw (slice_get_past ts place past) refl in absurd (false≢true (sym none ∙ due)))
+    (cases_lt place (length ts))

@@ -1,0 +1,5 @@
+pub mod Places
+pub mod Compared
+pub mod Knowing
+pub mod Due
+pub mod Standing

@@ -1,0 +1,15 @@
+use Rattle.std.proofs.Common.{sym, ap, ◌∙◌, refl}
+use Rattle.tva_base.specs.declared.packet.Upper.TheVariants.{Ack}
+use Rattle.tva_transfer.specs.Files.{answer_to}
+use Rattle.tva_transfer.proofs.Knowing.{answer_to-data, behind}
+use Rattle.tva_transfer.proofs.courier.Courier.answer_to.Goals as goal
+
+pub returns-in-Nothing-clause-answer : goal.returns-in-Nothing-clause-answer
+unfolding answer_to
+returns-in-Nothing-clause-answer c files k = rw c.in-Nothing.is refl
+
+pub returns-in-Data-clause-answer : goal.returns-in-Data-clause-answer
+returns-in-Data-clause-answer c files k =
+    rw c.in-Data.is
+    (ap (λ n. Ack c.in-Data.transfer n) (c.next_behind.ensures ∙ ap (λ n. behind n c.in-Data.first c.in-Data.bytes) c.next_of.ensures)
+    ∙ sym (answer_to-data c.args.self.now files k c.args.source c.in-Data.transfer c.in-Data.first c.in-Data.bytes))

@@ -1,0 +1,33 @@
+-- Kit: what holds of every courier of the program, for the invariant of its model.
+use Rattle.std.specs.Prelude.{ℕ, ◌≡◌, ◌≤◌, ◌==◌, ◌&&◌, Bool, false, List, slice_get, IsSome, Some}
+use Rattle.std.specs.List.{list_any}
+use Rattle.std.specs.Map.{lookup}
+use Rattle.std.specs.Option.{option_map_or}
+use Rattle.tva_base.specs.declared.addresses.Address.{Address}
+use Rattle.tva_base.specs.declared.packet.Upper.{Upper}
+use Rattle.tva_base.specs.declared.packet.Upper.TheVariants.{Nothing, Data, Ack}
+use Rattle.tva_transfer.specs.declared.transfers.Transfer.{Transfer}
+use Rattle.tva_transfer.specs.Files.{is_due}
+
+-- a file of at most 100,000,000 bytes, in segments of at most 1,500
+abbrev pub IsSized : Transfer → Type 0
+IsSized t = (t.size ≤ 100000000) × (t.segment ≤ 1500)
+
+-- the transfer at the place goes to the destination and isn't done
+abbrev pub is_due_at : List Transfer → Address → ℕ → Bool
+is_due_at ts dst place = option_map_or (is_due dst) (slice_get ts place) false
+
+abbrev pub has_key : List (Address × ℕ) → Address → ℕ → Bool
+has_key keys dst place = list_any (λ key. (dst.0 == key.0.0) && (place == key.1)) keys
+
+-- the keys are the destinations and the places of the transfers that aren't done
+pub record IsSound (ts : List Transfer) (keys : List (Address × ℕ)) : Type 0 where
+  pub sized : (place : ℕ) (t : Transfer) → slice_get ts place ≡ Some t → IsSized t
+  pub due : (dst : Address) (place : ℕ) → has_key keys dst place ≡ is_due_at ts dst place
+
+-- there is room for where the next range begins of what a source sends
+abbrev pub HasRoom : List ((Address × ℕ) × ℕ) → Address → Upper → Type 0
+HasRoom nexts source Nothing = Unit {0}
+HasRoom nexts source (Data transfer first bytes) =
+    IsSome (lookup (λ key. (source.0 == key.0.0) && (transfer == key.1)) nexts)
+HasRoom nexts source (Ack transfer next) = Unit {0}
