@@ -25,24 +25,25 @@ use Rattle.tva_host.specs.Calls.{Call, history_of}
 use Rattle.tva_host.proofs.Calls.{history_of-push}
 use Rattle.tva_plan.specs.declared.config.NodePlan.TheVariants as plans
 use Rattle.tva_trace.specs.declared.rows.RowWhat.{RowWhat}
-use Rattle.tva_trace.specs.declared.rows.RowWhat.TheVariants.{Send, Inject}
+use Rattle.tva_trace.specs.declared.rows.RowWhat.TheVariants.{Send, Inject, File, Tick}
 use Rattle.tva_log.specs.declared.kinds.Input.{Input}
 use Rattle.tva_log.specs.declared.kinds.Input.TheVariants.{FromTrace, Arrival}
 use Rattle.tva_log.specs.Sites.{Site, IsSite, limits_out}
-use Rattle.tva_log.specs.Entries.{Arrived, Sent, Received, Entry, Took, Started, input_time, entry_time, entry_rank}
-use Rattle.tva_log.specs.Parts.{charged, charge_of, charges, call_of_row, call_of_input, call_of, calls, port_entry, port_logs}
+use Rattle.tva_log.specs.Entries.{Content, Arrived, Sent, Ticked, Received, Entry, Took, Started, input_time, entry_time, entry_rank}
+use Rattle.tva_log.specs.Parts.{charged, charge_of, charges, call_of_row, call_of_input, call_of, calls, packet_sent, port_entry, port_logs}
 use Rattle.tva_log.specs.Contents.{content}
 use Rattle.tva_log.specs.NodeLog.{start_after, starts, due, GoesOn, IsNodeLog}
 use Rattle.tva_joins.specs.Joins.{IsInOrder}
 use Rattle.tva_joins.proofs.Joins.{each-append, each-weaker, each-filter, times_from}
 use Rattle.tva_promises.specs.Sizes.{IsSizedInput, IsSizedEntry}
+use Rattle.tva_promises.proofs.Transfers.{IsSizedTaken, files_sized, input_taken}
 use Rattle.tva_promises.proofs.Made.{AreFew, IsSizedCall, call_few}
 use Rattle.tva_promises.proofs.Waits.{AreSized, none_waits, waits_sized, start_sized}
 use Rattle.tva_promises.proofs.Links.{IsGood, number_is, start_follows, started_good, logs_more, legal_more, logs_past}
 use Rattle.tva_promises.proofs.Entries.{HasFew, IsNextCharge, took_good, took_charge}
 
 -- a log whose links' logs are legal and hold what is within the sizes, whose charges of each boot a cache can have and
--- are timely, and whose host took no grant with too many capabilities
+-- are timely, whose host took no grant with too many capabilities, and whose rows are within the sizes
 pub record IsSound (site : Site) (log : List Entry) : Type 0 where
   pub legal : (link : ℕ) (l : LinkLimits) → limits_out site link ≡ Some (link, l) → IsLegal l (port_logs log link)
   pub waits : (link : ℕ) (l : LinkLimits) → limits_out site link ≡ Some (link, l) → AreSized (waiting_after l (port_logs log link))
@@ -50,6 +51,7 @@ pub record IsSound (site : Site) (log : List Entry) : Type 0 where
   pub grants : (plan : RouterPlan) → site.plan ≡ plans.Router plan → (boot : ℕ)
       → AreNext plan.slots plan.clock_offset [] (charges_of_boot plan boot (charges log)) × AreTimely plan.clock_offset (charges_of_boot plan boot (charges log))
   pub few : HasFew site log
+  pub taken : AllByRecursion IsSizedTaken log
 
 -- what an entry is after those before it
 abbrev IsMade : Site → List Entry → Entry → Type 0
@@ -65,7 +67,8 @@ charge_time (Took input (Arrived from packet fate onward)) = by_charge fate.char
     by_charge None = tt
     by_charge (Some g) = refl
 charge_time (Took input (Sent made outcome)) = tt
-charge_time (Took input (Received from packet receipt went)) = tt
+charge_time (Took input Ticked) = tt
+charge_time (Took input (Received from packet receipt went range)) = tt
 charge_time (Started time link class packet) = tt
 
 past_option : (now t : ℕ) (o : Option Charge) (cs : List Charge) → t ≤ now → IfSome o (λ c. c.time ≡ t) → AllByRecursion (λ c. c.time ≤ now) cs → AllByRecursion (λ c. c.time ≤ now) (cons_option o cs)
@@ -114,13 +117,19 @@ few_option : (plan : HostPlan) (cs : List Call) (o : Option Call) → AreFew (hi
 few_option plan cs None k s = subst (λ (z : List Call). AreFew (history_of plan z).contacts) (sym (append-nil cs)) k
 few_option plan cs (Some c) k s = subst (λ (h : History). AreFew h.contacts) (sym (history_of-push plan cs c)) (call_few plan (history_of plan cs) c s k)
 
-row_call : (now : ℕ) (what : RowWhat) → IsSizedCall (call_of_row now what)
-row_call now (Send dst payload) = tt
-row_call now (Inject flow payload carried) = tt
+row_call : (now : ℕ) (what : RowWhat) (packet : PacketData) → IsSizedCall (call_of_row now what packet)
+row_call now (Send dst payload) packet = tt
+row_call now (Inject flow payload carried) packet = tt
+row_call now (File dst size segment) packet = tt
+row_call now (Tick dst) packet = tt
 
-input_call : (input : Input) → IsSizedInput input → IsSizedCall (call_of_input input)
-input_call (FromTrace row) s = row_call row.time.0 row.what
-input_call (Arrival time link packet) s = s
+sent_call : (now : ℕ) (what : RowWhat) (o : Option PacketData) → IfSome (option_map (call_of_row now what) o) IsSizedCall
+sent_call now what None = tt
+sent_call now what (Some packet) = row_call now what packet
+
+input_call : (input : Input) (made : Content) → IsSizedInput input → IfSome (call_of_input input made) IsSizedCall
+input_call (FromTrace row) made s = sent_call row.time.0 row.what (packet_sent made)
+input_call (Arrival time link packet) made s = s
 
 -- ## what starts
 
@@ -139,7 +148,7 @@ module _ (site : Site) (valid : IsSite site) where
 
   module _ (before : List Entry) (s : IsSound site before) where
     entry_good : (e : Entry) (link : ℕ) (l : LinkLimits) → limits_out site link ≡ Some (link, l) → AllByRecursion (λ x. entry_time x ≤ entry_time e) before → IsMade site before e → IfSome (port_entry link e) (IsGood l (port_logs before link))
-    entry_good (Took input made) link l out past m = took_good site link l before input made valid out (logs_past link (input_time input) before past) s.few m.1 m.0
+    entry_good (Took input made) link l out past m = took_good site link l before input made valid out (logs_past link (input_time input) before past) s.few (λ plan. files_sized plan before s.taken) m.1 m.0
     entry_good (Started time on class p) link l out past m = started_good site link on l before time class p out (logs_past link time before past) m
 
     entry_sized : (e : Entry) → AllByRecursion (λ x. entry_time x ≤ entry_time e) before → IsMade site before e → IsSizedEntry e
@@ -157,8 +166,12 @@ module _ (site : Site) (valid : IsSite site) where
     entry_charge (Started at link class p) plan is past time m = tt
 
     entry_call : (e : Entry) → IsMade site before e → IfSome (call_of e) IsSizedCall
-    entry_call (Took input made) m = input_call input m.1
+    entry_call (Took input made) m = input_call input made m.1
     entry_call (Started time link class p) m = tt
+
+    entry_taken : (e : Entry) → IsMade site before e → IsSizedTaken e
+    entry_taken (Took input made) m = input_taken input made m.1
+    entry_taken (Started time link class p) m = tt
 
     waits_option : (l : LinkLimits) (log : List port.Entry) (o : Option port.Entry) → IsLegal l log → AreSized (waiting_after l log) → IfSome o (IsGood l log) → AreSized (waiting_after l (log ++ cons_option o []))
     waits_option l log None g w k = subst (λ (z : List port.Entry). AreSized (waiting_after l z)) (sym (append-nil log)) w
@@ -175,6 +188,7 @@ module _ (site : Site) (valid : IsSite site) where
           subst (λ (z : List Charge). AreCharged plan z) (sym (charges_more plan boot before e))
           (charged_option plan boot (entry_time e) (charges before) (charge_of e) (s.grants plan is boot) (charge_time e) (entry_charge e plan is past time m));
       few = λ plan is. subst (λ (z : List Call). AreFew (history_of plan z).contacts) (sym (calls_more before e)) (few_option plan (calls before) (call_of e) (s.few plan is) (entry_call e m));
+      taken = each-append IsSizedTaken before (e ∷ []) s.taken (entry_taken e m, tt);
     }
 
   -- ## the whole log
@@ -186,6 +200,7 @@ module _ (site : Site) (valid : IsSite site) where
     sizes = tt;
     grants = λ plan is boot. (tt, All-nil (λ (c : Charge). IsWithinSeconds plan.clock_offset c.time c.grant));
     few = λ plan is. tt;
+    taken = tt;
   }
 
   earlier : (m : ℕ) (e : Entry) (before : List Entry) → m ≤ entry_time e → AllByRecursion (λ x. entry_time x ≤ m) before → AllByRecursion (λ x. entry_time x ≤ entry_time e) before

@@ -19,20 +19,22 @@ use Rattle.tva_router.specs.Boots.{charges_at}
 use Rattle.tva_host.specs.declared.made.Made.{Made}
 use Rattle.tva_host.specs.Calls.{history_of}
 use Rattle.tva_host.specs.Receiving.{receipt_of}
+use Rattle.tva_transfer.specs.Files.{answered}
 use Rattle.tva_plan.specs.declared.config.NodePlan.{NodePlan}
 use Rattle.tva_plan.specs.declared.config.NodePlan.TheVariants as plans
 use Rattle.tva_trace.specs.declared.rows.RowWhat.{RowWhat}
-use Rattle.tva_trace.specs.declared.rows.RowWhat.TheVariants.{Send, Inject}
+use Rattle.tva_trace.specs.declared.rows.RowWhat.TheVariants.{Send, Inject, File, Tick}
 use Rattle.tva_log.specs.declared.kinds.Input.{Input}
 use Rattle.tva_log.specs.declared.kinds.Input.TheVariants.{FromTrace, Arrival}
 use Rattle.tva_log.specs.Sites.{Site, IsSite, IsPlanned, limits_out}
 use Rattle.tva_log.specs.Entries.{Content, Arrived, Entry, Took, input_time}
-use Rattle.tva_log.specs.Parts.{charged, charge_of, charges, calls, content_at, queued_at, reply_at, port_logs}
-use Rattle.tva_log.specs.Contents.{packet_of_row, next_id, handled, arrived, routed, goes_out, made_for, hosted, content_by, content}
+use Rattle.tva_log.specs.Parts.{charged, charge_of, charges, calls, content_at, queued_at, reply_at, port_logs, files}
+use Rattle.tva_log.specs.Contents.{packet_of_row, next_id, handled, arrived, routed, goes_out, made_for, hosted, sent_out, content_by, content}
 use Rattle.tva_promises.specs.Sizes.{IsSizedWhat, IsSizedInput}
 use Rattle.tva_promises.specs.Promises.{IsHandled}
 use Rattle.tva_promises.proofs.Packets.{sized_length, onward_sized}
-use Rattle.tva_promises.proofs.Made.{AreFew, made_sized, receipt_sized}
+use Rattle.tva_promises.proofs.Transfers.{AreSizedFiles, answered_upper}
+use Rattle.tva_promises.proofs.Made.{AreFew, IsSizedMade, made_sized, receipt_sized}
 use Rattle.tva_promises.proofs.Charging.{IsReady, charge_next}
 use Rattle.tva_promises.proofs.Fates.{at_limit, on_way, is_fate}
 use Rattle.tva_promises.proofs.Links.{IsGood, link_way, router_way, queued_good}
@@ -51,12 +53,14 @@ record Came (sizes : Type 0) (plan : RouterPlan) (before : List Entry) (now : �
 
 came_row : (number : ℕ) (plan : RouterPlan) (before : List Entry) (now : ℕ) (what : RowWhat) (made : Content) → option_map (arrived plan before now None) (packet_of_row (next_id number before) what) ≡ Some made → Came (IsSizedWhat what) plan before now made
 came_row number plan before now (Send dst payload) made e = absurd (cc)
+came_row number plan before now (File dst size segment) made e = absurd (cc)
+came_row number plan before now (Tick dst) made e = absurd (cc)
 came_row number plan before now (Inject flow payload carried) made e =
     let p : PacketData = made_packet (next_id number before) flow payload carried in
     record {
       from = None;
       packet = p;
-      sized = λ s. record { packet = record { hops = omega arith; payload = s.0; carried = s.1 }; few = s.2 };
+      sized = λ s. record { packet = record { hops = omega arith; payload = s.0; carried = s.1; upper = tt; fills = tt }; few = s.2 };
       is = same_some (arrived plan before now None p) made e;
     }
 
@@ -104,14 +108,21 @@ reply_good : (site : Site) (plan : HostPlan) (link : ℕ) (l : LinkLimits) (befo
 reply_good site plan link l before now None out past s = tt
 reply_good site plan link l before now (Some m) out past s = sent_good site plan link l before now m.packet out past s
 
+row_good : (site : Site) (plan : HostPlan) (link : ℕ) (l : LinkLimits) (before : List Entry) (now : ℕ) (made : Option Made) → limits_out site link ≡ Some (link, l) → port.NoneLater now (port_logs before link) → IfSome made IsSizedMade
+    → IsGoodAt l before link now (sent_out site plan before made)
+row_good site plan link l before now None out past s = tt
+row_good site plan link l before now (Some m) out past s = sent_good site plan link l before now m.packet out past s
+
 host_good : (site : Site) (plan : HostPlan) (link : ℕ) (l : LinkLimits) (before : List Entry) (input : Input) → limits_out site link ≡ Some (link, l) → port.NoneLater (input_time input) (port_logs before link) → AreFew (history_of plan (calls before)).contacts
-    → IsSizedInput input → IsGoodAt l before link (input_time input) (hosted site plan before input)
-host_good site plan link l before (FromTrace row) out past few s =
+    → AreSizedFiles (files plan before) → IsSizedInput input → IsGoodAt l before link (input_time input) (hosted site plan before input)
+host_good site plan link l before (FromTrace row) out past few known s =
     let h = history_of plan (calls before) in
-    sent_good site plan link l before row.time.0 (made_for site.number plan h row.time.0 row.what).packet out past (made_sized site.number plan h row.time.0 row.what s few)
-host_good site plan link l before (Arrival time from packet) out past few s =
+    row_good site plan link l before row.time.0 (made_for site.number plan h (files plan before) row.time.0 row.what) out past (made_sized site.number plan h (files plan before) row.time.0 row.what s few known)
+host_good site plan link l before (Arrival time from packet) out past few known s =
     let h = history_of plan (calls before) in
-    reply_good site plan link l before time.0 (receipt_of site.number plan h time.0 packet).reply out past (receipt_sized site.number plan h time.0 packet few s)
+    let above = answered plan.address (files plan before) packet in
+    reply_good site plan link l before time.0 (receipt_of site.number plan h time.0 packet above).reply out past
+    (receipt_sized site.number plan h time.0 packet above few s (answered_upper plan.address (files plan before) packet known))
 
 -- ## at a node
 
@@ -119,16 +130,20 @@ host_good site plan link l before (Arrival time from packet) out past few s =
 abbrev pub HasFew : Site → List Entry → Type 0
 HasFew site before = (plan : HostPlan) → site.plan ≡ plans.Host plan → AreFew (history_of plan (calls before)).contacts
 
+-- and of its files
+abbrev pub HasSizedFiles : List Entry → Type 0
+HasSizedFiles before = (plan : HostPlan) → AreSizedFiles (files plan before)
+
 took_by : (site : Site) (plan : NodePlan) (link : ℕ) (l : LinkLimits) (before : List Entry) (input : Input) (made : Content) → IsSite site → site.plan ≡ plan → limits_out site link ≡ Some (link, l)
-    → port.NoneLater (input_time input) (port_logs before link) → HasFew site before → IsSizedInput input → content_by site plan before input ≡ Some made → IsGoodAt l before link (input_time input) made
-took_by site (plans.Router plan) link l before input made valid e out past few s c = router_good site plan link l before input made valid e out past s c
-took_by site (plans.Host plan) link l before input made valid e out past few s c =
-    subst (IsGoodAt l before link (input_time input)) (same_some (hosted site plan before input) made c) (host_good site plan link l before input out past (few plan e) s)
+    → port.NoneLater (input_time input) (port_logs before link) → HasFew site before → HasSizedFiles before → IsSizedInput input → content_by site plan before input ≡ Some made → IsGoodAt l before link (input_time input) made
+took_by site (plans.Router plan) link l before input made valid e out past few known s c = router_good site plan link l before input made valid e out past s c
+took_by site (plans.Host plan) link l before input made valid e out past few known s c =
+    subst (IsGoodAt l before link (input_time input)) (same_some (hosted site plan before input) made c) (host_good site plan link l before input out past (few plan e) (known plan) s)
 
 -- what goes to a link has its place there
 pub took_good : (site : Site) (link : ℕ) (l : LinkLimits) (before : List Entry) (input : Input) (made : Content) → IsSite site → limits_out site link ≡ Some (link, l)
-    → port.NoneLater (input_time input) (port_logs before link) → HasFew site before → IsSizedInput input → content site before input ≡ Some made → IsGoodAt l before link (input_time input) made
-took_good site link l before input made valid out past few s c = took_by site site.plan link l before input made valid refl out past few s c
+    → port.NoneLater (input_time input) (port_logs before link) → HasFew site before → HasSizedFiles before → IsSizedInput input → content site before input ≡ Some made → IsGoodAt l before link (input_time input) made
+took_good site link l before input made valid out past few known s c = took_by site site.plan link l before input made valid refl out past few known s c
 
 -- ## charges
 

@@ -1,4 +1,5 @@
 pub mod Packets
+pub mod Transfers
 pub mod Made
 pub mod Waits
 pub mod Charging

@@ -199,7 +199,8 @@ reply_time link time (Some m) (Some outcome) = queued_time link time outcome (cl
 pub port_time : (link : ℕ) (e : Entry) → IfSome (port_entry link e) (λ x. port.entry_time x ≡ entry_time e)
 port_time link (Took input (Arrived from packet fate onward)) = queued_time link (input_time input) fate.outcome fate.class onward
 port_time link (Took input (entry.Sent m outcome)) = queued_time link (input_time input) outcome (class_by_shim m.packet.carried) m.packet
-port_time link (Took input (entry.Received from packet receipt went)) = reply_time link (input_time input) receipt.reply went
+port_time link (Took input entry.Ticked) = tt
+port_time link (Took input (entry.Received from packet receipt went range)) = reply_time link (input_time input) receipt.reply went
 port_time link (Started time on class packet) = elim (link == on) as (λ b. IfSome (cond b (Some (port.Started time class packet)) None) (λ x. port.entry_time x ≡ time)) [ true ↦ refl | false ↦ tt ]
 
 past_option : (time t : ℕ) (o : Option port.Entry) (xs : List port.Entry) → t ≤ time → IfSome o (λ x. port.entry_time x ≡ t) → AllByRecursion (λ x. port.entry_time x ≤ time) xs → AllByRecursion (λ x. port.entry_time x ≤ time) (cons_option o xs)

@@ -6,6 +6,8 @@ use Rattle.std.proofs.lemmas.List.{length-map}
 use Rattle.tva_base.specs.declared.addresses.Address.{Address}
 use Rattle.tva_base.specs.declared.packet.Flow.{Flow}
 use Rattle.tva_base.specs.declared.packet.Rights.{Rights}
+use Rattle.tva_base.specs.declared.packet.Upper.{Upper}
+use Rattle.tva_base.specs.declared.packet.Upper.TheVariants as upper
 use Rattle.tva_base.specs.declared.plan.HostPlan.{HostPlan}
 use Rattle.tva_shim.specs.declared.entries.Entry.{Entry}
 use Rattle.tva_shim.specs.declared.kinds.Kind.{Kind}
@@ -15,9 +17,8 @@ use Rattle.tva_shim.specs.declared.kinds.ReturnInfo.TheVariants as backs
 use Rattle.tva_shim.specs.declared.packets.Carried.{Carried}
 use Rattle.tva_shim.specs.declared.packets.Carried.TheVariants as carried
 use Rattle.tva_shim.specs.Shims.{entries_of, caps_of, granted_caps}
-use Rattle.tva_shim.specs.Layout.{return_size}
 use Rattle.tva_shim.specs.Shows.{back_in}
-use Rattle.tva_shim.specs.Packets.{PacketData, HasFew, CarriesFew, IsSizedPacket}
+use Rattle.tva_shim.specs.Packets.{PacketData, Fills, HasFew, CarriesFew, IsSizedPacket, IsUpper, upper_size}
 use Rattle.tva_caps.specs.Formula.{capability_of}
 use Rattle.tva_policy.specs.Grants.{Deed, Sent, decision}
 use Rattle.tva_sender.specs.declared.shape.Shape.{Shape}
@@ -28,15 +29,17 @@ use Rattle.tva_sender.specs.Shapes.{nonce_of, list_length, nonce_length, renews,
 use Rattle.tva_sender.specs.Book.{of_peer}
 use Rattle.tva_host.specs.declared.made.Made.{Made}
 use Rattle.tva_host.specs.History.{History, offered, with_deed}
-use Rattle.tva_host.specs.Sending.{is_legacy, shim_of, carried_by, next_packet, next_shape, with_made, intended, after_intending}
-use Rattle.tva_host.specs.Receiving.{met_by, ClaimData, claim_of, claim_in, shows_grant, is_nothing, notice_for, granted, answer_to, reply_of, after_reply, before_reply, stray, received, receipt_of, after_receipt}
+use Rattle.tva_host.specs.Sending.{is_legacy, shim_of, carried_by, next_packet, next_shape, next_with, with_made, intended, after_intending}
+use Rattle.tva_host.specs.Receiving.{met_by, ClaimData, claim_of, claim_in, shows_grant, is_nothing, notice_for, granted, answer_to, body_of, brought_by, reply_of, after_reply, before_reply, stray, received, receipt_of, after_receipt}
 use Rattle.tva_host.specs.Calls.{Call, Intended, Injected, Received, after_call}
+use Rattle.tva_transfer.specs.Files.{Files, first_segment, segment_due}
 use Rattle.tva_trace.specs.declared.rows.RowWhat.{RowWhat}
-use Rattle.tva_trace.specs.declared.rows.RowWhat.TheVariants.{Send, Inject}
-use Rattle.tva_log.specs.Contents.{made_for}
+use Rattle.tva_trace.specs.declared.rows.RowWhat.TheVariants.{Send, Inject, File, Tick}
+use Rattle.tva_log.specs.Contents.{made_for, sent_with}
 use Rattle.tva_joins.proofs.Joins.{each-append}
 use Rattle.tva_promises.specs.Sizes.{IsSizedWhat}
 use Rattle.tva_promises.proofs.Packets.{IsSized}
+use Rattle.tva_promises.proofs.Transfers.{AreSizedFiles, due_upper, first_upper, upper_few, upper_fills}
 
 -- ## what a host met
 
@@ -129,19 +132,41 @@ shim_few version shape.Legacy back k b = record { entries = omega arith; caps = 
 carried_few : (version : ℕ) (s : Shape) → IsFewShape s → IsSized (carried_by version s)
 carried_few version s k = elim (is_legacy s) as (λ b. IsSized (cond b carried.Nothing (carried.Shim (shim_of version s backs.Nothing)))) [ true ↦ (tt, tt) | false ↦ (tt, shim_few version s backs.Nothing k (omega arith)) ]
 
-next_sized : (node : ℕ) (h : History) (flow : Flow) (payload : ℕ) (c : Carried) → payload ≤ 1600 → IsSized c → IsSizedPacket (next_packet node h flow payload c)
-next_sized node h flow payload c l s = record { packet = record { hops = omega arith; payload = l; carried = s.0 }; few = s.1 }
+with_sized : (node : ℕ) (h : History) (flow : Flow) (payload : ℕ) (c : Carried) (above : Upper) → payload ≤ 1600 → IsSized c → IsUpper above → Fills above payload → IsSizedPacket (next_with node h flow payload c above)
+with_sized node h flow payload c above l s u f = record { packet = record { hops = omega arith; payload = l; carried = s.0; upper = u; fills = f }; few = s.1 }
 
-intended_sized : (node : ℕ) (plan : HostPlan) (h : History) (now : ℕ) (dst : Address) (payload : ℕ) → payload ≤ 1600 → AreFew h.contacts → IsSizedPacket (intended node plan h now dst payload).packet
+next_sized : (node : ℕ) (h : History) (flow : Flow) (payload : ℕ) (c : Carried) → payload ≤ 1600 → IsSized c → IsSizedPacket (next_packet node h flow payload c)
+next_sized node h flow payload c l s = with_sized node h flow payload c upper.Nothing l s tt tt
+
+intended_sized : (node : ℕ) (plan : HostPlan) (h : History) (now : ℕ) (dst : Address) (payload : ℕ) (above : Upper) → payload ≤ 1600 → IsUpper above → Fills above payload → AreFew h.contacts
+    → IsSizedPacket (intended node plan h now dst payload above).packet
 unfolding intended
-intended_sized node plan h now dst payload l k =
+intended_sized node plan h now dst payload above l u f k =
     let flow : Flow = record { src = plan.address; dst = dst } in
-    next_sized node h flow payload (carried_by plan.version (next_shape plan h now dst payload)) l (carried_few plan.version (next_shape plan h now dst payload) (few_shape plan h now dst payload k))
+    with_sized node h flow payload (carried_by plan.version (next_shape plan h now dst payload)) above l (carried_few plan.version (next_shape plan h now dst payload) (few_shape plan h now dst payload k)) u f
+
+abbrev pub IsSizedMade : Made → Type 0
+IsSizedMade made = IsSizedPacket made.packet
+
+upper_fits : (above : Upper) → IsUpper above → upper_size above ≤ 1600
+upper_fits above u = omega (arith, upper_few above u)
+
+-- the packet that brings a segment
+segment_sized : (node : ℕ) (plan : HostPlan) (h : History) (now : ℕ) (dst : Address) (above : Upper) → IsUpper above → AreFew h.contacts → IsSizedMade (sent_with node plan h now dst above)
+segment_sized node plan h now dst above u k = intended_sized node plan h now dst (upper_size above) above (upper_fits above u) u (upper_fills above) k
+
+due_sized : (node : ℕ) (plan : HostPlan) (h : History) (now : ℕ) (dst : Address) (due : Option Upper) → IfSome due IsUpper → AreFew h.contacts → IfSome (option_map (sent_with node plan h now dst) due) IsSizedMade
+due_sized node plan h now dst None u k = tt
+due_sized node plan h now dst (Some above) u k = segment_sized node plan h now dst above u k
 
 -- what a host makes for a row
-pub made_sized : (node : ℕ) (plan : HostPlan) (h : History) (now : ℕ) (what : RowWhat) → IsSizedWhat what → AreFew h.contacts → IsSizedPacket (made_for node plan h now what).packet
-made_sized node plan h now (Send dst payload) s k = intended_sized node plan h now dst payload s k
-made_sized node plan h now (Inject flow payload c) s k = next_sized node h flow payload c s.0 (s.1, s.2)
+pub made_sized : (node : ℕ) (plan : HostPlan) (h : History) (known : Files) (now : ℕ) (what : RowWhat) → IsSizedWhat what → AreFew h.contacts → AreSizedFiles known
+    → IfSome (made_for node plan h known now what) IsSizedMade
+made_sized node plan h known now (Send dst payload) s k f = intended_sized node plan h now dst payload upper.Nothing s tt tt k
+made_sized node plan h known now (Inject flow payload c) s k f = next_sized node h flow payload c s.0 (s.1, s.2)
+made_sized node plan h known now (File dst size segment) s k f =
+    segment_sized node plan h now dst (first_segment known dst size segment) (first_upper known dst size segment s.0 s.1) k
+made_sized node plan h known now (Tick dst) s k f = due_sized node plan h now dst (segment_due known dst) (due_upper known dst f) k
 
 -- ## replies
 
@@ -174,15 +199,21 @@ answer_few : (plan : HostPlan) (deeds : List Deed) (src : Address) (c : Carried)
 answer_few plan deeds src c None k = notice_few c
 answer_few plan deeds src c (Some claim) k = granted_few (decision plan.policy deeds src claim.tags) claim.precaps k
 
-abbrev IsSizedMade : Made → Type 0
-IsSizedMade made = IsSizedPacket made.packet
+brought_few : (above : Upper) (answer : Option ReturnInfo) → IfSome answer IsFewBack → IfSome (brought_by above answer) IsFewBack
+brought_few above (Some back) b = b
+brought_few upper.Nothing None b = tt
+brought_few (upper.Data transfer first bytes) None b = omega arith
+brought_few (upper.Ack transfer next) None b = omega arith
 
-reply_sized : (node : ℕ) (plan : HostPlan) (h : History) (now : ℕ) (src : Address) (answer : Option ReturnInfo) → AreFew h.contacts → IfSome answer IsFewBack → IfSome (reply_of node plan h now src answer) IsSizedMade
-reply_sized node plan h now src None k b = tt
-reply_sized node plan h now src (Some back) k b = reply_made (next_shape plan h now src (return_size plan.version back)) (few_shape plan h now src (return_size plan.version back) k)
+reply_sized : (node : ℕ) (plan : HostPlan) (h : History) (now : ℕ) (src : Address) (answer : Option ReturnInfo) (above : Upper) → AreFew h.contacts → IfSome answer IsFewBack → IsUpper above
+    → IfSome (reply_of node plan h now src answer above) IsSizedMade
+reply_sized node plan h now src None above k b u = tt
+reply_sized node plan h now src (Some back) above k b u =
+    reply_made (next_shape plan h now src (body_of plan.version back above)) (few_shape plan h now src (body_of plan.version back above) k)
   where
-    reply_made : (s : Shape) → IsFewShape s → IsSizedPacket (next_packet node h (record { src = plan.address; dst = src }) 0 (carried.Shim (shim_of plan.version s back)))
-    reply_made s f = next_sized node h (record { src = plan.address; dst = src }) 0 (carried.Shim (shim_of plan.version s back)) (omega arith) (tt, shim_few plan.version s back f b)
+    reply_made : (s : Shape) → IsFewShape s → IsSizedPacket (next_with node h (record { src = plan.address; dst = src }) (upper_size above) (carried.Shim (shim_of plan.version s back)) above)
+    reply_made s f =
+        with_sized node h (record { src = plan.address; dst = src }) (upper_size above) (carried.Shim (shim_of plan.version s back)) above (upper_fits above u) (tt, shim_few plan.version s back f b) u (upper_fills above)
 
 back_few : (c : Carried) → CarriesFew c → IsFewBack (back_in c)
 back_few carried.Nothing f = omega arith
@@ -201,42 +232,46 @@ before_few : (plan : HostPlan) (h : History) (src : Address) (c : Carried) → A
 before_few plan h src c k f = more_few h.contacts (met_by plan.version h.contacts src (back_in c)) k (met_few plan.version h.contacts src (back_in c) (back_few c f))
 
 -- what a host answers to a packet
-pub receipt_sized : (node : ℕ) (plan : HostPlan) (h : History) (now : ℕ) (p : PacketData) → AreFew h.contacts → IsSizedPacket p → IfSome (receipt_of node plan h now p).reply IsSizedMade
+pub receipt_sized : (node : ℕ) (plan : HostPlan) (h : History) (now : ℕ) (p : PacketData) (above : Upper) → AreFew h.contacts → IsSizedPacket p → IsUpper above
+    → IfSome (receipt_of node plan h now p above).reply IsSizedMade
 unfolding receipt_of
-receipt_sized node plan h now p k s =
-    elim (eqb p.flow.dst.0 plan.address.0) as (λ b. IfSome (cond b (received node plan h now p.flow.src p.carried) stray).reply IsSizedMade) [
-      | true ↦ reply_sized node plan (before_reply plan p.flow.src p.carried h) now p.flow.src (answer_to plan h.deeds p.flow.src p.carried (claim_in p.carried))
-          (before_few plan h p.flow.src p.carried k s.few) (answer_few plan h.deeds p.flow.src p.carried (claim_in p.carried) (claim_few p.carried s.few))
+receipt_sized node plan h now p above k s u =
+    elim (eqb p.flow.dst.0 plan.address.0) as (λ b. IfSome (cond b (received node plan h now p.flow.src p.carried above) stray).reply IsSizedMade) [
+      | true ↦ reply_sized node plan (before_reply plan p.flow.src p.carried h) now p.flow.src
+          (brought_by above (answer_to plan h.deeds p.flow.src p.carried (claim_in p.carried))) above
+          (before_few plan h p.flow.src p.carried k s.few)
+          (brought_few above (answer_to plan h.deeds p.flow.src p.carried (claim_in p.carried)) (answer_few plan h.deeds p.flow.src p.carried (claim_in p.carried) (claim_few p.carried s.few))) u
       | false ↦ tt
     ]
 
 -- ## one more call
 
 abbrev pub IsSizedCall : Call → Type 0
-IsSizedCall (Intended now dst payload) = Unit {0}
+IsSizedCall (Intended now dst payload above) = Unit {0}
 IsSizedCall (Injected flow payload c) = Unit {0}
-IsSizedCall (Received now p) = IsSizedPacket p
+IsSizedCall (Received now p above) = IsSizedPacket p
 
 made_few : (plan : HostPlan) (now : ℕ) (dst : Address) (body : ℕ) (h : History) → AreFew h.contacts → AreFew (with_made plan now dst body h).contacts
 made_few plan now dst body h k = more_few h.contacts ((dst, Prepared now (next_shape plan h now dst body) (length_of plan.version (next_shape plan h now dst body) body)) ∷ []) k (tt, tt)
 
-replied_few : (plan : HostPlan) (now : ℕ) (src : Address) (answer : Option ReturnInfo) (h : History) → AreFew h.contacts → AreFew (after_reply plan now src answer h).contacts
-replied_few plan now src None h k = k
-replied_few plan now src (Some back) h k = made_few plan now src (return_size plan.version back) h k
+replied_few : (plan : HostPlan) (now : ℕ) (src : Address) (answer : Option ReturnInfo) (above : Upper) (h : History) → AreFew h.contacts → AreFew (after_reply plan now src answer above h).contacts
+replied_few plan now src None above h k = k
+replied_few plan now src (Some back) above h k = made_few plan now src (body_of plan.version back above) h k
 
 intending_few : (plan : HostPlan) (h : History) (now : ℕ) (dst : Address) (payload : ℕ) → AreFew h.contacts → AreFew (after_intending plan h now dst payload).contacts
 unfolding after_intending
 intending_few plan h now dst payload k = made_few plan now dst payload (with_deed (Sent dst) h) k
 
-receiving_few : (plan : HostPlan) (h : History) (now : ℕ) (p : PacketData) → IsSizedPacket p → AreFew h.contacts → AreFew (after_receipt plan h now p).contacts
+receiving_few : (plan : HostPlan) (h : History) (now : ℕ) (p : PacketData) (above : Upper) → IsSizedPacket p → AreFew h.contacts → AreFew (after_receipt plan h now p above).contacts
 unfolding after_receipt
-receiving_few plan h now p s k =
-    elim (eqb p.flow.dst.0 plan.address.0) as (λ b. AreFew (cond b (after_reply plan now p.flow.src (answer_to plan h.deeds p.flow.src p.carried (claim_in p.carried)) (before_reply plan p.flow.src p.carried h)) h).contacts) [
-      | true ↦ replied_few plan now p.flow.src (answer_to plan h.deeds p.flow.src p.carried (claim_in p.carried)) (before_reply plan p.flow.src p.carried h) (before_few plan h p.flow.src p.carried k s.few)
+receiving_few plan h now p above s k =
+    elim (eqb p.flow.dst.0 plan.address.0) as (λ b. AreFew (cond b (after_reply plan now p.flow.src (brought_by above (answer_to plan h.deeds p.flow.src p.carried (claim_in p.carried))) above
+    (before_reply plan p.flow.src p.carried h)) h).contacts) [
+      | true ↦ replied_few plan now p.flow.src (brought_by above (answer_to plan h.deeds p.flow.src p.carried (claim_in p.carried))) above (before_reply plan p.flow.src p.carried h) (before_few plan h p.flow.src p.carried k s.few)
       | false ↦ k
     ]
 
 pub call_few : (plan : HostPlan) (h : History) (c : Call) → IsSizedCall c → AreFew h.contacts → AreFew (after_call plan h c).contacts
-call_few plan h (Intended now dst payload) s k = intending_few plan h now dst payload k
+call_few plan h (Intended now dst payload above) s k = intending_few plan h now dst payload k
 call_few plan h (Injected flow payload c) s k = k
-call_few plan h (Received now p) s k = receiving_few plan h now p s k
+call_few plan h (Received now p above) s k = receiving_few plan h now p above s k

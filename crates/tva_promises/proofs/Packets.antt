@@ -107,5 +107,5 @@ onward_sized plan h logs now from p s =
     let k : IsSized j.carried = judge_sized plan h (arrival now from p) p.carried (s.packet.carried, s.few) in
     (elim (leb 32 p.hops) as (λ b. leb 32 p.hops ≡ b → IsSizedPacket (cond b (stopped p) (forwarded plan logs now p j)).onward) [
       | true ↦ λ e. s
-      | false ↦ λ e. record { packet = record { hops = one_further p.hops e; payload = s.packet.payload; carried = k.0 }; few = k.1 }
+      | false ↦ λ e. record { packet = record { hops = one_further p.hops e; payload = s.packet.payload; carried = k.0; upper = s.packet.upper; fills = s.packet.fills }; few = k.1 }
     ]) refl

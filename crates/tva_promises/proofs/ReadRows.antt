@@ -1,5 +1,5 @@
 -- The rows that a text stands for are within the sizes of a network.
-use Rattle.std.proofs.Common.{◌≡◌, ℕ, ◌+◌, ◌≤◌, Bool, true, false, cond, List, [], ◌∷◌, length, Option, Some, None, Result, Ok, Err, refl, sym, ap, subst, arith}
+use Rattle.std.proofs.Common.{◌≡◌, ℕ, ◌+◌, ◌≤◌, Bool, true, false, cond, List, [], ◌∷◌, ◌++◌, length, Option, Some, None, Result, Ok, Err, refl, sym, ap, subst, arith}
 use Rattle.std.specs.List.{AllByRecursion, AllZip}
 use Rattle.tva_base.specs.Addresses.{address_of}
 use Rattle.tva_base.specs.Decimal.{decimal_of}
@@ -23,8 +23,8 @@ use Rattle.tva_trace.specs.declared.said.SaidShim.TheVariants.{Bytes, Built}
 use Rattle.tva_trace.specs.declared.said.SaidWhat.{SaidWhat}
 use Rattle.tva_trace.specs.declared.said.SaidWhat.TheVariants as say
 use Rattle.tva_trace.specs.Items.{shim_of}
-use Rattle.tva_trace.specs.Rows.{Judged, ◌>>=◌, behind, demand, fault_at, field, flow_from, hold, injection_of, is_empty, is_header, kind_at, records_in, row_of, rows_from, rows_under, sending_of, then_rows, what_of}
-use Rattle.std.specs.Prelude.{nat_le, ◌==◌}
+use Rattle.tva_trace.specs.Rows.{Judged, ◌>>=◌, behind, demand, fault_at, field, filed_by, filing_of, flow_from, hold, injection_of, is_empty, is_header, kind_at, positive, records_in, row_of, rows_from, rows_under, sending_of, then_rows, ticking_of, times, what_of}
+use Rattle.std.specs.Prelude.{nat_le, nat_lt, ◌==◌}
 use Rattle.tva_trace.specs.Meaning.{AreRows, CarriedBy, Means, MeansWhat}
 use Rattle.tva_promises.specs.Sizes.{IsSizedWhat}
 use Rattle.tva_promises.proofs.SaidShims.{IsSizedShim, decimal_fits, shim_sized}
@@ -57,6 +57,8 @@ held r false u gave = absurd (cc)
 abbrev IsSizedSaid : SaidWhat → Type 0
 IsSizedSaid (say.Send dst payload) = payload ≤ 1600
 IsSizedSaid (say.Inject flow payload shim) = (payload ≤ 1600) × IsSizedShim shim
+IsSizedSaid (say.File dst size segment) = (size ≤ 100000000) × (segment ≤ 1500)
+IsSizedSaid (say.Tick dst) = Unit {0}
 
 sending_sized : (fields : List (List ℕ)) (w : SaidWhat) → sending_of fields ≡ Ok w → IsSizedSaid w
 unfolding sending_of
@@ -83,6 +85,38 @@ injection_sized plans k fields w gave =
     let sized : IsSizedSaid made = (fits, few) in
     subst IsSizedSaid (ok_one made w g4) sized))))
 
+positive_by : (b : Bool) (n m : ℕ) → cond b (Some n) None ≡ Some m → Some n ≡ Some m
+positive_by true n m e = e
+positive_by false n m e = absurd (cc)
+
+positive_is : (o : Option ℕ) (n : ℕ) → positive o ≡ Some n → o ≡ Some n
+positive_is None n e = absurd (cc)
+positive_is (Some m) n e = positive_by (nat_lt 0 m) m n e
+
+filing_sized : (fields : List (List ℕ)) (w : SaidWhat) → filing_of fields ≡ Ok w → IsSizedSaid w
+unfolding filing_of
+filing_sized fields w gave =
+    when_held IsSizedSaid (hold rule.Src (is_empty (field fields 3))) _ w gave (λ own k1 g1.
+    when_held IsSizedSaid (demand rule.Dst (address_of (field fields 4))) _ w g1 (λ dst k2 g2.
+    when_held IsSizedSaid (demand rule.Payload (positive (decimal_of (field fields 5) 1500))) _ w g2 (λ segment k3 g3.
+    when_held IsSizedSaid (demand rule.Shim (positive (decimal_of (field fields 6) 100000000))) _ w g3 (λ size k4 g4.
+    let made : SaidWhat = say.File dst size segment in
+    let short = positive_is (decimal_of (field fields 5) 1500) segment (demanded rule.Payload (positive (decimal_of (field fields 5) 1500)) segment k3) in
+    let few = positive_is (decimal_of (field fields 6) 100000000) size (demanded rule.Shim (positive (decimal_of (field fields 6) 100000000)) size k4) in
+    let sized : IsSizedSaid made = (decimal_fits (field fields 6) 100000000 size few, decimal_fits (field fields 5) 1500 segment short) in
+    subst IsSizedSaid (ok_one made w g4) sized))))
+
+ticking_sized : (fields : List (List ℕ)) (w : SaidWhat) → ticking_of fields ≡ Ok w → IsSizedSaid w
+unfolding ticking_of
+ticking_sized fields w gave =
+    when_held IsSizedSaid (hold rule.Src (is_empty (field fields 3))) _ w gave (λ own k1 g1.
+    when_held IsSizedSaid (demand rule.Dst (address_of (field fields 4))) _ w g1 (λ dst k2 g2.
+    when_held IsSizedSaid (demand rule.Payload (decimal_of (field fields 5) 0)) _ w g2 (λ zero k3 g3.
+    when_held IsSizedSaid (hold rule.Shim (is_empty (field fields 6))) _ w g3 (λ none k4 g4.
+    let made : SaidWhat = say.Tick dst in
+    let sized : IsSizedSaid made = tt in
+    subst IsSizedSaid (ok_one made w g4) sized))))
+
 what_said : (plans : List NodePlan) (k : kinds.RowKind) (fields : List (List ℕ)) (w : SaidWhat) → what_of plans k fields ≡ Ok w
     → IsSizedSaid w
 what_said plans kind.Send fields w gave = sending_sized fields w gave
@@ -90,20 +124,22 @@ what_said plans kind.Raw fields w gave = injection_sized plans kind.Raw fields w
 what_said plans kind.List fields w gave = injection_sized plans kind.List fields w gave
 what_said plans kind.Renew fields w gave = injection_sized plans kind.Renew fields w gave
 what_said plans kind.Nonce fields w gave = injection_sized plans kind.Nonce fields w gave
+what_said plans kind.File fields w gave = filing_sized fields w gave
+what_said plans kind.Tick fields w gave = ticking_sized fields w gave
 
 abbrev IsSizedRowSaid : SaidRow → Type 0
 IsSizedRowSaid said = IsSizedSaid said.what
 
-row_said : (config : Config) (number last : ℕ) (fields : List (List ℕ)) (said : SaidRow) → row_of config number last fields ≡ Ok said
+row_said : (config : Config) (number last : ℕ) (files : ℕ → ℕ) (fields : List (List ℕ)) (said : SaidRow) → row_of config number last files fields ≡ Ok said
     → IsSizedRowSaid said
 unfolding row_of
-row_said config number last fields said gave =
+row_said config number last files fields said gave =
     when_held IsSizedRowSaid (hold rule.Rows (nat_le number 1000001)) _ said gave (λ few k1 g1.
     when_held IsSizedRowSaid (hold rule.Fields (length fields == 7)) _ said g1 (λ seven k2 g2.
     when_held IsSizedRowSaid (demand rule.Time (decimal_of (field fields 0) config.horizon.0)) _ said g2 (λ time k3 g3.
     when_held IsSizedRowSaid (hold rule.Order (nat_le last time)) _ said g3 (λ later k4 g4.
     when_held IsSizedRowSaid (demand rule.Node (node_named config.nodes (field fields 1))) _ said g4 (λ node k5 g5.
-    when_held IsSizedRowSaid (demand rule.Kind (kind_at config.nodes node (field fields 2))) _ said g5 (λ k k6 g6.
+    when_held IsSizedRowSaid (demand rule.Kind (kind_at config.nodes files node (field fields 2))) _ said g5 (λ k k6 g6.
     when_held IsSizedRowSaid (what_of config.nodes k fields) _ said g6 (λ what k7 g7.
     let made : SaidRow = record { time = record { 0 = time }; node = node; what = what } in
     let sized : IsSizedRowSaid made = what_said config.nodes k fields what k7 in
@@ -119,19 +155,21 @@ behind_sized : (row : SaidRow) (r : Result (List SaidRow) TraceFault) (said : Li
 behind_sized row (Ok rest) said s more gave = subst AreSized (ok_rows (row ∷ rest) said gave) (s, more rest refl)
 behind_sized row (Err fault) said s more gave = absurd (cc)
 
-then_sized : (number : ℕ) (r : Judged SaidRow) (next : ℕ → Result (List SaidRow) TraceFault) (said : List SaidRow)
+then_sized : (number : ℕ) (r : Judged SaidRow) (next : SaidRow → Result (List SaidRow) TraceFault) (said : List SaidRow)
     → ((row : SaidRow) → r ≡ Ok row → IsSizedRowSaid row)
-    → ((time : ℕ) (rest : List SaidRow) → next time ≡ Ok rest → AreSized rest) → then_rows number r next ≡ Ok said → AreSized said
+    → ((row : SaidRow) (rest : List SaidRow) → next row ≡ Ok rest → AreSized rest) → then_rows number r next ≡ Ok said → AreSized said
 then_sized number (Err broken) next said own more gave = absurd (cc)
-then_sized number (Ok row) next said own more gave = behind_sized row (next row.time.0) said (own row refl) (more row.time.0) gave
+then_sized number (Ok row) next said own more gave = behind_sized row (next row) said (own row refl) (more row) gave
 
-rows_said : (config : Config) (number last : ℕ) (records : List (List (List ℕ))) (said : List SaidRow)
-    → rows_from config number last records ≡ Ok said → AreSized said
+rows_said : (config : Config) (number last : ℕ) (filed : List ℕ) (records : List (List (List ℕ))) (said : List SaidRow)
+    → rows_from config number last filed records ≡ Ok said → AreSized said
 unfolding rows_from
-rows_said config number last [] said gave = subst AreSized (ok_rows [] said gave) tt
-rows_said config number last (fields ∷ records) said gave =
-    then_sized number (row_of config number last fields) (λ time. rows_from config (number + 1) time records) said
-    (λ row k. row_said config number last fields row k) (λ time rest k. rows_said config (number + 1) time records rest k) gave
+rows_said config number last filed [] said gave = subst AreSized (ok_rows [] said gave) tt
+rows_said config number last filed (fields ∷ records) said gave =
+    then_sized number (row_of config number last (times filed) fields)
+    (λ row. rows_from config (number + 1) row.time.0 (filed ++ filed_by row.node row.what) records) said
+    (λ row k. row_said config number last (times filed) fields row k)
+    (λ row rest k. rows_said config (number + 1) row.time.0 (filed ++ filed_by row.node row.what) records rest k) gave
 
 -- behind a header
 pub headed_by : (P : List SaidRow → Type 0) (b : Bool) (r : Result (List SaidRow) TraceFault) (said : List SaidRow)
@@ -145,7 +183,7 @@ under_said : (config : Config) (records : List (List (List ℕ))) (said : List S
 unfolding rows_under
 under_said config [] said gave = absurd (cc)
 under_said config (fields ∷ records) said gave =
-    headed_by AreSized (is_header fields) (rows_from config 2 0 records) said (λ k. rows_said config 2 0 records said k) gave
+    headed_by AreSized (is_header fields) (rows_from config 2 0 [] records) said (λ k. rows_said config 2 0 [] records said k) gave
 
 -- ## what is said is meant
 
@@ -158,6 +196,8 @@ carried_meant (Built shim) c s m = subst (λ (x : Carried). IsCarried x × Carri
 
 what_meant : (said : SaidWhat) (w : RowWhat) → IsSizedSaid said → MeansWhat said w → IsSizedWhat w
 what_meant (say.Send dst payload) w s m = subst IsSizedWhat (sym m) s
+what_meant (say.File dst size segment) w s m = subst IsSizedWhat (sym m) s
+what_meant (say.Tick dst) w s m = subst IsSizedWhat (sym m) s
 what_meant (say.Inject flow payload shim) w s m = let k = carried_meant shim m.0 s.1 m.1 in subst IsSizedWhat (sym m.2) (s.0, k.0, k.1)
 
 -- a row within the sizes

@@ -1,6 +1,6 @@
 -- In a run all that reaches a node is within the sizes of a network, so each node's log keeps its promises: by induction
 -- over time, since what arrives before the next time was sent before it.
-use Rattle.std.proofs.Common.{◌≡◌, ℕ, zero, suc, ◌+◌, ◌*◌, ◌≤◌, List, [], ◌∷◌, Bool, true, false, cond, All, Option, Some, None, refl, sym, subst, ap, arith, inl, inr}
+use Rattle.std.proofs.Common.{◌≡◌, ℕ, zero, suc, ◌+◌, ◌*◌, ◌≤◌, List, [], ◌∷◌, ◌++◌, Bool, true, false, cond, All, Option, Some, None, refl, sym, subst, ap, arith, inl, inr}
 use Rattle.std.specs.Prelude.{nat_lt, ◌==◌, slice_get, filter, map}
 use Rattle.std.specs.Option.{option_map, option_map_or, IfSome}
 use Rattle.std.specs.List.{AllByRecursion, cons_option}
@@ -8,6 +8,7 @@ use Rattle.std.proofs.lemmas.Bool.{eq-eqb}
 use Rattle.std.proofs.lemmas.List.{get_or_past}
 use Rattle.std.proofs.lemmas.List.Elements.{All-head, All-tail}
 use Rattle.std.proofs.lemmas.Option.{slice_get_cases}
+use Rattle.tva_base.specs.declared.plan.HostPlan.{HostPlan}
 use Rattle.tva_base.specs.declared.plan.LinkPlan.{LinkPlan}
 use Rattle.tva_shim.specs.Packets.{IsCarried, CarriesFew, packet_length}
 use Rattle.tva_shim.specs.declared.packets.Carried.{Carried}
@@ -19,7 +20,7 @@ use Rattle.tva_plan.specs.Names.{is_host}
 use Rattle.tva_plan.specs.Valid.{IsConfig}
 use Rattle.tva_trace.specs.declared.rows.Row.{Row}
 use Rattle.tva_trace.specs.declared.rows.RowWhat.{RowWhat}
-use Rattle.tva_trace.specs.declared.rows.RowWhat.TheVariants.{Send, Inject}
+use Rattle.tva_trace.specs.declared.rows.RowWhat.TheVariants.{Send, Inject, File, Tick}
 use Rattle.tva_trace.specs.Meaning.{AreRows}
 use Rattle.tva_trace.specs.Valid.{IsWithinWidths, IsRowWhat, IsRow, AreTraceRows}
 use Rattle.tva_joins.specs.Joins.{from_source, cut}
@@ -28,6 +29,7 @@ use Rattle.tva_log.specs.declared.kinds.Input.{Input}
 use Rattle.tva_log.specs.declared.kinds.Input.TheVariants.{FromTrace, Arrival}
 use Rattle.tva_log.specs.Sites.{Site, site_of}
 use Rattle.tva_log.specs.Entries.{Entry, Took, Started, input_time, input_source, entry_time, entry_rank}
+use Rattle.tva_log.specs.Parts.{files}
 use Rattle.tva_log.specs.Told.{at_time}
 use Rattle.tva_log.specs.NodeLog.{due, IsNodeLog}
 use Rattle.tva_log.proofs.Logs.{IsNodeLog-cut, IsNodeLog-same}
@@ -37,6 +39,7 @@ use Rattle.tva_run.proofs.Runs.{arrivals-cut, are_delayed, source_due}
 use Rattle.tva_run.proofs.Sites.{site_is}
 use Rattle.tva_promises.specs.Sizes.{IsSizedWhat, IsSizedInput, IsSizedEntry}
 use Rattle.tva_promises.specs.Promises.{KeepsPromises}
+use Rattle.tva_promises.proofs.Transfers.{AreSizedFiles, files_at}
 use Rattle.tva_promises.proofs.Kept.{keeps, sends_sized}
 use Rattle.tva_promises.proofs.ReadRows.{IsSizedRow, rows_sized}
 
@@ -50,6 +53,8 @@ carried_sized (carried.Malformed size) w = (w, tt)
 what_sized : (at_host : Bool) (what : RowWhat) → IsRowWhat at_host what → IsSizedWhat what
 what_sized at_host (Send dst payload) w = w.1
 what_sized at_host (Inject flow payload c) w = let k = carried_sized c w.1 in (w.0, k.0, k.1)
+what_sized at_host (File dst size segment) w = (w.1.most, w.1.few)
+what_sized at_host (Tick dst) w = tt
 
 each_row : (config : Config) (rows : List Row) → All (IsRow config) rows → AllByRecursion IsSizedRow rows
 each_row config [] a = tt
@@ -159,6 +164,13 @@ module _ (config : Config) (rows : List Row) (until : ℕ) (logs : Logs) (valid 
       keeps site (due until own.inputs) until (log_at logs node) k.1 small (whole_sized until refl node site k.0 own)
       (IsNodeLog-same site own.inputs (due until own.inputs) until (log_at logs node) (sym (cut-cut input_time input_source until until own.inputs (omega arith))) own.is_log)
 
+  -- at each place of a node's log the transfers of its files are within the sizes
+  run_files_of : (node : ℕ) (site : Site) → site_at config node ≡ Some site → (before rest : List Entry) → log_at logs node ≡ before ++ rest → (plan : HostPlan) → AreSizedFiles (files plan before)
+  run_files_of node site is before rest split plan =
+      let k = site_is config node site valid is in
+      let own = run.each node site is in
+      files_at site own.inputs until (log_at logs node) before rest (whole_sized until refl node site k.0 own) own.is_log split plan
+
 -- so it is with the rows of a trace
 pub run_keeps : (config : Config) (rows : List Row) (until : ℕ) (logs : Logs) → IsConfig config → AreTraceRows config rows → IsRunTo config rows until logs
     → (node : ℕ) (site : Site) → site_at config node ≡ Some site → KeepsPromises site until (log_at logs node)
@@ -168,3 +180,13 @@ run_keeps config rows until logs valid trace run node site is = run_keeps_of con
 pub read_run_keeps : (config : Config) (text : List ℕ) (rows : List Row) (until : ℕ) (logs : Logs) → IsConfig config → AreRows config text rows → IsRunTo config rows until logs
     → (node : ℕ) (site : Site) → site_at config node ≡ Some site → KeepsPromises site until (log_at logs node)
 read_run_keeps config text rows until logs valid are run node site is = run_keeps_of config rows until logs valid (rows_sized config text rows are) run node site is
+
+pub run_files : (config : Config) (rows : List Row) (until : ℕ) (logs : Logs) → IsConfig config → AreTraceRows config rows → IsRunTo config rows until logs
+    → (node : ℕ) (site : Site) → site_at config node ≡ Some site → (before rest : List Entry) → log_at logs node ≡ before ++ rest → (plan : HostPlan) → AreSizedFiles (files plan before)
+run_files config rows until logs valid trace run node site is before rest split plan =
+    run_files_of config rows until logs valid (each_row config rows trace.each) run node site is before rest split plan
+
+pub read_run_files : (config : Config) (text : List ℕ) (rows : List Row) (until : ℕ) (logs : Logs) → IsConfig config → AreRows config text rows → IsRunTo config rows until logs
+    → (node : ℕ) (site : Site) → site_at config node ≡ Some site → (before rest : List Entry) → log_at logs node ≡ before ++ rest → (plan : HostPlan) → AreSizedFiles (files plan before)
+read_run_files config text rows until logs valid are run node site is before rest split plan =
+    run_files_of config rows until logs valid (rows_sized config text rows are) run node site is before rest split plan

@@ -135,6 +135,8 @@ pub shim_sized : (plans : List NodePlan) (k : kinds.RowKind) (flow : Flow) (text
     → shim_of plans k flow text ≡ Some s → IsSizedShim s
 unfolding shim_of
 shim_sized plans kind.Send flow text s gave = absurd (cc)
+shim_sized plans kind.File flow text s gave = absurd (cc)
+shim_sized plans kind.Tick flow text s gave = absurd (cc)
 shim_sized plans kind.Raw flow text s gave = when_mapped IsSizedShim Bytes (raw_of text) s gave (λ bytes k. raw_few text bytes k)
 shim_sized plans kind.List flow text s gave =
     when_mapped IsSizedShim (λ shown. Built (plain_shim (version_for shown.rights) (shims.List shown))) (shown_of plans flow text) s gave

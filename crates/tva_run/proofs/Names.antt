@@ -14,12 +14,14 @@ use Rattle.tva_base.specs.declared.packet.Class.{Class}
 use Rattle.tva_base.specs.declared.packet.Outcome.{Outcome}
 use Rattle.tva_base.specs.declared.packet.Outcome.TheVariants.{Queued, Dropped}
 use Rattle.tva_base.specs.declared.packet.PacketId.{PacketId}
+use Rattle.tva_base.specs.declared.packet.Upper.{Upper}
+use Rattle.tva_base.specs.declared.packet.Upper.TheVariants as upper
 use Rattle.tva_base.specs.declared.plan.HostPlan.{HostPlan}
 use Rattle.tva_base.specs.declared.plan.LinkPlan.{LinkPlan}
 use Rattle.tva_base.specs.declared.plan.RouterPlan.{RouterPlan}
 use Rattle.tva_base.specs.Changes.{in_force}
 use Rattle.tva_shim.specs.declared.kinds.ReturnInfo.{ReturnInfo}
-use Rattle.tva_shim.specs.Packets.{PacketData, packet_length, class_by_shim, made_packet}
+use Rattle.tva_shim.specs.Packets.{PacketData, packet_length, class_by_shim, made_packet, upper_size}
 use Rattle.tva_shim.specs.Shows.{key_of}
 use Rattle.tva_flow.specs.Charges.{Charge}
 use Rattle.tva_drr.specs.declared.offered.Offered as offer
@@ -37,7 +39,8 @@ use Rattle.tva_host.specs.Calls.{history_of}
 use Rattle.tva_host.specs.History.{History}
 use Rattle.tva_host.specs.Sending.{intended}
 use Rattle.tva_host.specs.Receiving as receiving
-use Rattle.tva_host.specs.Receiving.{receipt_of, reply_of, stray, before_reply, answer_to, claim_in}
+use Rattle.tva_host.specs.Receiving.{receipt_of, reply_of, stray, before_reply, answer_to, brought_by, claim_in}
+use Rattle.tva_transfer.specs.Files.{Files, answered, first_segment, segment_due}
 use Rattle.tva_plan.specs.declared.config.Config.{Config}
 use Rattle.tva_plan.specs.declared.config.NodePlan.{NodePlan}
 use Rattle.tva_plan.specs.declared.config.NodePlan.TheVariants as plans
@@ -45,7 +48,7 @@ use Rattle.tva_plan.specs.Wiring.{picked}
 use Rattle.tva_plan.specs.Valid.{IsConfig}
 use Rattle.tva_trace.specs.declared.rows.Row.{Row}
 use Rattle.tva_trace.specs.declared.rows.RowWhat.{RowWhat}
-use Rattle.tva_trace.specs.declared.rows.RowWhat.TheVariants.{Send, Inject}
+use Rattle.tva_trace.specs.declared.rows.RowWhat.TheVariants.{Send, Inject, File, Tick}
 use Rattle.tva_trace.specs.Lines.{HasEvent, HasHappened, HasLink, HasNode, HasOutcome, HasReply, HasSource}
 use Rattle.tva_joins.specs.Joins.{cut}
 use Rattle.tva_joins.proofs.Joins.{each-append, each-filter, cut-zero}
@@ -55,8 +58,8 @@ use Rattle.tva_log.specs.declared.kinds.Input.TheVariants.{FromTrace, Arrival}
 use Rattle.tva_log.specs.Sites.{Site, site_of, link_out, limits_out, IsPlanned}
 use Rattle.tva_log.specs.Entries.{Content, Entry, Took, Started, input_time, input_source, entry_time, entry_rank}
 use Rattle.tva_log.specs.Entries as entry
-use Rattle.tva_log.specs.Parts.{charges, queued_at, reply_at, content_at, port_entry, port_logs, calls}
-use Rattle.tva_log.specs.Contents.{arrived, content, content_by, goes_out, hosted, made_for, next_id, packet_of_row, routed}
+use Rattle.tva_log.specs.Parts.{charges, queued_at, reply_at, content_at, port_entry, port_logs, calls, files}
+use Rattle.tva_log.specs.Contents.{arrived, content, content_by, goes_out, hosted, made_for, next_id, packet_of_row, routed, sent_out, sent_with}
 use Rattle.tva_log.specs.NodeLog.{GoesOn, due, starts, start_after}
 use Rattle.tva_log.specs.Told.{at_time, content_told, events, reply_told}
 use Rattle.tva_log.proofs.Logs.{IsNodeLog-cut, cut_same}
@@ -101,7 +104,8 @@ module _ (config : Config) where
   abbrev Makes : Content → Type 0
   Makes (entry.Arrived from packet fate onward) = IsKnown onward
   Makes (entry.Sent made outcome) = IsKnown made.packet
-  Makes (entry.Received from packet receipt went) = IsReplyKnown receipt.reply
+  Makes entry.Ticked = Unit {0}
+  Makes (entry.Received from packet receipt went range) = IsReplyKnown receipt.reply
 
   -- a content names nodes and links of the configuration, and so does what it makes
   abbrev IsNamed : Content → Type 0
@@ -136,7 +140,8 @@ module _ (config : Config) where
   content_known : (link time : ℕ) (c : Content) → Makes c → AllByRecursion (Brings IsKnown) (cons_option (content_at link time c) [])
   content_known link time (entry.Arrived from packet fate onward) k = queued_known link time fate.outcome fate.class onward k
   content_known link time (entry.Sent made outcome) k = queued_known link time outcome (class_by_shim made.packet.carried) made.packet k
-  content_known link time (entry.Received from packet receipt went) k = reply_known link time receipt.reply went k
+  content_known link time entry.Ticked k = tt
+  content_known link time (entry.Received from packet receipt went range) k = reply_known link time receipt.reply went k
 
   started_on : (b : Bool) (time : ℕ) (class : Class) (packet : PacketData)
       → AllByRecursion (Brings IsKnown) (cons_option (cond b (Some (port.Started time class packet)) None) [])
@@ -219,6 +224,8 @@ module _ (config : Config) where
     row_named : (plan : RouterPlan) (now : ℕ) (w : RowWhat) (made : Content) → AllByRecursion (λ (x : ℕ × LinkLimits). HasLink config x.0) plan.outgoing
         → option_map (arrived plan before now None) (packet_of_row (next_id site.number before) w) ≡ Some made → IsNamed made
     row_named plan now (Send dst payload) made out e = absurd (cc)
+    row_named plan now (File dst size segment) made out e = absurd (cc)
+    row_named plan now (Tick dst) made out e = absurd (cc)
     row_named plan now (Inject flow payload carried) made out e =
         let packet : PacketData = made_packet (next_id site.number before) flow payload carried in
         subst IsNamed (some_same (arrived plan before now None packet) made e) (arrived_named plan now None packet out placed.number tt)
@@ -234,24 +241,41 @@ module _ (config : Config) where
     out_known plan packet =
         sent_known (port_logs before) (class_by_shim packet.carried) packet (limits_out site plan.uplink) (λ o e. (limits_known site plan.uplink o placed e).0)
 
-    made_known : (plan : HostPlan) (h : History) (now : ℕ) (w : RowWhat) → IsKnown (made_for site.number plan h now w).packet
+    intended_known : (plan : HostPlan) (h : History) (now : ℕ) (dst : Address) (payload : ℕ) (above : Upper)
+        → IsKnown (intended site.number plan h now dst payload above).packet
     unfolding intended
-    made_known plan h now (Send dst payload) = placed.number
-    made_known plan h now (Inject flow payload carried) = placed.number
+    intended_known plan h now dst payload above = placed.number
 
-    reply_made : (plan : HostPlan) (h : History) (now : ℕ) (src : Address) (back : Option ReturnInfo) → IsReplyKnown (reply_of site.number plan h now src back)
-    reply_made plan h now src None = tt
-    reply_made plan h now src (Some back) = placed.number
+    with_known : (plan : HostPlan) (h : History) (now : ℕ) (dst : Address) (due : Option Upper) → IsReplyKnown (option_map (sent_with site.number plan h now dst) due)
+    with_known plan h now dst None = tt
+    with_known plan h now dst (Some above) = intended_known plan h now dst (upper_size above) above
+
+    made_known : (plan : HostPlan) (h : History) (known : Files) (now : ℕ) (w : RowWhat) → IsReplyKnown (made_for site.number plan h known now w)
+    made_known plan h known now (Send dst payload) = intended_known plan h now dst payload upper.Nothing
+    made_known plan h known now (Inject flow payload carried) = placed.number
+    made_known plan h known now (File dst size segment) =
+        intended_known plan h now dst (upper_size (first_segment known dst size segment)) (first_segment known dst size segment)
+    made_known plan h known now (Tick dst) = with_known plan h now dst (segment_due known dst)
+
+    sent_named : (plan : HostPlan) (made : Option Made) → IsReplyKnown made → IsNamed (sent_out site plan before made)
+    sent_named plan None k = (tt, tt)
+    sent_named plan (Some made) k = ((k, out_known plan made.packet), k)
+
+    reply_made : (plan : HostPlan) (h : History) (now : ℕ) (src : Address) (back : Option ReturnInfo) (above : Upper)
+        → IsReplyKnown (reply_of site.number plan h now src back above)
+    reply_made plan h now src None above = tt
+    reply_made plan h now src (Some back) above = placed.number
 
     receipt_by : (b : Bool) (r s : Receipt) → IsReplyKnown r.reply → IsReplyKnown s.reply → IsReplyKnown (cond b r s).reply
     receipt_by true r s h k = h
     receipt_by false r s h k = k
 
-    receipt_known : (plan : HostPlan) (h : History) (now : ℕ) (p : PacketData) → IsReplyKnown (receipt_of site.number plan h now p).reply
+    receipt_known : (plan : HostPlan) (h : History) (now : ℕ) (p : PacketData) (above : Upper) → IsReplyKnown (receipt_of site.number plan h now p above).reply
     unfolding receipt_of
-    receipt_known plan h now p =
-        receipt_by (p.flow.dst.0 == plan.address.0) (receiving.received site.number plan h now p.flow.src p.carried) stray
-        (reply_made plan (before_reply plan p.flow.src p.carried h) now p.flow.src (answer_to plan h.deeds p.flow.src p.carried (claim_in p.carried))) tt
+    receipt_known plan h now p above =
+        receipt_by (p.flow.dst.0 == plan.address.0) (receiving.received site.number plan h now p.flow.src p.carried above) stray
+        (reply_made plan (before_reply plan p.flow.src p.carried h) now p.flow.src
+        (brought_by above (answer_to plan h.deeds p.flow.src p.carried (claim_in p.carried))) above) tt
 
     told_known : (plan : HostPlan) (reply : Option Made) → IsReplyKnown reply
         → HasReply config (reply_told reply (option_map (λ (made : Made). goes_out site plan before made.packet) reply))
@@ -260,12 +284,12 @@ module _ (config : Config) where
 
     hosted_named : (plan : HostPlan) (i : Input) → IsInputKnown i → IsNamed (hosted site plan before i)
     hosted_named plan (FromTrace row) k =
-        let made : Made = made_for site.number plan (history_of plan (calls before)) row.time.0 row.what in
-        let own : IsKnown made.packet = made_known plan (history_of plan (calls before)) row.time.0 row.what in
-        ((own, out_known plan made.packet), own)
+        let made : Option Made = made_for site.number plan (history_of plan (calls before)) (files plan before) row.time.0 row.what in
+        sent_named plan made (made_known plan (history_of plan (calls before)) (files plan before) row.time.0 row.what)
     hosted_named plan (Arrival time link packet) k =
-        let receipt : Receipt = receipt_of site.number plan (history_of plan (calls before)) time.0 packet in
-        let own : IsReplyKnown receipt.reply = receipt_known plan (history_of plan (calls before)) time.0 packet in
+        let above : Upper = answered plan.address (files plan before) packet in
+        let receipt : Receipt = receipt_of site.number plan (history_of plan (calls before)) time.0 packet above in
+        let own : IsReplyKnown receipt.reply = receipt_known plan (history_of plan (calls before)) time.0 packet above in
         ((k.0, k.1, told_known plan receipt.reply own), own)
 
     -- at a node

@@ -57,7 +57,8 @@ module _ (l : LinkLimits) (log : List port.Entry) (link time : ℕ) where
   content_free : (c : Content) → port.free_after l (log ++ cons_option (content_at link time c) []) ≡ port.free_after l log
   content_free (entry.Arrived from packet fate onward) = queued_free fate.outcome fate.class onward
   content_free (entry.Sent made outcome) = queued_free outcome _ made.packet
-  content_free (entry.Received from packet receipt went) = reply_free receipt.reply went
+  content_free entry.Ticked = ap (port.free_after l) (append-nil log)
+  content_free (entry.Received from packet receipt went range) = reply_free receipt.reply went
 
 start_free : (l : LinkLimits) (log : List port.Entry) (now : ℕ) (s : Class × PacketData) → start_after l log now ≡ Some s → port.free_after l log ≤ now
 start_free l log now s e =
