@@ -3,6 +3,7 @@ pub mod Making
 pub mod Steps
 pub mod Finding
 pub mod Roles
+pub mod Rows
 pub mod Left
 pub mod Waits
 pub mod Works

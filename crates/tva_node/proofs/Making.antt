@@ -1,10 +1,10 @@
 -- What is in force at a router that makes its changes in their turn.
 use Rattle.std.proofs.Common.{◌≡◌, ℕ, zero, suc, ◌+◌, ◌≤◌, ◌<◌, Bool, true, false, cond, List, [], ◌∷◌, ◌++◌, filter, map, take, drop, length, get_or, Option, Some, None, All, refl, sym, subst, ap, ap₂, ◌∙◌, arith, inl, inr, append-nil}
-use Rattle.std.specs.Prelude.{◌==◌, ◌&&◌, nat_le, count_by, Contains}
+use Rattle.std.specs.Prelude.{◌==◌, nat_le, Contains}
 use Rattle.std.specs.List.{AllByRecursion}
 use Rattle.std.specs.List.Sorted.{IsNonDecreasingBy, IsPermutation, IsStableByKey}
 use Rattle.std.specs.Ordering.{nat_cmp}
-use Rattle.std.proofs.lemmas.Bool.{cases_Bool, cond-true, cond-false, le-leb, cases_lt}
+use Rattle.std.proofs.lemmas.Bool.{cases_Bool, cond-true, cond-false, le-leb}
 use Rattle.std.proofs.lemmas.Bool.Decides.{nat_tests}
 use Rattle.std.proofs.lemmas.List.{map_push, take-append-drop, take_more, length-take-le}
 use Rattle.std.proofs.lemmas.List.Elements.{filter-append, All-get_or, Contains-get_or}
@@ -22,15 +22,14 @@ use Rattle.tva_router.specs.Handling.{Logs, outgoing_link}
 use Rattle.tva_router.specs.Routes.{rerouted}
 use Rattle.tva_router.specs.Stands as router
 use Rattle.tva_router.specs.Stands.{RouterData}
-use Rattle.tva_joins.specs.Joins.{NeverFalls, from_source}
+use Rattle.tva_joins.specs.Joins.{NeverFalls}
 use Rattle.tva_joins.proofs.Joins.{each-append, each-weaker, filter-all, filter-none, filter-true, filter-false, filter_swap, in_order-filter, join_unique}
-use Rattle.tva_log.specs.Entries.{Entry}
 use Rattle.tva_log.specs.Parts.{charges, port_logs}
 use Rattle.tva_log.proofs.Boots.{charges_none}
 use Rattle.tva_node.specs.declared.changes.Changes.{Changes}
 use Rattle.tva_node.specs.declared.role.Routed.{Routed}
 use Rattle.tva_node.specs.Changes.{AreByTime, AreMade, move_time, plan_after, restart_time, route_after}
-use Rattle.tva_node.specs.States.{IsRoutedBy, StandsAsRouter}
+use Rattle.tva_node.specs.States.{IsRoutedBy}
 use Rattle.tva_node.specs.Making.{IsNextLater, IsRestarted, IsUpTo, StandsOn}
 use Rattle.tva_node.proofs.Sorting.{falls_from, order_of, rising_falls, ties_from}
 

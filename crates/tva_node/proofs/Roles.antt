@@ -14,7 +14,11 @@ use Rattle.tva_base.specs.declared.packet.Time.{Time}
 use Rattle.tva_base.specs.declared.plan.HostPlan.{HostPlan}
 use Rattle.tva_base.specs.declared.event.Happened.{Happened}
 use Rattle.tva_base.specs.declared.event.Happened.TheVariants as happens
+use Rattle.tva_base.specs.declared.event.DataLine.{DataLine}
 use Rattle.tva_base.specs.declared.event.ReplyLine.{ReplyLine}
+use Rattle.tva_base.specs.declared.addresses.Address.{Address}
+use Rattle.tva_base.specs.declared.packet.Upper.{Upper}
+use Rattle.tva_base.specs.declared.packet.Upper.TheVariants as upper
 use Rattle.tva_base.specs.declared.packet.PacketId.{PacketId}
 use Rattle.tva_base.specs.declared.packet.Grant.{Grant}
 use Rattle.tva_base.specs.declared.packet.Outcome.{Outcome}
@@ -36,10 +40,13 @@ use Rattle.tva_port.specs.Decide.{started_by as port_started}
 use Rattle.tva_port.specs.Stands as port_stands
 use Rattle.tva_host.specs.declared.made.Made.{Made}
 use Rattle.tva_host.specs.declared.made.Receipt.{Receipt}
-use Rattle.tva_host.specs.Receiving.{receipt_of}
+use Rattle.tva_host.specs.History.{History}
+use Rattle.tva_host.specs.Receiving.{receipt_of, upper_of}
 use Rattle.tva_host.specs.Calls.{Call, Received, history_of}
-use Rattle.tva_host.specs.Stands as host_stands
-use Rattle.tva_host.specs.Stands.{HostData}
+use Rattle.tva_host.proofs.Shown.{answer_is_shown, nothing_is_shown}
+use Rattle.tva_transfer.specs.Files.{Files, Act, Came, answer_to, answered, delivered, is_for}
+use Rattle.tva_transfer.specs.Stands as courier
+use Rattle.tva_transfer.specs.Stands.{CourierData}
 use Rattle.tva_trace.specs.declared.rows.Row.{Row}
 use Rattle.tva_router.specs.Boots.{charges_at, charges_of_boot}
 use Rattle.tva_router.specs.Handling.{Logs, charged_by, entered_by, handle, outcome_of, outgoing_link, sent}
@@ -54,8 +61,8 @@ use Rattle.tva_log.specs.declared.kinds.Input.TheVariants.{FromTrace, Arrival}
 use Rattle.tva_log.specs.Sites.{Site, IsSite, IsPlanned, limits_out}
 use Rattle.tva_log.specs.Entries.{Content, Arrived, Sent, Entry, Took, Started, input_time}
 use Rattle.tva_log.specs.Entries as entry
-use Rattle.tva_log.specs.Parts.{call_of, call_of_input, call_of_row, reply_at, calls, charge_of, charged, charges, content_at, is_row, port_entry, port_logs, queued_at, rows_in}
-use Rattle.tva_log.specs.Contents.{arrived, content_by, goes_out, handled, hosted, made_for, routed}
+use Rattle.tva_log.specs.Parts.{act_of, act_of_input, act_of_row, acts, call_of, call_of_input, call_of_row, files, reply_at, calls, charge_of, charged, charges, content_at, is_row, port_entry, port_logs, queued_at, rows_in}
+use Rattle.tva_log.specs.Contents.{arrived, content_by, goes_out, handled, hosted, made_for, routed, sent_out}
 use Rattle.tva_log.specs.Told.{content_told, reply_told}
 use Rattle.tva_joins.proofs.Joins.{each-append, each-weaker}
 use Rattle.tva_log.proofs.Legal.{AreLegal}
@@ -105,10 +112,10 @@ only_out (x ∷ xs) uplink link o e f =
     nowhere [] n g = cc
     nowhere (y ∷ ys) n g = cc
 
-pub host_out : (site : Site) (h : Hosted) (log : List Entry) (link : ℕ) (o : ℕ × LinkLimits) → IsSite site → site.plan ≡ plans.Host h.host.plan → StandsAsHost site h log → limits_out site link ≡ Some o → (h.uplink ≡ link) × (o ≡ (link, h.port.limits))
+pub host_out : (site : Site) (h : Hosted) (log : List Entry) (link : ℕ) (o : ℕ × LinkLimits) → IsSite site → site.plan ≡ plans.Host h.courier.host.plan → StandsAsHost site h log → limits_out site link ≡ Some o → (h.uplink ≡ link) × (o ≡ (link, h.port.limits))
 host_out site h log link o s e st f =
-    let planned : IsPlanned (plans.Host h.host.plan) site.links = subst (λ (p : NodePlan). IsPlanned p site.links) e s.planned in
-    let same : h.uplink ≡ link = st.uplink ∙ only_out site.links h.host.plan.uplink link o planned.1 f in
+    let planned : IsPlanned (plans.Host h.courier.host.plan) site.links = subst (λ (p : NodePlan). IsPlanned p site.links) e s.planned in
+    let same : h.uplink ≡ link = st.uplink ∙ only_out site.links h.courier.host.plan.uplink link o planned.1 f in
     let there : limits_out site link ≡ Some (link, h.port.limits) = subst (λ k. limits_out site k ≡ Some (k, h.port.limits)) same st.limits in
     let k : Some o ≡ Some (link, h.port.limits) = sym f ∙ there in
     (same, some_same o (link, h.port.limits) k)
@@ -235,7 +242,7 @@ arrived_told plan log time from packet = refl
 
 -- ## decisions
 
--- a start on a link is no charge, no row and no call
+-- a start on a link is no charge, no row, no call and nothing of files
 charges_started : (log : List Entry) (now link : ℕ) (d : Decision) → charges (log ++ started_by link now d) ≡ charges log
 charges_started log now link (Start class packet) = charges_more log (Started now link class packet) ∙ append-nil (charges log)
 charges_started log now link (WaitUntil time) = ap charges (append-nil log)
@@ -250,6 +257,11 @@ calls_started : (log : List Entry) (now link : ℕ) (d : Decision) → calls (lo
 calls_started log now link (Start class packet) = filter_map-append call_of log (Started now link class packet ∷ []) ∙ append-nil (calls log)
 calls_started log now link (WaitUntil time) = ap calls (append-nil log)
 calls_started log now link Idle = ap calls (append-nil log)
+
+acts_started : (log : List Entry) (now link : ℕ) (d : Decision) → acts (log ++ started_by link now d) ≡ acts log
+acts_started log now link (Start class packet) = filter_map-append act_of log (Started now link class packet ∷ []) ∙ append-nil (acts log)
+acts_started log now link (WaitUntil time) = ap acts (append-nil log)
+acts_started log now link Idle = ap acts (append-nil log)
 
 -- a link's log after a decision on one
 logs_started : (log : List Entry) (now on : ℕ) (d : Decision) (link : ℕ) → port_logs (log ++ started_by on now d) link ≡ port_logs log link ++ started_on on d now link
@@ -290,29 +302,35 @@ router_decided r new log link now d h st built changes next =
 started_here : (link : ℕ) (d : Decision) (now : ℕ) → started_on link d now link ≡ port_started d now
 started_here link d now = cond-true (link == link) (port_started d now) [] (eq-eqb link link refl)
 
-pub host_decided : (site : Site) (h new : Hosted) (log : List Entry) (now : ℕ) (d : Decision) → StandsAsHost site h log → port_stands.StandsFor new.port (port_logs log h.uplink ++ port_started d now) → new.host ≡ h.host → new.uplink ≡ h.uplink → new.port.limits ≡ h.port.limits
+pub host_decided : (site : Site) (h new : Hosted) (log : List Entry) (now : ℕ) (d : Decision) → StandsAsHost site h log → port_stands.StandsFor new.port (port_logs log h.uplink ++ port_started d now) → new.courier ≡ h.courier → new.uplink ≡ h.uplink → new.port.limits ≡ h.port.limits
     → StandsAsHost site new (log ++ started_by h.uplink now d)
 host_decided site h new log now d st p e u l = record {
-  host = subst (λ (cs : List Call). host_stands.StandsFor new.host cs) (sym (calls_started log now h.uplink d)) (subst (λ (x : HostData). host_stands.StandsFor x (calls log)) (sym e) st.host);
-  node = ap (λ (x : HostData). x.node) e ∙ st.node;
-  uplink = u ∙ (st.uplink ∙ ap (λ (x : HostData). x.plan.uplink) (sym e));
+  courier = subst (λ (cs : List Call). courier.StandsFor new.courier cs (acts (log ++ started_by h.uplink now d))) (sym (calls_started log now h.uplink d))
+      (subst (λ (xs : List Act). courier.StandsFor new.courier (calls log) xs) (sym (acts_started log now h.uplink d))
+      (subst (λ (x : CourierData). courier.StandsFor x (calls log) (acts log)) (sym e) st.courier));
+  node = ap (λ (x : CourierData). x.host.node) e ∙ st.node;
+  uplink = u ∙ (st.uplink ∙ ap (λ (x : CourierData). x.host.plan.uplink) (sym e));
   limits = subst (λ (k : ℕ). limits_out site k ≡ Some (k, new.port.limits)) (sym u) (st.limits ∙ ap (λ (x : LinkLimits). Some (h.uplink, x)) (sym l));
   port = subst (λ (es : List port.Entry). port_stands.StandsFor new.port es) (sym (ap (port_logs (log ++ started_by h.uplink now d)) u ∙ (logs_started log now h.uplink d h.uplink ∙ ap (λ (es : List port.Entry). port_logs log h.uplink ++ es) (started_here h.uplink d now)))) p;
 }
 
 -- ## a host's inputs
 
-calls_more : (log : List Entry) (input : Input) (made : Content) → calls (log ++ Took input made ∷ []) ≡ calls log ++ call_of_input input ∷ []
+calls_more : (log : List Entry) (input : Input) (made : Content) → calls (log ++ Took input made ∷ []) ≡ calls log ++ cons_option (call_of_input input made) []
 calls_more log input made = filter_map-append call_of log (Took input made ∷ [])
+
+acts_more : (log : List Entry) (input : Input) (made : Content) → acts (log ++ Took input made ∷ []) ≡ acts log ++ cons_option (act_of_input input) []
+acts_more log input made = filter_map-append act_of log (Took input made ∷ [])
 
 -- a host goes on with an input
 pub host_took : (site : Site) (h new : Hosted) (log : List Entry) (input : Input) (made : Content) → StandsAsHost site h log
-    → host_stands.StandsFor new.host (calls log ++ call_of_input input ∷ [])
+    → courier.StandsFor new.courier (calls log ++ cons_option (call_of_input input made) []) (acts log ++ cons_option (act_of_input input) [])
     → port_stands.StandsFor new.port (port_logs log h.uplink ++ cons_option (content_at h.uplink (input_time input) made) [])
-    → new.host.node ≡ h.host.node → new.host.plan ≡ h.host.plan → new.uplink ≡ h.uplink → new.port.limits ≡ h.port.limits
+    → new.courier.host.node ≡ h.courier.host.node → new.courier.host.plan ≡ h.courier.host.plan → new.uplink ≡ h.uplink → new.port.limits ≡ h.port.limits
     → StandsAsHost site new (log ++ Took input made ∷ [])
 host_took site h new log input made st cs p n e u l = record {
-  host = subst (λ (xs : List Call). host_stands.StandsFor new.host xs) (sym (calls_more log input made)) cs;
+  courier = subst (λ (xs : List Call). courier.StandsFor new.courier xs (acts (log ++ Took input made ∷ []))) (sym (calls_more log input made))
+      (subst (λ (xs : List Act). courier.StandsFor new.courier (calls log ++ cons_option (call_of_input input made) []) xs) (sym (acts_more log input made)) cs);
   node = n ∙ st.node;
   uplink = u ∙ (st.uplink ∙ ap (λ (x : HostPlan). x.uplink) (sym e));
   limits = subst (λ (k : ℕ). limits_out site k ≡ Some (k, new.port.limits)) (sym u) (st.limits ∙ ap (λ (x : LinkLimits). Some (h.uplink, x)) (sym l));
@@ -320,7 +338,7 @@ host_took site h new log input made st cs p n e u l = record {
 }
 
 -- where a packet goes out of a host
-pub out_is : (site : Site) (h : Hosted) (log : List Entry) (packet : PacketData) → StandsAsHost site h log → goes_out site h.host.plan log packet ≡ went_out h.uplink h.port.limits (port_logs log h.uplink) packet
+pub out_is : (site : Site) (h : Hosted) (log : List Entry) (packet : PacketData) → StandsAsHost site h log → goes_out site h.courier.host.plan log packet ≡ went_out h.uplink h.port.limits (port_logs log h.uplink) packet
 out_is site h log packet st =
     ap (λ (k : ℕ). sent (port_logs log) (class_by_shim packet.carried) packet (limits_out site k)) (sym st.uplink)
     ∙ ap (sent (port_logs log) (class_by_shim packet.carried) packet) st.limits
@@ -371,53 +389,99 @@ router_takes r mid new number plan log input from packet told up h own e f conte
     )
 
 -- a host takes an input
-pub host_takes : (site : Site) (role : Role) (h new : Hosted) (log : List Entry) (input : Input) (told : Happened) → site.plan ≡ role_plan role → role ≡ roles.Host h → HostTook site h.host.plan log input told new → Takes site log input told (roles.Host new)
-host_takes site role h new log input told e is t = (hosted site h.host.plan log input, ap (λ (p : NodePlan). content_by site p log input) (e ∙ ap role_plan is), t.0, t.1)
+pub host_takes : (site : Site) (role : Role) (h new : Hosted) (log : List Entry) (input : Input) (told : Happened) → site.plan ≡ role_plan role → role ≡ roles.Host h → HostTook site h.courier.host.plan log input told new → Takes site log input told (roles.Host new)
+host_takes site role h new log input told e is t = (hosted site h.courier.host.plan log input, ap (λ (p : NodePlan). content_by site p log input) (e ∙ ap role_plan is), t.0, t.1)
 
--- a row at a host
+-- a row at a host for which it makes these packets
+abbrev RowTook : Site → HostPlan → List Entry → Row → Happened → Hosted → Option Made → Type 0
+RowTook site plan log row told new made = (told ≡ content_told (sent_out site plan log made)) × StandsAsHost site new (log ++ Took (FromTrace row) (sent_out site plan log made) ∷ [])
+
+-- so it is with what it makes
+by_made : (site : Site) (h new : Hosted) (log : List Entry) (row : Row) (told : Happened) (made : Option Made) → StandsAsHost site h log
+    → made ≡ made_for h.courier.host.node h.courier.host.plan (history_of h.courier.host.plan (calls log)) (files h.courier.host.plan log) row.time.0 row.what
+    → RowTook site h.courier.host.plan log row told new made → HostTook site h.courier.host.plan log (FromTrace row) told new
+by_made site h new log row told made st e took =
+    let plan = h.courier.host.plan in
+    let same : made ≡ made_for site.number plan (history_of plan (calls log)) (files plan log) row.time.0 row.what =
+    e ∙ ap (λ (k : ℕ). made_for k plan (history_of plan (calls log)) (files plan log) row.time.0 row.what) st.node in
+    subst (RowTook site plan log row told new) same took
+
+-- a row at a host for which it makes a packet
 pub host_row : (site : Site) (h new : Hosted) (log : List Entry) (row : Row) (made : Made) (id : PacketId) (bytes : ℕ) (outcome : Outcome) → StandsAsHost site h log
-    → made ≡ made_for h.host.node h.host.plan (history_of h.host.plan (calls log)) row.time.0 row.what → id ≡ made.packet.id → bytes ≡ packet_length made.packet
+    → Some made ≡ made_for h.courier.host.node h.courier.host.plan (history_of h.courier.host.plan (calls log)) (files h.courier.host.plan log) row.time.0 row.what
+    → id ≡ made.packet.id → bytes ≡ packet_length made.packet
     → outcome ≡ went_out h.uplink h.port.limits (port_logs log h.uplink) made.packet
-    → host_stands.StandsFor new.host (calls log ++ call_of_row row.time.0 row.what ∷ [])
+    → courier.StandsFor new.courier (calls log ++ call_of_row row.time.0 row.what made.packet ∷ []) (acts log ++ cons_option (act_of_row row.what) [])
     → port_stands.StandsFor new.port (port_logs log h.uplink ++ entered_by outcome row.time.0 (class_by_shim made.packet.carried) made.packet h.uplink)
-    → new.host.node ≡ h.host.node → new.host.plan ≡ h.host.plan → new.uplink ≡ h.uplink → new.port.limits ≡ h.port.limits
-    → HostTook site h.host.plan log (FromTrace row) (happens.Sent id bytes made.shape outcome) new
+    → new.courier.host.node ≡ h.courier.host.node → new.courier.host.plan ≡ h.courier.host.plan → new.uplink ≡ h.uplink → new.port.limits ≡ h.port.limits
+    → HostTook site h.courier.host.plan log (FromTrace row) (happens.Sent id bytes made.shape outcome) new
 host_row site h new log row made id bytes outcome st e ei eb eo cs ps n p u l =
-    let plan = h.host.plan in
+    let plan = h.courier.host.plan in
     let now = row.time.0 in
-    let m = made_for site.number plan (history_of plan (calls log)) now row.what in
-    let same : made ≡ m = e ∙ ap (λ (k : ℕ). made_for k plan (history_of plan (calls log)) now row.what) st.node in
-    let out : outcome ≡ goes_out site plan log m.packet = eo ∙ (ap (λ (x : Made). went_out h.uplink h.port.limits (port_logs log h.uplink) x.packet) same ∙ sym (out_is site h log m.packet st)) in
-    let id' : id ≡ m.packet.id = ei ∙ ap (λ (x : Made). x.packet.id) same in
-    let bytes' : bytes ≡ packet_length m.packet = eb ∙ ap (λ (x : Made). packet_length x.packet) same in (
-      (λ i. happens.Sent (id' i) (bytes' i) (same i).shape (out i)),
-      host_took site h new log (FromTrace row) (Sent m (goes_out site plan log m.packet)) st cs
-          (subst (λ (es : List port.Entry). port_stands.StandsFor new.port (port_logs log h.uplink ++ es)) (sym (entered_is h.uplink now (goes_out site plan log m.packet) (class_by_shim m.packet.carried) m.packet))
-          (subst (λ (o : Outcome). port_stands.StandsFor new.port (port_logs log h.uplink ++ entered_by o now (class_by_shim m.packet.carried) m.packet h.uplink)) out
-          (subst (λ (x : Made). port_stands.StandsFor new.port (port_logs log h.uplink ++ entered_by outcome now (class_by_shim x.packet.carried) x.packet h.uplink)) same ps)))
+    let out : outcome ≡ goes_out site plan log made.packet = eo ∙ sym (out_is site h log made.packet st) in
+    by_made site h new log row (happens.Sent id bytes made.shape outcome) (Some made) st e (
+      (λ i. happens.Sent (ei i) (eb i) made.shape (out i)),
+      host_took site h new log (FromTrace row) (Sent made (goes_out site plan log made.packet)) st cs
+          (subst (λ (es : List port.Entry). port_stands.StandsFor new.port (port_logs log h.uplink ++ es)) (sym (entered_is h.uplink now (goes_out site plan log made.packet) (class_by_shim made.packet.carried) made.packet))
+          (subst (λ (o : Outcome). port_stands.StandsFor new.port (port_logs log h.uplink ++ entered_by o now (class_by_shim made.packet.carried) made.packet h.uplink)) out ps))
           n p u l,
     )
 
+-- a tick for which it makes none
+pub host_tick : (site : Site) (h new : Hosted) (log : List Entry) (row : Row) → StandsAsHost site h log
+    → None ≡ made_for h.courier.host.node h.courier.host.plan (history_of h.courier.host.plan (calls log)) (files h.courier.host.plan log) row.time.0 row.what
+    → courier.StandsFor new.courier (calls log ++ []) (acts log ++ cons_option (act_of_row row.what) [])
+    → port_stands.StandsFor new.port (port_logs log h.uplink)
+    → new.courier.host.node ≡ h.courier.host.node → new.courier.host.plan ≡ h.courier.host.plan → new.uplink ≡ h.uplink → new.port.limits ≡ h.port.limits
+    → HostTook site h.courier.host.plan log (FromTrace row) happens.Ticked new
+host_tick site h new log row st e cs ps n p u l =
+    by_made site h new log row happens.Ticked None st e (
+      refl,
+      host_took site h new log (FromTrace row) entry.Ticked st cs
+          (subst (λ (es : List port.Entry). port_stands.StandsFor new.port es) (sym (append-nil (port_logs log h.uplink))) ps) n p u l,
+    )
+
+nothing_answered : (known : Files) (source : Address) → answer_to known source upper.Nothing ≡ upper.Nothing
+unfolding answer_to
+nothing_answered known source = refl
+
+-- the upper part of the reply is the answer; a packet for another host has none
+answer_shown : (node : ℕ) (plan : HostPlan) (h : History) (known : Files) (now : ℕ) (p : PacketData)
+    → upper_of (receipt_of node plan h now p (answered plan.address known p)).reply ≡ answered plan.address known p
+answer_shown node plan h known now p = elim (cases_Bool (is_for plan.address p)) [
+  | inl here ↦ answer_is_shown node plan h now p (answered plan.address known p) here
+  | inr away ↦
+      let silent : answered plan.address known p ≡ upper.Nothing =
+      ap (answer_to known p.flow.src) (cond-false (is_for plan.address p) p.upper upper.Nothing away) ∙ nothing_answered known p.flow.src in
+      subst (λ (above : Upper). upper_of (receipt_of node plan h now p above).reply ≡ above) (sym silent) (nothing_is_shown node plan h now p)
+]
+
 -- an arrival at a host
-pub host_arrival : (site : Site) (h new : Hosted) (log : List Entry) (now : Time) (link : ℕ) (packet : PacketData) (receipt : Receipt) (id : PacketId) (bytes payload : ℕ) (told : Option ReplyLine) → StandsAsHost site h log
-    → receipt ≡ receipt_of h.host.node h.host.plan (history_of h.host.plan (calls log)) now.0 packet → id ≡ packet.id → bytes ≡ packet_length packet → payload ≡ packet.payload
+pub host_arrival : (site : Site) (h new : Hosted) (log : List Entry) (now : Time) (link : ℕ) (packet : PacketData) (receipt : Receipt) (range : Option DataLine) (id : PacketId) (bytes payload : ℕ) (told : Option ReplyLine) → StandsAsHost site h log
+    → receipt ≡ receipt_of h.courier.host.node h.courier.host.plan (history_of h.courier.host.plan (calls log)) now.0 packet (answered h.courier.host.plan.address (files h.courier.host.plan log) packet)
+    → range ≡ delivered h.courier.host.plan.address (files h.courier.host.plan log) packet
+    → id ≡ packet.id → bytes ≡ packet_length packet → payload ≡ packet.payload
     → told ≡ reply_told receipt.reply (reply_went h.uplink h.port.limits (port_logs log h.uplink) receipt.reply)
-    → host_stands.StandsFor new.host (calls log ++ Received now.0 packet ∷ [])
+    → courier.StandsFor new.courier (calls log ++ Received now.0 packet (answered h.courier.host.plan.address (files h.courier.host.plan log) packet) ∷ []) (acts log ++ Came packet ∷ [])
     → port_stands.StandsFor new.port (port_logs log h.uplink ++ cons_option (reply_at h.uplink now.0 receipt.reply (reply_went h.uplink h.port.limits (port_logs log h.uplink) receipt.reply)) [])
-    → new.host.node ≡ h.host.node → new.host.plan ≡ h.host.plan → new.uplink ≡ h.uplink → new.port.limits ≡ h.port.limits
-    → HostTook site h.host.plan log (Arrival now link packet) (happens.Received id bytes link payload receipt.what receipt.back told) new
-host_arrival site h new log now link packet receipt id bytes payload told st e ei eb ep et cs ps n p u l =
-    let plan = h.host.plan in
-    let r = receipt_of site.number plan (history_of plan (calls log)) now.0 packet in
-    let same : receipt ≡ r = e ∙ ap (λ (k : ℕ). receipt_of k plan (history_of plan (calls log)) now.0 packet) st.node in
-    let went : (o : Option Made) → reply_went h.uplink h.port.limits (port_logs log h.uplink) o ≡ option_map (λ made. goes_out site plan log made.packet) o = (λ o. replies o) in (
-      (λ i. happens.Received (ei i) (eb i) link (ep i) (same i).what (same i).back ((et ∙ (ap (λ (x : Receipt). reply_told x.reply (reply_went h.uplink h.port.limits (port_logs log h.uplink) x.reply)) same ∙ ap (reply_told r.reply) (went r.reply))) i)),
-      host_took site h new log (Arrival now link packet) (entry.Received link packet r (option_map (λ made. goes_out site plan log made.packet) r.reply)) st cs
+    → new.courier.host.node ≡ h.courier.host.node → new.courier.host.plan ≡ h.courier.host.plan → new.uplink ≡ h.uplink → new.port.limits ≡ h.port.limits
+    → HostTook site h.courier.host.plan log (Arrival now link packet) (happens.Received id bytes link payload receipt.what receipt.back told range) new
+host_arrival site h new log now link packet receipt range id bytes payload told st e er ei eb ep et cs ps n p u l =
+    let plan = h.courier.host.plan in
+    let above = answered plan.address (files plan log) packet in
+    let r = receipt_of site.number plan (history_of plan (calls log)) now.0 packet above in
+    let d = delivered plan.address (files plan log) packet in
+    let same : receipt ≡ r = e ∙ ap (λ (k : ℕ). receipt_of k plan (history_of plan (calls log)) now.0 packet above) st.node in
+    let went : (o : Option Made) → reply_went h.uplink h.port.limits (port_logs log h.uplink) o ≡ option_map (λ made. goes_out site plan log made.packet) o = (λ o. replies o) in
+    let shown : upper_of r.reply ≡ above = answer_shown site.number plan (history_of plan (calls log)) (files plan log) now.0 packet in (
+      (λ i. happens.Received (ei i) (eb i) link (ep i) (same i).what (same i).back ((et ∙ (ap (λ (x : Receipt). reply_told x.reply (reply_went h.uplink h.port.limits (port_logs log h.uplink) x.reply)) same ∙ ap (reply_told r.reply) (went r.reply))) i) (er i)),
+      host_took site h new log (Arrival now link packet) (entry.Received link packet r (option_map (λ made. goes_out site plan log made.packet) r.reply) d) st
+          (subst (λ (a : Upper). courier.StandsFor new.courier (calls log ++ Received now.0 packet a ∷ []) (acts log ++ Came packet ∷ [])) (sym shown) cs)
           (subst (λ (o : Option Outcome). port_stands.StandsFor new.port (port_logs log h.uplink ++ cons_option (reply_at h.uplink now.0 r.reply o) [])) (went r.reply)
           (subst (λ (x : Receipt). port_stands.StandsFor new.port (port_logs log h.uplink ++ cons_option (reply_at h.uplink now.0 x.reply (reply_went h.uplink h.port.limits (port_logs log h.uplink) x.reply)) [])) same ps))
           n p u l,
     )
   where
-    replies : (o : Option Made) → reply_went h.uplink h.port.limits (port_logs log h.uplink) o ≡ option_map (λ made. goes_out site h.host.plan log made.packet) o
+    replies : (o : Option Made) → reply_went h.uplink h.port.limits (port_logs log h.uplink) o ≡ option_map (λ made. goes_out site h.courier.host.plan log made.packet) o
     replies None = refl
     replies (Some made) = ap Some (sym (out_is site h log made.packet st))

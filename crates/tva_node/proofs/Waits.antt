@@ -15,7 +15,7 @@ use Rattle.tva_shim.specs.Shows.{key_of}
 use Rattle.tva_host.specs.declared.made.Made.{Made}
 use Rattle.tva_log.specs.declared.kinds.Input.{Input}
 use Rattle.tva_log.specs.Sites.{Site, limits_out}
-use Rattle.tva_log.specs.Entries.{Content, Arrived, Sent, Received, Entry, Took, input_time}
+use Rattle.tva_log.specs.Entries.{Content, Arrived, Sent, Ticked, Received, Entry, Took, input_time}
 use Rattle.tva_log.specs.Parts.{queued_at, reply_at, content_at, port_entry, port_logs}
 use Rattle.tva_log.specs.Told.{content_told, reply_told}
 use Rattle.tva_log.specs.Next.{next_decision}
@@ -67,7 +67,8 @@ no_reply (Some made) (Some o) k time n = not_queued o k time (class_by_shim made
 no_content : (made : Content) (k time : ℕ) → (queued_on (content_told made) ≡ Some k → ⊥) → content_at k time made ≡ None
 no_content (Arrived from packet fate onward) k time n = not_queued fate.outcome k time fate.class onward n
 no_content (Sent made outcome) k time n = not_queued outcome k time (class_by_shim made.packet.carried) made.packet n
-no_content (Received from packet receipt went) k time n = no_reply receipt.reply went k time n
+no_content Ticked k time n = refl
+no_content (Received from packet receipt went range) k time n = no_reply receipt.reply went k time n
 
 -- an input that queues nothing on a link is nothing in its log
 took_other : (log : List Entry) (input : Input) (made : Content) (k : ℕ) → (queued_on (content_told made) ≡ Some k → ⊥) → port_logs (log ++ Took input made ∷ []) k ≡ port_logs log k

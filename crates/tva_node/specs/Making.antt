@@ -3,7 +3,6 @@ use Rattle.std.specs.Prelude.{◌≡◌, ℕ, ◌+◌, ◌<◌, ◌≤◌, List,
 use Rattle.std.specs.List.{AllByRecursion}
 use Rattle.tva_base.specs.declared.addresses.Prefix.{Prefix}
 use Rattle.tva_base.specs.declared.packet.Time.{Time}
-use Rattle.tva_base.specs.declared.plan.RouterPlan.{RouterPlan}
 use Rattle.tva_base.specs.Changes.{boot_at, in_force, last_of}
 use Rattle.tva_node.specs.declared.changes.Changes.{Changes}
 use Rattle.tva_node.specs.declared.role.Routed.{Routed}

@@ -13,11 +13,11 @@ use crate::turns::{Turn, Turns};
 use std::alloc::{AllocError, Global};
 use std::marker::Model;
 use tva_base::{Event, LinkPlan, Time};
-use tva_host::Host;
 use tva_log::{Input, Sending};
 use tva_plan::NodePlan;
 use tva_port::Port;
 use tva_router::Router;
+use tva_transfer::Courier;
 
 // An event at a router costs about as much as so many at a host.
 const ROUTER_EVENT: u64 = 3;
@@ -205,7 +205,7 @@ fn role_of(
             changes: Changes::of(alloc, router.reroutes.as_slice())?,
         })),
         NodePlan::Host(host) => Ok(Role::Host(Hosted {
-            host: Host::build(alloc, number, host)?,
+            courier: Courier::build(alloc, number, host)?,
             uplink: host.uplink,
             port: Port::build(alloc, links[0].1.limits)?,
         })),

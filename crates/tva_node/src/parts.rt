@@ -267,7 +267,8 @@ fn queued_on(happened: &Happened) -> Option<u16>
             reply: Some(reply),
             ..
         } => link_of(reply.outcome),
-        Happened::Received { reply: None, .. } | Happened::Started { .. } => None,
+        Happened::Received { reply: None, .. } | Happened::Started { .. } | Happened::Ticked =>
+            None,
     }
 }
 

@@ -1,6 +1,7 @@
 // What a node is: a router, or a host with the port of its link.
 ghost use Rattle.std.specs.Prelude.{◌≡◌, ℕ, ◌≤◌, ◌+◌, min, List, ◌∷◌, ◌++◌, [], Some, IfOk};
 ghost use Rattle.std.specs.List.{cons_option};
+ghost use Rattle.std.specs.Option.{option_map};
 ghost use Rattle.tva_base.specs.declared.limits.LinkLimits.{LinkLimits};
 ghost use Rattle.tva_base.specs.declared.event.Happened.TheVariants as happens;
 ghost use Rattle.tva_shim.specs.Packets.{packet_length, class_by_shim};
@@ -11,11 +12,12 @@ ghost use Rattle.tva_port.specs.Stands.{StandsFor as PortStandsFor};
 ghost use Rattle.tva_router.specs.Handling.{Logs, entered_by, handle, outcome_of};
 ghost use Rattle.tva_router.specs.Stands.{StandsFor as RouterStandsFor, ◌with◌};
 ghost use Rattle.tva_host.specs.Calls.{Call, history_of};
-ghost use Rattle.tva_host.specs.Stands.{StandsFor as HostStandsFor};
+ghost use Rattle.tva_transfer.specs.Files.{Act};
+ghost use Rattle.tva_transfer.specs.Stands.{StandsFor as CourierStandsFor, known};
 ghost use Rattle.tva_plan.specs.declared.config.NodePlan.TheVariants as plans;
 ghost use Rattle.tva_log.specs.Sites.{Site, IsSite, limits_out};
 ghost use Rattle.tva_log.specs.Entries.{Entry, input_time};
-ghost use Rattle.tva_log.specs.Parts.{call_of_row, port_logs, reply_at};
+ghost use Rattle.tva_log.specs.Parts.{act_of_row, call_of_row, port_logs, reply_at};
 ghost use Rattle.tva_log.specs.Contents.{made_for, packet_of_row};
 ghost use Rattle.tva_log.specs.Told.{brings, reply_told};
 ghost use Rattle.tva_log.specs.declared.kinds.Input.TheVariants as inputs;
@@ -28,12 +30,13 @@ use tva_base::{
     BackKind, Class, DropCause, Happened, Outcome, PacketId, ReplyLine, ShapeKind, Time,
 };
 use tva_drr::Offered;
-use tva_host::{Host, Made, Receipt};
+use tva_host::{Made, Receipt};
 use tva_log::Input;
 use tva_port::{Decision, Port};
 use tva_router::Router;
 use tva_shim::{Carried, Packet, ReturnInfo, class_of, length, queue_key};
 use tva_trace::{Row, RowWhat};
+use tva_transfer::{Courier, Landed};
 
 /// A router, the ordinal of its next packet from the trace, and how far its changes are made.
 #[derive(Drop)]
@@ -43,10 +46,10 @@ pub struct Routed {
     pub changes: Changes,
 }
 
-/// A host, the number of its one link, and the port of that.
+/// A host with its files, the number of its one link, and the port of that.
 #[derive(Drop)]
 pub struct Hosted {
-    pub host: Host,
+    pub courier: Courier,
     pub uplink: u16,
     pub port: Port,
 }
@@ -158,7 +161,7 @@ impl Routed {
                 payload,
                 carried,
             } => Packet::made(id, *flow, *payload, carried.copied()),
-            RowWhat::Send { .. } => unreachable!(),
+            RowWhat::Send { .. } | RowWhat::File { .. } | RowWhat::Tick { .. } => unreachable!(),
         }
     }
 
@@ -189,14 +192,15 @@ impl Routed {
 
 impl Hosted {
     fn take(&mut self, alloc: Global, input: &Input) -> Result<Happened, AllocError>
-        requires host { self.old.host.last ≤ input_time input.now }
+        requires host { self.old.courier.host.last ≤ input_time input.now }
         requires port { self.old.port.last ≤ input_time input.now }
         requires horizon { input_time input.now ≤ 1000000000000000 }
-        requires fits { Fits (plans.Host self.old.host.plan) input.now }
+        requires fits { Fits (plans.Host self.old.courier.host.plan) input.now }
         ensures took { (site : Site) (log : List Entry) → StandsAsHost site self.old log
-            → IfOk result (λ told. HostTook site self.old.host.plan log input.now told self.new) }
-        ensures plan { self.new.host.plan ≡ self.old.host.plan }
-        ensures last { IfOk result (λ told. (self.new.host.last ≤ input_time input.now) × (self.new.port.last ≤ input_time input.now)) }
+            → IfOk result (λ told. HostTook site self.old.courier.host.plan log input.now told self.new) }
+        ensures plan { self.new.courier.host.plan ≡ self.old.courier.host.plan }
+        ensures last { IfOk result (λ told. (self.new.courier.host.last ≤ input_time input.now)
+            × (self.new.port.last ≤ input_time input.now)) }
     {
         match input {
             Input::FromTrace(row) => self.take_row(alloc, row),
@@ -206,18 +210,21 @@ impl Hosted {
         }
     }
 
-    // Makes the packet of a row, or takes it from there, and offers it to the link.
+    // Makes the packet of a row, or takes it from there, and offers it to the link. For a tick there may be
+    // nothing to send.
     fn take_row(&mut self, alloc: Global, row: &Row) -> Result<Happened, AllocError>
-        requires host { self.old.host.last ≤ row.now.time.0 }
+        requires host { self.old.courier.host.last ≤ row.now.time.0 }
         requires port { self.old.port.last ≤ row.now.time.0 }
         requires horizon { row.now.time.0 ≤ 1000000000000000 }
-        requires fits { FitsRow (plans.Host self.old.host.plan) row.now.what }
+        requires fits { FitsRow (plans.Host self.old.courier.host.plan) row.now.what }
         ensures took { (site : Site) (log : List Entry) → StandsAsHost site self.old log
-            → IfOk result (λ told. HostTook site self.old.host.plan log (inputs.FromTrace row.now) told self.new) }
-        ensures plan { self.new.host.plan ≡ self.old.host.plan }
-        ensures last { IfOk result (λ told. (self.new.host.last ≤ row.now.time.0) × (self.new.port.last ≤ row.now.time.0)) }
+            → IfOk result (λ told. HostTook site self.old.courier.host.plan log (inputs.FromTrace row.now) told self.new) }
+        ensures plan { self.new.courier.host.plan ≡ self.old.courier.host.plan }
+        ensures last { IfOk result (λ told. (self.new.courier.host.last ≤ row.now.time.0) × (self.new.port.last ≤ row.now.time.0)) }
     {
-        let Made { packet, shape } = self.make(alloc, row.time, &row.what)?;
+        let Some(Made { packet, shape }) = self.make(alloc, row.time, &row.what)? else {
+            return Ok(Happened::Ticked);
+        };
         let id = packet.id;
         let length = length(&packet);
         let outcome = self.queue(row.time, packet);
@@ -237,18 +244,19 @@ impl Hosted {
         from: u16,
         packet: Packet,
     ) -> Result<Happened, AllocError>
-        requires host { self.old.host.last ≤ now.0 }
+        requires host { self.old.courier.host.last ≤ now.0 }
         requires port { self.old.port.last ≤ now.0 }
         requires horizon { now.0 ≤ 1000000000000000 }
         ensures took { (site : Site) (log : List Entry) → StandsAsHost site self.old log
-            → IfOk result (λ told. HostTook site self.old.host.plan log (inputs.Arrival now from packet) told self.new) }
-        ensures plan { self.new.host.plan ≡ self.old.host.plan }
-        ensures last { IfOk result (λ told. (self.new.host.last ≤ now.0) × (self.new.port.last ≤ now.0)) }
+            → IfOk result (λ told. HostTook site self.old.courier.host.plan log (inputs.Arrival now from packet) told self.new) }
+        ensures plan { self.new.courier.host.plan ≡ self.old.courier.host.plan }
+        ensures last { IfOk result (λ told. (self.new.courier.host.last ≤ now.0) × (self.new.port.last ≤ now.0)) }
     {
         let id = packet.id;
         let length = length(&packet);
         let payload = packet.payload;
-        let Receipt { what, back, reply } = self.host.receive(alloc, now, packet)?;
+        let Landed { receipt, range } = self.courier.receive(alloc, now, packet)?;
+        let Receipt { what, back, reply } = receipt;
         let reply = self.answer(now, reply);
         Ok(Happened::Received {
             id,
@@ -258,31 +266,42 @@ impl Hosted {
             what,
             back,
             reply,
+            range,
         })
     }
 
-    // The packet of a row.
-    fn make(&mut self, alloc: Global, now: Time, what: &RowWhat) -> Result<Made, AllocError>
-        requires time { self.old.host.last ≤ now.0 }
-        requires fits { FitsRow (plans.Host self.old.host.plan) what.now }
-        ensures made { (calls : List Call) → HostStandsFor self.old.host calls → IfOk result (λ made. made
-            ≡ made_for self.old.host.node self.old.host.plan (history_of self.old.host.plan calls) now.0 what.now) }
-        ensures stands { (calls : List Call) → HostStandsFor self.old.host calls
-            → IfOk result (λ made. HostStandsFor self.new.host (calls ++ call_of_row now.0 what.now ∷ [])) }
-        ensures same { (self.new.host.node ≡ self.old.host.node) × (self.new.host.plan ≡ self.old.host.plan) }
+    // The packet of a row; there may be none for a tick.
+    fn make(&mut self, alloc: Global, now: Time, what: &RowWhat) -> Result<Option<Made>, AllocError>
+        requires time { self.old.courier.host.last ≤ now.0 }
+        requires fits { FitsRow (plans.Host self.old.courier.host.plan) what.now }
+        ensures made { (calls : List Call) (acts : List Act) → CourierStandsFor self.old.courier calls acts → IfOk result (λ made. made
+            ≡ made_for self.old.courier.host.node self.old.courier.host.plan (history_of self.old.courier.host.plan calls)
+            (known self.old.courier.host acts) now.0 what.now) }
+        ensures stands { (calls : List Call) (acts : List Act) → CourierStandsFor self.old.courier calls acts
+            → IfOk result (λ made. CourierStandsFor self.new.courier
+            (calls ++ cons_option (option_map (λ m. call_of_row now.0 what.now m.packet) made) [])
+            (acts ++ cons_option (act_of_row what.now) [])) }
+        ensures same { (self.new.courier.host.node ≡ self.old.courier.host.node)
+            × (self.new.courier.host.plan ≡ self.old.courier.host.plan) }
         ensures rest { (self.new.uplink ≡ self.old.uplink) × (self.new.port ≡ self.old.port) }
-        ensures last { self.new.host.last ≤ now.0 }
+        ensures last { self.new.courier.host.last ≤ now.0 }
     {
         match what {
-            RowWhat::Send { dst, payload } => self.host.intend(alloc, now, *dst, *payload),
+            RowWhat::Send { dst, payload } => {
+                Ok(Some(self.courier.intend(alloc, now, *dst, *payload)?))
+            }
             RowWhat::Inject {
                 flow,
                 payload,
                 carried,
-            } => Ok(Made {
-                packet: self.host.inject(*flow, *payload, carried.copied()),
+            } => Ok(Some(Made {
+                packet: self.courier.inject(*flow, *payload, carried.copied()),
                 shape: ShapeKind::Trace,
-            }),
+            })),
+            RowWhat::File { dst, size, segment } => {
+                Ok(Some(self.courier.file(alloc, now, *dst, *size, *segment)?))
+            }
+            RowWhat::Tick { dst } => self.courier.tick(alloc, now, *dst),
         }
     }
 
@@ -295,7 +314,7 @@ impl Hosted {
         ensures stands { (log : List PortEntry) → PortStandsFor self.old.port log
             → PortStandsFor self.new.port (log ++ cons_option
             (reply_at self.old.uplink now.0 reply (reply_went self.old.uplink self.old.port.limits log reply)) []) }
-        ensures same { (self.new.host ≡ self.old.host) × (self.new.uplink ≡ self.old.uplink)
+        ensures same { (self.new.courier ≡ self.old.courier) × (self.new.uplink ≡ self.old.uplink)
             × (self.new.port.limits ≡ self.old.port.limits) }
         ensures last { self.new.port.last ≤ now.0 }
     {
@@ -321,7 +340,7 @@ impl Hosted {
             → result ≡ went_out self.old.uplink self.old.port.limits log packet }
         ensures stands { (log : List PortEntry) → PortStandsFor self.old.port log
             → PortStandsFor self.new.port (log ++ entered_by result now.0 (class_by_shim packet.carried) packet self.old.uplink) }
-        ensures same { (self.new.host ≡ self.old.host) × (self.new.uplink ≡ self.old.uplink)
+        ensures same { (self.new.courier ≡ self.old.courier) × (self.new.uplink ≡ self.old.uplink)
             × (self.new.port.limits ≡ self.old.port.limits) }
         ensures last { self.new.port.last ≡ now.0 }
     {

@@ -30,7 +30,7 @@ use Rattle.tva_plan.specs.declared.config.NodePlan.TheVariants as plans
 use Rattle.tva_joins.proofs.Joins.{each-passes}
 use Rattle.tva_log.specs.declared.kinds.Input.{Input}
 use Rattle.tva_log.specs.Sites.{Site}
-use Rattle.tva_log.specs.Entries.{Arrived, Sent, Received, Entry, Took, Started, input_time}
+use Rattle.tva_log.specs.Entries.{Arrived, Sent, Ticked, Received, Entry, Took, Started, input_time}
 use Rattle.tva_log.specs.Parts.{charged, charge_of, charges, port_logs}
 use Rattle.tva_promises.specs.Fates.{NoRowRefusesShown, NoRowRefusesNonce, NoRowRefusesKind, NoRowRefuses, IsFate}
 use Rattle.tva_promises.specs.Promises.{KeepsPromises}
@@ -171,7 +171,8 @@ module _ (site : Site) (plan : RouterPlan) (is_router : site.plan ≡ plans.Rout
         (arrival (input_time input) from packet) packet.carried g
         (claim_at before input from packet fate onward rest here g e))
     entry_charges before (Took input (Sent made outcome)) rest here = refl
-    entry_charges before (Took input (Received from packet receipt went)) rest here = refl
+    entry_charges before (Took input Ticked) rest here = refl
+    entry_charges before (Took input (Received from packet receipt went range)) rest here = refl
     entry_charges before (Started time link class packet) rest here = refl
 
     -- what is charged to a flow
@@ -228,7 +229,8 @@ module _ (site : Site) (plan : RouterPlan) (is_router : site.plan ≡ plans.Rout
           front_is = front_is;
         }
     came_by front x before (Took input (Sent made outcome)) rest here gives front_is = absurd (cc)
-    came_by front x before (Took input (Received from packet receipt went)) rest here gives front_is = absurd (cc)
+    came_by front x before (Took input Ticked) rest here gives front_is = absurd (cc)
+    came_by front x before (Took input (Received from packet receipt went range)) rest here gives front_is = absurd (cc)
     came_by front x before (Started time link class packet) rest here gives front_is = absurd (cc)
 
     pub came_place : (past after : List Entry) → log ≡ past ++ after → (front : List Coming) (x : Coming) (back : List Coming)

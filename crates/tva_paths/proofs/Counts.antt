@@ -30,7 +30,7 @@ use Rattle.tva_joins.proofs.Putting.{each_from_sources}
 use Rattle.tva_log.specs.declared.kinds.Input.{Input}
 use Rattle.tva_log.specs.declared.kinds.Input.TheVariants.{FromTrace, Arrival}
 use Rattle.tva_log.specs.Sites.{Site, site_of, limits_out}
-use Rattle.tva_log.specs.Entries.{Content, Arrived, Sent, Received, Entry, Took, Started, input_time, input_source, entry_time}
+use Rattle.tva_log.specs.Entries.{Content, Arrived, Sent, Ticked, Received, Entry, Took, Started, input_time, input_source, entry_time}
 use Rattle.tva_log.specs.Parts.{queued_at, reply_at, content_at, port_entry, port_logs}
 use Rattle.tva_log.specs.NodeLog.{due}
 use Rattle.tva_log.specs.Told.{at_time}
@@ -97,7 +97,8 @@ content_times link time (Sent made outcome) xs = queued_times outcome (class_by_
         (cons_option (cond b
         (Some (port.Queued time class (key_of class p) p)) None) xs) ≡ start_times xs) [ true ↦ refl | false ↦ refl ]
     queued_times (Dropped why) class p = refl
-content_times link time (Received from packet receipt went) xs = by receipt.reply went
+content_times link time Ticked xs = refl
+content_times link time (Received from packet receipt went range) xs = by receipt.reply went
   where
     queued_times : (outcome : Outcome) (class : Class) (p : PacketData)
         → start_times (cons_option (queued_at link time outcome class p) xs) ≡ start_times xs

@@ -1,4 +1,5 @@
 -- What a host's log tells of a peer is what the host's history has of it.
+use Rattle.std.specs.Option.{option_map, IfSome}
 use Rattle.std.proofs.Common.{◌≡◌, ℕ, ◌+◌, Bool, true, false, cond, eqb, List, [], ◌∷◌, ◌++◌, map, Option, Some, None, refl, ap, ap₂, sym, ◌∙◌, arith, append_assoc, append-nil}
 use Rattle.tva_base.specs.declared.addresses.Address.{Address}
 use Rattle.tva_base.specs.declared.packet.Rights.{Rights}
@@ -10,7 +11,7 @@ use Rattle.tva_shim.specs.declared.kinds.ReturnInfo.TheVariants as backs
 use Rattle.tva_shim.specs.declared.packets.Carried.{Carried}
 use Rattle.tva_shim.specs.declared.packets.Carried.TheVariants as carried
 use Rattle.tva_shim.specs.Layout.{return_size}
-use Rattle.tva_shim.specs.Packets.{PacketData, packet_length}
+use Rattle.tva_shim.specs.Packets.{PacketData, packet_length, upper_size}
 use Rattle.tva_shim.specs.Shows.{back_in}
 use Rattle.tva_sender.specs.declared.shape.Shape.{Shape}
 use Rattle.tva_sender.specs.declared.shape.Shape.TheVariants as shapes
@@ -20,18 +21,22 @@ use Rattle.tva_sender.specs.Shapes.{length_of}
 use Rattle.tva_sender.specs.Book.{of_peer}
 use Rattle.tva_sender.specs.Played.{AreNext}
 use Rattle.tva_sender.proofs.Standing.{of_peer-push}
+use Rattle.tva_host.specs.declared.made.Made.{Made}
 use Rattle.tva_host.specs.declared.made.Receipt.{Receipt}
 use Rattle.tva_host.specs.History.{History}
 use Rattle.tva_host.specs.Calls.{after_call}
 use Rattle.tva_host.specs.Sending.{is_legacy, shim_of, carried_by, next_shape, next_made, intended, after_intending}
 use Rattle.tva_host.specs.Receiving as receiving
-use Rattle.tva_host.specs.Receiving.{taken_or_ignored, became_of, met_by, claim_in, answer_to, reply_of, after_reply, before_reply, stray, receipt_of, after_receipt}
+use Rattle.tva_host.specs.Receiving.{taken_or_ignored, became_of, met_by, claim_in, answer_to, reply_of, after_reply, before_reply, stray, receipt_of, after_receipt, brought_by, body_of}
 use Rattle.tva_host.proofs.Lengths.{made-length}
 use Rattle.tva_trace.specs.declared.rows.RowWhat.{RowWhat}
-use Rattle.tva_trace.specs.declared.rows.RowWhat.TheVariants.{Send, Inject}
+use Rattle.tva_trace.specs.declared.rows.RowWhat.TheVariants.{Send, Inject, File, Tick}
 use Rattle.tva_log.specs.Parts.{call_of_row}
-use Rattle.tva_log.specs.Contents.{made_for}
+use Rattle.tva_log.specs.Contents.{made_for, sent_with}
 use Rattle.tva_paths.specs.Deals.{Deal, Prepared, Granted, Noticed, sent_for, brought, replied}
+use Rattle.tva_transfer.specs.Files.{Files, first_segment, segment_due}
+use Rattle.tva_base.specs.declared.packet.Upper.{Upper}
+use Rattle.tva_base.specs.declared.packet.Upper.TheVariants as upper
 
 -- ## the contact of a deal
 
@@ -132,20 +137,45 @@ nothing_more xs false ds e = sym (append-nil xs)
 
 -- ## rows
 
-pub row_deal : (number : ℕ) (plan : HostPlan) (h : History) (peer : Address) (now : ℕ) (what : RowWhat)
-    → of_peer peer (after_call plan h (call_of_row now what)).contacts ≡ of_peer peer h.contacts ++ map contact_of
-    (sent_for peer now what (made_for number plan h now what).packet)
+-- a packet that is sent to a destination with an upper part
+intended_deal : (number : ℕ) (plan : HostPlan) (h : History) (peer : Address) (now : ℕ) (dst : Address) (payload : ℕ) (above : Upper)
+    → of_peer peer (after_intending plan h now dst payload).contacts ≡ of_peer peer h.contacts ++ map contact_of
+    (cond (eqb peer.0 dst.0) (Prepared now (intended number plan h now dst payload above).packet ∷ []) [])
 unfolding intended after_intending
-row_deal number plan h peer now (Send dst payload) =
+intended_deal number plan h peer now dst payload above =
     let s : Shape = next_shape plan h now dst payload in
-    let p : PacketData = (next_made number plan h dst payload (carried_by plan.version s) s).packet in
+    let p : PacketData = (next_made number plan h dst payload (carried_by plan.version s) above s).packet in
     let bytes : ℕ = length_of plan.version s payload in
     let x : Contact = contact.Prepared now s bytes in
     let is : contact_of (Prepared now p) ≡ x =
     prepared_is now p s bytes (shape_of_sent plan.version s) (length_of_sent plan.version s p refl) in
     peer_more peer h.contacts dst x ∙ ap (λ (cs : List Contact). of_peer peer h.contacts ++ cs)
     (one_deal (eqb peer.0 dst.0) (Prepared now p) x is)
-row_deal number plan h peer now (Inject flow payload carries) = sym (append-nil (of_peer peer h.contacts))
+
+with_deal : (number : ℕ) (plan : HostPlan) (h : History) (peer : Address) (now : ℕ) (dst : Address) (above : Upper)
+    → of_peer peer (after_intending plan h now dst (sent_with number plan h now dst above).packet.payload).contacts
+    ≡ of_peer peer h.contacts ++ map contact_of
+    (cond (eqb peer.0 dst.0) (Prepared now (sent_with number plan h now dst above).packet ∷ []) [])
+unfolding intended
+with_deal number plan h peer now dst above = intended_deal number plan h peer now dst (upper_size above) above
+
+-- what a row that something is sent for adds
+pub row_deal : (number : ℕ) (plan : HostPlan) (h : History) (known : Files) (peer : Address) (now : ℕ) (what : RowWhat)
+    → IfSome (made_for number plan h known now what) (λ (made : Made).
+    of_peer peer (after_call plan h (call_of_row now what made.packet)).contacts ≡ of_peer peer h.contacts ++ map contact_of
+    (sent_for peer now what made.packet))
+row_deal number plan h known peer now (Send dst payload) = intended_deal number plan h peer now dst payload upper.Nothing
+row_deal number plan h known peer now (Inject flow payload carries) = sym (append-nil (of_peer peer h.contacts))
+row_deal number plan h known peer now (File dst size segment) =
+    with_deal number plan h peer now dst (first_segment known dst size segment)
+row_deal number plan h known peer now (Tick dst) = tick_deal number plan h peer now dst (segment_due known dst)
+  where
+    tick_deal : (number : ℕ) (plan : HostPlan) (h : History) (peer : Address) (now : ℕ) (dst : Address) (above : Option Upper)
+        → IfSome (option_map (sent_with number plan h now dst) above) (λ (made : Made).
+        of_peer peer (after_call plan h (call_of_row now (Tick dst) made.packet)).contacts ≡ of_peer peer h.contacts ++ map contact_of
+        (sent_for peer now (Tick dst) made.packet))
+    tick_deal number plan h peer now dst None = tt
+    tick_deal number plan h peer now dst (Some above) = with_deal number plan h peer now dst above
 
 -- ## receipts
 
@@ -169,16 +199,17 @@ met_deal plan h peer src (backs.Grant rights caps) =
     met_by_taken plan h peer src rights caps (takes plan.version (of_peer src h) rights)
 
 reply_deal : (number : ℕ) (plan : HostPlan) (h : History) (peer : Address) (now : ℕ) (src : Address) (answer : Option ReturnInfo)
-    → of_peer peer (after_reply plan now src answer h).contacts ≡ of_peer peer h.contacts ++ map contact_of (cond (eqb peer.0 src.0)
-    (replied now (reply_of number plan h now src answer)) [])
-reply_deal number plan h peer now src None = nothing_more (of_peer peer h.contacts) (eqb peer.0 src.0) [] refl
-reply_deal number plan h peer now src (Some back) =
-    let size : ℕ = return_size plan.version back in
+    (above : Upper)
+    → of_peer peer (after_reply plan now src answer above h).contacts ≡ of_peer peer h.contacts ++ map contact_of (cond (eqb peer.0 src.0)
+    (replied now (reply_of number plan h now src answer above)) [])
+reply_deal number plan h peer now src None above = nothing_more (of_peer peer h.contacts) (eqb peer.0 src.0) [] refl
+reply_deal number plan h peer now src (Some back) above =
+    let size : ℕ = body_of plan.version back above in
     let s : Shape = next_shape plan h now src size in
-    let p : PacketData = (next_made number plan h src 0 (carried.Shim (shim_of plan.version s back)) s).packet in
+    let p : PacketData = (next_made number plan h src (upper_size above) (carried.Shim (shim_of plan.version s back)) above s).packet in
     let bytes : ℕ = length_of plan.version s size in
     let x : Contact = contact.Prepared now s bytes in
-    let body : 0 + size ≡ size = omega arith in
+    let body : upper_size above + return_size plan.version back ≡ size = omega arith in
     let is : contact_of (Prepared now p) ≡ x =
     prepared_is now p s bytes (shape_of_shim plan.version s back)
     (length_of_shim plan.version s back p refl ∙ ap (length_of plan.version s) body) in
@@ -194,28 +225,29 @@ both_deals : (b : Bool) (cs : List Contact) (xs ys : List Deal)
 both_deals true cs xs ys = append_assoc cs (map contact_of xs) (map contact_of ys) ∙ ap (λ (zs : List Contact). cs ++ zs) (map_more xs ys)
 both_deals false cs xs ys = append-nil (cs ++ [])
 
-pub receipt_deal : (number : ℕ) (plan : HostPlan) (h : History) (peer : Address) (now : ℕ) (p : PacketData)
-    → of_peer peer (after_receipt plan h now p).contacts ≡ of_peer peer h.contacts
+pub receipt_deal : (number : ℕ) (plan : HostPlan) (h : History) (peer : Address) (now : ℕ) (p : PacketData) (above : Upper)
+    → of_peer peer (after_receipt plan h now p above).contacts ≡ of_peer peer h.contacts
     ++ map contact_of (cond (eqb peer.0 p.flow.src.0)
-    (brought (receipt_of number plan h now p).back (back_in p.carried) ++ replied now (receipt_of number plan h now p).reply) [])
+    (brought (receipt_of number plan h now p above).back (back_in p.carried)
+    ++ replied now (receipt_of number plan h now p above).reply) [])
 unfolding receipt_of after_receipt
-receipt_deal number plan h peer now p =
+receipt_deal number plan h peer now p above =
     let src : Address = p.flow.src in
     let met : History = before_reply plan src p.carried h in
-    let answer : Option ReturnInfo = answer_to plan h.deeds src p.carried (claim_in p.carried) in
-    let r : Receipt = receiving.received number plan h now src p.carried in
+    let answer : Option ReturnInfo = brought_by above (answer_to plan h.deeds src p.carried (claim_in p.carried)) in
+    let r : Receipt = receiving.received number plan h now src p.carried above in
     elim (eqb p.flow.dst.0 plan.address.0) as (λ b. of_peer peer
-    (cond b (after_reply plan now src answer met) h).contacts ≡ of_peer peer h.contacts
+    (cond b (after_reply plan now src answer above met) h).contacts ≡ of_peer peer h.contacts
     ++ map contact_of (cond (eqb peer.0 src.0)
     (brought (cond b r stray).back (back_in p.carried) ++ replied now (cond b r stray).reply) [])) [
       | true ↦
-          reply_deal number plan met peer now src answer
+          reply_deal number plan met peer now src answer above
           ∙ (ap
           (λ (cs : List Contact). cs ++ map contact_of (cond (eqb peer.0 src.0)
-          (replied now (reply_of number plan met now src answer)) [])) (met_deal plan h.contacts peer src (back_in p.carried))
+          (replied now (reply_of number plan met now src answer above)) [])) (met_deal plan h.contacts peer src (back_in p.carried))
           ∙ both_deals (eqb peer.0 src.0) (of_peer peer h.contacts)
           (brought (became_of plan.version h.contacts src (back_in p.carried)) (back_in p.carried))
-          (replied now (reply_of number plan met now src answer)))
+          (replied now (reply_of number plan met now src answer above)))
       | false ↦ nothing_more (of_peer peer h.contacts) (eqb peer.0 src.0) [] refl
     ]
 

@@ -14,7 +14,7 @@ use Rattle.tva_plan.specs.Names.{is_host}
 use Rattle.tva_plan.specs.Valid.{IsConfig}
 use Rattle.tva_trace.specs.declared.rows.Row.{Row}
 use Rattle.tva_trace.specs.declared.rows.RowWhat.{RowWhat}
-use Rattle.tva_trace.specs.declared.rows.RowWhat.TheVariants.{Send, Inject}
+use Rattle.tva_trace.specs.declared.rows.RowWhat.TheVariants.{Send, Inject, File, Tick}
 use Rattle.tva_trace.specs.Valid.{IsWithinWidths, IsRowWhat, IsRow, AreTraceRows}
 use Rattle.tva_log.specs.Sites.{Site}
 use Rattle.tva_run.specs.Reaching.{Logs, log_at, site_at}
@@ -32,6 +32,8 @@ back_some version (backs.Grant rights caps) fits = some_rights version rights fi
 abbrev pub RowReturns : RowWhat → Type 0
 RowReturns (Send dst payload) = Unit {0}
 RowReturns (Inject flow payload carries) = IsReturn 2 (back_in carries)
+RowReturns (File dst size segment) = Unit {0}
+RowReturns (Tick dst) = Unit {0}
 
 -- there are few rows, whose return info a shim can carry, and each node keeps its promises
 pub record AreGiven (config : Config) (rows : List Row) (until : ℕ) (logs : Logs) : Type 0 where
@@ -47,6 +49,8 @@ carried_returns (carried.Malformed size) w = tt
 what_returns : (at_host : Bool) (what : RowWhat) → IsRowWhat at_host what → RowReturns what
 what_returns at_host (Send dst payload) w = tt
 what_returns at_host (Inject flow payload carries) w = carried_returns carries w.1
+what_returns at_host (File dst size segment) w = tt
+what_returns at_host (Tick dst) w = tt
 
 rows_return : (config : Config) (rows : List Row) → All (IsRow config) rows → AllByRecursion (λ (row : Row). RowReturns row.what) rows
 rows_return config [] a = tt

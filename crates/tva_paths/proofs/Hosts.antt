@@ -25,24 +25,31 @@ use Rattle.tva_host.specs.History.{History}
 use Rattle.tva_host.specs.Calls.{Call, after_call, history_of}
 use Rattle.tva_host.specs.Sending.{intended, after_intending}
 use Rattle.tva_host.specs.Receiving as receiving
-use Rattle.tva_host.specs.Receiving.{answer_to, claim_in, reply_of, after_reply, before_reply, stray, receipt_of, after_receipt}
+use Rattle.tva_host.specs.Receiving.{answer_to, claim_in, reply_of, after_reply, before_reply, stray, receipt_of, after_receipt, brought_by, upper_of}
 use Rattle.tva_host.proofs.Calls.{history_of-push}
+use Rattle.tva_host.proofs.Shown.{answer_is_shown, nothing_is_shown}
 use Rattle.tva_plan.specs.declared.config.NodePlan.{NodePlan}
 use Rattle.tva_plan.specs.declared.config.NodePlan.TheVariants as plans
 use Rattle.tva_joins.proofs.Joins.{each-append, each-weaker}
+use Rattle.tva_trace.specs.declared.rows.Row.{Row}
 use Rattle.tva_trace.specs.declared.rows.RowWhat.{RowWhat}
-use Rattle.tva_trace.specs.declared.rows.RowWhat.TheVariants.{Send, Inject}
+use Rattle.tva_trace.specs.declared.rows.RowWhat.TheVariants.{Send, Inject, File, Tick}
 use Rattle.tva_log.specs.declared.kinds.Input.{Input}
 use Rattle.tva_log.specs.declared.kinds.Input.TheVariants.{FromTrace, Arrival}
 use Rattle.tva_log.specs.Sites.{Site}
 use Rattle.tva_log.specs.Entries.{Content, Received, Entry, Took, Started}
-use Rattle.tva_log.specs.Parts.{call_of_row, call_of_input, call_of, calls}
-use Rattle.tva_log.specs.Contents.{content, content_by, hosted, made_for}
+use Rattle.tva_log.specs.Parts.{call_of_row, call_of_input, call_of, calls, files}
+use Rattle.tva_log.specs.Contents.{content, content_by, hosted, made_for, sent_with, sent_out}
 use Rattle.tva_log.specs.NodeLog.{GoesOn}
 use Rattle.tva_paths.specs.Origins.{made_in}
 use Rattle.tva_paths.specs.Deals.{Deal, Prepared, Granted, Noticed, sent_for, granted_in, brought, replied, dealt_in, dealt_at, deals}
 use Rattle.tva_paths.proofs.Lists.{some_same, Rises, rises-push}
 use Rattle.tva_paths.proofs.Dealt.{contact_of, row_deal, receipt_deal, map_more}
+use Rattle.tva_transfer.specs.Files as transfers
+use Rattle.tva_transfer.specs.Files.{Files, answered, first_segment, segment_due}
+use Rattle.tva_base.specs.declared.packet.Upper.{Upper}
+use Rattle.tva_base.specs.declared.packet.Upper.TheVariants as upper
+use Rattle.tva_base.specs.declared.event.DataLine.{DataLine}
 
 -- ## ordinals
 
@@ -93,11 +100,21 @@ record Makes (number : ℕ) (plan : HostPlan) (h : History) (call : Call) (o : O
   more : (after_call plan h call).made ≡ h.made + is_one o
   numbered : IsNumbered number h.made o
 
-row_makes : (number : ℕ) (plan : HostPlan) (h : History) (now : ℕ) (what : RowWhat) → Makes number plan h (call_of_row now what)
-    (Some (made_for number plan h now what).packet)
+tick_makes : (number : ℕ) (plan : HostPlan) (h : History) (now : ℕ) (dst : Address) (above : Option Upper)
+    → IfSome (option_map (sent_with number plan h now dst) above) (λ (made : Made).
+    Makes number plan h (call_of_row now (Tick dst) made.packet) (Some made.packet))
 unfolding intended after_intending
-row_makes number plan h now (Send dst payload) = record { more = refl; numbered = (refl, refl) }
-row_makes number plan h now (Inject flow payload carries) = record { more = refl; numbered = (refl, refl) }
+tick_makes number plan h now dst None = tt
+tick_makes number plan h now dst (Some above) = record { more = refl; numbered = (refl, refl) }
+
+row_makes : (number : ℕ) (plan : HostPlan) (h : History) (known : Files) (now : ℕ) (what : RowWhat)
+    → IfSome (made_for number plan h known now what) (λ (made : Made).
+    Makes number plan h (call_of_row now what made.packet) (Some made.packet))
+unfolding intended after_intending
+row_makes number plan h known now (Send dst payload) = record { more = refl; numbered = (refl, refl) }
+row_makes number plan h known now (Inject flow payload carries) = record { more = refl; numbered = (refl, refl) }
+row_makes number plan h known now (File dst size segment) = record { more = refl; numbered = (refl, refl) }
+row_makes number plan h known now (Tick dst) = tick_makes number plan h now dst (segment_due known dst)
 
 abbrev packet_in : Option Made → Option PacketData
 packet_in reply = option_map (λ (made : Made). made.packet) reply
@@ -107,23 +124,40 @@ record Replies (number m after : ℕ) (o : Option PacketData) : Type 0 where
   more : after ≡ m + is_one o
   numbered : IsNumbered number m o
 
-reply_makes : (number : ℕ) (plan : HostPlan) (h : History) (now : ℕ) (src : Address) (answer : Option ReturnInfo)
-    → Replies number h.made (after_reply plan now src answer h).made (packet_in (reply_of number plan h now src answer))
-reply_makes number plan h now src None = record { more = omega arith; numbered = tt }
-reply_makes number plan h now src (Some back) = record { more = refl; numbered = (refl, refl) }
+reply_makes : (number : ℕ) (plan : HostPlan) (h : History) (now : ℕ) (src : Address) (answer : Option ReturnInfo) (above : Upper)
+    → Replies number h.made (after_reply plan now src answer above h).made (packet_in (reply_of number plan h now src answer above))
+reply_makes number plan h now src None above = record { more = omega arith; numbered = tt }
+reply_makes number plan h now src (Some back) above = record { more = refl; numbered = (refl, refl) }
 
-receipt_makes : (number : ℕ) (plan : HostPlan) (h : History) (now : ℕ) (p : PacketData)
-    → Replies number h.made (after_receipt plan h now p).made (packet_in (receipt_of number plan h now p).reply)
+receipt_makes : (number : ℕ) (plan : HostPlan) (h : History) (now : ℕ) (p : PacketData) (above : Upper)
+    → Replies number h.made (after_receipt plan h now p above).made (packet_in (receipt_of number plan h now p above).reply)
 unfolding receipt_of after_receipt
-receipt_makes number plan h now p =
+receipt_makes number plan h now p above =
     let src : Address = p.flow.src in
     let met : History = before_reply plan src p.carried h in
-    let answer : Option ReturnInfo = answer_to plan h.deeds src p.carried (claim_in p.carried) in
-    elim (eqb p.flow.dst.0 plan.address.0) as (λ b. Replies number h.made (cond b (after_reply plan now src answer met) h).made
-    (packet_in (cond b (receiving.received number plan h now src p.carried) stray).reply)) [
-      | true ↦ reply_makes number plan met now src answer
+    let answer : Option ReturnInfo = brought_by above (answer_to plan h.deeds src p.carried (claim_in p.carried)) in
+    elim (eqb p.flow.dst.0 plan.address.0) as (λ b. Replies number h.made (cond b (after_reply plan now src answer above met) h).made
+    (packet_in (cond b (receiving.received number plan h now src p.carried above) stray).reply)) [
+      | true ↦ reply_makes number plan met now src answer above
       | false ↦ record { more = omega arith; numbered = tt }
     ]
+
+nothing_answered : (files : Files) (source : Address) → transfers.answer_to files source upper.Nothing ≡ upper.Nothing
+unfolding transfers.answer_to
+nothing_answered files source = refl
+
+-- what is answered is what the reply shows
+answer_shown : (number : ℕ) (plan : HostPlan) (h : History) (known : Files) (now : ℕ) (p : PacketData)
+    → upper_of (receipt_of number plan h now p (answered plan.address known p)).reply ≡ answered plan.address known p
+answer_shown number plan h known now p = by (eqb p.flow.dst.0 plan.address.0) refl
+  where
+    by : (b : Bool) → eqb p.flow.dst.0 plan.address.0 ≡ b
+        → upper_of (receipt_of number plan h now p (answered plan.address known p)).reply ≡ answered plan.address known p
+    by true e = answer_is_shown number plan h now p (answered plan.address known p) e
+    by false e =
+        let none : answered plan.address known p ≡ upper.Nothing =
+        ap (λ (b : Bool). transfers.answer_to known p.flow.src (cond b p.upper upper.Nothing)) e ∙ nothing_answered known p.flow.src in
+        subst (λ (u : Upper). upper_of (receipt_of number plan h now p u).reply ≡ u) (sym none) (nothing_is_shown number plan h now p)
 
 -- ## deals
 
@@ -157,6 +191,8 @@ sent_adds : (log : List Entry) (peer : Address) (time : ℕ) (what : RowWhat) (p
     → Adds log (sent_for peer time what p) (Some p)
 sent_adds log peer time (Send dst payload) p k = adds_one log (eqb peer.0 dst.0) time p k
 sent_adds log peer time (Inject flow payload carries) p k = adds_none log (Some p)
+sent_adds log peer time (File dst size segment) p k = adds_one log (eqb peer.0 dst.0) time p k
+sent_adds log peer time (Tick dst) p k = adds_one log (eqb peer.0 dst.0) time p k
 
 granted_true : (log : List Entry) (back : ReturnInfo) → IsReturn 2 back → AllByRecursion (IsTrue log) (granted_in back)
 granted_true log backs.Nothing k = tt
@@ -232,7 +268,8 @@ numbered_below number m (Some p) false ns l k b = same_below m (m + 1) ns (omega
 module _ (site : Site) (plan : HostPlan) (is : site.plan ≡ plans.Host plan) (peer : Address) (log : List Entry)
     (few : takes log < 18446744073709551615)
     (returns : (before : List Entry) (input : Input) (from : ℕ) (p : PacketData) (receipt : Receipt) (went : Option Outcome)
-    (rest : List Entry) → log ≡ before ++ Took input (Received from p receipt went) ∷ rest → IsReturn 2 (back_in p.carried)) where
+    (range : Option DataLine) (rest : List Entry) → log ≡ before ++ Took input (Received from p receipt went range) ∷ rest
+    → IsReturn 2 (back_in p.carried)) where
   abbrev hist : List Entry → History
   hist before = history_of plan (calls before)
 
@@ -250,11 +287,16 @@ module _ (site : Site) (plan : HostPlan) (is : site.plan ≡ plans.Host plan) (p
   begins =
       record { contacts = refl; count = omega arith; entries = tt; entries_most = tt; dealt = tt; dealt_most = tt; numbers = tt; each = tt }
 
+  -- the history after one more call, if there is one
+  abbrev with_call : History → Option Call → History
+  with_call h None = h
+  with_call h (Some call) = after_call plan h call
+
   -- what an input at its place adds
   record Step (before : List Entry) (input : Input) (c : Content) : Type 0 where
-    contacts : of_peer peer (after_call plan (hist before)
-        (call_of_input input)).contacts ≡ of_peer peer (hist before).contacts ++ map contact_of (dealt_in peer input c)
-    more : (after_call plan (hist before) (call_of_input input)).made ≡ (hist before).made + is_one (made_in c)
+    contacts : of_peer peer (with_call (hist before)
+        (call_of_input input c)).contacts ≡ of_peer peer (hist before).contacts ++ map contact_of (dealt_in peer input c)
+    more : (with_call (hist before) (call_of_input input c)).made ≡ (hist before).made + is_one (made_in c)
     numbered : IsNumbered site.number (hist before).made (made_in c)
     adds : Adds log (dealt_in peer input c) (made_in c)
 
@@ -262,28 +304,45 @@ module _ (site : Site) (plan : HostPlan) (is : site.plan ≡ plans.Host plan) (p
       → (p : PacketData) → made_in c ≡ Some p → IsMadeIn log p
   made_here before input c rest here p e = record { before = before; input = input; content = c; rest = rest; here = here; makes = e }
 
+  sent_step : (before : List Entry) (row : Row) (rest : List Entry) (made : Option Made)
+      → IfSome made (λ (m : Made). Makes site.number plan (hist before) (call_of_row row.time.0 row.what m.packet) (Some m.packet))
+      → IfSome made (λ (m : Made). of_peer peer (after_call plan (hist before) (call_of_row row.time.0 row.what m.packet)).contacts
+      ≡ of_peer peer (hist before).contacts ++ map contact_of (sent_for peer row.time.0 row.what m.packet))
+      → log ≡ before ++ Took (FromTrace row) (sent_out site plan before made) ∷ rest
+      → Step before (FromTrace row) (sent_out site plan before made)
+  sent_step before row rest None k d here = record {
+    contacts = sym (append-nil (of_peer peer (hist before).contacts));
+    more = omega arith;
+    numbered = tt;
+    adds = adds_none log None;
+  }
+  sent_step before row rest (Some m) k d here = record {
+    contacts = d;
+    more = k.more;
+    numbered = k.numbered;
+    adds = sent_adds log peer row.time.0 row.what m.packet (made_here before (FromTrace row)
+        (sent_out site plan before (Some m)) rest here m.packet refl);
+  }
+
   hosted_step : (before : List Entry) (input : Input) (rest : List Entry)
       → log ≡ before ++ Took input (hosted site plan before input) ∷ rest → Step before input (hosted site plan before input)
   hosted_step before (FromTrace row) rest here =
-      let k = row_makes site.number plan (hist before) row.time.0 row.what in
-      let p : PacketData = (made_for site.number plan (hist before) row.time.0 row.what).packet in
-      record {
-        contacts = row_deal site.number plan (hist before) peer row.time.0 row.what;
-        more = k.more;
-        numbered = k.numbered;
-        adds = sent_adds log peer row.time.0 row.what p (made_here before (FromTrace row)
-            (hosted site plan before (FromTrace row)) rest here p refl);
-      }
+      sent_step before row rest (made_for site.number plan (hist before) (files plan before) row.time.0 row.what)
+      (row_makes site.number plan (hist before) (files plan before) row.time.0 row.what)
+      (row_deal site.number plan (hist before) (files plan before) peer row.time.0 row.what) here
   hosted_step before (Arrival time link packet) rest here =
-      let k = receipt_makes site.number plan (hist before) time.0 packet in
-      let r : Receipt = receipt_of site.number plan (hist before) time.0 packet in
+      let above : Upper = answered plan.address (files plan before) packet in
+      let k = receipt_makes site.number plan (hist before) time.0 packet above in
+      let r : Receipt = receipt_of site.number plan (hist before) time.0 packet above in
+      let shown : after_receipt plan (hist before) time.0 packet (upper_of r.reply) ≡ after_receipt plan (hist before) time.0 packet above =
+      ap (after_receipt plan (hist before) time.0 packet) (answer_shown site.number plan (hist before) (files plan before) time.0 packet) in
       record {
-        contacts = receipt_deal site.number plan (hist before) peer time.0 packet;
-        more = k.more;
+        contacts = ap (λ (x : History). of_peer peer x.contacts) shown ∙ receipt_deal site.number plan (hist before) peer time.0 packet above;
+        more = ap (λ (x : History). x.made) shown ∙ k.more;
         numbered = k.numbered;
         adds =
             received_adds log (eqb peer.0 packet.flow.src.0) r.back (back_in packet.carried) time.0 r.reply
-            (returns before (Arrival time link packet) link packet r _ rest here)
+            (returns before (Arrival time link packet) link packet r _ _ rest here)
             (λ p e. made_here before (Arrival time link packet) (hosted site plan before (Arrival time link packet)) rest here p e);
       }
 
@@ -298,11 +357,14 @@ module _ (site : Site) (plan : HostPlan) (is : site.plan ≡ plans.Host plan) (p
       → (hist before).made + 1 ≤ 18446744073709551615
   few_before before e rest here l = let all = ap takes here ∙ takes-append before (e ∷ rest) in omega (arith, few, all, l)
 
-  hist_took : (before : List Entry) (input : Input) (c : Content) → hist (before ++ Took input c ∷ []) ≡ after_call plan (hist before)
-      (call_of_input input)
+  hist_took : (before : List Entry) (input : Input) (c : Content) → hist (before ++ Took input c ∷ []) ≡ with_call (hist before)
+      (call_of_input input c)
   hist_took before input c =
-      ap (history_of plan) (filter_map-append call_of before (Took input c ∷ [])) ∙ history_of-push plan (calls before)
-      (call_of_input input)
+      ap (history_of plan) (filter_map-append call_of before (Took input c ∷ [])) ∙ pushed (calls before) (call_of_input input c)
+    where
+      pushed : (cs : List Call) (o : Option Call) → history_of plan (cs ++ cons_option o []) ≡ with_call (history_of plan cs) o
+      pushed cs None = ap (history_of plan) (append-nil cs)
+      pushed cs (Some call) = history_of-push plan cs call
 
   hist_started : (before : List Entry) (e : Entry) → call_of e ≡ None → hist (before ++ e ∷ []) ≡ hist before
   hist_started before e none =
@@ -366,7 +428,7 @@ module _ (site : Site) (plan : HostPlan) (is : site.plan ≡ plans.Host plan) (p
         entries = subst (λ n. Below n (filter_map entry_key before ++ cons_option (option_map ordinal_of (made_in c)) [])) (sym s.more)
             (number true (filter_map entry_key before) room s.numbered (record { rises = t.entries; most = t.entries_most }));
         dealt =
-            subst (λ (ns : List ℕ). Below (after_call plan (hist before) (call_of_input input)).made
+            subst (λ (ns : List ℕ). Below (with_call (hist before) (call_of_input input c)).made
             (filter_map deal_key (deals peer before) ++ ns)) (sym s.adds.keys)
             (subst (λ n. Below n
             (filter_map deal_key (deals peer before) ++ cons_option (cond s.adds.on (option_map ordinal_of (made_in c)) None) []))

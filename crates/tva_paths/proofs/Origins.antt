@@ -1,6 +1,6 @@
 -- What a router hands on keeps what no router changes, and each packet of a run was made at the node of its identity.
 use Rattle.std.proofs.Common.{◌≡◌, ℕ, ◌+◌, Bool, true, false, cond, eqb, leb, List, [], ◌∷◌, ◌++◌, length, slice_set, Option, Some, None, Ok, Err, refl, sym, ap, subst, ◌∙◌, length-set}
-use Rattle.std.specs.Option.{option_map}
+use Rattle.std.specs.Option.{option_map, IfSome}
 use Rattle.std.specs.List.{AllByRecursion}
 use Rattle.tva_base.specs.declared.packet.Class.TheVariants as class
 use Rattle.tva_base.specs.declared.packet.Cause.TheVariants as cause
@@ -29,25 +29,27 @@ use Rattle.tva_host.specs.History.{History}
 use Rattle.tva_host.specs.Calls.{history_of}
 use Rattle.tva_host.specs.Sending.{intended}
 use Rattle.tva_host.specs.Receiving as receiving
-use Rattle.tva_host.specs.Receiving.{receipt_of, reply_of, stray, before_reply, answer_to, claim_in}
+use Rattle.tva_host.specs.Receiving.{receipt_of, reply_of, stray, before_reply, answer_to, claim_in, brought_by}
 use Rattle.tva_plan.specs.declared.config.Config.{Config}
 use Rattle.tva_plan.specs.declared.config.NodePlan.{NodePlan}
 use Rattle.tva_plan.specs.declared.config.NodePlan.TheVariants as plans
 use Rattle.tva_plan.specs.Valid.{IsConfig}
 use Rattle.tva_trace.specs.declared.rows.Row.{Row}
 use Rattle.tva_trace.specs.declared.rows.RowWhat.{RowWhat}
-use Rattle.tva_trace.specs.declared.rows.RowWhat.TheVariants.{Send, Inject}
+use Rattle.tva_trace.specs.declared.rows.RowWhat.TheVariants.{Send, Inject, File, Tick}
 use Rattle.tva_log.specs.declared.kinds.Input.{Input}
 use Rattle.tva_log.specs.declared.kinds.Input.TheVariants.{FromTrace, Arrival}
 use Rattle.tva_log.specs.Sites.{Site}
-use Rattle.tva_log.specs.Entries.{Content, Arrived, Sent, Received, Entry, Took}
-use Rattle.tva_log.specs.Parts.{calls}
-use Rattle.tva_log.specs.Contents.{arrived, content, content_by, hosted, made_for, next_id, packet_of_row, routed}
+use Rattle.tva_log.specs.Entries.{Content, Arrived, Sent, Ticked, Received, Entry, Took}
+use Rattle.tva_log.specs.Parts.{calls, files}
+use Rattle.tva_log.specs.Contents.{arrived, content, content_by, hosted, made_for, next_id, packet_of_row, routed, sent_with, sent_out}
 use Rattle.tva_run.specs.Reaching.{Logs, log_at, site_at}
 use Rattle.tva_run.specs.Run.{IsRunTo}
 use Rattle.tva_run.proofs.Sites.{site_is}
 use Rattle.tva_paths.specs.Origins.{KeepsShown, KeepsKind, KeepsShim, KeepsCarried, Keeps, made_in, comes_in, HasOrigin}
 use Rattle.tva_paths.proofs.Walks.{IsInputGood, Goes, IsEntryGood, all_good, at_place}
+use Rattle.tva_transfer.specs.Files.{Files, answered, segment_due}
+use Rattle.tva_base.specs.declared.packet.Upper.{Upper}
 
 some_same : {X : Type 0} (x y : X) → Some x ≡ Some y → x ≡ y
 some_same x y e = cc
@@ -191,7 +193,7 @@ judge_keeps plan h a (carried.Malformed size) = refl
 judge_keeps plan h a (carried.Shim shim) = by_shim plan h a shim
 
 pub same_packet : (p : PacketData) → Keeps p p
-same_packet p = record { id = refl; flow = refl; payload = refl; carried = carried_same p.carried }
+same_packet p = record { id = refl; flow = refl; payload = refl; carried = carried_same p.carried; upper = refl }
 
 pub keeps_on : (a b c : PacketData) → Keeps a b → Keeps b c → Keeps a c
 keeps_on a b c k l = record {
@@ -199,6 +201,7 @@ keeps_on a b c k l = record {
   flow = l.flow ∙ k.flow;
   payload = l.payload ∙ k.payload;
   carried = carried_on a.carried b.carried c.carried k.carried l.carried;
+  upper = l.upper ∙ k.upper;
 }
 
 pub onward_keeps : (plan : RouterPlan) (h : List Charge) (logs : handling.Logs) (now : ℕ) (from : Option ℕ) (p : PacketData)
@@ -208,7 +211,7 @@ onward_keeps plan h logs now from p =
     let j = judge plan h (arrival now from p) p.carried in
     elim (leb 32 p.hops) as (λ b. Keeps p (cond b (stopped p) (forwarded plan logs now p j)).onward) [
       | true ↦ same_packet p
-      | false ↦ record { id = refl; flow = refl; payload = refl; carried = judge_keeps plan h (arrival now from p) p.carried }
+      | false ↦ record { id = refl; flow = refl; payload = refl; carried = judge_keeps plan h (arrival now from p) p.carried; upper = refl }
     ]
 
 -- ## what a node makes has its number
@@ -236,6 +239,8 @@ row_of : (number : ℕ) (plan : RouterPlan) (before : List Entry) (now : ℕ) (w
     → option_map (arrived plan before now None) (packet_of_row (next_id number before) w) ≡ Some c
     → IsOf number (made_in c)
 row_of number plan before now (Send dst payload) c e = absurd (cc)
+row_of number plan before now (File dst size segment) c e = absurd (cc)
+row_of number plan before now (Tick dst) c e = absurd (cc)
 row_of number plan before now (Inject flow payload carries) c e =
     let p : PacketData = made_packet (next_id number before) flow payload carries in
     subst (λ (x : Content). IsOf number (made_in x)) (some_same (arrived plan before now None p) c e)
@@ -248,15 +253,29 @@ routed_of number plan before (Arrival time link packet) c e =
     subst (λ (x : Content). IsOf number (made_in x)) (some_same (arrived plan before time.0 (Some link) packet) c e)
     (passed_of number plan before time.0 link packet)
 
-sent_of : (number : ℕ) (plan : HostPlan) (h : History) (now : ℕ) (w : RowWhat) → (made_for number plan h now w).packet.id.node ≡ number
+sent_above : (number : ℕ) (plan : HostPlan) (h : History) (now : ℕ) (dst : Address) (above : Option Upper)
+    → IfSome (option_map (sent_with number plan h now dst) above) (λ (made : Made). made.packet.id.node ≡ number)
 unfolding intended
-sent_of number plan h now (Send dst payload) = refl
-sent_of number plan h now (Inject flow payload carries) = refl
+sent_above number plan h now dst None = tt
+sent_above number plan h now dst (Some above) = refl
 
-reply_by : (number : ℕ) (plan : HostPlan) (h : History) (now : ℕ) (src : Address) (back : Option ReturnInfo)
-    → IsOf number (option_map (λ (made : Made). made.packet) (reply_of number plan h now src back))
-reply_by number plan h now src None = none_of number
-reply_by number plan h now src (Some back) = some_of number _ refl
+sent_of : (number : ℕ) (plan : HostPlan) (h : History) (known : Files) (now : ℕ) (w : RowWhat)
+    → IfSome (made_for number plan h known now w) (λ (made : Made). made.packet.id.node ≡ number)
+unfolding intended
+sent_of number plan h known now (Send dst payload) = refl
+sent_of number plan h known now (Inject flow payload carries) = refl
+sent_of number plan h known now (File dst size segment) = refl
+sent_of number plan h known now (Tick dst) = sent_above number plan h now dst (segment_due known dst)
+
+sent_by : (number : ℕ) (site : Site) (plan : HostPlan) (before : List Entry) (made : Option Made)
+    → IfSome made (λ (m : Made). m.packet.id.node ≡ number) → IsOf number (made_in (sent_out site plan before made))
+sent_by number site plan before None k = none_of number
+sent_by number site plan before (Some made) k = some_of number made.packet k
+
+reply_by : (number : ℕ) (plan : HostPlan) (h : History) (now : ℕ) (src : Address) (back : Option ReturnInfo) (above : Upper)
+    → IsOf number (option_map (λ (made : Made). made.packet) (reply_of number plan h now src back above))
+reply_by number plan h now src None above = none_of number
+reply_by number plan h now src (Some back) above = some_of number _ refl
 
 receipt_by : (number : ℕ) (b : Bool) (r s : Receipt) → IsOf number (option_map (λ (made : Made). made.packet) r.reply)
     → IsOf number (option_map (λ (made : Made). made.packet) s.reply)
@@ -264,19 +283,21 @@ receipt_by : (number : ℕ) (b : Bool) (r s : Receipt) → IsOf number (option_m
 receipt_by number true r s k l = k
 receipt_by number false r s k l = l
 
-receipt_is : (number : ℕ) (plan : HostPlan) (h : History) (now : ℕ) (p : PacketData)
-    → IsOf number (option_map (λ (made : Made). made.packet) (receipt_of number plan h now p).reply)
+receipt_is : (number : ℕ) (plan : HostPlan) (h : History) (now : ℕ) (p : PacketData) (above : Upper)
+    → IsOf number (option_map (λ (made : Made). made.packet) (receipt_of number plan h now p above).reply)
 unfolding receipt_of
-receipt_is number plan h now p =
-    receipt_by number (eqb p.flow.dst.0 plan.address.0) (receiving.received number plan h now p.flow.src p.carried) stray
+receipt_is number plan h now p above =
+    receipt_by number (eqb p.flow.dst.0 plan.address.0) (receiving.received number plan h now p.flow.src p.carried above) stray
     (reply_by number plan (before_reply plan p.flow.src p.carried h) now p.flow.src
-    (answer_to plan h.deeds p.flow.src p.carried (claim_in p.carried))) (none_of number)
+    (brought_by above (answer_to plan h.deeds p.flow.src p.carried (claim_in p.carried))) above) (none_of number)
 
 hosted_of : (site : Site) (plan : HostPlan) (before : List Entry) (i : Input) → IsOf site.number (made_in (hosted site plan before i))
 hosted_of site plan before (FromTrace row) =
     let h = history_of plan (calls before) in
-    some_of site.number (made_for site.number plan h row.time.0 row.what).packet (sent_of site.number plan h row.time.0 row.what)
-hosted_of site plan before (Arrival time link packet) = receipt_is site.number plan (history_of plan (calls before)) time.0 packet
+    sent_by site.number site plan before (made_for site.number plan h (files plan before) row.time.0 row.what)
+    (sent_of site.number plan h (files plan before) row.time.0 row.what)
+hosted_of site plan before (Arrival time link packet) =
+    receipt_is site.number plan (history_of plan (calls before)) time.0 packet (answered plan.address (files plan before) packet)
 
 made_of : (site : Site) (plan : NodePlan) (before : List Entry) (i : Input) (c : Content) → content_by site plan before i ≡ Some c
     → IsOf site.number (made_in c)
@@ -335,7 +356,8 @@ module _ (config : Config) (rows : List Row) (until : ℕ) (logs : Logs) (valid 
   came_good : (c : Content) (packet : PacketData) → Goes (HasOrigin logs) AnyRow c → comes_in c ≡ Some packet → HasOrigin logs packet
   came_good (Arrived from p fate onward) packet g e = subst (HasOrigin logs) (some_same p packet e) g.0
   came_good (Sent made outcome) packet g e = absurd (cc)
-  came_good (Received from p receipt went) packet g e = subst (HasOrigin logs) (some_same p packet e) g.0
+  came_good Ticked packet g e = absurd (cc)
+  came_good (Received from p receipt went range) packet g e = subst (HasOrigin logs) (some_same p packet e) g.0
 
   pub origin_at : (node : ℕ) (site : Site) → site_at config node ≡ Some site → (before : List Entry) (input : Input) (c : Content)
       (rest : List Entry) → log_at logs node ≡ before ++ Took input c ∷ rest

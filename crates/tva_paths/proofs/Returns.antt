@@ -14,7 +14,7 @@ use Rattle.tva_shim.specs.declared.kinds.ReturnInfo.TheVariants as backs
 use Rattle.tva_shim.specs.declared.packets.Carried.{Carried}
 use Rattle.tva_shim.specs.declared.packets.Carried.TheVariants as carried
 use Rattle.tva_shim.specs.Shims.{IsReturn}
-use Rattle.tva_shim.specs.Packets.{PacketData, made_packet}
+use Rattle.tva_shim.specs.Packets.{PacketData, made_packet, upper_size}
 use Rattle.tva_shim.specs.Shows.{back_in}
 use Rattle.tva_flow.specs.Charges.{Charge}
 use Rattle.tva_policy.specs.Grants.{Deed, is_granted, decision}
@@ -27,20 +27,20 @@ use Rattle.tva_host.specs.History.{History}
 use Rattle.tva_host.specs.Calls.{history_of}
 use Rattle.tva_host.specs.Sending.{is_legacy, shim_of, carried_by, next_shape, intended}
 use Rattle.tva_host.specs.Receiving as receiving
-use Rattle.tva_host.specs.Receiving.{ClaimData, shows_grant, is_nothing, notice_for, granted, answer_to, claim_in, reply_of, before_reply, stray, receipt_of}
+use Rattle.tva_host.specs.Receiving.{ClaimData, shows_grant, is_nothing, notice_for, granted, answer_to, claim_in, reply_of, before_reply, stray, receipt_of, brought_by}
 use Rattle.tva_plan.specs.declared.config.Config.{Config}
 use Rattle.tva_plan.specs.declared.config.NodePlan.{NodePlan}
 use Rattle.tva_plan.specs.declared.config.NodePlan.TheVariants as plans
 use Rattle.tva_plan.specs.Valid.{IsConfig}
 use Rattle.tva_trace.specs.declared.rows.Row.{Row}
 use Rattle.tva_trace.specs.declared.rows.RowWhat.{RowWhat}
-use Rattle.tva_trace.specs.declared.rows.RowWhat.TheVariants.{Send, Inject}
+use Rattle.tva_trace.specs.declared.rows.RowWhat.TheVariants.{Send, Inject, File, Tick}
 use Rattle.tva_log.specs.declared.kinds.Input.{Input}
 use Rattle.tva_log.specs.declared.kinds.Input.TheVariants.{FromTrace, Arrival}
 use Rattle.tva_log.specs.Sites.{Site, IsPlanned}
 use Rattle.tva_log.specs.Entries.{Content, Received, Entry, Took}
-use Rattle.tva_log.specs.Parts.{calls}
-use Rattle.tva_log.specs.Contents.{arrived, content, content_by, hosted, made_for, next_id, packet_of_row, routed}
+use Rattle.tva_log.specs.Parts.{calls, files}
+use Rattle.tva_log.specs.Contents.{arrived, content, content_by, hosted, made_for, next_id, packet_of_row, routed, sent_with, sent_out}
 use Rattle.tva_run.specs.Reaching.{Logs, log_at, site_at}
 use Rattle.tva_run.specs.Run.{IsRunTo}
 use Rattle.tva_run.proofs.Sites.{site_is}
@@ -49,6 +49,10 @@ use Rattle.tva_paths.proofs.Lists.{some_same}
 use Rattle.tva_paths.proofs.Given.{RowReturns, AreGiven}
 use Rattle.tva_paths.proofs.Walks.{IsInputGood, IsEntryGood, all_good, at_place}
 use Rattle.tva_paths.proofs.Origins.{onward_keeps}
+use Rattle.tva_transfer.specs.Files.{Files, answered, first_segment, segment_due}
+use Rattle.tva_base.specs.declared.packet.Upper.{Upper}
+use Rattle.tva_base.specs.declared.packet.Upper.TheVariants as upper
+use Rattle.tva_base.specs.declared.event.DataLine.{DataLine}
 
 abbrev pub Returns : PacketData → Type 0
 Returns p = IsReturn 2 (back_in p.carried)
@@ -78,6 +82,8 @@ row_made : (number : ℕ) (plan : RouterPlan) (before : List Entry) (now : ℕ) 
     → option_map (arrived plan before now None) (packet_of_row (next_id number before) w) ≡ Some c → Makes c
 unfolding arrived
 row_made number plan before now (Send dst payload) c k e = absurd (cc)
+row_made number plan before now (File dst size segment) c k e = absurd (cc)
+row_made number plan before now (Tick dst) c k e = absurd (cc)
 row_made number plan before now (Inject flow payload carries) c k e =
     let p : PacketData = made_packet (next_id number before) flow payload carries in
     subst Makes (some_same (arrived plan before now None p) c e) (λ q i. subst Returns (some_same p q i) k)
@@ -97,11 +103,23 @@ sent_returns version s =
     elim (is_legacy s) as (λ b. IsReturn 2
     (back_in (cond b carried.Nothing (carried.Shim (shim_of version s backs.Nothing))))) [ true ↦ tt | false ↦ tt ]
 
-made_returns : (number : ℕ) (plan : HostPlan) (h : History) (now : ℕ) (w : RowWhat) → RowReturns w
-    → Returns (made_for number plan h now w).packet
+above_returns : (number : ℕ) (plan : HostPlan) (h : History) (now : ℕ) (dst : Address) (above : Upper)
+    → Returns (sent_with number plan h now dst above).packet
 unfolding intended
-made_returns number plan h now (Send dst payload) k = sent_returns plan.version (next_shape plan h now dst payload)
-made_returns number plan h now (Inject flow payload carries) k = k
+above_returns number plan h now dst above = sent_returns plan.version (next_shape plan h now dst (upper_size above))
+
+tick_returns : (number : ℕ) (plan : HostPlan) (h : History) (now : ℕ) (dst : Address) (above : Option Upper)
+    → IfSome (option_map (sent_with number plan h now dst) above) (λ (made : Made). Returns made.packet)
+tick_returns number plan h now dst None = tt
+tick_returns number plan h now dst (Some above) = above_returns number plan h now dst above
+
+made_returns : (number : ℕ) (plan : HostPlan) (h : History) (known : Files) (now : ℕ) (w : RowWhat) → RowReturns w
+    → IfSome (made_for number plan h known now w) (λ (made : Made). Returns made.packet)
+unfolding intended
+made_returns number plan h known now (Send dst payload) k = sent_returns plan.version (next_shape plan h now dst payload)
+made_returns number plan h known now (Inject flow payload carries) k = k
+made_returns number plan h known now (File dst size segment) k = above_returns number plan h now dst (first_segment known dst size segment)
+made_returns number plan h known now (Tick dst) k = tick_returns number plan h now dst (segment_due known dst)
 
 granted_returns : (rights : Option Rights) (precaps : List ℕ) → IfSome rights AreSomeRights → IfSome (granted rights precaps) (IsReturn 2)
 granted_returns None precaps k = tt
@@ -126,20 +144,27 @@ answer_returns plan deeds src c None k = notice_returns c
 answer_returns plan deeds src c (Some claim) k =
     granted_returns (decision plan.policy deeds src claim.tags) claim.precaps (decided_rights plan deeds src claim.tags k)
 
-reply_returns : (number : ℕ) (plan : HostPlan) (h : History) (now : ℕ) (src : Address) (answer : Option ReturnInfo)
-    → IfSome answer (IsReturn 2) → IfSome (reply_of number plan h now src answer) (λ (made : Made). Returns made.packet)
-reply_returns number plan h now src None k = tt
-reply_returns number plan h now src (Some back) k = k
+brought_returns : (above : Upper) (answer : Option ReturnInfo) → IfSome answer (IsReturn 2) → IfSome (brought_by above answer) (IsReturn 2)
+brought_returns above (Some back) k = k
+brought_returns upper.Nothing None k = tt
+brought_returns (upper.Data transfer first bytes) None k = tt
+brought_returns (upper.Ack transfer next) None k = tt
 
-receipt_returns : (number : ℕ) (plan : HostPlan) (h : History) (now : ℕ) (p : PacketData) → AreSomeRights plan.policy.rights
-    → IfSome (receipt_of number plan h now p).reply (λ (made : Made). Returns made.packet)
+reply_returns : (number : ℕ) (plan : HostPlan) (h : History) (now : ℕ) (src : Address) (answer : Option ReturnInfo) (above : Upper)
+    → IfSome answer (IsReturn 2) → IfSome (reply_of number plan h now src answer above) (λ (made : Made). Returns made.packet)
+reply_returns number plan h now src None above k = tt
+reply_returns number plan h now src (Some back) above k = k
+
+receipt_returns : (number : ℕ) (plan : HostPlan) (h : History) (now : ℕ) (p : PacketData) (above : Upper)
+    → AreSomeRights plan.policy.rights → IfSome (receipt_of number plan h now p above).reply (λ (made : Made). Returns made.packet)
 unfolding receipt_of
-receipt_returns number plan h now p k =
+receipt_returns number plan h now p above k =
     let src : Address = p.flow.src in
-    elim (eqb p.flow.dst.0 plan.address.0) as (λ b. IfSome (cond b (receiving.received number plan h now src p.carried) stray).reply
+    let answer : Option ReturnInfo = answer_to plan h.deeds src p.carried (claim_in p.carried) in
+    elim (eqb p.flow.dst.0 plan.address.0) as (λ b. IfSome (cond b (receiving.received number plan h now src p.carried above) stray).reply
     (λ (made : Made). Returns made.packet)) [
-      | true ↦ reply_returns number plan (before_reply plan src p.carried h) now src
-          (answer_to plan h.deeds src p.carried (claim_in p.carried)) (answer_returns plan h.deeds src p.carried (claim_in p.carried) k)
+      | true ↦ reply_returns number plan (before_reply plan src p.carried h) now src (brought_by above answer) above
+          (brought_returns above answer (answer_returns plan h.deeds src p.carried (claim_in p.carried) k))
       | false ↦ tt
     ]
 
@@ -148,15 +173,22 @@ reply_made : (reply : Option Made) → IfSome reply (λ (made : Made). Returns m
 reply_made None k p e = absurd (cc)
 reply_made (Some made) k p e = subst Returns (some_same made.packet p e) k
 
+sent_made : (site : Site) (plan : HostPlan) (before : List Entry) (made : Option Made)
+    → IfSome made (λ (m : Made). Returns m.packet) → Makes (sent_out site plan before made)
+sent_made site plan before None k p e = absurd (cc)
+sent_made site plan before (Some made) k p e = subst Returns (some_same made.packet p e) k
+
 hosted_made : (site : Site) (plan : HostPlan) (before : List Entry) (i : Input) → AreSomeRights plan.policy.rights
     → IsInputGood Returns RowReturns i → Makes (hosted site plan before i)
 hosted_made site plan before (FromTrace row) rights k p e =
     let h : History = history_of plan (calls before) in
-    subst Returns (some_same (made_for site.number plan h row.time.0 row.what).packet p e)
-    (made_returns site.number plan h row.time.0 row.what k)
+    sent_made site plan before (made_for site.number plan h (files plan before) row.time.0 row.what)
+    (made_returns site.number plan h (files plan before) row.time.0 row.what k) p e
 hosted_made site plan before (Arrival time link packet) rights k p e =
     let h : History = history_of plan (calls before) in
-    reply_made (receipt_of site.number plan h time.0 packet).reply (receipt_returns site.number plan h time.0 packet rights) p e
+    let above : Upper = answered plan.address (files plan before) packet in
+    reply_made (receipt_of site.number plan h time.0 packet above).reply
+    (receipt_returns site.number plan h time.0 packet above rights) p e
 
 made_by : (site : Site) (plan : NodePlan) (before : List Entry) (i : Input) (c : Content) → IsPlanned plan site.links
     → IsInputGood Returns RowReturns i → content_by site plan before i ≡ Some c → Makes c
@@ -180,8 +212,8 @@ module _ (config : Config) (rows : List Row) (until : ℕ) (logs : Logs) (valid 
   all_return node site is = all_good Returns RowReturns hands_on config rows until logs valid run given.back made_in_run node site is
 
   pub received_returns : (node : ℕ) (site : Site) → site_at config node ≡ Some site → (before : List Entry) (input : Input) (from : ℕ)
-      (p : PacketData) (receipt : Receipt) (went : Option Outcome) (rest : List Entry)
-      → log_at logs node ≡ before ++ Took input (Received from p receipt went) ∷ rest → IsReturn 2 (back_in p.carried)
-  received_returns node site is before input from p receipt went rest here =
-      (at_place (IsEntryGood Returns RowReturns) (log_at logs node) before (Took input (Received from p receipt went)) rest here
+      (p : PacketData) (receipt : Receipt) (went : Option Outcome) (range : Option DataLine) (rest : List Entry)
+      → log_at logs node ≡ before ++ Took input (Received from p receipt went range) ∷ rest → IsReturn 2 (back_in p.carried)
+  received_returns node site is before input from p receipt went range rest here =
+      (at_place (IsEntryGood Returns RowReturns) (log_at logs node) before (Took input (Received from p receipt went range)) rest here
       (all_return node site is)).1.0

@@ -2,7 +2,7 @@
 use Rattle.std.proofs.Common.{◌≡◌, ◌≤◌, ◌<◌, ◌⊎◌, inl, inr, ℕ, true, false, List, [], ◌∷◌, ◌++◌, map, is_some, Option, Some, None, refl, ap, ap₂, sym, subst, ◌∙◌, arith, append_assoc}
 use Rattle.std.specs.Prelude.{IsSomeAnd, ◌==◌}
 use Rattle.std.specs.Option.{option_map, IfSome}
-use Rattle.std.specs.List.{AllByRecursion, filter_map}
+use Rattle.std.specs.List.{AllByRecursion, filter_map, cons_option}
 use Rattle.std.proofs.lemmas.Bool.{eqb-true}
 use Rattle.std.proofs.lemmas.List.Elements.{filter_map-append}
 use Rattle.tva_base.specs.declared.packet.Fate.{Fate}
@@ -39,14 +39,15 @@ use Rattle.tva_plan.specs.declared.config.NodePlan.TheVariants as plans
 use Rattle.tva_plan.specs.Valid.{IsConfig}
 use Rattle.tva_trace.specs.declared.rows.Row.{Row}
 use Rattle.tva_trace.specs.declared.rows.RowWhat.{RowWhat}
-use Rattle.tva_trace.specs.declared.rows.RowWhat.TheVariants.{Send, Inject}
+use Rattle.tva_trace.specs.declared.rows.RowWhat.TheVariants.{Send, Inject, File, Tick}
 use Rattle.tva_joins.specs.Joins.{IsInOrder}
 use Rattle.tva_joins.proofs.Joins.{each-weaker, times_from}
 use Rattle.tva_log.specs.declared.kinds.Input.{Input}
 use Rattle.tva_log.specs.declared.kinds.Input.TheVariants.{FromTrace, Arrival}
 use Rattle.tva_log.specs.Sites.{Site, IsPlanned}
+use Rattle.tva_base.specs.declared.event.DataLine.{DataLine}
 use Rattle.tva_log.specs.Entries.{Arrived, Received, Entry, Took, Started, input_time, entry_time, entry_rank}
-use Rattle.tva_log.specs.Parts.{charged, charges, port_logs, call_of_row, calls}
+use Rattle.tva_log.specs.Parts.{charged, charges, port_logs, call_of_row, calls, packet_sent}
 use Rattle.tva_log.specs.Contents.{handled}
 use Rattle.tva_log.specs.NodeLog.{due}
 use Rattle.tva_run.specs.Reaching.{Logs, log_at, site_at}
@@ -75,17 +76,24 @@ use Rattle.tva_paths.proofs.Kept.{AreShims, are_shims, same_length, at_router, s
 
 -- ## the times of a host's calls
 
-row_falls : (from now : ℕ) (what : RowWhat) (es : List Entry) → from ≤ now → NeverFall now (calls es)
-    → ((t : ℕ) → t ≤ now → NeverFall t (calls es)) → NeverFall from (call_of_row now what ∷ calls es)
-row_falls from now (Send dst payload) es l k all = (l, k)
-row_falls from now (Inject flow payload carries) es l k all = all from l
+row_falls : (from now : ℕ) (what : RowWhat) (p : PacketData) (es : List Entry) → from ≤ now → NeverFall now (calls es)
+    → ((t : ℕ) → t ≤ now → NeverFall t (calls es)) → NeverFall from (call_of_row now what p ∷ calls es)
+row_falls from now (Send dst payload) p es l k all = (l, k)
+row_falls from now (Inject flow payload carries) p es l k all = all from l
+row_falls from now (File dst size segment) p es l k all = (l, k)
+row_falls from now (Tick dst) p es l k all = (l, k)
+
+sent_falls : (from now : ℕ) (what : RowWhat) (o : Option PacketData) (es : List Entry) → from ≤ now → NeverFall now (calls es)
+    → ((t : ℕ) → t ≤ now → NeverFall t (calls es)) → NeverFall from (cons_option (option_map (call_of_row now what) o) (calls es))
+sent_falls from now what None es l k all = all from l
+sent_falls from now what (Some p) es l k all = row_falls from now what p es l k all
 
 never_fall : (from : ℕ) (es : List Entry) → AllByRecursion (λ e. from ≤ entry_time e) es → IsInOrder entry_time entry_rank es
     → NeverFall from (calls es)
 never_fall from [] a o = tt
 never_fall from (Took (FromTrace row) c ∷ es) a o =
     let later = (times_from entry_time entry_rank (Took (FromTrace row) c) es o).1 in
-    row_falls from row.time.0 row.what es a.0 (never_fall row.time.0 es later o.1)
+    sent_falls from row.time.0 row.what (packet_sent c) es a.0 (never_fall row.time.0 es later o.1)
     (λ t l. never_fall t es (each-weaker (λ (e : Entry). row.time.0 ≤ entry_time e) (λ (e : Entry). t ≤ entry_time e)
     (λ e k. omega arith) es later) o.1)
 never_fall from (Took (Arrival at link packet) c ∷ es) a o =
@@ -197,9 +205,10 @@ module _ (config : Config) (rows : List Row) (until : ℕ) (logs : Logs) (valid 
   few = few_inputs config rows until logs valid given run sender from is_from number
 
   returns : (before : List Entry) (i : Input) (link : ℕ) (p : PacketData) (receipt : Receipt) (went : Option Outcome)
-      (after : List Entry) → log_at logs sender ≡ before ++ Took i (Received link p receipt went) ∷ after → IsReturn 2 (back_in p.carried)
-  returns before i link p receipt went after e =
-      received_returns config rows until logs valid given run sender from is_from before i link p receipt went after e
+      (range : Option DataLine) (after : List Entry) → log_at logs sender ≡ before ++ Took i (Received link p receipt went range) ∷ after
+      → IsReturn 2 (back_in p.carried)
+  returns before i link p receipt went range after e =
+      received_returns config rows until logs valid given run sender from is_from before i link p receipt went range after e
 
   told_all : Told from host from_plan packet.flow.dst (log_at logs sender) few returns (log_at logs sender)
   told_all =

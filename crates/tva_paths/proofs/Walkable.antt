@@ -1,6 +1,8 @@
 -- The worked walk's configuration is valid, and so are its rows.
-use Rattle.std.proofs.Common.{◌≡◌, ◌<◌, ℕ, zero, suc, true, List, [], ◌∷◌, length, map, Contains, slice_index_or, refl, ap, arith}
+use Rattle.std.proofs.Common.{◌≡◌, ◌<◌, ℕ, zero, suc, ◌&&◌, true, false, List, [], ◌∷◌, length, map, Contains, slice_index_or, refl, ap, arith}
+use Rattle.std.specs.Prelude.{◌==◌}
 use Rattle.std.specs.List.{AllByRecursion}
+use Rattle.std.proofs.lemmas.Bool.{and_right}
 use Rattle.std.proofs.lemmas.List.Elements.{All-from_recursion, All-nil}
 use Rattle.tva_base.specs.declared.addresses.Address.{Address}
 use Rattle.tva_base.specs.declared.addresses.Prefix.{Prefix}
@@ -15,7 +17,8 @@ use Rattle.tva_plan.specs.declared.config.NodePlan.TheVariants.{Host}
 use Rattle.tva_plan.specs.Names.{is_host_plan}
 use Rattle.tva_plan.specs.Wiring.{links_from, incoming_of, outgoing_of}
 use Rattle.tva_plan.specs.Valid.{IsName, IsNodePlan, IsLinkPlan, IsConfig}
-use Rattle.tva_trace.specs.Valid.{IsRow, AreTraceRows}
+use Rattle.tva_trace.specs.declared.rows.Row.{Row}
+use Rattle.tva_trace.specs.Valid.{IsRow, AreTraceRows, begins, files_at}
 use Rattle.tva_paths.specs.Walk.{walk_a, walk_b, walk_class, walk_limits, walk_route, walk_router, walk_host, walk_host_b, walk_link, walk_config, walk_rows}
 
 -- ## lists without doubles
@@ -151,6 +154,13 @@ valid = record {
   wired = ((refl, refl), (refl, (refl, tt)));
 }
 
+-- no row begins a transfer
+none_begins : (node : ℕ) (rows : List Row) → AllByRecursion (λ (row : Row). begins row.what ≡ false) rows → files_at node rows ≡ 0
+none_begins node [] none = refl
+none_begins node (row ∷ rows) none =
+    let here : ((row.node == node) && begins row.what) ≡ false = rw none.0 (and_right (row.node == node) false refl) in
+    rw here (none_begins node rows none.1)
+
 pub traced : AreTraceRows walk_config walk_rows
 traced = record {
   few = omega arith;
@@ -165,4 +175,5 @@ traced = record {
     ),
   );
   order = (omega arith, (omega arith, (omega arith, (omega arith, tt))));
+  files = λ node. (let none = none_begins node walk_rows (refl, (refl, (refl, (refl, tt)))) in omega (arith, none));
 }

@@ -43,6 +43,7 @@ use Rattle.tva_steady.specs.Steady.{Way}
 use Rattle.tva_steady.proofs.Walk.{valid}
 use Rattle.tva_paths.proofs.Lists.{some_same}
 use Rattle.tva_paths.specs.Walk.{walk_flow, walk_back, walk_rights, walk_limits, walk_router, walk_host_a, walk_host_b, walk_config, walk_first, walk_spoofed, walk_second, walk_third, walk_rows, walk_cap, walk_grant, walk_fate, walk_entry, walk_request, walk_reply, walk_list, walk_bare, walk_nonce, walk_renewal, walk_precap, walk_before_list, walk_before_renewal, walk_log_a, walk_log_b, walk_log_router, walk_logs, walk_until, walk_list_comes, walk_nonce_comes, walk_renewal_comes}
+use Rattle.tva_transfer.specs.Files.{segment_due, range_of, after_upper, answer_to}
 
 -- ## order, by a test
 
@@ -189,11 +190,11 @@ router_steps =
     (refl, refl, (refl, (refl, refl, (refl, (refl, list_passes, (refl, (refl, refl, (refl, (refl, refl, (refl, (refl, renewal_passes, (refl, tt))))))))))))
 
 a_steps : GoesOn a_site [] a_inputs walk_log_a
-unfolding layout two_bytes six_bytes eight_bytes number_bytes credit_of is_granted under_grant decision link_to intended after_intending receipt_of after_receipt start_after
+unfolding layout two_bytes six_bytes eight_bytes number_bytes credit_of is_granted under_grant decision link_to intended after_intending receipt_of after_receipt segment_due range_of after_upper answer_to start_after
 a_steps = (refl, refl, (refl, (refl, refl, (refl, (refl, refl, (refl, (refl, refl, (refl, tt))))))))
 
 b_steps : GoesOn b_site [] b_inputs walk_log_b
-unfolding layout two_bytes six_bytes eight_bytes number_bytes credit_of is_granted under_grant decision link_to intended after_intending receipt_of after_receipt start_after
+unfolding layout two_bytes six_bytes eight_bytes number_bytes credit_of is_granted under_grant decision link_to intended after_intending receipt_of after_receipt segment_due range_of after_upper answer_to start_after
 b_steps = (refl, refl, (refl, (refl, refl, (refl, refl, (refl, refl, tt)))))
 
 -- ## no start is left out

@@ -31,16 +31,16 @@ use Rattle.tva_plan.specs.declared.config.NodePlan.TheVariants as plans
 use Rattle.tva_plan.specs.Valid.{IsConfig}
 use Rattle.tva_trace.specs.declared.rows.Row.{Row}
 use Rattle.tva_trace.specs.declared.rows.RowWhat.{RowWhat}
-use Rattle.tva_trace.specs.declared.rows.RowWhat.TheVariants.{Send, Inject}
+use Rattle.tva_trace.specs.declared.rows.RowWhat.TheVariants.{Send, Inject, File, Tick}
 use Rattle.tva_joins.specs.Joins.{IsInOrder, cut}
 use Rattle.tva_joins.proofs.Joins.{filter-true, cut-late, each-append, each-filter, each_later, cut-zero}
 use Rattle.tva_joins.proofs.Putting.{each_from_sources}
 use Rattle.tva_log.specs.declared.kinds.Input.{Input}
 use Rattle.tva_log.specs.declared.kinds.Input.TheVariants.{FromTrace, Arrival}
 use Rattle.tva_log.specs.Sites.{Site, site_of, limits_out}
-use Rattle.tva_log.specs.Entries.{Content, Arrived, Sent, Received, Entry, Took, Started, input_time, input_source, entry_time, entry_rank}
-use Rattle.tva_log.specs.Parts.{charges, calls, queued_at, reply_at, content_at, port_entry, port_logs}
-use Rattle.tva_log.specs.Contents.{arrived, content, content_by, hosted, made_for, next_id, packet_of_row, routed}
+use Rattle.tva_log.specs.Entries.{Content, Arrived, Sent, Ticked, Received, Entry, Took, Started, input_time, input_source, entry_time, entry_rank}
+use Rattle.tva_log.specs.Parts.{charges, calls, queued_at, reply_at, content_at, port_entry, port_logs, files}
+use Rattle.tva_log.specs.Contents.{arrived, content, content_by, hosted, made_for, next_id, packet_of_row, routed, sent_out}
 use Rattle.tva_log.specs.NodeLog.{GoesOn, due, starts, start_after}
 use Rattle.tva_log.specs.Told.{at_time}
 use Rattle.tva_log.proofs.Logs.{IsNodeLog-cut, cut_same}
@@ -49,6 +49,7 @@ use Rattle.tva_run.specs.Run.{IsRunTo}
 use Rattle.tva_run.proofs.Queued.{Brings, start_good}
 use Rattle.tva_run.proofs.Runs.{are_delayed, arrivals-cut, source_due}
 use Rattle.tva_paths.specs.Origins.{made_in}
+use Rattle.tva_transfer.specs.Files.{answered}
 
 some_same : {X : Type 0} (x y : X) → Some x ≡ Some y → x ≡ y
 some_same x y e = cc
@@ -85,7 +86,8 @@ module _ (P : PacketData → Type 0) (W : RowWhat → Type 0) where
   abbrev pub Goes : Content → Type 0
   Goes (Arrived from packet fate onward) = P packet × P onward
   Goes (Sent made outcome) = P made.packet
-  Goes (Received from packet receipt went) = P packet × IsReplyGood receipt.reply
+  Goes Ticked = Unit {0}
+  Goes (Received from packet receipt went range) = P packet × IsReplyGood receipt.reply
 
   abbrev pub IsInputGood : Input → Type 0
   IsInputGood (FromTrace row) = W row.what
@@ -116,7 +118,8 @@ module _ (P : PacketData → Type 0) (W : RowWhat → Type 0) where
   content_good : (link time : ℕ) (c : Content) → Goes c → AllByRecursion (Brings P) (cons_option (content_at link time c) [])
   content_good link time (Arrived from packet fate onward) k = queued_good link time fate.outcome fate.class onward k.1
   content_good link time (Sent made outcome) k = queued_good link time outcome (class_by_shim made.packet.carried) made.packet k
-  content_good link time (Received from packet receipt went) k = reply_good link time receipt.reply went k.1
+  content_good link time Ticked k = tt
+  content_good link time (Received from packet receipt went range) k = reply_good link time receipt.reply went k.1
 
   started_on : (b : Bool) (time : ℕ) (class : Class) (packet : PacketData)
       → AllByRecursion (Brings P) (cons_option (cond b (Some (port.Started time class packet)) None) [])
@@ -187,6 +190,8 @@ module _ (P : PacketData → Type 0) (W : RowWhat → Type 0) where
     row_goes : (number : ℕ) (plan : RouterPlan) (before : List Entry) (now : ℕ) (w : RowWhat) (c : Content) → Makes c
         → option_map (arrived plan before now None) (packet_of_row (next_id number before) w) ≡ Some c → Goes c
     row_goes number plan before now (Send dst payload) c m e = absurd (cc)
+    row_goes number plan before now (File dst size segment) c m e = absurd (cc)
+    row_goes number plan before now (Tick dst) c m e = absurd (cc)
     row_goes number plan before now (Inject flow payload carries) c m e =
         let p : PacketData = made_packet (next_id number before) flow payload carries in
         let same : arrived plan before now None p ≡ c = some_same (arrived plan before now None p) c e in
@@ -203,12 +208,21 @@ module _ (P : PacketData → Type 0) (W : RowWhat → Type 0) where
     reply_goes None m = tt
     reply_goes (Some made) m = m made.packet refl
 
+    sent_goes : (site : Site) (plan : HostPlan) (before : List Entry) (made : Option Made) → Makes (sent_out site plan before made)
+        → Goes (sent_out site plan before made)
+    sent_goes site plan before None m = tt
+    sent_goes site plan before (Some made) m = m made.packet refl
+
     hosted_goes : (site : Site) (plan : HostPlan) (before : List Entry) (i : Input) → IsInputGood i → Makes (hosted site plan before i)
         → Goes (hosted site plan before i)
     hosted_goes site plan before (FromTrace row) k m =
-        m (made_for site.number plan (history_of plan (calls before)) row.time.0 row.what).packet refl
-    hosted_goes site plan before (Arrival time link packet) k m =
-        (k, reply_goes (receipt_of site.number plan (history_of plan (calls before)) time.0 packet).reply m)
+        sent_goes site plan before
+        (made_for site.number plan (history_of plan (calls before)) (files plan before) row.time.0 row.what) m
+    hosted_goes site plan before (Arrival time link packet) k m = (
+      k,
+      reply_goes (receipt_of site.number plan (history_of plan (calls before)) time.0 packet
+          (answered plan.address (files plan before) packet)).reply m,
+    )
 
     goes_by : (site : Site) (plan : NodePlan) (before : List Entry) (i : Input) (c : Content) → IsInputGood i → Makes c
         → content_by site plan before i ≡ Some c → Goes c

@@ -1,6 +1,6 @@
--- A worked walk: the network of `examples/walk.toml` with a horizon of ten seconds, and its trace with two more rows.
--- Its logs up to the time at which a renewal comes to the router: a request, the grant that answers it, a list, a
--- packet without a shim that another node sends as if it were the host's, a nonce alone, and the renewal.
+-- A worked walk: the network of `examples/walk.toml` with a horizon of ten seconds, and its trace with two more rows. Its
+-- logs up to the time at which a renewal comes to the router: a request, the grant that answers it, a list, a packet
+-- without a shim that another node sends as if it were the host's, a nonce alone, and the renewal.
 use Rattle.std.specs.Prelude.{◌≡◌, ℕ, false, List, [], ◌∷◌, ◌++◌, Option, Some, None}
 use Rattle.tva_base.specs.declared.addresses.Address.{Address}
 use Rattle.tva_base.specs.declared.event.BackKind.TheVariants as became
@@ -181,8 +181,7 @@ walk_reply hops es =
 abbrev pub walk_list : ℕ → ℕ → PacketData
 walk_list hops pointer =
     walk_packet 1 2 walk_flow hops 0
-    (walk_shim
-    (kinds.List (record { nonce = 2; pointer = pointer; rights = walk_rights; caps = walk_cap walk_flow ∷ [] }))
+    (walk_shim (kinds.List (record { nonce = 2; pointer = pointer; rights = walk_rights; caps = walk_cap walk_flow ∷ [] }))
     (backs.Grant walk_rights (walk_cap walk_back ∷ [])))
 
 -- the packet without a shim
@@ -196,8 +195,7 @@ walk_nonce hops = walk_packet 1 3 walk_flow hops 1000 (walk_shim (kinds.Nonce 2)
 abbrev pub walk_renewal : ℕ → ℕ → ℕ → PacketData
 walk_renewal hops pointer cap =
     walk_packet 1 4 walk_flow hops 1000
-    (walk_shim (kinds.Renewal (record { nonce = 2; pointer = pointer; rights = walk_rights; caps = cap ∷ [] }))
-    backs.Nothing)
+    (walk_shim (kinds.Renewal (record { nonce = 2; pointer = pointer; rights = walk_rights; caps = cap ∷ [] })) backs.Nothing)
 
 -- ## the logs
 
@@ -210,12 +208,8 @@ walk_log_a =
     ∷ Started 0 0 Request (walk_request 0 [])
     ∷ Took (Arrival (at_time 4002900) 1 (walk_reply 1 (walk_entry 2 walk_back ∷ [])))
     (Received 1 (walk_reply 1 (walk_entry 2 walk_back ∷ []))
-    (record {
-      what = what.Request;
-      back = became.Grant;
-      reply = Some (record { packet = walk_list 0 0; shape = shape.List });
-    })
-    (Some (Queued 0)))
+    (record { what = what.Request; back = became.Grant; reply = Some (record { packet = walk_list 0 0; shape = shape.List }) })
+    (Some (Queued 0)) None)
     ∷ Started 4002900 0 Regular (walk_list 0 0)
     ∷ walk_sent walk_second (walk_nonce 0) shape.Nonce
     ∷ Started 10000000 0 Regular (walk_nonce 0)
@@ -227,19 +221,15 @@ abbrev pub walk_log_b : List Entry
 walk_log_b =
     Took (Arrival (at_time 2002100) 2 (walk_request 1 (walk_entry 1 walk_flow ∷ [])))
     (Received 2 (walk_request 1 (walk_entry 1 walk_flow ∷ []))
-    (record {
-      what = what.Request;
-      back = became.Nothing;
-      reply = Some (record { packet = walk_reply 0 []; shape = shape.Request });
-    })
-    (Some (Queued 3)))
+    (record { what = what.Request; back = became.Nothing; reply = Some (record { packet = walk_reply 0 []; shape = shape.Request }) })
+    (Some (Queued 3)) None)
     ∷ Started 2002100 3 Request (walk_reply 0 [])
     ∷ Took (Arrival (at_time 6003940) 2 (walk_list 1 1))
-    (Received 2 (walk_list 1 1) (record { what = what.Regular; back = became.Grant; reply = None }) None)
+    (Received 2 (walk_list 1 1) (record { what = what.Regular; back = became.Grant; reply = None }) None None)
     ∷ Took (Arrival (at_time 10000200) 2 (walk_bare 1))
-    (Received 2 (walk_bare 1) (record { what = what.Legacy; back = became.Nothing; reply = None }) None)
+    (Received 2 (walk_bare 1) (record { what = what.Legacy; back = became.Nothing; reply = None }) None None)
     ∷ Took (Arrival (at_time 12020560) 2 (walk_nonce 1))
-    (Received 2 (walk_nonce 1) (record { what = what.Regular; back = became.Nothing; reply = None }) None)
+    (Received 2 (walk_nonce 1) (record { what = what.Regular; back = became.Nothing; reply = None }) None None)
     ∷ []
 
 -- the grant to which the router charges
@@ -297,13 +287,11 @@ walk_nonce_comes = Arrival (at_time 11010280) 0 (walk_nonce 0)
 abbrev pub walk_renewal_comes : Input
 walk_renewal_comes = Arrival (at_time 6001010400) 0 (walk_renewal 0 0 (walk_cap walk_flow))
 
--- in these logs the path from A to B is steady at the router up to a packet that comes to it behind these entries, on
--- link 0, and is charged
+-- in these logs the path from A to B is steady at the router up to a packet that comes to it behind these entries, on link
+-- 0, and is charged
 pub record IsSteadyBehind (before : List Entry) (input : Input) (packet onward : PacketData) : Type 0 where
   pub rest : List Entry
   pub here : log_at walk_logs 0
       ≡ before ++ Took input (Arrived (Some 0) packet (walk_fate Regular (Some walk_grant) 2) onward) ∷ rest
-  pub steady : IsSteadyPath walk_host_a walk_router 1000520
-      (deals walk_b (log_at walk_logs 1)) (comings walk_flow before)
-      (charges_at walk_router (input_time input) (charges before))
-      (coming input packet (walk_fate Regular (Some walk_grant) 2))
+  pub steady : IsSteadyPath walk_host_a walk_router 1000520 (deals walk_b (log_at walk_logs 1)) (comings walk_flow before)
+      (charges_at walk_router (input_time input) (charges before)) (coming input packet (walk_fate Regular (Some walk_grant) 2))

@@ -22,9 +22,9 @@ ghost use Rattle.tva_paths.specs.Walk.{walk_precap, walk_renewal, walk_renewal_c
 ghost use Rattle.tva_paths.specs.Walk.{IsSteadyBehind};
 
 /// In every run up to a time, in nanoseconds, each packet that comes to a node was made at the node that
-/// its identity names, for a row or as a reply. It still has its flow, its payload, its shim's version and
-/// kind, the nonce, the rights and the number of capabilities that it shows, its return info, and its mark
-/// where it had one.
+/// its identity names, for a row or as a reply. It still has its flow, its payload, its upper part, its
+/// shim's version and kind, the nonce, the rights and the number of capabilities that it shows, its return
+/// info, and its mark where it had one.
 pub fn packets_have_origins()
     ensures { (config : Config) (rows : List Row) (until : ℕ) (logs : Logs) → IsConfig config
         → IsRunTo config rows until logs

@@ -22,7 +22,7 @@ returns-in_ok-build-in-Host-2-clause-stands c =
     let uplink = c.in-Host.host.uplink in
     let limits = ap (λ (p : PortData). p.limits) c.in_ok-build-in-Host-2.ensures.value in
     record {
-      host = c.in_ok-build-in-Host.ensures.stands;
+      courier = c.in_ok-build-in-Host.ensures.stands;
       node = c.in_ok-build-in-Host.ensures.node;
       uplink = ap (λ (p : HostPlan). p.uplink) (sym c.in_ok-build-in-Host.ensures.plan);
       limits = first_out c.args.number c.args.plan.now c.args.links.now uplink _ planned.1 ∙ ap (λ (l : LinkLimits). Some (uplink, l)) (sym limits);

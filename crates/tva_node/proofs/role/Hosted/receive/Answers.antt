@@ -1,25 +1,30 @@
 use Rattle.std.proofs.Common.{◌∙◌, ◌∷◌, [], ◌++◌, sym, subst, ap}
 use Rattle.tva_shim.specs.Packets.{PacketData}
 use Rattle.tva_host.specs.Calls.{Received}
-use Rattle.tva_host.specs.Stands.{HostData, StandsFor}
-use Rattle.tva_log.specs.Parts.{calls, port_logs}
+use Rattle.tva_transfer.specs.Files.{Came, answered}
+use Rattle.tva_transfer.specs.Stands.{CourierData, StandsFor}
+use Rattle.tva_log.specs.Parts.{acts, calls, files, port_logs}
 use Rattle.tva_node.proofs.Roles.{host_arrival}
 use Rattle.tva_node.proofs.role.Hosted.receive.Goals as goal
 
 pub returns-clause-took : goal.returns-clause-took
 returns-clause-took c = λ site log st.
     let h = c.args.self.now in
+    let plan = h.courier.host.plan in
     let logs = port_logs log h.uplink in
     let same = c.answer-reply.ensures.same in
-    host_arrival site h c.answer-reply.new.self log c.args.now c.args.from c.args.packet c.in_ok-what.field-0 c.packet.inside.id c.length-length.result c.packet.inside.payload c.answer-reply.result st
-    (c.in_ok-what.ensures.receipt (calls log) st.host)
+    let landed = c.in_ok-receipt.field-0 in
+    host_arrival site h c.answer-reply.new.self log c.args.now c.args.from c.args.packet landed.receipt landed.range c.packet.inside.id c.length-length.result c.packet.inside.payload c.answer-reply.result st
+    (c.in_ok-receipt.ensures.receipt (calls log) (acts log) st.courier)
+    (c.in_ok-receipt.ensures.range (calls log) (acts log) st.courier)
     (ap (λ (p : PacketData). p.id) c.packet.view_is)
     c.length-length.ensures.layout
     (ap (λ (p : PacketData). p.payload) c.packet.view_is)
     (c.answer-reply.ensures.told logs st.port)
-    (subst (λ (x : HostData). StandsFor x (calls log ++ Received c.args.now.0 c.args.packet ∷ [])) (sym same.0) (c.in_ok-what.ensures.stands (calls log) st.host))
+    (subst (λ (x : CourierData). StandsFor x (calls log ++ Received c.args.now.0 c.args.packet (answered plan.address (files plan log) c.args.packet) ∷ []) (acts log ++ Came c.args.packet ∷ [])) (sym same.0)
+    (c.in_ok-receipt.ensures.stands (calls log) (acts log) st.courier))
     (c.answer-reply.ensures.stands logs st.port)
-    (ap (λ (x : HostData). x.node) same.0 ∙ c.in_ok-what.ensures.same.0)
-    (ap (λ (x : HostData). x.plan) same.0 ∙ c.in_ok-what.ensures.same.1)
+    (ap (λ (x : CourierData). x.host.node) same.0 ∙ c.in_ok-receipt.ensures.same.0)
+    (ap (λ (x : CourierData). x.host.plan) same.0 ∙ c.in_ok-receipt.ensures.same.1)
     same.1
     same.2

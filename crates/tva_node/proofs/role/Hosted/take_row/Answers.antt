@@ -1,34 +1,57 @@
-use Rattle.std.proofs.Common.{◌≡◌, ◌∙◌, ◌∷◌, [], ◌++◌, sym, subst, ap}
+use Rattle.std.proofs.Common.{◌≡◌, ◌∙◌, ◌∷◌, [], ◌++◌, Option, sym, subst, ap}
+use Rattle.std.specs.List.{cons_option}
+use Rattle.std.specs.Option.{option_map}
 use Rattle.tva_base.specs.declared.limits.LinkLimits.{LinkLimits}
 use Rattle.tva_shim.specs.Packets.{PacketData, class_by_shim}
 use Rattle.tva_port.specs.Stands.{PortData, StandsFor}
 use Rattle.tva_router.specs.Handling.{entered_by}
-use Rattle.tva_host.specs.Stands.{HostData}
-use Rattle.tva_host.specs.Stands as host
-use Rattle.tva_log.specs.Parts.{call_of_row, calls, port_logs}
+use Rattle.tva_host.specs.declared.made.Made.{Made}
+use Rattle.tva_transfer.specs.Stands.{CourierData}
+use Rattle.tva_transfer.specs.Stands as courier
+use Rattle.tva_log.specs.Parts.{act_of_row, acts, call_of_row, calls, port_logs}
 use Rattle.tva_node.specs.Steps.{went_out}
-use Rattle.tva_node.proofs.Roles.{host_row}
+use Rattle.tva_node.proofs.Roles.{host_row, host_tick}
 use Rattle.tva_node.proofs.role.Hosted.take_row.Goals as goal
+
+pub returns-in_default-clause-took : goal.returns-in_default-clause-took
+returns-in_default-clause-took c = λ site log st.
+    let h = c.args.self.now in
+    let row = c.args.row.now in
+    let new = c.make.new.self in
+    let make = c.in_ok-packet.ensures in
+    let logs = port_logs log h.uplink in
+    host_tick site h new log row st
+    (sym c.in_default.is ∙ make.made (calls log) (acts log) st.courier)
+    (subst (λ (made : Option Made). courier.StandsFor new.courier (calls log ++ cons_option (option_map (λ (m : Made). call_of_row row.time.0 row.what m.packet) made) []) (acts log ++ cons_option (act_of_row row.what) [])) c.in_default.is
+    (make.stands (calls log) (acts log) st.courier))
+    (subst (λ (p : PortData). StandsFor p logs) (sym make.rest.1) st.port)
+    make.same.0
+    make.same.1
+    make.rest.0
+    (ap (λ (p : PortData). p.limits) make.rest.1)
 
 pub returns-clause-took : goal.returns-clause-took
 returns-clause-took c = λ site log st.
     let h = c.args.self.now in
     let row = c.args.row.now in
     let new = c.queue-outcome.new.self in
-    let made = c.in_ok-packet.field-0 in
-    let rest = c.in_ok-packet.ensures.rest in
+    let made = c.in-Some.field-0 in
+    let make = c.in_ok-packet.ensures in
+    let rest = make.rest in
     let same = c.queue-outcome.ensures.same in
     let logs = port_logs log h.uplink in
     let stands : StandsFor c.make.new.self.port logs = subst (λ (p : PortData). StandsFor p logs) (sym rest.1) st.port in
     let limits : c.make.new.self.port.limits ≡ h.port.limits = ap (λ (p : PortData). p.limits) rest.1 in
     host_row site h new log row made c.packet.inside.id c.length-length.result c.queue-outcome.result st
-    (c.in_ok-packet.ensures.made (calls log) st.host)
+    (sym c.in-Some.is ∙ make.made (calls log) (acts log) st.courier)
     (ap (λ (p : PacketData). p.id) c.packet.view_is)
     c.length-length.ensures.layout
     (c.queue-outcome.ensures.outcome logs stands ∙ (ap (λ k. went_out k c.make.new.self.port.limits logs made.packet) rest.0 ∙ ap (λ (l : LinkLimits). went_out h.uplink l logs made.packet) limits))
-    (subst (λ (x : HostData). host.StandsFor x (calls log ++ call_of_row row.time.0 row.what ∷ [])) (sym same.0) (c.in_ok-packet.ensures.stands (calls log) st.host))
+    (subst (λ (x : CourierData). courier.StandsFor x (calls log ++ call_of_row row.time.0 row.what made.packet ∷ []) (acts log ++ cons_option (act_of_row row.what) [])) (sym same.0)
+    (subst (λ (o : Option Made). courier.StandsFor c.make.new.self.courier (calls log ++ cons_option (option_map (λ (m : Made). call_of_row row.time.0 row.what m.packet) o) []) (acts log ++ cons_option (act_of_row row.what) [])) c.in-Some.is
+    (make.stands (calls log) (acts log) st.courier)))
     (subst (λ k. StandsFor new.port (logs ++ entered_by c.queue-outcome.result row.time.0 (class_by_shim made.packet.carried) made.packet k)) rest.0 (c.queue-outcome.ensures.stands logs stands))
-    (ap (λ (x : HostData). x.node) same.0 ∙ c.in_ok-packet.ensures.same.0)
-    (ap (λ (x : HostData). x.plan) same.0 ∙ c.in_ok-packet.ensures.same.1)
+    (ap (λ (x : CourierData). x.host.node) same.0 ∙ make.same.0)
+    (ap (λ (x : CourierData). x.host.plan) same.0 ∙ make.same.1)
     (same.1 ∙ rest.0)
     (same.2 ∙ limits)

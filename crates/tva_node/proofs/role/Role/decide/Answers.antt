@@ -34,7 +34,7 @@ returns-in-Host-clause-decides c = λ site log limits s e out st.
     let stands = subst (λ (r : Role). RoleStands site r log) c.in-Host.is st in
     let o = host_out site h log c.args.link (c.args.link, limits) s (e ∙ ap role_plan c.in-Host.is) stands out in
     let same : h.port.limits ≡ limits = ap (λ p. p.1) (sym o.1) in
-    let new : Hosted = record { host = h.host; uplink = h.uplink; port = c.decide-in-Host.new.self } in (
+    let new : Hosted = record { courier = h.courier; uplink = h.uplink; port = c.decide-in-Host.new.self } in (
       c.decide-in-Host.ensures.decision (port_logs log h.uplink) stands.port
           ∙ (ap (λ (l : LinkLimits). decision l (port_logs log h.uplink) c.args.now.0) same ∙ ap (λ k. decision limits (port_logs log k) c.args.now.0) o.0),
       subst (λ k. StandsAsHost site new (log ++ started_by k c.args.now.0 c.decide-in-Host.result)) o.0

@@ -1,6 +1,5 @@
 use Rattle.std.proofs.Common.{◌≡◌, ◌∙◌, Some, None, refl, sym, subst, ap}
 use Rattle.std.specs.Option.{option_map}
-use Rattle.tva_base.specs.declared.plan.RouterPlan.{RouterPlan}
 use Rattle.tva_shim.specs.Packets.{PacketData}
 use Rattle.tva_router.specs.Boots.{charges_of_boot}
 use Rattle.tva_router.specs.Stands.{RouterData, StandsFor}

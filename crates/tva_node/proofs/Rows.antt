@@ -1,0 +1,36 @@
+-- The call on a host that a row is, by the packet that it makes.
+use Rattle.std.proofs.Common.{◌≡◌, ℕ, List, Option, Some, None, Result, Ok, Err, refl, ◌∙◌, ap}
+use Rattle.std.specs.Prelude.{IfOk}
+use Rattle.std.specs.Option.{option_map}
+use Rattle.tva_base.specs.declared.addresses.Address.{Address}
+use Rattle.tva_base.specs.declared.packet.Upper.{Upper}
+use Rattle.tva_host.specs.declared.made.Made.{Made}
+use Rattle.tva_host.specs.Calls.{Call, Intended}
+use Rattle.tva_host.specs.Sending.{intended}
+use Rattle.tva_host.specs.Stands.{HostData}
+use Rattle.tva_transfer.specs.Stands.{call_with, sent_with}
+use Rattle.tva_trace.specs.declared.rows.RowWhat.TheVariants as rows
+use Rattle.tva_log.specs.Parts.{call_of_row}
+
+shown : (h : HostData) (calls : List Call) (now : ℕ) (dst : Address) (above : Upper) → (let made = sent_with h calls now dst above in Intended now dst made.packet.payload made.packet.upper ≡ call_with now dst above)
+unfolding intended
+shown h calls now dst above = refl
+
+-- a segment that is sent
+pub segment_call : (h : HostData) (calls : List Call) (now : ℕ) (dst : Address) (above : Upper) (made : Made) → made ≡ sent_with h calls now dst above
+    → Intended now dst made.packet.payload made.packet.upper ≡ call_with now dst above
+segment_call h calls now dst above made e = ap (λ (m : Made). Intended now dst m.packet.payload m.packet.upper) e ∙ shown h calls now dst above
+
+-- a tick, for which there may be none
+pub tick_call : (h : HostData) (calls : List Call) (now : ℕ) (dst : Address) (due : Option Upper) (made : Option Made) → made ≡ option_map (sent_with h calls now dst) due
+    → option_map (λ (m : Made). call_of_row now (rows.Tick dst) m.packet) made ≡ option_map (call_with now dst) due
+tick_call h calls now dst due made e = ap (option_map (λ (m : Made). call_of_row now (rows.Tick dst) m.packet)) e ∙ by_due due
+  where
+    by_due : (due : Option Upper) → option_map (λ (m : Made). call_of_row now (rows.Tick dst) m.packet) (option_map (sent_with h calls now dst) due) ≡ option_map (call_with now dst) due
+    by_due None = refl
+    by_due (Some above) = ap Some (shown h calls now dst above)
+
+-- where two things hold of what is answered
+pub if_both : {T E : Type 0} (P Q R : T → Type 0) (r : Result T E) → ((x : T) → P x → Q x → R x) → IfOk r P → IfOk r Q → IfOk r R
+if_both P Q R (Ok x) f p q = f x p q
+if_both P Q R (Err e) f p q = tt

@@ -1,0 +1,63 @@
+use Rattle.std.proofs.Common.{◌≡◌, ◌∷◌, [], ◌++◌, Option, sym, subst, append-nil}
+use Rattle.std.specs.List.{cons_option}
+use Rattle.std.specs.Option.{option_map}
+use Rattle.std.specs.Prelude.{IfOk}
+use Rattle.tva_shim.specs.declared.packets.Carried.{Carried}
+use Rattle.tva_host.specs.declared.made.Made.{Made}
+use Rattle.tva_host.specs.Calls.{Call, Injected, history_of}
+use Rattle.tva_transfer.specs.Files.{Filed, Ticked, first_segment, segment_due}
+use Rattle.tva_transfer.specs.Stands.{StandsFor, call_with, known, sent_with}
+use Rattle.tva_trace.specs.declared.rows.RowWhat.{RowWhat}
+use Rattle.tva_trace.specs.declared.rows.RowWhat.TheVariants as rows
+use Rattle.tva_log.specs.Parts.{act_of_row, call_of_row}
+use Rattle.tva_log.specs.Contents.{made_for}
+use Rattle.tva_node.proofs.Rows.{if_both, segment_call, tick_call}
+use Rattle.tva_node.proofs.role.Hosted.make.Goals as goal
+
+pub returns-in_ok-intend-in-Send-clause-stands : goal.returns-in_ok-intend-in-Send-clause-stands
+returns-in_ok-intend-in-Send-clause-stands c = λ calls acts h.
+    let new = c.intend.new.self in
+    let packet = c.in_ok-intend-in-Send.field-0.packet in
+    subst (λ (w : RowWhat). StandsFor new (calls ++ call_of_row c.args.now.0 w packet ∷ []) (acts ++ cons_option (act_of_row w) [])) (sym c.in-Send.is)
+    (subst (StandsFor new _) (sym (append-nil acts)) (c.in_ok-intend-in-Send.ensures.stands calls acts h))
+
+pub returns-in-Inject-clause-stands : goal.returns-in-Inject-clause-stands
+returns-in-Inject-clause-stands c = λ calls acts h.
+    let new = c.inject.new.self in
+    let copied = subst (λ (x : Carried). StandsFor new (calls ++ Injected c.in-Inject.flow c.in-Inject.payload x ∷ []) acts) c.copied.ensures (c.inject.ensures.stands calls acts h) in
+    subst (λ (w : RowWhat). StandsFor new (calls ++ call_of_row c.args.now.0 w c.inject.result ∷ []) (acts ++ cons_option (act_of_row w) [])) (sym c.in-Inject.is)
+    (subst (StandsFor new _) (sym (append-nil acts)) copied)
+
+pub returns-in_ok-file-in-File-clause-stands : goal.returns-in_ok-file-in-File-clause-stands
+returns-in_ok-file-in-File-clause-stands c = λ calls acts h.
+    let host = c.args.self.now.courier.host in
+    let new = c.file.new.self in
+    let made = c.in_ok-file-in-File.field-0 in
+    let dst = c.in-File.dst in
+    let size = c.in-File.size in
+    let segment = c.in-File.segment in
+    let above = first_segment (known host acts) dst size segment in
+    subst (λ (w : RowWhat). StandsFor new (calls ++ call_of_row c.args.now.0 w made.packet ∷ []) (acts ++ cons_option (act_of_row w) [])) (sym c.in-File.is)
+    (subst (λ (call : Call). StandsFor new (calls ++ call ∷ []) (acts ++ Filed dst size segment ∷ []))
+    (sym (segment_call host calls c.args.now.0 dst above made (c.in_ok-file-in-File.ensures.made calls acts h))) (c.in_ok-file-in-File.ensures.stands calls acts h))
+
+pub returns-in-Tick-clause-made : goal.returns-in-Tick-clause-made
+returns-in-Tick-clause-made c = λ calls acts h.
+    let host = c.args.self.now.courier.host in
+    subst (λ (w : RowWhat). IfOk c.tick.result (λ made. made ≡ made_for host.node host.plan (history_of host.plan calls) (known host acts) c.args.now.0 w)) (sym c.in-Tick.is)
+    (c.tick.ensures.made calls acts h)
+
+pub returns-in-Tick-clause-stands : goal.returns-in-Tick-clause-stands
+returns-in-Tick-clause-stands c = λ calls acts h.
+    let host = c.args.self.now.courier.host in
+    let new = c.tick.new.self in
+    let now = c.args.now.0 in
+    let dst = c.in-Tick.dst in
+    let due = segment_due (known host acts) dst in
+    subst (λ (w : RowWhat). IfOk c.tick.result (λ made. StandsFor new (calls ++ cons_option (option_map (λ (m : Made). call_of_row now w m.packet) made) []) (acts ++ cons_option (act_of_row w) []))) (sym c.in-Tick.is)
+    (if_both (λ (made : Option Made). made ≡ option_map (sent_with host calls now dst) due)
+    (λ made. StandsFor new (calls ++ cons_option (option_map (call_with now dst) due) []) (acts ++ Ticked dst ∷ []))
+    (λ (made : Option Made). StandsFor new (calls ++ cons_option (option_map (λ (m : Made). call_of_row now (rows.Tick dst) m.packet) made) []) (acts ++ Ticked dst ∷ []))
+    c.tick.result
+    (λ made e s. subst (λ (x : Option Call). StandsFor new (calls ++ cons_option x []) (acts ++ Ticked dst ∷ [])) (sym (tick_call host calls now dst due made e)) s)
+    (c.tick.ensures.made calls acts h) (c.tick.ensures.stands calls acts h))
