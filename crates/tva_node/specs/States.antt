@@ -47,6 +47,14 @@ abbrev pub restarts_in : NodePlan → List (Time × List ℕ)
 restarts_in (plans.Router plan) = plan.restarts
 restarts_in (plans.Host plan) = []
 
+-- the number of a router
+abbrev pub router_number : ℕ → NodePlan → Option ℕ
+router_number number (plans.Router plan) = Some number
+router_number number (plans.Host plan) = None
+
+abbrev pub router_in : Site → Option ℕ
+router_in site = router_number site.number site.plan
+
 -- a router stands for the charges of its boot and the logs of the node's log, in which nothing is charged in a later
 -- boot, and knows the ordinal behind the rows
 pub record StandsAsRouter (r : Routed) (log : List Entry) : Type 0 where

@@ -1,9 +1,10 @@
 // A node of a network.
-ghost use Rattle.std.specs.Prelude.{◌≡◌, ◌≤◌, ◌+◌, ◌∷◌, [], ◌++◌, min, max, List, IfOk, OnErr, OnOk};
+ghost use Rattle.std.specs.Prelude.{◌≡◌, ◌≤◌, ◌+◌, ◌∷◌, [], ◌++◌, map, min, max, List, IfOk, OnErr, OnOk};
+ghost use Rattle.tva_base.specs.Plan.{AreRising};
 ghost use Rattle.tva_log.specs.Entries.{Entry, input_source, input_time};
 ghost use Rattle.tva_log.specs.NodeLog.{in_turn};
 ghost use Rattle.tva_log.specs.Sites.{IsSite, site_of};
-ghost use Rattle.tva_node.specs.States.{Fits, IsBy, IsFirstWork, Keeps, RoleStands, Stands, StandsFor, restarts_in, role_plan};
+ghost use Rattle.tva_node.specs.States.{Fits, IsBy, IsFirstWork, Keeps, RoleStands, Stands, StandsFor, restarts_in, role_plan, router_in};
 
 use crate::changes::Changes;
 use crate::links::Links;
@@ -80,6 +81,16 @@ impl Node {
         self.parts.number
     }
 
+    /// The number of the node, where it is a router.
+    pub fn router(&self) -> Option<u16>
+        ensures { result ≡ router_in self.now.site }
+    {
+        match &self.parts.role {
+            Role::Router(_) => Some(self.parts.number),
+            Role::Host(_) => None,
+        }
+    }
+
     /// What happened at the node.
     pub fn log(&self) -> &[Event]
         ensures { result.now ≡ self.now.events }
@@ -114,9 +125,10 @@ impl Node {
     }
 
     /// The restarts of a router's plan, each with its time, in nanoseconds, and the master that the router
-    /// then has; none at a host.
+    /// then has; none at a host. Their times rise.
     pub fn restarts(&self) -> &[(Time, [u8; 32])]
-        ensures { result.now ≡ restarts_in self.now.site.plan }
+        ensures restarts { result.now ≡ restarts_in self.now.site.plan }
+        ensures rising { AreRising (map (λ c. c.0.0) result.now) }
     {
         match &self.parts.role {
             Role::Router(routed) => routed.router.restarts(),

@@ -1,7 +1,7 @@
 // A router.
 ghost use Rattle.std.specs.Prelude.{◌≡◌, ◌≢◌, ◌≤◌, ◌<◌, ◌↔◌, ℕ, ◌+◌, ◌*◌, max, nat_le, true, false, List, [], ◌++◌, Some, None, IfOk, All, Contains, map};
 ghost use Rattle.tva_base.specs.Changes.{changed};
-ghost use Rattle.tva_base.specs.Plan.{IsRouterPlan, AreLinkLimits, links_of};
+ghost use Rattle.tva_base.specs.Plan.{AreRising, IsRouterPlan, AreLinkLimits, links_of};
 ghost use Rattle.tva_shim.specs.Packets.{PacketData, packet_length};
 ghost use Rattle.tva_flow.specs.Charges.{Charge, living_count};
 ghost use Rattle.tva_flow.specs.Budget.{AreTimely, IsWithinBudget};
@@ -75,9 +75,10 @@ impl Router {
         })
     }
 
-    /// The restarts of the plan by which it was built.
+    /// The restarts of the plan by which it was built, each with its time, in nanoseconds: times rise.
     pub fn restarts(&self) -> &[(Time, [u8; 32])]
-        ensures { result.now ≡ self.now.built.restarts }
+        ensures restarts { result.now ≡ self.now.built.restarts }
+        ensures rising { AreRising (map (λ c. c.0.0) result.now) }
     {
         self.built.restarts.as_slice()
     }
