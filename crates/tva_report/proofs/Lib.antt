@@ -1,0 +1,4 @@
+pub mod Cuts
+pub mod Comparing
+pub mod LinesBack
+pub mod Differing

@@ -1,0 +1,4 @@
+pub mod Lines
+pub mod Differences
+pub mod Ahead
+pub mod Compared

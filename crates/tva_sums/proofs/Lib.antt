@@ -1,0 +1,4 @@
+pub mod Boots
+pub mod Keys
+pub mod Adding
+pub mod Placing

@@ -1,0 +1,4 @@
+pub mod Charged
+pub mod Pairs
+pub mod Sums
+pub mod Table

@@ -1,0 +1,105 @@
+// The sums of a router.
+ghost use Rattle.std.specs.Prelude.{◌≡◌, ◌+◌, ◌<◌, ◌≤◌, ◌^◌, [], ◌∷◌, ◌++◌, ℕ, List, length, map, OnOk, IfOk};
+ghost use Rattle.tva_base.specs.Plan.{AreRising};
+ghost use Rattle.tva_base.specs.declared.packet.Time.{Time};
+ghost use Rattle.tva_sums.specs.declared.charged.Charged.{Charged};
+ghost use Rattle.tva_sums.specs.Charged.{charges_in};
+ghost use Rattle.tva_sums.specs.Sums.{limit_of, sums_of};
+ghost use Rattle.tva_sums.specs.Table.{IsSound, StandsFor};
+
+use crate::charged::{Charged, boot_among, charged_in};
+use crate::pairs::{Pair, Table, worst};
+use std::alloc::{AllocError, Global};
+use tva_base::{Event, Grant, Time};
+
+/// How many pairs of a boot and a grant were charged, how many charges there were, the sum of their
+/// lengths in bytes, and the pair that came nearest to twice its units: its grant and its bytes. Among
+/// equals it is the one charged first.
+#[derive(Clone, Copy, Debug, PartialEq, Eq)]
+pub struct Sums {
+    pub grants: u64,
+    pub charges: u64,
+    pub bytes: u64,
+    pub worst: Option<(Grant, u64)>,
+}
+
+/// Twice the units of a grant, in bytes.
+pub fn limit(grant: Grant) -> u64
+    ensures { result ≡ limit_of grant }
+{
+    2 * 1024 * u64::from(grant.rights.n)
+}
+
+/// The sums of a router, from its events and its restarts with the master that it then has. The restarts'
+/// times rise. The error is want of memory.
+pub fn router_sums(
+    alloc: Global,
+    events: &[Event],
+    restarts: &[(Time, [u8; 32])],
+) -> Result<Sums, AllocError>
+    requires few { length events.now ≤ 4000000 }
+    requires rising { AreRising (map (λ c. c.0.0) restarts.now) }
+    ensures { IfOk result (λ sums. sums ≡ sums_of restarts.now (charges_in events.now)) }
+{
+    let mut tally = Tally::new(alloc);
+    for event in events {
+        if let Some(charged) = charged_in(event) {
+            tally.add(restarts, charged)?;
+        }
+    }
+    Ok(tally.sums())
+}
+
+// What was added up so far.
+#[derive(Drop)]
+struct Tally {
+    table: Table,
+    charges: u64,
+    bytes: u64,
+}
+
+impl Tally {
+    fn new(alloc: Global) -> Tally
+        ensures sound { IsSound result }
+        ensures stands { (restarts : List (Time × List ℕ)) → StandsFor result restarts [] }
+        ensures none { result.charges ≡ 0 }
+    {
+        Tally {
+            table: Table::new(alloc),
+            charges: 0,
+            bytes: 0,
+        }
+    }
+
+    // One more charge.
+    fn add(&mut self, restarts: &[(Time, [u8; 32])], charged: Charged) -> Result<(), AllocError>
+        requires rising { AreRising (map (λ c. c.0.0) restarts.now) }
+        requires sound { IsSound self.old }
+        requires few { self.old.charges < 4000000 }
+        ensures sound { OnOk result (IsSound self.new) }
+        ensures stands { (cs : List Charged) → StandsFor self.old restarts.now cs → OnOk result (StandsFor self.new restarts.now (cs ++ charged ∷ [])) }
+        ensures counted { OnOk result (self.new.charges ≡ self.old.charges + 1) }
+    {
+        let boot = boot_among(restarts, charged.time);
+        let pair = Pair {
+            boot,
+            grant: charged.grant,
+        };
+        self.table.add(pair, charged.length)?;
+        self.charges += 1;
+        self.bytes += u64::from(charged.length);
+        Ok(())
+    }
+
+    fn sums(&self) -> Sums
+        ensures { (restarts : List (Time × List ℕ)) (cs : List Charged) → StandsFor self.now restarts cs → result ≡ sums_of restarts cs }
+    {
+        let pairs = self.table.sums();
+        Sums {
+            grants: pairs.len() as u64,
+            charges: self.charges,
+            bytes: self.bytes,
+            worst: worst(pairs).map(|pair| (pair.0.grant, pair.1)),
+        }
+    }
+}
