@@ -1,0 +1,12 @@
+//! Audits: whether a report is the one that a configuration and a trace have, which line is the first
+//! that differs, and what each router let through. Whoever is sent a report can check it without
+//! trusting who made it. The contract promises of each answer exactly what it says of the run, and that
+//! the sums are the definition's over the routers' charges.
+#![tactic(auto)]
+
+mod audit;
+mod sums;
+
+pub use audit::{AuditError, Audited, audit};
+pub use sums::{RouterSum, sums};
+pub use tva_report::Finding;
