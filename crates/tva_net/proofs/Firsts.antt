@@ -63,8 +63,12 @@ carried_fits (carried.Malformed bytes) h = h
 row_fits : (p : NodePlan) (w : RowWhat) (b : Bool) → is_host_plan p ≡ b → IsRowWhat b w → FitsRow p w
 row_fits (plans.Router p) (rows.Send dst payload) b e h = absurd (let no : false ≡ true = e ∙ h.0 in cc)
 row_fits (plans.Router p) (rows.Inject flow payload carries) b e h = (h.0, carried_fits carries h.1)
+row_fits (plans.Router p) (rows.File dst size segment) b e h = absurd (let no : false ≡ true = e ∙ h.0 in cc)
+row_fits (plans.Router p) (rows.Tick dst) b e h = absurd (let no : false ≡ true = e ∙ h in cc)
 row_fits (plans.Host p) (rows.Send dst payload) b e h = h.1
 row_fits (plans.Host p) (rows.Inject flow payload carries) b e h = (h.0, carried_fits carries h.1)
+row_fits (plans.Host p) (rows.File dst size segment) b e h = h.1
+row_fits (plans.Host p) (rows.Tick dst) b e h = tt
 
 plan_by : (config : Config) (n : ℕ) (site : Site) (o : Option NodePlan) → slice_get config.nodes n ≡ o → option_map (λ p. site_of n p (links_out n config.links)) o ≡ Some site → slice_get config.nodes n ≡ Some site.plan
 plan_by config n site None e h = absurd (cc)

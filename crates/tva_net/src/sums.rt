@@ -77,7 +77,7 @@ fn is_dropped(happened: &Happened) -> bool
         Happened::Arrived { fate, .. } => drops(fate.outcome),
         Happened::Sent { outcome, .. } => drops(*outcome),
         Happened::Received { reply, .. } => reply_drops(*reply),
-        Happened::Started { .. } => false,
+        Happened::Started { .. } | Happened::Ticked => false,
     }
 }
 
