@@ -3,3 +3,5 @@ pub mod Compared
 pub mod Knowing
 pub mod Due
 pub mod Standing
+pub mod Acts
+pub mod History
