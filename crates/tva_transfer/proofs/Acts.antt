@@ -1,6 +1,5 @@
 -- Acts and steps in their order.
-use Rattle.std.proofs.Common.{◌≡◌, ℕ, Bool, true, false, cond, eqb, List, [], ◌∷◌, ◌++◌, Option, Some, None, refl, sym, ap, subst, ◌∙◌, ⊎_elim, append_assoc}
-use Rattle.std.specs.List.{filter_map}
+use Rattle.std.proofs.Common.{◌≡◌, ℕ, true, false, cond, eqb, List, [], ◌∷◌, ◌++◌, Some, None, refl, sym, ap, subst, ◌∙◌, ⊎_elim}
 use Rattle.std.proofs.lemmas.Bool.{cases_Bool, eqb-true, eq-eqb}
 use Rattle.std.proofs.lemmas.List.{append-nil}
 use Rattle.std.proofs.lemmas.List.Elements.{filter_map-append}
@@ -50,17 +49,17 @@ step_at [] number [] act after e = absurd (cc)
 step_at [] number (x ∷ before) act after e = absurd (cc)
 step_at (s ∷ steps) number [] act after e = ⊎_elim
     (λ yes. let is : s.act ∷ acts_at number steps ≡ act ∷ after = sym (taken s steps number yes) ∙ e in
-        let here : s.act ≡ act = cc in
-        let rest : acts_at number steps ≡ after = cc in
-        let step : s ≡ record { at = number; act = act } = ap (λ n. record { at = n; act = s.act }) (eqb-true s.at number yes) ∙ ap (λ a. record { at = number; act = a }) here in
-        record { earlier = []; later = steps; is = ap (λ (x : Step). x ∷ steps) step; before_is = refl; after_is = rest })
+    let here : s.act ≡ act = cc in
+    let rest : acts_at number steps ≡ after = cc in
+    let step : s ≡ record { at = number; act = act } = ap (λ n. record { at = n; act = s.act }) (eqb-true s.at number yes) ∙ ap (λ a. record { at = number; act = a }) here in
+    record { earlier = []; later = steps; is = ap (λ (x : Step). x ∷ steps) step; before_is = refl; after_is = rest })
     (λ no. later_step s steps number [] act after no (step_at steps number [] act after (sym (skipped s steps number no) ∙ e)))
     (cases_Bool (eqb s.at number))
 step_at (s ∷ steps) number (x ∷ before) act after e = ⊎_elim
     (λ yes. let is : s.act ∷ acts_at number steps ≡ x ∷ (before ++ act ∷ after) = sym (taken s steps number yes) ∙ e in
-        let here : s.act ≡ x = cc in
-        let rest : acts_at number steps ≡ before ++ act ∷ after = cc in
-        let r = step_at steps number before act after rest in
-        record { earlier = s ∷ r.earlier; later = r.later; is = ap (λ xs. s ∷ xs) r.is; before_is = taken s r.earlier number yes ∙ (ap (λ acts. s.act ∷ acts) r.before_is ∙ ap (λ a. a ∷ before) here); after_is = r.after_is })
+    let here : s.act ≡ x = cc in
+    let rest : acts_at number steps ≡ before ++ act ∷ after = cc in
+    let r = step_at steps number before act after rest in
+    record { earlier = s ∷ r.earlier; later = r.later; is = ap (λ xs. s ∷ xs) r.is; before_is = taken s r.earlier number yes ∙ (ap (λ acts. s.act ∷ acts) r.before_is ∙ ap (λ a. a ∷ before) here); after_is = r.after_is })
     (λ no. later_step s steps number (x ∷ before) act after no (step_at steps number (x ∷ before) act after (sym (skipped s steps number no) ∙ e)))
     (cases_Bool (eqb s.at number))

@@ -1,8 +1,7 @@
 -- What a host knows of files, and which act it came from.
-use Rattle.std.proofs.Common.{◌≡◌, ℕ, ◌+◌, ◌≤◌, ◌&&◌, ◌⊎◌, Bool, true, false, cond, eqb, ltb, List, [], ◌∷◌, ◌++◌, Option, Some, None, length, map, set, refl, sym, ap, subst, inl, inr, ◌∙◌, ⊎_elim, append_assoc, add-zero, zero-add, add_assoc, arith}
-use Rattle.std.specs.List.{Contains, filter, slice_get, sum_by}
-use Rattle.std.specs.Option.{option_map, option_map_or}
-use Rattle.std.proofs.lemmas.Bool.{and_parts, cases_Bool, cond_both, eqb-true, eq-eqb, ltb-true, false≢true}
+use Rattle.std.proofs.Common.{◌≡◌, ℕ, ◌+◌, ◌≤◌, ◌&&◌, ◌⊎◌, true, false, cond, eqb, List, [], ◌∷◌, ◌++◌, Some, map, refl, sym, ap, subst, inl, inr, ◌∙◌, ⊎_elim, append_assoc, add-zero, zero-add, add_assoc, arith}
+use Rattle.std.specs.List.{Contains, filter, sum_by}
+use Rattle.std.proofs.lemmas.Bool.{and_parts, cases_Bool, cond_both, eqb-true}
 use Rattle.std.proofs.lemmas.List.{append-nil, map-append}
 use Rattle.std.proofs.lemmas.List.Elements.{Contains-push_cases, filter-append}
 use Rattle.std.proofs.lemmas.List.Sums.{sum_by-cons}
@@ -11,12 +10,10 @@ use Rattle.tva_base.specs.declared.packet.Upper.{Upper}
 use Rattle.tva_base.specs.declared.packet.Upper.TheVariants.{Nothing, Data, Ack}
 use Rattle.tva_base.specs.declared.event.DataLine.{DataLine}
 use Rattle.tva_shim.specs.Packets.{PacketData}
-use Rattle.tva_transfer.specs.declared.transfers.Transfer.{Transfer}
-use Rattle.tva_transfer.specs.Files.{Files, Act, Filed, Ticked, Came, acknowledged, after_act, after_upper, begun, delivered, files_of, heard, is_for, is_more, is_of, next_of, no_files, range_of, with_acked, with_range}
+use Rattle.tva_transfer.specs.Files.{Files, Act, Filed, Ticked, Came, after_act, after_upper, files_of, heard, is_of, next_of, range_of, with_range}
 use Rattle.tva_transfer.specs.Couriers.{Follow, ranges_of}
 use Rattle.tva_transfer.proofs.Acts.{by_last}
 use Rattle.tva_transfer.proofs.Knowing.{behind, next_of-after, next_of-same}
-use Rattle.tva_transfer.proofs.Places.{slice_get-push, slice_get-set}
 use Rattle.tva_transfer.proofs.Standing.{files_of-push}
 
 -- ## ranges follow one another
@@ -41,7 +38,7 @@ bytes_of (x ∷ xs) =
 follow_data : (files : Files) (at source : Address) (transfer : ℕ) (r : DataLine) → r.first ≡ next_of files at r.transfer → Follow 0 (ranges_of files source transfer) → Follow 0 (ranges_of (with_range at (Some r) files) source transfer)
 follow_data files at source transfer r e f = rw (ranges_of-more files at r source transfer) (⊎_elim
     (λ yes. rw yes (follow_more 0 (ranges_of files source transfer) r f
-        (e ∙ sym (next_of-same files at source r.transfer transfer yes) ∙ sym (bytes_of (filter (is_of source transfer) files.ranges)) ∙ sym (zero-add _))))
+    (e ∙ sym (next_of-same files at source r.transfer transfer yes) ∙ sym (bytes_of (filter (is_of source transfer) files.ranges)) ∙ sym (zero-add _))))
     (λ no. rw no (subst (λ xs. Follow 0 xs) (sym (append-nil (ranges_of files source transfer))) f))
     (cases_Bool (is_of source transfer (at, r))))
 
@@ -96,7 +93,7 @@ pub record HasCome (home : Address) (acts : List Act) (source : Address) (above 
   pub from : packet.flow.src.0 ≡ source.0
   pub brings : heard home packet ≡ above
 
-come_before : (home : Address) (acts : List Act) (a : Act) (source : Address) (above : Upper) → HasCome home acts source above → HasCome home (acts ++ a ∷ []) source above
+pub come_before : (home : Address) (acts : List Act) (a : Act) (source : Address) (above : Upper) → HasCome home acts source above → HasCome home (acts ++ a ∷ []) source above
 come_before home acts a source above h = record {
   before = h.before;
   after = h.after ++ a ∷ [];
@@ -106,7 +103,7 @@ come_before home acts a source above h = record {
   brings = h.brings;
 }
 
-come_now : (home : Address) (acts : List Act) (p : PacketData) (source : Address) (above : Upper) → p.flow.src.0 ≡ source.0 → heard home p ≡ above → HasCome home (acts ++ Came p ∷ []) source above
+pub come_now : (home : Address) (acts : List Act) (p : PacketData) (source : Address) (above : Upper) → p.flow.src.0 ≡ source.0 → heard home p ≡ above → HasCome home (acts ++ Came p ∷ []) source above
 come_now home acts p source above from brings = record { before = acts; after = []; packet = p; is = refl; from = from; brings = brings }
 
 range_with : (files : Files) (at : Address) (one : DataLine) (source : Address) (transfer : ℕ) (r : DataLine) → Contains (ranges_of (with_range at (Some one) files) source transfer) r → Contains (ranges_of files source transfer) r ⊎ ((at.0 ≡ source.0) × (one.transfer ≡ transfer) × (one ≡ r))
@@ -114,8 +111,8 @@ range_with files at one source transfer r c =
     let has = subst (λ xs. Contains xs r) (ranges_of-more files at one source transfer) c in
     ⊎_elim
     (λ yes. let parts = and_parts (eqb at.0 source.0) (eqb one.transfer transfer) yes in
-        ⊎_elim (λ old. inl old) (λ new. inr (eqb-true at.0 source.0 parts.0, eqb-true one.transfer transfer parts.1, new))
-        (Contains-push_cases (ranges_of files source transfer) one r (subst (λ b. Contains (ranges_of files source transfer ++ cond b (one ∷ []) []) r) yes has)))
+    ⊎_elim (λ old. inl old) (λ new. inr (eqb-true at.0 source.0 parts.0, eqb-true one.transfer transfer parts.1, new))
+    (Contains-push_cases (ranges_of files source transfer) one r (subst (λ b. Contains (ranges_of files source transfer ++ cond b (one ∷ []) []) r) yes has)))
     (λ no. inl (subst (λ xs. Contains xs r) (append-nil (ranges_of files source transfer)) (subst (λ b. Contains (ranges_of files source transfer ++ cond b (one ∷ []) []) r) no has)))
     (cases_Bool (is_of source transfer (at, one)))
 
@@ -124,7 +121,7 @@ unfolding after_upper range_of
 range_upper files at Nothing source transfer r c = inl c
 range_upper files at (Data number first bytes) source transfer r c = ⊎_elim
     (λ yes. ⊎_elim (λ old. inl old) (λ new. let same = new.2 in let numbers = new.1 in inr (new.0, ap (λ n. Data n first bytes) numbers ∙ ap (λ (x : DataLine). Data transfer x.first x.bytes) same))
-        (range_with files at (record { transfer = number; first = first; bytes = bytes }) source transfer r (rw yes at c)))
+    (range_with files at (record { transfer = number; first = first; bytes = bytes }) source transfer r (rw yes at c)))
     (λ no. inl (rw no at c))
     (cases_Bool (eqb first (next_of files at number)))
 range_upper files at (Ack number next) source transfer r c = inl c

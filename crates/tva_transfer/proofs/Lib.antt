@@ -5,3 +5,5 @@ pub mod Due
 pub mod Standing
 pub mod Acts
 pub mod History
+pub mod Sent
+pub mod Between
