@@ -33,7 +33,7 @@ use Rattle.tva_transfer.specs.Couriers.{to_from}
 use Rattle.tva_trace.specs.declared.rows.Row.{Row}
 use Rattle.tva_trace.specs.declared.rows.RowWhat.{RowWhat}
 use Rattle.tva_trace.specs.declared.rows.RowWhat.TheVariants.{Send, Inject, File, Tick}
-use Rattle.tva_trace.specs.Valid.{AreTraceRows}
+use Rattle.tva_trace.specs.Valid.{files_at}
 use Rattle.tva_log.specs.declared.kinds.Input.{Input}
 use Rattle.tva_log.specs.declared.kinds.Input.TheVariants.{FromTrace, Arrival}
 use Rattle.tva_log.specs.Sites.{Site}
@@ -128,7 +128,7 @@ module _ (config : Config) (logs : Logs) where
 
   -- ## a host
 
-  module _ (rows : List Row) (until : ℕ) (valid : IsConfig config) (traced : AreTraceRows config rows) (run : IsRunTo config rows until logs)
+  module _ (rows : List Row) (until : ℕ) (valid : IsConfig config) (few : (node : ℕ) → files_at node rows ≤ 65536) (run : IsRunTo config rows until logs)
       (node : ℕ) (site : Site) (plan : HostPlan) (is : site_at config node ≡ Some site) (host : site.plan ≡ plans.Host plan) where
     at_host : IsHostAt config node plan
     at_host = (site, is, host)
@@ -140,9 +140,9 @@ module _ (config : Config) (logs : Logs) where
         let all : IsHeld (files plan (log_at logs node)).transfers own.place dst own.size =
         subst (λ (log : List Entry). IsHeld (files plan log).transfers own.place dst own.size) (sym split)
         (files_hold plan before rest own.place dst own.size own.held) in
-        let few = few_transfers config rows until logs traced run node site plan is in
+        let room = few_transfers config rows until logs few run node site plan is in
         let there = slice_get_within (files plan (log_at logs node)).transfers own.place all.file all.is in
-        let number : transfer ≡ own.place = own.number ∙ small own.place (omega (arith, few, there)) in
+        let number : transfer ≡ own.place = own.number ∙ small own.place (omega (arith, room, there)) in
         record {
           other = node;
           from = plan;
@@ -267,7 +267,7 @@ module _ (config : Config) (logs : Logs) where
 
 -- ## in a run
 
-module _ (config : Config) (rows : List Row) (until : ℕ) (logs : Logs) (valid : IsConfig config) (traced : AreTraceRows config rows)
+module _ (config : Config) (rows : List Row) (until : ℕ) (logs : Logs) (valid : IsConfig config) (few : (node : ℕ) → files_at node rows ≤ 65536)
     (run : IsRunTo config rows until logs) where
   makes_by : (node : ℕ) (site : Site) (plan : NodePlan) → site.plan ≡ plan → site_at config node ≡ Some site
       → (before : List Entry) (input : Input) (c : Content) (rest : List Entry) → log_at logs node ≡ before ++ Took input c ∷ rest
@@ -275,7 +275,7 @@ module _ (config : Config) (rows : List Row) (until : ℕ) (logs : Logs) (valid 
   makes_by node site (plans.Router plan) kind is before input c rest split e =
       routed_true config logs site.number plan before input c (subst (λ (p : NodePlan). content_by site p before input ≡ Some c) kind e)
   makes_by node site (plans.Host plan) kind is before input c rest split e =
-      host_true config logs rows until valid traced run node site plan is kind before input c rest split e
+      host_true config logs rows until valid few run node site plan is kind before input c rest split e
 
   -- each packet that a node's log names has a true upper part
   pub all_true : (node : ℕ) (site : Site) → site_at config node ≡ Some site

@@ -18,7 +18,7 @@ use Rattle.tva_transfer.specs.Files.{Files, Act, after_act, after_upper, begun, 
 use Rattle.tva_trace.specs.declared.rows.Row.{Row}
 use Rattle.tva_trace.specs.declared.rows.RowWhat.{RowWhat}
 use Rattle.tva_trace.specs.declared.rows.RowWhat.TheVariants.{Send, Inject, File, Tick}
-use Rattle.tva_trace.specs.Valid.{AreTraceRows, begins, files_at}
+use Rattle.tva_trace.specs.Valid.{begins, files_at}
 use Rattle.tva_log.specs.declared.kinds.Input.{Input}
 use Rattle.tva_log.specs.declared.kinds.Input.TheVariants.{FromTrace, Arrival}
 use Rattle.tva_log.specs.Sites.{Site}
@@ -130,9 +130,9 @@ rows_count node (row ∷ rows) =
     by false e = e ∙ no_count (files_at node rows)
 
 -- a node has at most as many transfers as there are numbers
-pub few_transfers : (config : Config) (rows : List Row) (until : ℕ) (logs : Logs) → AreTraceRows config rows → IsRunTo config rows until logs
+pub few_transfers : (config : Config) (rows : List Row) (until : ℕ) (logs : Logs) → ((node : ℕ) → files_at node rows ≤ 65536) → IsRunTo config rows until logs
     → (node : ℕ) (site : Site) (plan : HostPlan) → site_at config node ≡ Some site → length (files plan (log_at logs node)).transfers ≤ 65536
-few_transfers config rows until logs traced run node site plan is =
+few_transfers config rows until logs few run node site plan is =
     let has = run.each node site is in
     let taken = due until has.inputs in
     let own = rows_at rows site.number in
@@ -142,5 +142,5 @@ few_transfers config rows until logs traced run node site plan is =
     let source = ap (count_by begins_in) (source_due config rows until until logs site.number 0 has.inputs (omega arith) has.join) in
     let some = count-filter begins_in (λ (i : Input). nat_lt (input_time i) until) own in
     let rows' = rows_count site.number rows in
-    let most = traced.files site.number in
+    let most = few site.number in
     omega (arith, all, steps, among, source, some, rows', most)

@@ -24,7 +24,7 @@ use Rattle.tva_transfer.specs.Couriers.{Follow}
 use Rattle.tva_trace.specs.declared.rows.Row.{Row}
 use Rattle.tva_trace.specs.declared.rows.RowWhat.{RowWhat}
 use Rattle.tva_trace.specs.declared.rows.RowWhat.TheVariants.{Send, Inject, File, Tick}
-use Rattle.tva_trace.specs.Valid.{AreTraceRows}
+use Rattle.tva_trace.specs.Valid.{files_at}
 use Rattle.tva_log.specs.declared.kinds.Input.{Input}
 use Rattle.tva_log.specs.declared.kinds.Input.TheVariants.{FromTrace, Arrival}
 use Rattle.tva_log.specs.Sites.{Site, site_of}
@@ -244,7 +244,7 @@ module _ (config : Config) (logs : Logs) (valid : IsConfig config) (home : Addre
 
 -- ## in a run
 
-module _ (config : Config) (rows : List Row) (until : ℕ) (logs : Logs) (valid : IsConfig config) (traced : AreTraceRows config rows)
+module _ (config : Config) (rows : List Row) (until : ℕ) (logs : Logs) (valid : IsConfig config) (few : (node : ℕ) → files_at node rows ≤ 65536)
     (run : IsRunTo config rows until logs) where
   record IsKept (node : ℕ) : Type 0 where
     in_order : (s : Address) (t : ℕ) → Follow 0 (ranges s t (log_at logs node))
@@ -266,7 +266,7 @@ module _ (config : Config) (rows : List Row) (until : ℕ) (logs : Logs) (valid 
         in_order = λ s t. log_follows site plan kind (due until has.inputs) (log_at logs node) has.is_log.steps s t;
         of_file = λ s t. ranges_of_files config logs node s t (log_at logs node)
             (all_of_files config logs node site plan is kind [] (due until has.inputs) (log_at logs node) has.is_log.steps
-            (all_true config rows until logs valid traced run node site is));
+            (all_true config rows until logs valid few run node site is));
       }
 
   all_kept : (node : ℕ) → IsKept node
@@ -288,5 +288,5 @@ module _ (config : Config) (rows : List Row) (until : ℕ) (logs : Logs) (valid 
     of_file = λ node s t r has. each_contained (IsOfFile config logs node s t) (ranges s t (log_at logs node)) r ((all_kept node).of_file s t) has;
     acknowledged = λ node other to from at sender transfer file is same.
         log_delivered config logs valid from.address no_files (log_at logs other)
-        (all_true config rows until logs valid traced run other sender.0 sender.1) (λ place t none. absurd (let e = none in cc)) transfer file is node to at same;
+        (all_true config rows until logs valid few run other sender.0 sender.1) (λ place t none. absurd (let e = none in cc)) transfer file is node to at same;
   }
