@@ -98,15 +98,16 @@ impl Plain {
     }
 
     fn acknowledge(&mut self, source: Address, place: usize, next: u32) -> Upper {
-        let Some((to, size, most, acked)) = self.sent.get_mut(place) else {
+        let Some(sent) = self.sent.get_mut(place) else {
             return Upper::Nothing;
         };
-        if *to != source || next <= *acked {
+        let (to, size, most, acked) = *sent;
+        if to != source || next <= acked {
             return Upper::Nothing;
         }
-        *acked = next;
-        if next < *size {
-            segment(place, next, *size, *most)
+        *sent = (to, size, most, next);
+        if next < size {
+            segment(place, next, size, most)
         } else {
             Upper::Nothing
         }
