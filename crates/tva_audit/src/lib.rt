@@ -5,8 +5,12 @@
 #![tactic(auto)]
 
 mod audit;
+mod laws;
+mod lines;
 mod sums;
 
 pub use audit::{AuditError, Audited, audit};
+pub use laws::{events_tell_charges, sums_are_below_their_limits};
+pub use lines::{put_lines, step_and_put};
 pub use sums::{RouterSum, sums};
 pub use tva_report::Finding;

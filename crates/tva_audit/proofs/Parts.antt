@@ -1,0 +1,44 @@
+-- The sums of chunks, one after another, are those of all.
+use Rattle.std.proofs.Common.{◌≡◌, ℕ, zero, suc, ◌+◌, ◌*◌, ◌/◌, ◌%◌, ◌<◌, ◌≤◌, List, [], ◌∷◌, ◌++◌, length, get_or, take, drop, All, refl, sym, ◌∙◌, ap, ap₂, subst, arith}
+use Rattle.std.specs.Prelude.{min, sum_by}
+use Rattle.std.specs.Fork.{slice_chunk}
+use Rattle.std.specs.List.{AllByRecursion, cons_option}
+use Rattle.std.proofs.Math.Seq.{take-add}
+use Rattle.std.proofs.lemmas.List.{take_all, take_more}
+use Rattle.std.proofs.lemmas.List.Elements.{All-from_recursion, filter_map-append}
+use Rattle.std.proofs.lemmas.Grind.{div_ceil_times}
+use Rattle.std.proofs.lemmas.List.Sums.{sum_by-cons}
+use Rattle.tva_node.specs.States.{NodeState}
+use Rattle.tva_audit.specs.declared.sums.RouterSum.{RouterSum}
+use Rattle.tva_audit.specs.Few.{TellsFew}
+use Rattle.tva_audit.specs.Sums.{sum_told, sums_told}
+
+-- each of the nodes tells few events, where all together do
+few_each : (most : ℕ) (nodes : List NodeState) → sum_by (λ v. length v.events) nodes ≤ most → AllByRecursion (λ v. length v.events ≤ most) nodes
+few_each most [] h = tt
+few_each most (v ∷ vs) h =
+    let sum = sum_by-cons (λ (n : NodeState). length n.events) v vs in
+    (omega (arith, sum, h), few_each most vs (omega (arith, sum, h)))
+
+pub each_tells_few : (nodes : List NodeState) → sum_by (λ v. length v.events) nodes ≤ 4000000 → All TellsFew nodes
+each_tells_few nodes h = All-from_recursion TellsFew nodes (few_each 4000000 nodes h)
+
+-- one node more
+pub one_told : (nodes : List NodeState) (i : ℕ) (d : NodeState) → i < length nodes
+    → sums_told (take (i + 1) nodes) ≡ sums_told (take i nodes) ++ sums_told (get_or nodes i d ∷ [])
+one_told nodes i d below = ap sums_told (take_more nodes i d below) ∙ filter_map-append (λ (v : NodeState). sum_told v.site.number v.site.plan v.events) (take i nodes) (get_or nodes i d ∷ [])
+
+-- one chunk more
+pub chunk_told : (nodes : List NodeState) (size n : ℕ)
+    → sums_told (take ((n + 1) * size) nodes) ≡ sums_told (take (n * size) nodes) ++ sums_told (slice_chunk nodes size n)
+chunk_told nodes size n =
+    ap (λ (k : ℕ). sums_told (take k nodes)) (let e : (n + 1) * size ≡ n * size + size = omega arith in e)
+    ∙ ap sums_told (take-add (n * size) size nodes)
+    ∙ filter_map-append (λ (v : NodeState). sum_told v.site.number v.site.plan v.events) (take (n * size) nodes) (slice_chunk nodes size n)
+
+-- the chunks hold all nodes
+pub all_told : (nodes : List NodeState) (size count : ℕ) → 0 < size → count ≡ length nodes / size + min 1 (length nodes % size)
+    → sums_told (take (count * size) nodes) ≡ sums_told nodes
+all_told nodes size count some e =
+    let whole : length nodes ≤ count * size = subst (λ (k : ℕ). length nodes ≤ k * size) (sym e) (div_ceil_times (length nodes) size some).0 in
+    ap sums_told (take_all (count * size) nodes whole)
