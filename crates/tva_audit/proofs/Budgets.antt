@@ -30,7 +30,7 @@ use Rattle.tva_sums.specs.declared.pairs.Pair.{Pair}
 use Rattle.tva_sums.specs.Charged.{boot_among, of_boot}
 use Rattle.tva_sums.specs.Pairs.{firsts, with_sums}
 use Rattle.tva_sums.specs.Sums.{bytes_of_pair, bytes_under, grant_and_sum, is_worse, limit_of, pair_of, pair_sums, pairs_in, same_pair, sums_of, worst_from, worst_of}
-use Rattle.tva_audit.specs.declared.sums.RouterSum.{RouterSum}
+use Rattle.tva_audit.specs.declared.routers.RouterSum.{RouterSum}
 use Rattle.tva_audit.specs.Sums.{IsBelowLimit, run_sums, sum_of_log, without_nonce}
 
 each_filter : {X : Type 0} (P : X → Type 0) (p : X → Bool) (xs : List X) → AllByRecursion P xs → AllByRecursion P (filter p xs)
@@ -60,7 +60,7 @@ of_parts P part (x ∷ xs) h = (
 -- ## sums of pairs
 
 -- a pair with its sum is below its limit
-IsBelow : Pair × ℕ → Type 0
+abbrev IsBelow : Pair × ℕ → Type 0
 IsBelow pair = pair.1 < limit_of pair.0.grant
 
 firsts_each : {K : Type 0} (P : K → Type 0) (same : K → K → Bool) (ks : List K) → AllByRecursion P ks → AllByRecursion P (firsts same ks)
@@ -84,7 +84,7 @@ worst_below [] h = tt
 worst_below (p ∷ ps) h = worst_among p ps h.0 h.1
 
 -- each charge's pair is below its limit
-IsFew : List (Time × List ℕ) → List Charged → Charged → Type 0
+abbrev IsFew : List (Time × List ℕ) → List Charged → Charged → Type 0
 IsFew restarts cs c = bytes_of_pair restarts cs (pair_of restarts c) < limit_of c.grant
 
 pairs_below : (restarts : List (Time × List ℕ)) (cs : List Charged) → AllByRecursion (IsFew restarts cs) cs → AllByRecursion IsBelow (pair_sums restarts cs)
@@ -115,7 +115,7 @@ boot_bytes plan grant boot (c ∷ h) =
     ]
 
 -- a charge's grant is within its budget in the charge's boot
-IsKept : RouterPlan → List Charge → ℕ → Charge → Type 0
+abbrev IsKept : RouterPlan → List Charge → ℕ → Charge → Type 0
 IsKept plan h boot c = bytes_of c.grant (charges_of_boot plan boot h) < 2 * (1024 * c.grant.rights.n)
 
 few_each : (plan : RouterPlan) (h cs : List Charge) → AllByRecursion (λ c. IsKept plan h (boot_at plan c.time) c) cs

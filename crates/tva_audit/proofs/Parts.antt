@@ -1,5 +1,5 @@
 -- The sums of chunks, one after another, are those of all.
-use Rattle.std.proofs.Common.{◌≡◌, ℕ, zero, suc, ◌+◌, ◌*◌, ◌/◌, ◌%◌, ◌<◌, ◌≤◌, List, [], ◌∷◌, ◌++◌, length, get_or, take, drop, All, refl, sym, ◌∙◌, ap, ap₂, subst, arith}
+use Rattle.std.proofs.Common.{◌≡◌, ℕ, zero, suc, ◌+◌, ◌*◌, ◌/◌, ◌%◌, ◌<◌, ◌≤◌, List, [], ◌∷◌, ◌++◌, length, get_or, take, drop, All, Option, Some, None, append-nil, refl, sym, ◌∙◌, ap, ap₂, subst, arith}
 use Rattle.std.specs.Prelude.{min, sum_by}
 use Rattle.std.specs.Fork.{slice_chunk}
 use Rattle.std.specs.List.{AllByRecursion, cons_option}
@@ -8,10 +8,16 @@ use Rattle.std.proofs.lemmas.List.{take_all, take_more}
 use Rattle.std.proofs.lemmas.List.Elements.{All-from_recursion, filter_map-append}
 use Rattle.std.proofs.lemmas.Grind.{div_ceil_times}
 use Rattle.std.proofs.lemmas.List.Sums.{sum_by-cons}
-use Rattle.tva_node.specs.States.{NodeState}
-use Rattle.tva_audit.specs.declared.sums.RouterSum.{RouterSum}
-use Rattle.tva_audit.specs.Few.{TellsFew}
-use Rattle.tva_audit.specs.Sums.{sum_told, sums_told}
+use Rattle.tva_base.specs.declared.event.Event.{Event}
+use Rattle.tva_plan.specs.declared.config.NodePlan.{NodePlan}
+use Rattle.tva_plan.specs.declared.config.NodePlan.TheVariants.{Router, Host}
+use Rattle.tva_sums.specs.declared.sums.Sums.{Sums}
+use Rattle.tva_sums.specs.Charged.{charges_in}
+use Rattle.tva_sums.specs.Sums.{sums_of}
+use Rattle.tva_node.specs.States.{NodeState, restarts_in, router_number}
+use Rattle.tva_audit.specs.declared.routers.RouterSum.{RouterSum}
+use Rattle.tva_audit.specs.Chunks.{TellsFew}
+use Rattle.tva_audit.specs.Sums.{numbered, sum_told, sums_told}
 
 -- each of the nodes tells few events, where all together do
 few_each : (most : ℕ) (nodes : List NodeState) → sum_by (λ v. length v.events) nodes ≤ most → AllByRecursion (λ v. length v.events ≤ most) nodes
@@ -42,3 +48,36 @@ pub all_told : (nodes : List NodeState) (size count : ℕ) → 0 < size → coun
 all_told nodes size count some e =
     let whole : length nodes ≤ count * size = subst (λ (k : ℕ). length nodes ≤ k * size) (sym e) (div_ceil_times (length nodes) size some).0 in
     ap sums_told (take_all (count * size) nodes whole)
+
+pub no_chunk : (nodes : List NodeState) (size : ℕ) (all : List RouterSum) → all ≡ [] → all ≡ sums_told (take (0 * size) nodes)
+no_chunk nodes size all e = e ∙ ap (λ (k : ℕ). sums_told (take k nodes)) (let z : 0 ≡ 0 * size = omega arith in z)
+
+-- one part more
+pub part_told : (nodes : List NodeState) (size n : ℕ) (all new sums : List RouterSum) → all ≡ sums_told (take (n * size) nodes)
+    → sums ≡ sums_told (slice_chunk nodes size n) → new ≡ all ++ sums → new ≡ sums_told (take ((n + 1) * size) nodes)
+part_told nodes size n all new sums before part more = more ∙ ap₂ ◌++◌ before part ∙ sym (chunk_told nodes size n)
+
+-- ## nodes
+
+pub one_more : (nodes : List NodeState) (i : ℕ) (d : NodeState) (all new : List RouterSum) (s : RouterSum) → i < length nodes → all ≡ sums_told (take i nodes)
+    → Some s ≡ sum_told (get_or nodes i d).site.number (get_or nodes i d).site.plan (get_or nodes i d).events → new ≡ all ++ s ∷ []
+    → new ≡ sums_told (take (i + 1) nodes)
+one_more nodes i d all new s below before told more =
+    more ∙ ap₂ ◌++◌ before (ap (λ (o : Option RouterSum). cons_option o []) told) ∙ sym (one_told nodes i d below)
+
+pub none_more : (nodes : List NodeState) (i : ℕ) (d : NodeState) (all : List RouterSum) → i < length nodes → all ≡ sums_told (take i nodes)
+    → None ≡ sum_told (get_or nodes i d).site.number (get_or nodes i d).site.plan (get_or nodes i d).events → all ≡ sums_told (take (i + 1) nodes)
+none_more nodes i d all below before told =
+    before ∙ sym (append-nil (sums_told (take i nodes))) ∙ ap (λ (ss : List RouterSum). sums_told (take i nodes) ++ ss) (ap (λ (o : Option RouterSum). cons_option o []) told)
+    ∙ sym (one_told nodes i d below)
+
+-- a router has sums, and a host has none
+pub router_told : (number : ℕ) (plan : NodePlan) (told : List Event) (k : ℕ) (s : Sums) → router_number number plan ≡ Some k
+    → s ≡ sums_of (restarts_in plan) (charges_in told) → Some (numbered k s) ≡ sum_told number plan told
+router_told number (Router plan) told k s e same =
+    ap₂ (λ (n : ℕ) (t : Sums). Some (numbered n t)) (let is : k ≡ number = cc in is) same
+router_told number (Host plan) told k s e same = absurd (cc)
+
+pub host_told : (number : ℕ) (plan : NodePlan) (told : List Event) → router_number number plan ≡ None → None ≡ sum_told number plan told
+host_told number (Router plan) told e = absurd (cc)
+host_told number (Host plan) told e = refl

@@ -29,7 +29,7 @@ use Rattle.tva_net.specs.Nets.{ByPlace, TellOf}
 use Rattle.tva_sums.specs.declared.charged.Charged.{Charged}
 use Rattle.tva_sums.specs.Charged.{charged, charged_in, charges_in}
 use Rattle.tva_sums.specs.Sums.{sums_of}
-use Rattle.tva_audit.specs.declared.sums.RouterSum.{RouterSum}
+use Rattle.tva_audit.specs.declared.routers.RouterSum.{RouterSum}
 use Rattle.tva_audit.specs.Sums.{numbered, run_sums, sum_of_log, sum_told, sums_told, without_nonce}
 
 -- ## charges
@@ -112,11 +112,13 @@ module _ (config : Config) (logs : Logs) (nodes : List NodeState) (sites : AreSi
 
   -- what is told of the nodes of a run is told of its logs
   pub sums_of_run : sums_told nodes ≡ run_sums config logs
-  sums_of_run = sums_same config logs 0 config.nodes nodes tell.count told_at
+  sums_of_run =
+      sums_same config logs 0 config.nodes nodes tell.count
+      (λ i p d l. subst (λ (k : ℕ). IsTold config logs k (get_or config.nodes i p) (get_or nodes i d)) (let e : i ≡ 0 + i = omega arith in e) (told_at i p d l))
 
 -- ## how many events there are
 
-at_least : ℕ → List Event → List Event
+abbrev at_least : ℕ → List Event → List Event
 at_least k told = filter (λ e. nat_le k (event_node e)) told
 
 -- those of a node and of the nodes behind it
@@ -177,6 +179,6 @@ fewer_left p (e ∷ es) =
 pub few_told : (config : Config) (logs : Logs) (nodes : List NodeState) (told : List Event) → TellOf config logs nodes → AreEvents config logs told
     → sum_by (λ v. length v.events) nodes ≤ length told
 few_told config logs nodes told tell join =
-    let few = few_from told 0 nodes (λ i d l. ap length (tell.each i d l ∙ sym (join.each i))) in
+    let few = few_from told 0 nodes (λ i d l. subst (λ (k : ℕ). length (get_or nodes i d).events ≡ length (from_source event_node k told)) (let e : i ≡ 0 + i = omega arith in e) (ap length (tell.each i d l ∙ sym (join.each i)))) in
     let all = fewer_left (λ (x : Event). nat_le 0 (event_node x)) told in
     omega (arith, few, all)

@@ -1,15 +1,15 @@
 -- An audit, window by window.
 use Rattle.std.proofs.Common.{◌≡◌, ◌≤◌, ◌<◌, ℕ, ◌+◌, ◌-◌, List, [], ◌∷◌, ◌++◌, length, All, None, Option, Result, Ok, Err, refl, sym, ap, ◌∙◌, subst, arith, append_assoc, append-nil, length-append}
-use Rattle.std.specs.Prelude.{codes, sum_by}
+use Rattle.std.specs.Prelude.{codes, is_err, sum_by, Bool, false, OnOk, Unit}
 use Rattle.std.specs.List.{AllByRecursion}
-use Rattle.std.proofs.lemmas.List.Elements.{All-append, All-from_recursion, recursion_from_All}
+use Rattle.std.proofs.lemmas.List.Elements.{All-append, All-from_recursion, All-map, recursion_from_All}
 use Rattle.tva_base.specs.Printable.{IsLine}
 use Rattle.tva_base.specs.declared.event.Event.{Event}
 use Rattle.tva_base.specs.declared.event.Totals.{Totals}
 use Rattle.tva_plan.specs.declared.config.Config.{Config}
 use Rattle.tva_plan.specs.Valid.{IsConfig}
 use Rattle.tva_trace.specs.declared.rows.Row.{Row}
-use Rattle.tva_trace.specs.Lines.{HasEvent, summary_of, text_of_totals}
+use Rattle.tva_trace.specs.Lines.{HasEvent, summary_of, text_of_event, text_of_totals}
 use Rattle.tva_report.specs.Lines.{first_bad, report_lines, text_of}
 use Rattle.tva_report.specs.Differences.{first_difference}
 use Rattle.tva_report.specs.Compared.{Compared}
@@ -24,11 +24,11 @@ use Rattle.tva_net.specs.Nets.{NetState, StandsFor}
 use Rattle.tva_net.specs.declared.kinds.NetError.{NetError}
 use Rattle.tva_net.specs.declared.kinds.NetError.TheVariants as error
 use Rattle.tva_net.specs.Steps.{GoesOn, HasEnded, PassesLimit, Refuses}
-use Rattle.tva_audit.specs.declared.sums.RouterSum.{RouterSum}
-use Rattle.tva_audit.specs.declared.audit.Audited.{Audited}
-use Rattle.tva_audit.specs.declared.audit.Audited.TheVariants.{Same, Differs}
-use Rattle.tva_audit.specs.declared.audit.AuditError.{AuditError}
-use Rattle.tva_audit.specs.declared.audit.AuditError.TheVariants.{BadReport, EventLimit, OutOfMemory}
+use Rattle.tva_audit.specs.declared.routers.RouterSum.{RouterSum}
+use Rattle.tva_audit.specs.declared.audits.Audited.{Audited}
+use Rattle.tva_audit.specs.declared.audits.Audited.TheVariants.{Same, Differs}
+use Rattle.tva_audit.specs.declared.audits.AuditError.{AuditError}
+use Rattle.tva_audit.specs.declared.audits.AuditError.TheVariants.{BadReport, EventLimit, OutOfMemory}
 use Rattle.tva_audit.specs.Audit.{HasSums, IsAudit, IsFound}
 use Rattle.tva_audit.specs.Deciding.{IsDecided, told_by}
 use Rattle.tva_audit.specs.Lines.{texts_of}
@@ -42,6 +42,25 @@ each-right P (x ∷ xs) ys h = each-right P xs ys h.1
 
 All-right : {X : Type 0} (P : X → Type 0) (xs ys : List X) → All P (xs ++ ys) → All P ys
 All-right P xs ys h = All-from_recursion P ys (each-right P xs ys (recursion_from_All P (xs ++ ys) h))
+
+on_ok : {E : Type 0} {P : Type 0} (put : Result Unit E) → is_err put ≡ false → OnOk put P → P
+on_ok (Ok x) e h = h
+on_ok (Err error) e h = absurd (cc)
+
+-- a buffer has the lines of these events
+pub record HasLines (config : Config) (list : List Event) (bytes : List ℕ) : Type 0 where
+  pub lines : bytes ≡ lines_of config list
+  pub each : All IsLine (texts_of config list)
+
+pub put : {E : Type 0} (config : Config) (r : Result Unit E) (events list : List Event) (text bytes : List ℕ) → is_err r ≡ false → events ≡ list → bytes ≡ text
+    → OnOk r (text ≡ lines_of config events) → OnOk r (All (λ e. IsLine (text_of_event config e)) events) → HasLines config list bytes
+put config r events list text bytes ok e f lines each = record {
+  lines = f ∙ on_ok r ok lines ∙ ap (lines_of config) e;
+  each = subst (λ (es : List Event). All IsLine (texts_of config es)) e (All-map IsLine (text_of_event config) events (on_ok r ok each));
+}
+
+pub put_good : (config : Config) (list : List Event) (bytes : List ℕ) → HasLines config list bytes → first_bad bytes ≡ None
+put_good config list bytes h = subst (λ (t : List ℕ). first_bad t ≡ None) (sym h.lines) (lines_fit config list h.each).good
 
 module _ (config : Config) (rows : List Row) (report : List ℕ) where
   -- the network stands for the run, and the report is compared with the lines of what it gave but for these events, the
@@ -76,11 +95,12 @@ module _ (config : Config) (rows : List Row) (report : List ℕ) where
       (events_named config rows net.work.worked_to (b.told ++ list) b.stands.work.valid (events_to b.windows (b.told ++ list) net b.stands))
 
   -- the lines of the last events are fed
-  pub feeds : (c d : Compared) (list : List Event) (net : NetState) (text : List ℕ) → IsBehind c list net → text ≡ lines_of config list
-      → All IsLine (texts_of config list)
+  pub feeds : (c d : Compared) (list : List Event) (net : NetState) (text : List ℕ) → IsBehind c list net → HasLines config list text
       → ((report : List ℕ) (fed : List (List ℕ)) → compared.StandsFor c report fed → compared.StandsFor d report (fed ++ report_lines text))
       → IsLevel d net
-  feeds c d list net text b same each more =
+  feeds c d list net text b put more =
+      let each = put.each in
+      let same = put.lines in
       let has : report_lines text ≡ texts_of config list = ap report_lines same ∙ (lines_fit config list each).has in
       let all : texts_of config b.told ++ report_lines text ≡ texts_of config (b.told ++ list) =
       ap (λ (ls : List (List ℕ)). texts_of config b.told ++ ls) has ∙ sym (texts_more config b.told list) in
@@ -102,7 +122,8 @@ module _ (config : Config) (rows : List Row) (report : List ℕ) where
       → Refuses config rows l.windows l.told e before net → IsAudit config rows report (Err (told_by e))
   refused c before net (error.EventLimit most) l good r =
       let p = r.2 in
-      (good, (r.0, record { until = net.work.worked_to; told = l.told ++ p.list; events = record { logs = p.run.logs; run = p.run.run; events = p.run.events }; more = p.many }))
+      let run : AreEventsTo config rows net.work.worked_to (l.told ++ p.list) = record { logs = p.run.logs; run = p.run.run; events = p.run.events } in
+      (good, r.0, record { until = net.work.worked_to; told = l.told ++ p.list; events = run; more = p.many })
   refused c before net error.OutOfMemory l good r = good
 
   -- the network has ended
@@ -120,7 +141,7 @@ module _ (config : Config) (rows : List Row) (report : List ℕ) where
     told_events : AreEventsTo config rows (config.horizon.0 + 1) l.told
     told_events = record { logs = ended.whole.logs; run = ended.whole.run; events = ended.whole.events }
 
-    all_lines : List (List ℕ)
+    abbrev pub all_lines : List (List ℕ)
     all_lines = texts_of config l.told ++ text_of_totals net.totals ∷ []
 
     whole_text : text_of all_lines ≡ report_of config l.told
@@ -137,7 +158,7 @@ module _ (config : Config) (rows : List Row) (report : List ℕ) where
     has_sums sums same = record {
       logs = ended.whole.logs;
       run = ended.whole.run;
-      sums = same ∙ sums_of_run config ended.whole.logs net.work.nodes sites ended.whole.tell;
+      each = same ∙ sums_of_run config ended.whole.logs net.work.nodes sites ended.whole.tell;
     }
 
     pub decided : (result : Result Audited AuditError) → first_bad report ≡ None → IsLine (text_of_totals net.totals)

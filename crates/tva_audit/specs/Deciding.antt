@@ -5,10 +5,10 @@ use Rattle.tva_net.specs.declared.kinds.NetError as errors
 use Rattle.tva_net.specs.declared.kinds.NetError.TheVariants as error
 use Rattle.tva_report.specs.Lines.{report_lines}
 use Rattle.tva_report.specs.Differences.{first_difference}
-use Rattle.tva_audit.specs.declared.audit.Audited.{Audited}
-use Rattle.tva_audit.specs.declared.audit.Audited.TheVariants.{Same, Differs}
-use Rattle.tva_audit.specs.declared.audit.AuditError.{AuditError}
-use Rattle.tva_audit.specs.declared.audit.AuditError.TheVariants.{BadReport, EventLimit, OutOfMemory}
+use Rattle.tva_audit.specs.declared.audits.Audited.{Audited}
+use Rattle.tva_audit.specs.declared.audits.Audited.TheVariants.{Same, Differs}
+use Rattle.tva_audit.specs.declared.audits.AuditError.{AuditError}
+use Rattle.tva_audit.specs.declared.audits.AuditError.TheVariants.{BadReport, EventLimit, OutOfMemory}
 use Rattle.tva_audit.specs.Sums.{sums_told}
 
 abbrev pub told_by : errors.NetError → AuditError

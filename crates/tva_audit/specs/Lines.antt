@@ -1,4 +1,4 @@
--- The texts of the lines that events have in a report.
+-- Kit: the texts of the lines that events have in a report.
 use Rattle.std.specs.Prelude.{ℕ, List, map}
 use Rattle.tva_base.specs.declared.event.Event.{Event}
 use Rattle.tva_plan.specs.declared.config.Config.{Config}

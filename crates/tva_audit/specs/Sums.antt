@@ -16,7 +16,7 @@ use Rattle.tva_sums.specs.declared.charged.Charged.{Charged}
 use Rattle.tva_sums.specs.declared.sums.Sums.{Sums}
 use Rattle.tva_sums.specs.Charged.{charged, charges_in}
 use Rattle.tva_sums.specs.Sums.{limit_of, sums_of}
-use Rattle.tva_audit.specs.declared.sums.RouterSum.{RouterSum}
+use Rattle.tva_audit.specs.declared.routers.RouterSum.{RouterSum}
 
 abbrev pub numbered : ℕ → Sums → RouterSum
 numbered node s =

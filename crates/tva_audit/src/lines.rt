@@ -5,12 +5,11 @@ ghost use Rattle.tva_base.specs.declared.event.Event.{Event};
 ghost use Rattle.tva_plan.specs.declared.config.Config.{Config};
 ghost use Rattle.tva_plan.specs.Valid.{IsConfig};
 ghost use Rattle.tva_trace.specs.declared.rows.Row.{Row};
-ghost use Rattle.tva_trace.specs.Lines.{HasEvent};
+ghost use Rattle.tva_trace.specs.Lines.{HasEvent, text_of_event};
 ghost use Rattle.tva_run.specs.Report.{lines_of};
 ghost use Rattle.tva_run.specs.Windows.{Window as Span};
 ghost use Rattle.tva_net.specs.Nets.{StandsFor};
 ghost use Rattle.tva_net.specs.Steps.{Gives, Refuses};
-ghost use Rattle.tva_audit.specs.Lines.{texts_of};
 
 use arrayvec::ArrayString;
 use std::alloc::{AllocError, Global};
@@ -26,7 +25,7 @@ pub fn put_lines(config: &Config, events: &[Event], text: &mut Vec<u8>) -> Resul
     requires config { IsConfig config.now }
     requires known { All (HasEvent config.now) events.now }
     ensures lines { OnOk result (text.new.items ≡ lines_of config.now events.now) }
-    ensures printable { OnOk result (All IsLine (texts_of config.now events.now)) }
+    ensures printable { OnOk result (All (λ e. IsLine (text_of_event config.now e)) events.now) }
 {
     text.clear();
     let mut line = ArrayString::new();
@@ -55,7 +54,7 @@ pub fn step_and_put<R: Threads + Sync, G: Gate>(
     ensures refuses { IfErr result.0 (λ error. (config : Config) (rows : List Row) (windows : List Span) (told : List Event)
         → StandsFor config rows windows told net.old → Refuses config rows windows told error net.old net.new) }
     ensures lines { OnOk result.1 (text.new.items ≡ lines_of config.now events.now) }
-    ensures printable { OnOk result.1 (All IsLine (texts_of config.now events.now)) }
+    ensures printable { OnOk result.1 (All (λ e. IsLine (text_of_event config.now e)) events.now) }
 {
     net.step_beside(
         rt,
@@ -64,7 +63,7 @@ pub fn step_and_put<R: Threads + Sync, G: Gate>(
         &mut || -> Result<(), AllocError>
             requires { IsConfig config.now × All (HasEvent config.now) events.now }
             ensures lines { OnOk result (text.exit.now.items ≡ lines_of config.entry.now events.entry.now) }
-            ensures printable { OnOk result (All IsLine (texts_of config.entry.now events.entry.now)) }
+            ensures printable { OnOk result (All (λ e. IsLine (text_of_event config.entry.now e)) events.entry.now) }
         { put_lines(config, events, text) },
     )
 }

@@ -1,7 +1,8 @@
 // What each router let through.
-ghost use Rattle.std.specs.Prelude.{◌≡◌, ◌<◌, ◌≤◌, All, IfOk, length, sum_by};
-ghost use Rattle.tva_audit.specs.Sums.{numbered, sums_told};
-ghost use Rattle.tva_audit.specs.Few.{TellsFew};
+ghost use Rattle.std.specs.Prelude.{◌≡◌, ◌<◌, ◌≤◌, ◌*◌, ℕ, List, All, IfOk, length, sum_by, take};
+ghost use Rattle.tva_node.specs.States.{NodeState};
+ghost use Rattle.tva_audit.specs.Sums.{numbered, sum_told, sums_told};
+ghost use Rattle.tva_audit.specs.Chunks.{AreParts, TellsFew};
 
 use std::alloc::{AllocError, Global};
 use std::thread::{Threads, map_chunks};
@@ -58,9 +59,23 @@ fn sums_by_chunks<R: Threads + Sync>(
             ensures { IfOk result (λ sums. sums.items ≡ sums_told chunk.now) }
         { chunk_sums(alloc, chunk) },
     )?;
+    joined(alloc, parts.as_slice())
+}
+
+// The sums of the chunks, one after another.
+fn joined(
+    alloc: Global,
+    parts: &[Result<Vec<RouterSum>, AllocError>],
+) -> Result<Vec<RouterSum>, AllocError>
+    ensures { IfOk result (λ sums. (size : ℕ) (nodes : List NodeState) → AreParts size nodes parts.now
+        → sums.items ≡ sums_told (take (length parts.now * size) nodes)) }
+{
     let mut all = Vec::new(alloc);
     for part in parts {
-        all.extend_from_slice(part?.as_slice())?;
+        match part {
+            Ok(sums) => all.extend_from_slice(sums.as_slice())?,
+            Err(_) => return Err(AllocError),
+        }
     }
     Ok(all)
 }
@@ -72,12 +87,24 @@ fn chunk_sums(alloc: Global, nodes: &[Node]) -> Result<Vec<RouterSum>, AllocErro
 {
     let mut all = Vec::new(alloc);
     for node in nodes {
-        if let Some(number) = node.router() {
-            let sums = router_sums(alloc, node.log(), node.restarts())?;
-            all.push(numbered(number, sums))?;
+        if let Some(sum) = node_sum(alloc, node)? {
+            all.push(sum)?;
         }
     }
     Ok(all)
+}
+
+// The sums of a router; a host has none.
+#[tactic(auto, using(crate::proofs::Parts::router_told, crate::proofs::Parts::host_told))]
+fn node_sum(alloc: Global, node: &Node) -> Result<Option<RouterSum>, AllocError>
+    requires few { TellsFew node.now }
+    ensures { IfOk result (λ sum. sum ≡ sum_told node.now.site.number node.now.site.plan node.now.events) }
+{
+    let Some(number) = node.router() else {
+        return Ok(None);
+    };
+    let sums = router_sums(alloc, node.log(), node.restarts())?;
+    Ok(Some(numbered(number, sums)))
 }
 
 fn numbered(node: u16, sums: Sums) -> RouterSum

@@ -1,15 +1,15 @@
 // The audit of a report.
-ghost use Rattle.std.specs.Prelude.{◌≡◌, ◌≤◌, ◌++◌, [], ◌∷◌, ℕ, List, IfErr, IfOk, None, length, sum_by};
+ghost use Rattle.std.specs.Prelude.{◌≡◌, ◌≤◌, ◌++◌, [], ◌∷◌, ℕ, List, length, sum_by};
+ghost use Rattle.tva_base.specs.Printable.{IsLine};
 ghost use Rattle.tva_plan.specs.Valid.{IsConfig};
 ghost use Rattle.tva_trace.specs.Lines.{text_of_totals};
 ghost use Rattle.tva_trace.specs.Valid.{AreTraceRows};
 ghost use Rattle.tva_report.specs.Compared as compared;
 ghost use Rattle.tva_audit.specs.Audit.{IsAudit};
 ghost use Rattle.tva_audit.specs.Deciding.{IsDecided, told_by};
-ghost use Rattle.tva_audit.specs.Sums.{sums_told};
 
 use crate::lines::step_and_put;
-use crate::sums::{RouterSum, sums};
+use crate::routers::{RouterSum, sums};
 use arrayvec::ArrayString;
 use std::alloc::{AllocError, Global};
 use std::thread::Threads;
@@ -91,7 +91,8 @@ fn decide<R: Threads + Sync>(
     net: Net,
 ) -> Result<Audited, AuditError>
     requires few { sum_by (λ v. length v.events) net.work.nodes ≤ 4000000 }
-    ensures { (report : List ℕ) (fed : List (List ℕ)) → compared.StandsFor comparison.entry report fed
+    ensures last { IsLine (text_of_totals net.totals) }
+    ensures decided { (report : List ℕ) (fed : List (List ℕ)) → compared.StandsFor comparison.entry report fed
         → IsDecided (fed ++ text_of_totals net.totals ∷ []) report net.work.nodes result }
 {
     feed_total(&net.totals(), &mut comparison);
@@ -107,7 +108,8 @@ fn decide<R: Threads + Sync>(
 
 // The total line is expected next.
 fn feed_total(totals: &Totals, comparison: &mut Comparison)
-    ensures { (report : List ℕ) (fed : List (List ℕ)) → compared.StandsFor comparison.old report fed
+    ensures line { IsLine (text_of_totals totals.now) }
+    ensures fed { (report : List ℕ) (fed : List (List ℕ)) → compared.StandsFor comparison.old report fed
         → compared.StandsFor comparison.new report (fed ++ text_of_totals totals.now ∷ []) }
 {
     let mut line = ArrayString::new();
