@@ -1,5 +1,5 @@
 -- In every run the worst grant of a router is below its limit.
-use Rattle.std.proofs.Common.{◌≡◌, ℕ, zero, suc, ◌+◌, ◌*◌, ◌<◌, List, [], ◌∷◌, ◌++◌, length, get_or, map, filter, All, Bool, true, false, cond, Option, Some, None, refl, sym, ◌∙◌, ap, ap₂, subst, arith, inl, inr, append-nil}
+use Rattle.std.proofs.Common.{◌≡◌, ℕ, suc, ◌+◌, ◌*◌, ◌<◌, List, [], ◌∷◌, length, get_or, map, filter, All, Bool, true, false, cond, Some, refl, sym, ◌∙◌, ap, subst, arith, inl, inr, append-nil}
 use Rattle.std.specs.Prelude.{◌==◌, IfSome, not, slice_get, sum_by}
 use Rattle.std.specs.Option.{option_map}
 use Rattle.std.specs.List.{AllByRecursion, cons_option}
@@ -11,10 +11,10 @@ use Rattle.tva_base.specs.declared.packet.Grant.{Grant}
 use Rattle.tva_base.specs.declared.packet.Time.{Time}
 use Rattle.tva_base.specs.declared.plan.LinkPlan.{LinkPlan}
 use Rattle.tva_base.specs.declared.plan.RouterPlan.{RouterPlan}
-use Rattle.tva_base.specs.Changes.{boot_at, has_come}
+use Rattle.tva_base.specs.Changes.{boot_at}
 use Rattle.tva_flow.specs.Charges.{Charge, bytes_of}
 use Rattle.tva_flow.specs.Charges as flow
-use Rattle.tva_joins.proofs.Joins.{each-filter, filter-true, filter-false}
+use Rattle.tva_joins.proofs.Joins.{filter-true, filter-false}
 use Rattle.tva_router.specs.Boots.{charges_of_boot}
 use Rattle.tva_plan.specs.declared.config.Config.{Config}
 use Rattle.tva_plan.specs.declared.config.NodePlan.{NodePlan}
@@ -28,7 +28,7 @@ use Rattle.tva_promises.specs.Promises.{KeepsPromises}
 use Rattle.tva_sums.specs.declared.charged.Charged.{Charged}
 use Rattle.tva_sums.specs.declared.pairs.Pair.{Pair}
 use Rattle.tva_sums.specs.Charged.{boot_among, of_boot}
-use Rattle.tva_sums.specs.Pairs.{firsts, with_sums}
+use Rattle.tva_sums.specs.Pairs.{firsts}
 use Rattle.tva_sums.specs.Sums.{bytes_of_pair, bytes_under, grant_and_sum, is_worse, limit_of, pair_of, pair_sums, pairs_in, same_pair, sums_of, worst_from, worst_of}
 use Rattle.tva_audit.specs.declared.routers.RouterSum.{RouterSum}
 use Rattle.tva_audit.specs.Sums.{IsBelowLimit, run_sums, sum_of_log, without_nonce}
@@ -158,4 +158,4 @@ module _ (config : Config) (until : ℕ) (logs : Logs)
       (below_from (first + 1) ps (λ i q l. subst (λ (k : ℕ). slice_get config.nodes k ≡ Some (get_or ps i q)) (let e : first + suc i ≡ first + 1 + i = omega arith in e) (h (suc i) q (omega (arith, l)))))
 
   pub sums_below : All IsBelowLimit (run_sums config logs)
-  sums_below = All-from_recursion IsBelowLimit (run_sums config logs) (below_from 0 config.nodes (λ i p l. slice_get-get_or config.nodes i p l))
+  sums_below = All-from_recursion IsBelowLimit (run_sums config logs) (below_from 0 config.nodes (λ i p l. subst (λ (k : ℕ). slice_get config.nodes k ≡ Some (get_or config.nodes i p)) (let e : i ≡ 0 + i = omega arith in e) (slice_get-get_or config.nodes i p l)))

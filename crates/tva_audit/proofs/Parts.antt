@@ -1,6 +1,9 @@
 -- The sums of chunks, one after another, are those of all.
-use Rattle.std.proofs.Common.{◌≡◌, ℕ, zero, suc, ◌+◌, ◌*◌, ◌/◌, ◌%◌, ◌<◌, ◌≤◌, List, [], ◌∷◌, ◌++◌, length, get_or, take, drop, All, Option, Some, None, append-nil, refl, sym, ◌∙◌, ap, ap₂, subst, arith}
-use Rattle.std.specs.Prelude.{min, sum_by}
+use Rattle.std.proofs.Common.{◌≡◌, ℕ, ◌+◌, ◌*◌, ◌/◌, ◌%◌, ◌<◌, ◌≤◌, List, [], ◌∷◌, ◌++◌, length, get_or, take, All, Option, Some, None, Result, Ok, Err, append-nil, refl, sym, ◌∙◌, ap, ap₂, subst, arith}
+use Rattle.std.specs.Prelude.{min, sum_by, IfOk}
+use Rattle.std.specs.declared.alloc.AllocError.{AllocError}
+use Rattle.std.specs.declared.alloc.Global.{Global}
+use Rattle.std.specs.declared.vec.Vec.{Vec}
 use Rattle.std.specs.Fork.{slice_chunk}
 use Rattle.std.specs.List.{AllByRecursion, cons_option}
 use Rattle.std.proofs.Math.Seq.{take-add}
@@ -16,7 +19,7 @@ use Rattle.tva_sums.specs.Charged.{charges_in}
 use Rattle.tva_sums.specs.Sums.{sums_of}
 use Rattle.tva_node.specs.States.{NodeState, restarts_in, router_number}
 use Rattle.tva_audit.specs.declared.routers.RouterSum.{RouterSum}
-use Rattle.tva_audit.specs.Chunks.{TellsFew}
+use Rattle.tva_audit.specs.Chunks.{AreParts, TellsFew}
 use Rattle.tva_audit.specs.Sums.{numbered, sum_told, sums_told}
 
 -- each of the nodes tells few events, where all together do
@@ -59,17 +62,29 @@ part_told nodes size n all new sums before part more = more ∙ ap₂ ◌++◌ b
 
 -- ## nodes
 
-pub one_more : (nodes : List NodeState) (i : ℕ) (d : NodeState) (all new : List RouterSum) (s : RouterSum) → i < length nodes → all ≡ sums_told (take i nodes)
-    → Some s ≡ sum_told (get_or nodes i d).site.number (get_or nodes i d).site.plan (get_or nodes i d).events → new ≡ all ++ s ∷ []
-    → new ≡ sums_told (take (i + 1) nodes)
-one_more nodes i d all new s below before told more =
-    more ∙ ap₂ ◌++◌ before (ap (λ (o : Option RouterSum). cons_option o []) told) ∙ sym (one_told nodes i d below)
+last_told : (nodes : List NodeState) (i : ℕ) (e : NodeState) (o : Option RouterSum) → e ≡ get_or nodes i e → o ≡ sum_told e.site.number e.site.plan e.events
+    → cons_option o [] ≡ sums_told (get_or nodes i e ∷ [])
+last_told nodes i e o is told =
+    ap (λ (p : Option RouterSum). cons_option p []) told ∙ ap (λ (v : NodeState). sums_told (v ∷ [])) is
 
-pub none_more : (nodes : List NodeState) (i : ℕ) (d : NodeState) (all : List RouterSum) → i < length nodes → all ≡ sums_told (take i nodes)
-    → None ≡ sum_told (get_or nodes i d).site.number (get_or nodes i d).site.plan (get_or nodes i d).events → all ≡ sums_told (take (i + 1) nodes)
-none_more nodes i d all below before told =
-    before ∙ sym (append-nil (sums_told (take i nodes))) ∙ ap (λ (ss : List RouterSum). sums_told (take i nodes) ++ ss) (ap (λ (o : Option RouterSum). cons_option o []) told)
-    ∙ sym (one_told nodes i d below)
+pub one_more : (nodes : List NodeState) (i : ℕ) (e : NodeState) (all new : List RouterSum) (s : RouterSum) → i < length nodes → e ≡ get_or nodes i e
+    → all ≡ sums_told (take i nodes) → Some s ≡ sum_told e.site.number e.site.plan e.events → new ≡ all ++ s ∷ [] → new ≡ sums_told (take (i + 1) nodes)
+one_more nodes i e all new s below is before told more =
+    more ∙ ap₂ ◌++◌ before (last_told nodes i e (Some s) is told) ∙ sym (one_told nodes i e below)
+
+pub none_more : (nodes : List NodeState) (i : ℕ) (e : NodeState) (all : List RouterSum) → i < length nodes → e ≡ get_or nodes i e
+    → all ≡ sums_told (take i nodes) → None ≡ sum_told e.site.number e.site.plan e.events → all ≡ sums_told (take (i + 1) nodes)
+none_more nodes i e all below is before told =
+    sym (append-nil all) ∙ ap₂ ◌++◌ before (last_told nodes i e None is told) ∙ sym (one_told nodes i e below)
+
+-- the parts joined are the sums of all nodes
+pub joined_told : (r : Result (Vec RouterSum Global) AllocError) (parts items : List (Result (Vec RouterSum Global) AllocError)) (nodes : List NodeState) (size : ℕ)
+    → parts ≡ items → IfOk r (λ sums. (size : ℕ) (nodes : List NodeState) → AreParts size nodes parts → sums.items ≡ sums_told (take (length parts * size) nodes))
+    → AreParts size nodes items → 0 < size → length parts ≡ length nodes / size + min 1 (length nodes % size)
+    → IfOk r (λ sums. sums.items ≡ sums_told nodes)
+joined_told (Ok v) parts items nodes size same h are some long =
+    h size nodes (subst (AreParts size nodes) (sym same) are) ∙ all_told nodes size (length parts) some long
+joined_told (Err e) parts items nodes size same h are some long = tt
 
 -- a router has sums, and a host has none
 pub router_told : (number : ℕ) (plan : NodePlan) (told : List Event) (k : ℕ) (s : Sums) → router_number number plan ≡ Some k

@@ -1,11 +1,10 @@
 -- The lines of events are lines of a report.
-use Rattle.std.proofs.Common.{◌≡◌, ℕ, List, [], ◌∷◌, ◌++◌, All, None, refl, sym, ap, ◌∙◌, subst, append-nil}
-use Rattle.std.specs.Prelude.{codes, map}
-use Rattle.std.specs.List.{flat_map}
+use Rattle.std.proofs.Common.{◌≡◌, ◌<◌, ℕ, ◌+◌, List, [], ◌∷◌, ◌++◌, length, take, get_or, All, None, sym, ap, ap₂, ◌∙◌, subst, append-nil}
+use Rattle.std.specs.Prelude.{codes}
 use Rattle.std.proofs.lemmas.Grind.{flat_map-append}
-use Rattle.std.proofs.lemmas.List.{map-append}
+use Rattle.std.proofs.lemmas.List.{map-append, take_more}
 use Rattle.std.proofs.lemmas.List.Folds.{flat_map-map}
-use Rattle.std.proofs.lemmas.List.Elements.{All-from_recursion}
+use Rattle.std.proofs.lemmas.List.Elements.{All-append, All-from_recursion}
 use Rattle.tva_base.specs.Printable.{IsLine}
 use Rattle.tva_base.specs.declared.event.Event.{Event}
 use Rattle.tva_plan.specs.declared.config.Config.{Config}
@@ -40,3 +39,18 @@ texts_more config told list = map-append (text_of_event config) told list
 -- with one line more
 pub text_of_more : (lines : List (List ℕ)) (line : List ℕ) → text_of (lines ++ line ∷ []) ≡ text_of lines ++ (line ++ codes "\n")
 text_of_more lines line = flat_map-append ended lines (line ∷ []) ∙ ap (λ t. text_of lines ++ t) (append-nil (ended line))
+
+-- one event more
+pub put_more : (config : Config) (list : List Event) (i : ℕ) (d : Event) (old bytes new : List ℕ) → i < length list
+    → old ≡ lines_of config (take i list) → bytes ≡ line_of config (get_or list i d) → new ≡ old ++ bytes → new ≡ lines_of config (take (i + 1) list)
+put_more config list i d old bytes new below before line more =
+    let e = get_or list i d in
+    let all : lines_of config (take (i + 1) list) ≡ lines_of config (take i list) ++ line_of config e =
+    ap (lines_of config) (take_more list i d below) ∙ flat_map-append (line_of config) (take i list) (e ∷ []) ∙ ap (λ (t : List ℕ). lines_of config (take i list) ++ t) (append-nil (line_of config e)) in
+    more ∙ ap₂ ◌++◌ before line ∙ sym all
+
+pub each_more : (config : Config) (list : List Event) (i : ℕ) (d : Event) → i < length list
+    → All (λ x. IsLine (text_of_event config x)) (take i list) → IsLine (text_of_event config (get_or list i d)) → All (λ x. IsLine (text_of_event config x)) (take (i + 1) list)
+each_more config list i d below before line =
+    subst (All (λ x. IsLine (text_of_event config x))) (sym (take_more list i d below))
+    (All-append (λ x. IsLine (text_of_event config x)) (take i list) (get_or list i d ∷ []) before (All-from_recursion (λ x. IsLine (text_of_event config x)) (get_or list i d ∷ []) (line, tt)))

@@ -1,8 +1,8 @@
 -- What the events of a run say was charged, and how many they are.
-use Rattle.std.proofs.Common.{◌≡◌, ℕ, zero, suc, ◌+◌, ◌<◌, ◌≤◌, List, [], ◌∷◌, ◌++◌, length, get_or, map, filter, Bool, true, false, Option, Some, None, refl, sym, ◌∙◌, ap, ap₂, subst, arith, inl, inr}
-use Rattle.std.specs.Prelude.{◌==◌, nat_le, sum_by, slice_get, slice_index_or}
+use Rattle.std.proofs.Common.{◌≡◌, ℕ, suc, ◌+◌, ◌<◌, ◌≤◌, List, [], ◌∷◌, length, get_or, map, filter, Bool, Option, Some, None, refl, sym, ◌∙◌, ap, ap₂, subst, arith, inl, inr}
+use Rattle.std.specs.Prelude.{◌==◌, nat_le, sum_by, slice_get}
 use Rattle.std.specs.Option.{option_map, option_map_or}
-use Rattle.std.specs.List.{cons_option, filter_map}
+use Rattle.std.specs.List.{cons_option}
 use Rattle.std.proofs.lemmas.Bool.{cases_Bool, eqb-true, le-leb, leb-true, lt-leb}
 use Rattle.std.proofs.lemmas.List.Sums.{sum_by-cons}
 use Rattle.std.proofs.lemmas.Option.{get_or_from_slice_get}
@@ -23,13 +23,12 @@ use Rattle.tva_log.specs.Parts.{charge_of, charges}
 use Rattle.tva_log.specs.Parts as parts
 use Rattle.tva_log.specs.Told.{event_of, events, at_time}
 use Rattle.tva_run.specs.Reaching.{Logs, links_out, log_at, site_at}
-use Rattle.tva_run.specs.Report.{AreEvents, event_node, event_time, events_at}
+use Rattle.tva_run.specs.Report.{AreEvents, event_node}
 use Rattle.tva_node.specs.States.{NodeState}
 use Rattle.tva_net.specs.Nets.{ByPlace, TellOf}
 use Rattle.tva_sums.specs.declared.charged.Charged.{Charged}
 use Rattle.tva_sums.specs.Charged.{charged, charged_in, charges_in}
 use Rattle.tva_sums.specs.Sums.{sums_of}
-use Rattle.tva_audit.specs.declared.routers.RouterSum.{RouterSum}
 use Rattle.tva_audit.specs.Sums.{numbered, run_sums, sum_of_log, sum_told, sums_told, without_nonce}
 
 -- ## charges

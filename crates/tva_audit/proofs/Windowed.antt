@@ -1,13 +1,12 @@
 -- An audit, window by window.
-use Rattle.std.proofs.Common.{◌≡◌, ◌≤◌, ◌<◌, ℕ, ◌+◌, ◌-◌, List, [], ◌∷◌, ◌++◌, length, All, None, Option, Result, Ok, Err, refl, sym, ap, ◌∙◌, subst, arith, append_assoc, append-nil, length-append}
-use Rattle.std.specs.Prelude.{codes, is_err, sum_by, Bool, false, OnOk, Unit}
+use Rattle.std.proofs.Common.{◌≡◌, ◌≤◌, ◌<◌, ℕ, ◌+◌, ◌-◌, List, [], ◌∷◌, ◌++◌, length, All, None, Result, Ok, Err, sym, ap, ◌∙◌, subst, arith, length-append}
+use Rattle.std.specs.Prelude.{is_err, sum_by, false, OnOk}
 use Rattle.std.specs.List.{AllByRecursion}
 use Rattle.std.proofs.lemmas.List.Elements.{All-append, All-from_recursion, All-map, recursion_from_All}
 use Rattle.tva_base.specs.Printable.{IsLine}
 use Rattle.tva_base.specs.declared.event.Event.{Event}
 use Rattle.tva_base.specs.declared.event.Totals.{Totals}
 use Rattle.tva_plan.specs.declared.config.Config.{Config}
-use Rattle.tva_plan.specs.Valid.{IsConfig}
 use Rattle.tva_trace.specs.declared.rows.Row.{Row}
 use Rattle.tva_trace.specs.Lines.{HasEvent, summary_of, text_of_event, text_of_totals}
 use Rattle.tva_report.specs.Lines.{first_bad, report_lines, text_of}
@@ -17,23 +16,23 @@ use Rattle.tva_report.specs.Compared as compared
 use Rattle.tva_report.proofs.Differing.{same_of_none}
 use Rattle.tva_report.proofs.LinesBack.{good_back, lines_made}
 use Rattle.tva_run.specs.Report.{AreEventsTo, lines_of, report_of, totals_of}
-use Rattle.tva_run.specs.Shown.{HasReport, IsPastLimit}
+use Rattle.tva_run.specs.Shown.{HasReport}
 use Rattle.tva_run.specs.Windows.{Window}
 use Rattle.tva_run.proofs.Names.{events_named}
 use Rattle.tva_net.specs.Nets.{NetState, StandsFor}
 use Rattle.tva_net.specs.declared.kinds.NetError.{NetError}
 use Rattle.tva_net.specs.declared.kinds.NetError.TheVariants as error
-use Rattle.tva_net.specs.Steps.{GoesOn, HasEnded, PassesLimit, Refuses}
+use Rattle.tva_net.specs.Steps.{GoesOn, HasEnded, Refuses}
 use Rattle.tva_audit.specs.declared.routers.RouterSum.{RouterSum}
 use Rattle.tva_audit.specs.declared.audits.Audited.{Audited}
 use Rattle.tva_audit.specs.declared.audits.Audited.TheVariants.{Same, Differs}
 use Rattle.tva_audit.specs.declared.audits.AuditError.{AuditError}
 use Rattle.tva_audit.specs.declared.audits.AuditError.TheVariants.{BadReport, EventLimit, OutOfMemory}
-use Rattle.tva_audit.specs.Audit.{HasSums, IsAudit, IsFound}
+use Rattle.tva_audit.specs.Audit.{HasSums, IsAudit}
 use Rattle.tva_audit.specs.Deciding.{IsDecided, told_by}
 use Rattle.tva_audit.specs.Lines.{texts_of}
-use Rattle.tva_audit.specs.Sums.{run_sums, sums_told}
-use Rattle.tva_audit.proofs.Texts.{IsText, lines_fit, lines_same, text_of_more, texts_more}
+use Rattle.tva_audit.specs.Sums.{sums_told}
+use Rattle.tva_audit.proofs.Texts.{lines_fit, lines_same, text_of_more, texts_more}
 use Rattle.tva_audit.proofs.Told.{AreSites, few_told, sums_of_run}
 
 each-right : {X : Type 0} (P : X → Type 0) (xs ys : List X) → AllByRecursion P (xs ++ ys) → AllByRecursion P ys
@@ -79,9 +78,6 @@ module _ (config : Config) (rows : List Row) (report : List ℕ) where
     pub stands : StandsFor config rows windows told net
     pub lines : All IsLine (texts_of config told)
     pub compares : compared.StandsFor c report (texts_of config told)
-
-  pub begins : (c : Compared) (net : NetState) → StandsFor config rows [] [] net → compared.StandsFor c report [] → IsBehind c [] net
-  begins c net s same = record { windows = []; told = []; stands = s; lines = All-from_recursion IsLine [] tt; compares = same }
 
   -- what the network gave is the run's
   events_to : (windows : List Window) (told : List Event) (net : NetState) → StandsFor config rows windows told net

@@ -1,5 +1,5 @@
 -- Kit: how an audit ends where the network ended.
-use Rattle.std.specs.Prelude.{◌≡◌, ℕ, List, Option, Some, None, Result, Ok, Err}
+use Rattle.std.specs.Prelude.{◌≡◌, ℕ, List, Some, None, Result, Ok, Err}
 use Rattle.tva_node.specs.States.{NodeState}
 use Rattle.tva_net.specs.declared.kinds.NetError as errors
 use Rattle.tva_net.specs.declared.kinds.NetError.TheVariants as error

@@ -1,4 +1,4 @@
-use Rattle.std.proofs.Common.{◌≡◌, ℕ, List, All, Result, Err, sym, subst, ◌∙◌}
+use Rattle.std.proofs.Common.{List, All, Err, sym, subst, ◌∙◌}
 use Rattle.tva_base.specs.declared.event.Event.{Event}
 use Rattle.tva_trace.specs.Lines.{HasEvent}
 use Rattle.tva_net.specs.declared.kinds.Window as answers
@@ -21,8 +21,8 @@ feed-requires g c =
     let list = c.loop-comparison.events.items in
     put_good config list c.as_slice-in-loop-comparison.result.now
     (put config c.step_and_put-step.result.1 c.as_slice.result.now list c.step_and_put-step.new.text.items c.as_slice-in-loop-comparison.result.now
-     (sym c.is_err.ensures.value ∙ c.if-is_err.false) c.as_slice.ensures.value c.as_slice-in-loop-comparison.ensures.value
-     c.step_and_put-step.ensures.lines c.step_and_put-step.ensures.printable)
+    (sym c.is_err.ensures.value ∙ c.if-is_err.false) c.as_slice.ensures.value c.as_slice-in-loop-comparison.ensures.value
+    c.step_and_put-step.ensures.lines c.step_and_put-step.ensures.printable)
 
 pub loop-comparison-smaller : goal.loop-comparison-smaller
 loop-comparison-smaller g c =
@@ -31,12 +31,12 @@ loop-comparison-smaller g c =
     let report = c.args.report.now in
     let list = c.loop-comparison.events.items in
     let lines = put config c.step_and_put-step.result.1 c.as_slice.result.now list c.step_and_put-step.new.text.items c.as_slice-in-loop-comparison.result.now
-        (sym c.is_err.ensures.value ∙ c.if-is_err.false) c.as_slice.ensures.value c.as_slice-in-loop-comparison.ensures.value
-        c.step_and_put-step.ensures.lines c.step_and_put-step.ensures.printable in
+    (sym c.is_err.ensures.value ∙ c.if-is_err.false) c.as_slice.ensures.value c.as_slice-in-loop-comparison.ensures.value
+    c.step_and_put-step.ensures.lines c.step_and_put-step.ensures.printable in
     let level = feeds config rows report c.loop-comparison.comparison c.feed.new.self list c.loop-comparison.net c.as_slice-in-loop-comparison.result.now
-        c.loop-comparison.invariant lines c.feed.ensures in
+    c.loop-comparison.invariant lines c.feed.ensures in
     let gives = subst (λ (w : answers.Window). Gives config rows level.windows level.told w c.step_and_put-step.new.net) c.in-Ok-Events.field-0-is
-        ((rw c.in-Ok-Events.is at c.step_and_put-step.ensures.gives) config rows level.windows level.told level.stands) in
+    ((rw c.in-Ok-Events.is at c.step_and_put-step.ensures.gives) config rows level.windows level.told level.stands) in
     fewer_left config rows report level.windows level.told c.in-Ok-Events.next.items c.loop-comparison.net c.step_and_put-step.new.net level.stands gives.1 gives.0
 
 pub loop-comparison-preserved : goal.loop-comparison-preserved
@@ -46,12 +46,12 @@ loop-comparison-preserved g c =
     let report = c.args.report.now in
     let list = c.loop-comparison.events.items in
     let lines = put config c.step_and_put-step.result.1 c.as_slice.result.now list c.step_and_put-step.new.text.items c.as_slice-in-loop-comparison.result.now
-        (sym c.is_err.ensures.value ∙ c.if-is_err.false) c.as_slice.ensures.value c.as_slice-in-loop-comparison.ensures.value
-        c.step_and_put-step.ensures.lines c.step_and_put-step.ensures.printable in
+    (sym c.is_err.ensures.value ∙ c.if-is_err.false) c.as_slice.ensures.value c.as_slice-in-loop-comparison.ensures.value
+    c.step_and_put-step.ensures.lines c.step_and_put-step.ensures.printable in
     let level = feeds config rows report c.loop-comparison.comparison c.feed.new.self list c.loop-comparison.net c.as_slice-in-loop-comparison.result.now
-        c.loop-comparison.invariant lines c.feed.ensures in
+    c.loop-comparison.invariant lines c.feed.ensures in
     let gives = subst (λ (w : answers.Window). Gives config rows level.windows level.told w c.step_and_put-step.new.net) c.in-Ok-Events.field-0-is
-        ((rw c.in-Ok-Events.is at c.step_and_put-step.ensures.gives) config rows level.windows level.told level.stands) in
+    ((rw c.in-Ok-Events.is at c.step_and_put-step.ensures.gives) config rows level.windows level.told level.stands) in
     goes_on config rows report c.feed.new.self c.in-Ok-Events.next.items c.loop-comparison.net c.step_and_put-step.new.net level gives.1
 
 pub decide-requires-clause-few : goal.decide-requires-clause-few
@@ -61,12 +61,12 @@ decide-requires-clause-few g c κs within =
     let report = c.args.report.now in
     let list = c.loop-comparison.events.items in
     let lines = put config c.step_and_put-step.result.1 c.as_slice.result.now list c.step_and_put-step.new.text.items c.as_slice-in-loop-comparison.result.now
-        (sym c.is_err.ensures.value ∙ c.if-is_err.false) c.as_slice.ensures.value c.as_slice-in-loop-comparison.ensures.value
-        c.step_and_put-step.ensures.lines c.step_and_put-step.ensures.printable in
+    (sym c.is_err.ensures.value ∙ c.if-is_err.false) c.as_slice.ensures.value c.as_slice-in-loop-comparison.ensures.value
+    c.step_and_put-step.ensures.lines c.step_and_put-step.ensures.printable in
     let level = feeds config rows report c.loop-comparison.comparison c.feed.new.self list c.loop-comparison.net c.as_slice-in-loop-comparison.result.now
-        c.loop-comparison.invariant lines c.feed.ensures in
+    c.loop-comparison.invariant lines c.feed.ensures in
     let ended = subst (λ (w : answers.Window). Gives config rows level.windows level.told w c.step_and_put-step.new.net) c.in-Ok-Ended.field-0-is
-        ((rw c.in-Ok-Ended.is at c.step_and_put-step.ensures.gives) config rows level.windows level.told level.stands) in
+    ((rw c.in-Ok-Ended.is at c.step_and_put-step.ensures.gives) config rows level.windows level.told level.stands) in
     few_in_all config rows report c.feed.new.self c.loop-comparison.net c.step_and_put-step.new.net level ended
 
 pub returns-in-Ok-Ended : goal.returns-in-Ok-Ended
@@ -76,12 +76,12 @@ returns-in-Ok-Ended g c =
     let report = c.args.report.now in
     let list = c.loop-comparison.events.items in
     let lines = put config c.step_and_put-step.result.1 c.as_slice.result.now list c.step_and_put-step.new.text.items c.as_slice-in-loop-comparison.result.now
-        (sym c.is_err.ensures.value ∙ c.if-is_err.false) c.as_slice.ensures.value c.as_slice-in-loop-comparison.ensures.value
-        c.step_and_put-step.ensures.lines c.step_and_put-step.ensures.printable in
+    (sym c.is_err.ensures.value ∙ c.if-is_err.false) c.as_slice.ensures.value c.as_slice-in-loop-comparison.ensures.value
+    c.step_and_put-step.ensures.lines c.step_and_put-step.ensures.printable in
     let level = feeds config rows report c.loop-comparison.comparison c.feed.new.self list c.loop-comparison.net c.as_slice-in-loop-comparison.result.now
-        c.loop-comparison.invariant lines c.feed.ensures in
+    c.loop-comparison.invariant lines c.feed.ensures in
     let ended = subst (λ (w : answers.Window). Gives config rows level.windows level.told w c.step_and_put-step.new.net) c.in-Ok-Ended.field-0-is
-        ((rw c.in-Ok-Ended.is at c.step_and_put-step.ensures.gives) config rows level.windows level.told level.stands) in
+    ((rw c.in-Ok-Ended.is at c.step_and_put-step.ensures.gives) config rows level.windows level.told level.stands) in
     let good = sym c.first_bad.ensures ∙ c.in_default.is in
     record {
       answer =
@@ -96,10 +96,10 @@ returns-in-Err-step g c =
     let report = c.args.report.now in
     let list = c.loop-comparison.events.items in
     let lines = put config c.step_and_put-step.result.1 c.as_slice.result.now list c.step_and_put-step.new.text.items c.as_slice-in-loop-comparison.result.now
-        (sym c.is_err.ensures.value ∙ c.if-is_err.false) c.as_slice.ensures.value c.as_slice-in-loop-comparison.ensures.value
-        c.step_and_put-step.ensures.lines c.step_and_put-step.ensures.printable in
+    (sym c.is_err.ensures.value ∙ c.if-is_err.false) c.as_slice.ensures.value c.as_slice-in-loop-comparison.ensures.value
+    c.step_and_put-step.ensures.lines c.step_and_put-step.ensures.printable in
     let level = feeds config rows report c.loop-comparison.comparison c.feed.new.self list c.loop-comparison.net c.as_slice-in-loop-comparison.result.now
-        c.loop-comparison.invariant lines c.feed.ensures in
+    c.loop-comparison.invariant lines c.feed.ensures in
     let good = sym c.first_bad.ensures ∙ c.in_default.is in
     let refuses = (rw c.in-Err-step.is at c.step_and_put-step.ensures.refuses) config rows level.windows level.told level.stands in
     record {
