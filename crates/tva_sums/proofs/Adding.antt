@@ -1,6 +1,6 @@
 -- Lemmas on pairs of a boot and a grant, and on the sums of one more charge.
-use Rattle.std.proofs.Common.{◌≡◌, ◌≢◌, ℕ, ◌+◌, ◌*◌, ◌<◌, ◌≤◌, Bool, true, false, not, ◌&&◌, List, [], ◌∷◌, ◌++◌, length, get_or, map, filter, cond, refl, sym, ◌∙◌, ap, arith, inl, inr, ◌⊎◌, Some, None, Option, add-zero, zero-add, append-nil, subst, All}
-use Rattle.std.specs.Prelude.{◌==◌, sum_by}
+use Rattle.std.proofs.Common.{◌≡◌, ℕ, ◌+◌, ◌≤◌, true, false, List, [], ◌∷◌, ◌++◌, map, cond, refl, sym, ◌∙◌, ap, arith, inl, inr, add-zero, zero-add, All}
+use Rattle.std.specs.Prelude.{◌==◌}
 use Rattle.std.specs.List.{list_any}
 use Rattle.std.specs.Ordering.{is_eq, nat_cmp, ordering_then}
 use Rattle.std.specs.declared.cmp.Ordering.{Ordering}
@@ -9,7 +9,7 @@ use Rattle.std.specs.Cmp.{Equal-is}
 use Rattle.std.proofs.lemmas.Bool.{cases_Bool, eqb-true, eq-eqb, le-ltb}
 use Rattle.std.proofs.lemmas.List.{map-append}
 use Rattle.std.proofs.lemmas.List.Elements.{All-cons, All-head, All-nil, All-tail, All-weaker}
-use Rattle.std.proofs.lemmas.List.Sums.{sum_by-cons, sum_by-append}
+use Rattle.std.proofs.lemmas.List.Sums.{sum_by-cons}
 use Rattle.std.proofs.lemmas.Map.Lookups.{exact_unsigned}
 use Rattle.tva_base.specs.declared.packet.Grant.{Grant}
 use Rattle.tva_base.specs.declared.packet.Flow.{Flow}
@@ -23,7 +23,7 @@ use Rattle.tva_sums.specs.declared.charged.Charged.{Charged}
 use Rattle.tva_sums.specs.declared.pairs.Pair.{Pair}
 use Rattle.tva_sums.specs.Charged.{boot_among, of_boot}
 use Rattle.tva_sums.specs.Pairs.{firsts, with_sums}
-use Rattle.tva_sums.specs.Sums.{bytes_of_pair, bytes_under, pair_of, pair_sums, pairs_in, same_pair}
+use Rattle.tva_sums.specs.Sums.{bytes_of_pair, bytes_under, pair_of, pair_sums, same_pair}
 use Rattle.tva_sums.specs.Table.{add_to, pair_order}
 use Rattle.tva_sums.proofs.Keys.{Tells, sums_push}
 

@@ -1,7 +1,6 @@
 -- Lemmas on the boot at a time: rising times that have come stand in front of those that have not.
-use Rattle.std.proofs.Common.{◌≡◌, ℕ, ◌+◌, ◌-◌, ◌<◌, ◌≤◌, Bool, true, false, List, [], ◌∷◌, length, get_or, map, cond, refl, sym, ◌∙◌, ap, arith, zero, suc, All}
-use Rattle.std.specs.Prelude.{count_by, slice_index_or}
-use Rattle.std.specs.List.{AllWithin}
+use Rattle.std.proofs.Common.{◌≡◌, ℕ, ◌<◌, ◌≤◌, Bool, true, false, List, [], ◌∷◌, length, get_or, map, cond, refl, ◌∙◌, arith, zero, suc, All}
+use Rattle.std.specs.Prelude.{count_by}
 use Rattle.std.specs.List.Sorted.{IsNonDecreasingBy, IsPartitionPoint}
 use Rattle.std.proofs.lemmas.List.Sums.{sum_by-cons}
 use Rattle.tva_base.specs.Plan.{AreRising}

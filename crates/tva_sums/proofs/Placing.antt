@@ -1,5 +1,5 @@
 -- Lemmas on where pairs stand while their sums grow.
-use Rattle.std.proofs.Common.{◌≡◌, ℕ, ◌+◌, ◌<◌, ◌≤◌, Bool, true, false, List, [], ◌∷◌, ◌++◌, length, get_or, set, cond, refl, sym, ◌∙◌, ap, arith, inl, inr, ◌⊎◌, Some, None, Option, add-zero, zero, suc, All}
+use Rattle.std.proofs.Common.{◌≡◌, ℕ, ◌+◌, ◌<◌, List, [], ◌∷◌, ◌++◌, length, get_or, set, cond, refl, ◌∙◌, ap, arith, inl, inr, Some, None, Option, add-zero, suc}
 use Rattle.std.specs.List.{position_from}
 use Rattle.std.proofs.lemmas.Bool.{cases_Bool}
 use Rattle.tva_sums.specs.declared.pairs.Pair.{Pair}

@@ -1,4 +1,5 @@
 pub mod Charged
 pub mod Pairs
 pub mod Sums
+pub mod Worst
 pub mod Table

@@ -1,4 +1,4 @@
-use Rattle.std.proofs.Common.{◌≡◌, sym, refl, rules}
+use Rattle.std.proofs.Common.{sym, rules}
 use Rattle.std.proofs.lemmas.List.Sorted.{IsPartitionPoint-from_clause, IsPartitionedBy-leb}
 use Rattle.tva_base.specs.Changes.{has_come}
 use Rattle.tva_sums.proofs.Boots.{count_to_point, never_falls}

@@ -1,4 +1,4 @@
-use Rattle.std.proofs.Common.{arith, rules}
+use Rattle.std.proofs.Common.{arith}
 use Rattle.tva_sums.proofs.sums.router_sums.Goals as goal
 
 pub loop-event-init : goal.loop-event-init

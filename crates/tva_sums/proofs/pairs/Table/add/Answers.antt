@@ -1,7 +1,5 @@
-use Rattle.std.proofs.Common.{◌≡◌, ◌+◌, ◌<◌, ◌^◌, refl, sym, ◌∙◌, ap, arith, length, rules, Some, None, Fits, w64}
-use Rattle.tva_sums.specs.declared.pairs.Pair.{Pair}
-use Rattle.tva_sums.specs.Sums.{same_pair}
-use Rattle.tva_sums.specs.Table.{add_to, pair_order, place_of}
+use Rattle.std.proofs.Common.{◌≡◌, ◌+◌, ◌<◌, ◌^◌, sym, ◌∙◌, ap, arith, length, rules, Some, None}
+use Rattle.tva_sums.specs.Table.{place_of}
 use Rattle.tva_sums.proofs.Adding.{order_tests}
 use Rattle.tva_sums.proofs.Placing.{IsThere, comes_last, keeps, place-last, there}
 use Rattle.tva_sums.proofs.pairs.Table.add.Goals as goal

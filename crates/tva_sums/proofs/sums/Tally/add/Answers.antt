@@ -1,7 +1,5 @@
-use Rattle.std.proofs.Common.{◌≡◌, ◌+◌, ◌*◌, ◌<◌, ◌≤◌, ◌^◌, refl, sym, ◌∙◌, ap, arith, length, rules, length-append, ◌∷◌, []}
+use Rattle.std.proofs.Common.{◌<◌, ◌^◌, sym, ◌∙◌, arith, rules, length-append, ◌∷◌, []}
 use Rattle.std.proofs.lemmas.List.Sums.{sum_by_push}
-use Rattle.tva_sums.specs.Sums.{pair_of, same_pair}
-use Rattle.tva_sums.specs.Table.{add_to}
 use Rattle.tva_sums.proofs.Adding.{parts-add, sums_more}
 use Rattle.tva_sums.proofs.sums.Tally.add.Goals as goal
 
@@ -19,7 +17,7 @@ returns-clause-sound c =
 
 pub returns-clause-stands : goal.returns-clause-stands
 returns-clause-stands c = λ restarts cs charged pair length h. record {
-      sums = c.in_ok-add.ensures.sums ∙ rw (← pair, ← length, h.sums) (sym (sums_more restarts cs charged));
-      charges = let l = h.charges in omega (arith, length-append cs (charged ∷ []));
-      bytes = rw (h.bytes, c.from.ensures, ← length) (sym (sum_by_push (λ x. x.length) cs charged));
-    }
+  sums = c.in_ok-add.ensures.sums ∙ rw (← pair, ← length, h.sums) (sym (sums_more restarts cs charged));
+  charges = let l = h.charges in omega (arith, length-append cs (charged ∷ []));
+  bytes = rw (h.bytes, c.from.ensures, ← length) (sym (sum_by_push (λ x. x.length) cs charged));
+}

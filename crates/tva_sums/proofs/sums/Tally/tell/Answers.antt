@@ -3,7 +3,6 @@ use Rattle.std.proofs.lemmas.List.Elements.{filter_map-append}
 use Rattle.tva_base.specs.declared.event.Event.{Event}
 use Rattle.tva_sums.specs.declared.charged.Charged.{Charged}
 use Rattle.tva_sums.specs.Charged.{charged_in, charges_in}
-use Rattle.tva_sums.specs.Sums.{pair_of}
 use Rattle.tva_sums.proofs.sums.Tally.tell.Goals as goal
 
 told_some : (events : List Event) (event : Event) (charged : Charged) → charged_in event ≡ Some charged → charges_in (events ++ event ∷ []) ≡ charges_in events ++ charged ∷ []
