@@ -1,7 +1,8 @@
 """How often each cause, outcome, shape, word of a receipt, fault and status came, when restarts and reroutes did, and what
-came of files."""
+came of files and of audits."""
 from collections import Counter
 
+from model import audit
 from model import run as runs
 from model.shims import Ack, Data
 
@@ -17,7 +18,7 @@ RIDES = "by itself, on a grant, on a notice"
 
 # all that is to come, by what is counted
 EXPECTED = {
-    "status": "0, 2, 3, 5, 6, 7, 8",
+    "status": "0, 1, 2, 3, 5, 6, 7, 8, 10",
     "class": "request, regular, legacy",
     "cause": "-, no-capability, expired, bad-hash, superseded, over-n, cache-full, unknown-nonce, path-full, malformed",
     "outcome at a router": OUTCOMES,
@@ -39,10 +40,17 @@ EXPECTED = {
     "segment that answers": RIDES,
     "restart": WHEN,
     "reroute": WHEN,
+    "change of a report": "-, a byte, an unprintable byte, a line left out, a line doubled, two lines exchanged, no last line feed,"
+    " an empty line, a long line",
+    "audit": "report ok, found, event limit, bad report",
+    "router of an audit": "no charge, one grant, several grants, several boots, equal to the worst, a greater sum than the worst",
     "fault of a configuration": CONFIG_FAULTS,
     "fault of a trace": "header, rows, fields, time, order, node, kind, src, dst, payload, shim",
     "word of shim": "v1 request, v1 list, v1 nonce, v1 renewal, v2 request, v2 list, v2 nonce, v2 renewal, malformed",
 }
+
+
+AUDITS = {0: "report ok", 1: "found", 8: "event limit", 10: "bad report"}
 
 
 def outcome(word):
@@ -78,6 +86,8 @@ class Coverage:
         elif words[:1] == ["replay"]:
             for line in out.decode().splitlines():
                 self.see_line(line.split(" "))
+        elif words[:1] == ["audit"] and status in AUDITS:
+            self.add("audit", AUDITS[status])
 
     def see_line(self, line):
         self.lines += 1
@@ -133,6 +143,24 @@ class Coverage:
             back = receipt.answer
             rides = "by itself" if back is None else "on a notice" if back.rights is None else "on a grant"
             self.add("acknowledgement that is sent" if isinstance(answer, Ack) else "segment that answers", rides)
+
+    def see_report(self, changes):
+        """The changes of a report that is audited."""
+        for it in changes:
+            self.add("change of a report", it)
+
+    def see_audit(self, run, status):
+        """What the routers of a run of the model let through, where the report is that of the run."""
+        for node in run.nodes[: len(run.config.routers)] if status == 0 else []:
+            told = audit.sums(node.plan, node.charges)
+            worst = audit.worst(told)
+            self.add("router of an audit", "several grants" if told[1:] else "one grant" if told else "no charge")
+            if len({it.boot for it in told}) > 1:
+                self.add("router of an audit", "several boots")
+            if any(it is not worst and not audit.is_worse(worst, it) for it in told):
+                self.add("router of an audit", "equal to the worst")
+            if any(it.bytes > worst.bytes for it in told):
+                self.add("router of an audit", "a greater sum than the worst")
 
     def see_changes(self, run):
         """The changes of a run of the model."""

@@ -1,5 +1,5 @@
-"""What every run promises, by plain sums over the lines of a report. What a report doesn't tell, which grant a packet
-was charged to and under which key it waits, is the model's, whose lines are the same."""
+"""What every run promises, by plain sums over the lines of a report, and over those of an audit. What a report doesn't
+tell, which grant a packet was charged to and under which key it waits, is the model's, whose lines are the same."""
 from collections import defaultdict
 
 from model import shims
@@ -34,6 +34,22 @@ def budgets(node, lines):
         sums[boot, charge.grant] += length
     over = [(*of, had) for of, had in sums.items() if had >= 2 * UNIT * of[1].rights.n]
     return [f"{node.plan.name}: {grant} has {had} bytes in boot {boot}" for boot, grant, had in over]
+
+
+def broken_sums(report, told):
+    """What an audit of a report tells against it: each router is charged for what it authorises, and each worst sum is
+    below its limit."""
+    *sums, last = [line.split(" ") for line in told.decode().splitlines()]
+    numbers = [[word.partition("=")[2] for word in line[1:]] for line in sums]
+    total = report.decode().splitlines()[-1].split(" ")
+    found = [] if f"authorised={sum(int(charges) for _, charges, _, _ in numbers)}" in total else ["charges aren't what is authorised"]
+    if last != ["report", "ok", f"lines={report.count(bytes([10]))}"]:
+        found.append("the report has another number of lines")
+    for line, (grants, charges, size, worst) in zip(sums, numbers):
+        most, limit = map(int, worst.split("/")) if worst != "-" else (0, 1)
+        if not most < limit or most > int(size) or int(grants) > int(charges):
+            found.append(f"{' '.join(line)} can't be")
+    return found
 
 
 def ranges(run, lines):

@@ -1,5 +1,6 @@
 """Wrong readings of the rules. Each puts other functions into the model in place of some of its own, by name, and is to
-be found by a difference from the program within some minutes. Those of restarts and reroutes stand in `turns`."""
+be found by a difference from the program within some minutes. Those of restarts and reroutes stand in `turns`, those of files
+in `segments`, and those of audits in `audits`."""
 from contextlib import contextmanager
 
 from model import configuration, hashes, host, link, report, router, run, shims

@@ -1,4 +1,4 @@
-"""Configurations and traces with a fault of each kind."""
+"""Configurations and traces with a fault of each kind, and reports with changes."""
 from . import networks
 from .networks import Raw, TABLES, chance
 
@@ -314,3 +314,78 @@ def trace(rng, text):
         lines = lines[: rng.randrange(2, len(lines) + 1)]
     rng.choice(ways)(rng, lines)
     return "\n".join(lines).encode() + b"\n"
+
+
+# ## reports. Each change takes the lines with their line feeds, and there is one at least.
+
+
+def a_place(rng, lines):
+    """A line, and a place in it that isn't its line feed."""
+    place = rng.randrange(len(lines))
+    return place, rng.randrange(max(1, len(lines[place]) - 1))
+
+
+def put_byte(rng, lines, told):
+    """Puts a byte in place of another, or before it."""
+    place, at = a_place(rng, lines)
+    line = lines[place]
+    lines[place] = line[:at] + bytes([told]) + line[at + rng.choice([1, 1, 1, 0]) :]
+
+
+def a_byte(rng, lines):
+    put_byte(rng, lines, rng.choice([rng.randrange(32, 127), rng.randrange(48, 58), 32, 126]))
+
+
+def unprintable(rng, lines):
+    put_byte(rng, lines, rng.choice([0, 9, 11, 13, 31, 127, 128, 255, rng.randrange(128, 256)]))
+
+
+def left_out(rng, lines):
+    del lines[rng.choice([rng.randrange(len(lines)), len(lines) - 1])]
+
+
+def doubled(rng, lines):
+    place = rng.choice([rng.randrange(len(lines)), len(lines) - 1])
+    lines.insert(place, lines[place])
+
+
+def exchanged(rng, lines):
+    one = rng.randrange(len(lines))
+    other = rng.choice([rng.randrange(len(lines)), (one + 1) % len(lines)])
+    lines[one], lines[other] = lines[other], lines[one]
+
+
+def without_end(rng, lines):
+    lines[-1] = lines[-1].removesuffix(b"\n")
+
+
+def empty_line(rng, lines):
+    lines.insert(rng.randrange(len(lines) + 1), b"\n")
+
+
+def long_line(rng, lines):
+    """A line of as many bytes as it may have, or of one more."""
+    place = rng.randrange(len(lines))
+    lines[place] = lines[place].removesuffix(b"\n").ljust(rng.choice([255, 256]), b"~") + b"\n"
+
+
+REPORT_CHANGES = {
+    "a byte": a_byte,
+    "an unprintable byte": unprintable,
+    "a line left out": left_out,
+    "a line doubled": doubled,
+    "two lines exchanged": exchanged,
+    "no last line feed": without_end,
+    "an empty line": empty_line,
+    "a long line": long_line,
+}
+
+
+def report(rng, text):
+    """A report with a change, or with two, and the names of these."""
+    lines, names = text.splitlines(keepends=True) or [b"x\n"], []
+    for _ in range(rng.choice([1, 1, 2])):
+        name = rng.choice(list(REPORT_CHANGES))
+        REPORT_CHANGES[name](rng, lines or [b"x\n"])
+        names.append(name)
+    return b"".join(lines), names

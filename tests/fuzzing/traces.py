@@ -299,6 +299,21 @@ def spending(sources):
     return found
 
 
+def alike(sources):
+    """Rows at a router that show two grants, one of twice the units and with twice the bytes, in any order."""
+    rng, name = sources.rng, sources.rng.choice(list(sources.routers))
+    now, size, destination = rng.choice([0, 1, SECOND]), rng.choice([0, 100, 472]), rng.choice(sources.addresses)
+    second = (now + sources.routers[name].get("clock_offset_ns", 0)) // SECOND
+    few, many = rng.sample(sorted(set(sources.addresses)), 2)
+    found = []
+    for source, units in rng.sample([(many, 2), (many, 2), (few, 1)], 3):
+        flow, rights = (source, destination), (units, 10)
+        told = f"{NONCES[0]}/{units}/10/0/{item(sources, name, now, flow, rights, second)}"
+        found.append((now, name, "list", *flow, size, told))
+        now += rng.choice([0, 1, 10**6, 10**8])
+    return found
+
+
 def charged(sources, node, charge, now):
     """A row that shows the grant of a charge again."""
     rng, grant = sources.rng, charge.grant
@@ -397,6 +412,7 @@ def rows(rng, network, run=None):
     count = count if run is None else rng.choice([1, 2, 4, 8])
     found = [] if chance(rng, 0.95) else known(sources)
     found += spending(sources) if network.restart and chance(rng, 0.3) else []
+    found += alike(sources) if sources.routers and run is None and chance(rng, 0.05) else []
     for now in times(sources, count):
         found += a_row(sources, now, rng.choice(busy), kinds)
         if chance(rng, 0.15) and (found[-1][2] not in OWN or len(sources.hosts) > 1):

@@ -13,6 +13,7 @@ what happened and sums over them, and takes one time after another; so it is slo
 - transfers: files that hosts send in segments, and what is delivered of them
 - run: the nodes of a network, time after time
 - report: the lines
+- audit: the lines of a report that is audited, and what routers let through
 - generator: traces of a seed
 - commands: the words of the command line
 

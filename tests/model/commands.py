@@ -2,17 +2,19 @@
 import sys
 from typing import NamedTuple
 
+from . import audit as audits
 from . import configuration, generator, report, run, shims, texts, trace
 
-CONFIG_MOST, TRACE_MOST = 1 << 20, 1 << 26
+CONFIG_MOST, TRACE_MOST, REPORT_MOST = 1 << 20, 1 << 26, 1 << 30
 SEED_MOST, COUNT_MOST, SHIM_MOST = (1 << 64) - 1, 500_000, 400
-USAGE = "usage: tva replay CONFIG TRACE, check CONFIG, shim HEX, gen SEED COUNT CONFIG"
-DONE, WRONG_WORDS, READ_FAULT, WRITE_FAULT, TOO_LARGE, BAD_CONFIG, BAD_TRACE, EVENT_LIMIT = 0, 2, 3, 4, 5, 6, 7, 8
+USAGE = "usage: tva replay CONFIG TRACE, check CONFIG, shim HEX, gen SEED COUNT CONFIG, audit CONFIG TRACE REPORT"
+DONE, FOUND, WRONG_WORDS, READ_FAULT, WRITE_FAULT, TOO_LARGE, BAD_CONFIG, BAD_TRACE, EVENT_LIMIT, BAD_REPORT = 0, 1, 2, 3, 4, 5, 6, 7, 8, 10
 
 
 class Answer(NamedTuple):
     """What is written stands piece by piece: a replay writes a piece for each window in which something happens, and
-    one for the last line. The run is for those who look at it afterwards: there is one where a replay came so far."""
+    one for the last line. The run is for those who look at it afterwards: there is one where a replay came so far, and
+    where a report was compared."""
 
     status: int
     written: tuple = ()
@@ -73,6 +75,42 @@ def replay_of(config, rows):
     return Answer(DONE, written + (report.total(events).encode(),), "", running)
 
 
+def audit(config_name, trace_name, report_name):
+    config = read_config(config_name)
+    rows = read_trace(trace_name, config)
+    text = load(report_name, REPORT_MOST)
+    return audit_of(replay_of(config, rows), text)
+
+
+def audit_of(replayed, text):
+    """The audit of a text as the report of what was replayed."""
+    refused = next((it for it in refusals(replayed, text) if it is not None), None)
+    return refused or Answer(DONE, (sums_of(replayed.run, text).encode(),), "", replayed.run)
+
+
+def refusals(replayed, text):
+    """What may be wrong with it, in the order in which it is told."""
+    yield bad_line(text)
+    yield replayed._replace(written=()) if replayed.status == EVENT_LIMIT else None
+    yield difference(replayed, text)
+
+
+def bad_line(text):
+    number = audits.first_bad(text)
+    return number and Answer(BAD_REPORT, (), f"bad report: line {number}")
+
+
+def difference(replayed, text):
+    number = audits.first_difference(audits.lines(b"".join(replayed.written)), audits.lines(text))
+    return number and Answer(FOUND, (), f"found: line {number}", replayed.run)
+
+
+def sums_of(running, text):
+    """A line for each router, and how many lines the report has."""
+    told = [audits.line(node.plan, node.charges) for node in running.nodes[: len(running.config.routers)]]
+    return "".join(told) + f"report ok lines={len(audits.lines(text))}\n"
+
+
 def check(name):
     return done(configuration.words(read_config(name)))
 
@@ -99,7 +137,7 @@ def meant(value):
     return value
 
 
-COMMANDS = {"replay": (replay, 2), "check": (check, 1), "shim": (shim, 1), "gen": (gen, 3)}
+COMMANDS = {"replay": (replay, 2), "check": (check, 1), "shim": (shim, 1), "gen": (gen, 3), "audit": (audit, 3)}
 
 
 def answer(words):
