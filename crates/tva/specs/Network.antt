@@ -9,7 +9,7 @@ use Rattle.tva_run.specs.Run.{IsRunTo}
 use Rattle.tva_promises.specs.Promises.{KeepsPromises}
 use Rattle.tva_paths.specs.Paths.{AreHonestRegular}
 use Rattle.tva_delivery.specs.Delivery.{KeepsFiles}
-use Rattle.tva.specs.Expected.{Expected, replays}
+use Rattle.tva.specs.Expected.{Expected, replays, audits}
 
 -- in every run up to any time the log of each node keeps its promises, a router's for each of its boots
 abbrev pub EachKeepsPromises : Config → List Row → Type 0
@@ -20,6 +20,7 @@ EachKeepsPromises plan rows =
 -- so it is in every run of a trace that is to be replayed
 abbrev pub ArePromisesKept : Expected → Type 0
 ArePromisesKept (replays plan trace) = (rows : List Row) → AreRows plan trace rows → EachKeepsPromises plan rows
+ArePromisesKept (audits plan trace report) = ArePromisesKept (replays plan trace)
 ArePromisesKept x = Unit {0}
 
 -- in every run of a trace that is to be replayed, up to any time, what an honest sender shows is regular at each router to
@@ -27,6 +28,7 @@ ArePromisesKept x = Unit {0}
 abbrev pub AreHonestTaken : Expected → Type 0
 AreHonestTaken (replays plan trace) = (rows : List Row) → AreRows plan trace rows
     → (until : ℕ) (logs : Logs) → IsRunTo plan rows until logs → AreHonestRegular plan logs
+AreHonestTaken (audits plan trace report) = AreHonestTaken (replays plan trace)
 AreHonestTaken x = Unit {0}
 
 -- in every such run, up to any time, each receiver delivers the ranges of a transfer in order and once, no more than its
@@ -34,4 +36,11 @@ AreHonestTaken x = Unit {0}
 abbrev pub AreFilesKept : Expected → Type 0
 AreFilesKept (replays plan trace) = (rows : List Row) → AreRows plan trace rows
     → (until : ℕ) (logs : Logs) → IsRunTo plan rows until logs → KeepsFiles plan logs
+AreFilesKept (audits plan trace report) = AreFilesKept (replays plan trace)
 AreFilesKept x = Unit {0}
+
+-- in the sums of an audited run no sum of a worst grant comes up to twice its units
+abbrev pub AreSumsBelow : Expected → Type 0
+AreSumsBelow (audits plan trace report) = (rows : List Row) → AreRows plan trace rows
+    → (sums : List RouterSum) → HasSums plan rows sums → All IsBelow sums
+AreSumsBelow x = Unit {0}
