@@ -17,7 +17,7 @@ use Rattle.tva_port.proofs.Logs.{free-started}
 use Rattle.tva_plan.specs.declared.config.NodePlan.{NodePlan}
 use Rattle.tva_plan.specs.declared.config.NodePlan.TheVariants.{Router, Host}
 use Rattle.tva_trace.specs.declared.rows.RowWhat.{RowWhat}
-use Rattle.tva_trace.specs.declared.rows.RowWhat.TheVariants.{Send, Inject}
+use Rattle.tva_trace.specs.declared.rows.RowWhat.TheVariants.{Send, Inject, File, Tick}
 use Rattle.tva_joins.specs.Joins.{IsInOrder}
 use Rattle.tva_joins.proofs.Joins.{cut-cut, each-cut, each-filter, in_order-filter}
 use Rattle.tva_joins.proofs.Putting.{each-both}
@@ -41,8 +41,10 @@ use Rattle.tva_node.proofs.Steps.{begins, ends, rests, starts_one, takes}
 abbrev pub IsInjected : RowWhat → Type 0
 IsInjected (Send dst payload) = ⊥
 IsInjected (Inject flow payload carried) = Unit {0}
+IsInjected (File dst size segment) = ⊥
+IsInjected (Tick dst) = ⊥
 
--- an input that a node can take: a row that sends is for a host
+-- an input that a node can take: a row that isn't a packet of its own is for a host
 abbrev pub IsTakable : NodePlan → Input → Type 0
 IsTakable (Router plan) (FromTrace row) = IsInjected row.what
 IsTakable (Router plan) (Arrival time link packet) = Unit {0}
@@ -51,6 +53,8 @@ IsTakable (Host plan) input = Unit {0}
 row_content : (plan : RouterPlan) (before : List Entry) (now : ℕ) (id : PacketId) (what : RowWhat) → IsInjected what
     → (c : Content) × (option_map (arrived plan before now None) (packet_of_row id what) ≡ Some c)
 row_content plan before now id (Send dst payload) t = absurd t
+row_content plan before now id (File dst size segment) t = absurd t
+row_content plan before now id (Tick dst) t = absurd t
 row_content plan before now id (Inject flow payload carried) t =
     (arrived plan before now None (made_packet id flow payload carried), refl)
 

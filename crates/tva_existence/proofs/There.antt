@@ -17,7 +17,7 @@ use Rattle.tva_plan.specs.Names.{is_host, is_host_plan}
 use Rattle.tva_plan.specs.Valid.{IsConfig}
 use Rattle.tva_trace.specs.declared.rows.Row.{Row}
 use Rattle.tva_trace.specs.declared.rows.RowWhat.{RowWhat}
-use Rattle.tva_trace.specs.declared.rows.RowWhat.TheVariants.{Send, Inject}
+use Rattle.tva_trace.specs.declared.rows.RowWhat.TheVariants.{Send, Inject, File, Tick}
 use Rattle.tva_trace.specs.Valid.{NeverFall}
 use Rattle.tva_joins.specs.Joins.{IsJoin, NeverFalls, IsInOrder}
 use Rattle.tva_joins.proofs.Joins.{cut-zero, each-filter, filter-true, filter-false, in_order-filter, join_unique, times_from}
@@ -117,10 +117,12 @@ none_past config rows logs node (suc number) l = elim (slice_get_cases config.li
 
 -- ## inputs that a node can take
 
--- a row that sends stands at a host
+-- a row that sends, begins a transfer or ticks stands at a host
 abbrev pub IsPlacedWhat : Bool → RowWhat → Type 0
 IsPlacedWhat at_host (Send dst payload) = at_host ≡ true
 IsPlacedWhat at_host (Inject flow payload carried) = Unit {0}
+IsPlacedWhat at_host (File dst size segment) = at_host ≡ true
+IsPlacedWhat at_host (Tick dst) = at_host ≡ true
 
 abbrev pub IsPlaced : Config → Row → Type 0
 IsPlaced config row = IsPlacedWhat (is_host config.nodes row.node) row.what
@@ -128,6 +130,8 @@ IsPlaced config row = IsPlacedWhat (is_host config.nodes row.node) row.what
 injected : (what : RowWhat) → IsPlacedWhat false what → IsInjected what
 injected (Send dst payload) h = absurd (cc)
 injected (Inject flow payload carried) h = tt
+injected (File dst size segment) h = absurd (cc)
+injected (Tick dst) h = absurd (cc)
 
 what_takable : (plan : NodePlan) (row : Row) → IsPlacedWhat (is_host_plan plan) row.what → IsTakable plan (FromTrace row)
 what_takable (plans.Router p) row h = injected row.what h

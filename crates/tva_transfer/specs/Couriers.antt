@@ -1,26 +1,27 @@
 -- Several couriers, each at a host of its own: what passes between them.
-use Rattle.std.specs.Prelude.{◌≡◌, ℕ, ◌+◌, ◌==◌, true, if◌then◌else◌, List, [], ◌∷◌, ◌++◌, map, filter}
+use Rattle.std.specs.Prelude.{◌≡◌, ◌≢◌, ℕ, ◌+◌, ◌≤◌, ◌==◌, true, if◌then◌else◌, List, [], ◌∷◌, ◌++◌, map, filter}
 use Rattle.std.specs.Prelude.{Option, Some, None}
-use Rattle.std.specs.Option.{option_map}
+use Rattle.std.specs.Option.{option_map, IsSomeAnd}
 use Rattle.std.specs.List.{filter_map}
 use Rattle.tva_base.specs.declared.addresses.Address.{Address}
 use Rattle.tva_base.specs.declared.packet.Flow.{Flow}
 use Rattle.tva_base.specs.declared.packet.Upper.{Upper}
-use Rattle.tva_base.specs.declared.packet.Upper.TheVariants.{Nothing, Data, Ack}
+use Rattle.tva_base.specs.declared.packet.Upper.TheVariants.{Nothing}
 use Rattle.tva_base.specs.declared.event.DataLine.{DataLine}
 use Rattle.tva_shim.specs.Packets.{PacketData}
-use Rattle.tva_transfer.specs.Files.{Files, Act, Filed, Ticked, Came, files_of, first_segment, segment_due, answered, is_for, is_of}
+use Rattle.tva_transfer.specs.declared.transfers.Transfer.{Transfer}
+use Rattle.tva_transfer.specs.Files.{Files, Act, Filed, Ticked, Came, files_of, first_segment, segment_due, answered}
+use Rattle.tva_transfer.specs.Files.{is_for, is_of}
 
 -- an act at the courier of that number
 pub record Step : Type 0 where
   pub at : ℕ
   pub act : Act
 
--- what happened at one of them
 abbrev pub acts_at : ℕ → List Step → List Act
 acts_at number steps = filter_map (λ s. if s.at == number then Some s.act else None) steps
 
--- what the courier of that number knows of files
+-- what the courier of that number knows of files after these steps, where the couriers have these addresses
 abbrev pub files_at : (ℕ → Address) → ℕ → List Step → Files
 files_at home number steps = files_of (home number) (acts_at number steps)
 
@@ -33,36 +34,32 @@ sent_by home files (Filed dst size segment) = Some (to_from dst home, first_segm
 sent_by home files (Ticked dst) = option_map (λ above. (to_from dst home, above)) (segment_due files dst)
 sent_by home files (Came p) = Some (to_from p.flow.src home, answered home files p)
 
--- after these steps, it was sent in one of them by the courier of that number
+-- the courier of that number sent them in one of these steps
 abbrev pub IsSent : (ℕ → Address) → List Step → ℕ → Flow → Upper → Type 0
 IsSent home steps number flow above =
     (before after : List Step) × (act : Act) × (steps ≡ before ++ record { at = number; act = act } ∷ after)
     × (sent_by (home number) (files_at home number before) act ≡ Some (flow, above))
 
--- after these steps, a packet may come in: where it has a part of a file and its source is one of the couriers, that one
--- sent it
-abbrev pub IsFrom : (ℕ → Address) → List Step → PacketData → Upper → Type 0
-IsFrom home before p Nothing = Unit {0}
-IsFrom home before p (Data transfer first bytes) =
-    (number : ℕ) → p.flow.src ≡ home number → IsSent home before number p.flow (Data transfer first bytes)
-IsFrom home before p (Ack transfer next) =
-    (number : ℕ) → p.flow.src ≡ home number → IsSent home before number p.flow (Ack transfer next)
+-- a packet may come in after these steps: where it has an upper part and a courier as its source, that one sent it
+abbrev pub IsFrom : (ℕ → Address) → List Step → PacketData → Type 0
+IsFrom home before p =
+    (number : ℕ) → p.flow.src ≡ home number → p.upper ≢ Nothing → IsSent home before number p.flow p.upper
 
--- so does each that comes in
+-- so may each that comes in at a courier and is for it
 abbrev pub AreFrom : (ℕ → Address) → List Step → Type 0
 AreFrom home steps = (before after : List Step) (number : ℕ) (p : PacketData)
     → steps ≡ before ++ record { at = number; act = Came p } ∷ after → is_for (home number) p ≡ true
-    → IsFrom home before p p.upper
+    → IsFrom home before p
 
--- couriers of different addresses
-abbrev pub AreApart : (ℕ → Address) → Type 0
-AreApart home = (one other : ℕ) → home one ≡ home other → one ≡ other
+-- the ranges of a source's transfer that were delivered
+abbrev pub ranges_of : Files → Address → ℕ → List DataLine
+ranges_of files source transfer = map (λ r. r.1) (filter (is_of source transfer) files.ranges)
 
 -- from a place on, ranges follow one another without a gap and without an overlap
 abbrev pub Follow : ℕ → List DataLine → Type 0
 Follow from [] = Unit {0}
 Follow from (r ∷ rs) = (r.first ≡ from) × Follow (from + r.bytes) rs
 
--- the ranges of a source's transfer that were delivered
-abbrev pub ranges_of : Files → Address → ℕ → List DataLine
-ranges_of files source transfer = map (λ r. r.1) (filter (is_of source transfer) files.ranges)
+-- a range is one of a transfer to that destination, and ends at most at its size
+abbrev pub IsWithin : Address → DataLine → Option Transfer → Type 0
+IsWithin dst r sent = IsSomeAnd sent (λ t. (t.dst ≡ dst) × (r.first + r.bytes ≤ t.size))

@@ -6,7 +6,9 @@
 #![tactic(auto)]
 
 mod courier;
+mod laws;
 mod transfers;
 
 pub use courier::{Courier, Landed};
+pub use laws::{acknowledged_was_delivered, ranges_are_delivered_in_order};
 pub use transfers::Transfer;
