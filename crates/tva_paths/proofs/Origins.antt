@@ -310,7 +310,7 @@ made_of site (plans.Host plan) before i c e =
 abbrev pub AnyRow : RowWhat → Type 0
 AnyRow what = Unit {0}
 
-any_rows : (rows : List Row) → AllByRecursion (λ (row : Row). AnyRow row.what) rows
+pub any_rows : (rows : List Row) → AllByRecursion (λ (row : Row). AnyRow row.what) rows
 any_rows [] = tt
 any_rows (row ∷ rows) = (tt, any_rows rows)
 

@@ -1,0 +1,285 @@
+-- Each upper part under way in a run is true: a range is of a transfer of its source, and what is acknowledged was
+-- delivered. A host makes no other, and no router changes one.
+use Rattle.std.proofs.Common.{◌≡◌, ℕ, ◌+◌, ◌<◌, ◌≤◌, Bool, true, false, cond, eqb, List, [], ◌∷◌, ◌++◌, Option, Some, None, refl, sym, ap, subst, ◌∙◌, append_assoc, arith}
+use Rattle.std.specs.Prelude.{fold, slice_get}
+use Rattle.std.specs.Option.{option_map, IfSome}
+use Rattle.std.specs.List.{AllByRecursion, cons_option}
+use Rattle.std.proofs.lemmas.Option.{slice_get_within}
+use Rattle.tva_base.specs.declared.addresses.Address.{Address}
+use Rattle.tva_base.specs.declared.packet.Flow.{Flow}
+use Rattle.tva_base.specs.declared.packet.Upper.{Upper}
+use Rattle.tva_base.specs.declared.packet.Upper.TheVariants.{Nothing, Data, Ack}
+use Rattle.tva_base.specs.declared.plan.HostPlan.{HostPlan}
+use Rattle.tva_base.specs.declared.plan.RouterPlan.{RouterPlan}
+use Rattle.tva_shim.specs.Packets.{PacketData, made_packet}
+use Rattle.tva_shim.specs.declared.kinds.ReturnInfo.{ReturnInfo}
+use Rattle.tva_flow.specs.Charges.{Charge}
+use Rattle.tva_router.specs.Handling as handling
+use Rattle.tva_router.specs.Handling.{handle}
+use Rattle.tva_host.specs.declared.made.Made.{Made}
+use Rattle.tva_host.specs.declared.made.Receipt.{Receipt}
+use Rattle.tva_host.specs.History.{History}
+use Rattle.tva_host.specs.Calls.{history_of}
+use Rattle.tva_host.specs.Sending.{intended}
+use Rattle.tva_host.specs.Receiving as receiving
+use Rattle.tva_host.specs.Receiving.{receipt_of, reply_of, stray, before_reply, claim_in, brought_by}
+use Rattle.tva_plan.specs.declared.config.Config.{Config}
+use Rattle.tva_plan.specs.declared.config.NodePlan.{NodePlan}
+use Rattle.tva_plan.specs.declared.config.NodePlan.TheVariants as plans
+use Rattle.tva_plan.specs.Valid.{IsConfig}
+use Rattle.tva_transfer.specs.declared.transfers.Transfer.{Transfer}
+use Rattle.tva_transfer.specs.Files.{Files, Act, Came, after_act, after_upper, answer_to, answered, first_segment, heard, next_of, number_of, segment_due}
+use Rattle.tva_transfer.specs.Couriers.{to_from}
+use Rattle.tva_trace.specs.declared.rows.Row.{Row}
+use Rattle.tva_trace.specs.declared.rows.RowWhat.{RowWhat}
+use Rattle.tva_trace.specs.declared.rows.RowWhat.TheVariants.{Send, Inject, File, Tick}
+use Rattle.tva_trace.specs.Valid.{AreTraceRows}
+use Rattle.tva_log.specs.declared.kinds.Input.{Input}
+use Rattle.tva_log.specs.declared.kinds.Input.TheVariants.{FromTrace, Arrival}
+use Rattle.tva_log.specs.Sites.{Site}
+use Rattle.tva_log.specs.Entries.{Content, Entry, Took}
+use Rattle.tva_log.specs.Parts.{act_of_input, act_of_row, calls, files}
+use Rattle.tva_log.specs.Contents.{arrived, content, content_by, hosted, made_for, next_id, packet_of_row, routed, sent_with, sent_out}
+use Rattle.tva_log.specs.NodeLog.{due}
+use Rattle.tva_run.specs.Reaching.{Logs, log_at, site_at}
+use Rattle.tva_run.specs.Run.{IsRunTo}
+use Rattle.tva_paths.specs.Origins.{made_in}
+use Rattle.tva_paths.proofs.Origins.{AnyRow, any_rows, onward_keeps}
+use Rattle.tva_paths.proofs.Walks.{IsEntryGood, all_good}
+use Rattle.tva_delivery.specs.Delivery.{IsHostAt, bytes_delivered, transfer_at}
+use Rattle.tva_delivery.proofs.Lists.{some_same}
+use Rattle.tva_delivery.proofs.Holding.{IsHeld, IsOwn, IsOwnUpper, behind_by, due_own, first_own}
+use Rattle.tva_delivery.proofs.Ranges.{bytes-more, bytes_at, files-more, files_hold, host_makes}
+use Rattle.tva_delivery.proofs.Counting.{few_transfers}
+
+-- ## what is true
+
+-- a range is of a transfer of that number at a host of that source's address, to that destination, and ends within it
+pub record IsSegment (config : Config) (logs : Logs) (flow : Flow) (transfer first bytes : ℕ) : Type 0 where
+  pub other : ℕ
+  pub from : HostPlan
+  pub sender : IsHostAt config other from
+  pub address : from.address ≡ flow.src
+  pub file : Transfer
+  pub is : transfer_at from (log_at logs other) transfer ≡ Some file
+  pub dst : file.dst ≡ flow.dst
+  pub within : first + bytes ≤ file.size
+
+-- at a host of that source's address so much of the destination's transfer was delivered
+pub record IsAnswer (config : Config) (logs : Logs) (flow : Flow) (transfer next : ℕ) : Type 0 where
+  pub other : ℕ
+  pub to : HostPlan
+  pub receiver : IsHostAt config other to
+  pub address : to.address ≡ flow.src
+  pub most : next ≤ bytes_delivered flow.dst transfer (log_at logs other)
+
+abbrev pub IsTrueUpper : Config → Logs → Flow → Upper → Type 0
+IsTrueUpper config logs flow Nothing = Unit {0}
+IsTrueUpper config logs flow (Data transfer first bytes) = IsSegment config logs flow transfer first bytes
+IsTrueUpper config logs flow (Ack transfer next) = IsAnswer config logs flow transfer next
+
+abbrev pub IsTruePacket : Config → Logs → PacketData → Type 0
+IsTruePacket config logs p = IsTrueUpper config logs p.flow p.upper
+
+small : (n : ℕ) → n < 65536 → number_of n ≡ n
+small n l = omega arith
+
+module _ (config : Config) (logs : Logs) where
+  -- no router changes it
+  hands_on : (plan : RouterPlan) (h : List Charge) (links : handling.Logs) (now : ℕ) (from : Option ℕ) (p : PacketData)
+      → IsTruePacket config logs p → IsTruePacket config logs (handle plan h links now from p).onward
+  hands_on plan h links now from p k =
+      let o = (handle plan h links now from p).onward in
+      let keeps = onward_keeps plan h links now from p in
+      subst (λ (f : Flow). IsTrueUpper config logs f o.upper) (sym keeps.flow) (subst (IsTrueUpper config logs p.flow) (sym keeps.upper) k)
+
+  abbrev MakesTrue : Content → Type 0
+  MakesTrue c = (p : PacketData) → made_in c ≡ Some p → IsTruePacket config logs p
+
+  -- ## a router
+
+  some_true : (q : PacketData) → IsTruePacket config logs q → (p : PacketData) → Some q ≡ Some p → IsTruePacket config logs p
+  some_true q k p e = subst (IsTruePacket config logs) (some_same q p e) k
+
+  none_true : (p : PacketData) → None ≡ Some p → IsTruePacket config logs p
+  none_true p e = absurd (cc)
+
+  injected_true : (plan : RouterPlan) (before : List Entry) (now : ℕ) (q : PacketData) → IsTruePacket config logs q → MakesTrue (arrived plan before now None q)
+  unfolding arrived
+  injected_true plan before now q k p e = some_true q k p e
+
+  passed_true : (plan : RouterPlan) (before : List Entry) (now link : ℕ) (q : PacketData) → MakesTrue (arrived plan before now (Some link) q)
+  unfolding arrived
+  passed_true plan before now link q p e = none_true p e
+
+  row_true : (number : ℕ) (plan : RouterPlan) (before : List Entry) (now : ℕ) (w : RowWhat) (c : Content)
+      → option_map (arrived plan before now None) (packet_of_row (next_id number before) w) ≡ Some c → MakesTrue c
+  row_true number plan before now (Send dst payload) c e = absurd (cc)
+  row_true number plan before now (File dst size segment) c e = absurd (cc)
+  row_true number plan before now (Tick dst) c e = absurd (cc)
+  row_true number plan before now (Inject flow payload carries) c e =
+      let q : PacketData = made_packet (next_id number before) flow payload carries in
+      subst MakesTrue (some_same (arrived plan before now None q) c e) (injected_true plan before now q tt)
+
+  routed_true : (number : ℕ) (plan : RouterPlan) (before : List Entry) (i : Input) (c : Content) → routed number plan before i ≡ Some c → MakesTrue c
+  routed_true number plan before (FromTrace row) c e = row_true number plan before row.time.0 row.what c e
+  routed_true number plan before (Arrival time link packet) c e =
+      subst MakesTrue (some_same (arrived plan before time.0 (Some link) packet) c e) (passed_true plan before time.0 link packet)
+
+  -- ## a host
+
+  module _ (rows : List Row) (until : ℕ) (valid : IsConfig config) (traced : AreTraceRows config rows) (run : IsRunTo config rows until logs)
+      (node : ℕ) (site : Site) (plan : HostPlan) (is : site_at config node ≡ Some site) (host : site.plan ≡ plans.Host plan) where
+    at_host : IsHostAt config node plan
+    at_host = (site, is, host)
+
+    -- a range that is of a transfer after some entries is of one after all
+    own_true : (before rest : List Entry) → log_at logs node ≡ before ++ rest → (dst : Address) (transfer first bytes : ℕ)
+        → IsOwn (files plan before).transfers dst transfer first bytes → IsSegment config logs (to_from dst plan.address) transfer first bytes
+    own_true before rest split dst transfer first bytes own =
+        let all : IsHeld (files plan (log_at logs node)).transfers own.place dst own.size =
+        subst (λ (log : List Entry). IsHeld (files plan log).transfers own.place dst own.size) (sym split)
+        (files_hold plan before rest own.place dst own.size own.held) in
+        let few = few_transfers config rows until logs traced run node site plan is in
+        let there = slice_get_within (files plan (log_at logs node)).transfers own.place all.file all.is in
+        let number : transfer ≡ own.place = own.number ∙ small own.place (omega (arith, few, there)) in
+        record {
+          other = node;
+          from = plan;
+          sender = at_host;
+          address = refl;
+          file = all.file;
+          is = ap (slice_get (files plan (log_at logs node)).transfers) number ∙ all.is;
+          dst = all.dst;
+          within = (let w = own.within in let size = all.size in omega (arith, w, size));
+        }
+
+    upper_true : (before rest : List Entry) → log_at logs node ≡ before ++ rest → (dst : Address) (above : Upper) → IsOwnUpper (files plan before).transfers dst above
+        → IsTrueUpper config logs (to_from dst plan.address) above
+    upper_true before rest split dst Nothing own = tt
+    upper_true before rest split dst (Data transfer first bytes) own = own_true before rest split dst transfer first bytes own
+    upper_true before rest split dst (Ack transfer next) own = absurd own
+
+    -- ## for a row
+
+    due_true : (h : History) (now : ℕ) (dst : Address) (ts : List Transfer) (o : Option Upper)
+        → ((above : Upper) → IsOwnUpper ts dst above → IsTrueUpper config logs (to_from dst plan.address) above)
+        → IfSome o (IsOwnUpper ts dst)
+        → IfSome (option_map (sent_with site.number plan h now dst) o) (λ (made : Made). IsTruePacket config logs made.packet)
+    unfolding intended
+    due_true h now dst ts None lifts own = tt
+    due_true h now dst ts (Some above) lifts own = lifts above own
+
+    made_true : (h : History) (known : Files) (now : ℕ) (w : RowWhat)
+        → ((dst : Address) (above : Upper) → IsOwnUpper (fold (after_act plan.address) known (cons_option (act_of_row w) [])).transfers dst above
+        → IsTrueUpper config logs (to_from dst plan.address) above)
+        → IfSome (made_for site.number plan h known now w) (λ (made : Made). IsTruePacket config logs made.packet)
+    unfolding intended
+    made_true h known now (Send dst payload) lifts = tt
+    made_true h known now (Inject flow payload carries) lifts = tt
+    made_true h known now (File dst size segment) lifts = lifts dst (first_segment known dst size segment) (first_own known dst size segment)
+    made_true h known now (Tick dst) lifts = due_true h now dst known.transfers (segment_due known dst) (lifts dst) (due_own known dst)
+
+    sent_true : (before : List Entry) (made : Option Made) → IfSome made (λ (m : Made). IsTruePacket config logs m.packet)
+        → MakesTrue (sent_out site plan before made)
+    sent_true before None k p e = none_true p e
+    sent_true before (Some made) k p e = some_true made.packet k p e
+
+    -- ## for a packet that comes in
+
+    reply_true : (h : History) (now : ℕ) (src : Address) (back : Option ReturnInfo) (above : Upper) → IsTrueUpper config logs (to_from src plan.address) above
+        → (p : PacketData) → option_map (λ (made : Made). made.packet) (reply_of site.number plan h now src back above) ≡ Some p
+        → IsTruePacket config logs p
+    reply_true h now src None above k p e = none_true p e
+    reply_true h now src (Some back) above k p e = some_true _ k p e
+
+    abbrev RepliesTrue : Receipt → Type 0
+    RepliesTrue r = (p : PacketData) → option_map (λ (made : Made). made.packet) r.reply ≡ Some p → IsTruePacket config logs p
+
+    either_true : (b : Bool) (r s : Receipt) → RepliesTrue r → RepliesTrue s → RepliesTrue (cond b r s)
+    either_true true r s k l = k
+    either_true false r s k l = l
+
+    receipt_true : (h : History) (now : ℕ) (q : PacketData) (above : Upper) → IsTrueUpper config logs (to_from q.flow.src plan.address) above
+        → RepliesTrue (receipt_of site.number plan h now q above)
+    unfolding receipt_of
+    receipt_true h now q above k =
+        either_true (eqb q.flow.dst.0 plan.address.0) (receiving.received site.number plan h now q.flow.src q.carried above) stray
+        (reply_true (before_reply plan q.flow.src q.carried h) now q.flow.src
+        (brought_by above (receiving.answer_to plan h.deeds q.flow.src q.carried (claim_in q.carried))) above k)
+        (λ p e. none_true p e)
+
+    -- as much is delivered in the whole log as after some entries
+    delivered_most : (front back : List Entry) → log_at logs node ≡ front ++ back → (s : Address) (t : ℕ)
+        → next_of (files plan front) s t ≤ bytes_delivered s t (log_at logs node)
+    delivered_most front back split s t =
+        let has = run.each node site is in
+        let here = bytes_at site plan host (due until has.inputs) (log_at logs node) front back has.is_log.steps split s t in
+        let most = bytes-more s t front back in
+        let all : bytes_delivered s t (log_at logs node) ≡ bytes_delivered s t (front ++ back) = ap (bytes_delivered s t) split in
+        omega (arith, here, most, all)
+
+    answer_true : (before : List Entry) (input : Input) (c : Content) (rest : List Entry) (q : PacketData) → log_at logs node ≡ before ++ Took input c ∷ rest
+        → act_of_input input ≡ Some (Came q) → (above : Upper) → heard plan.address q ≡ above
+        → IsTrueUpper config logs (to_from q.flow.src plan.address) (answer_to (files plan before) q.flow.src above)
+    unfolding answer_to
+    answer_true before input c rest q split came Nothing e = tt
+    answer_true before input c rest q split came (Data transfer first bytes) e =
+        let src = q.flow.src in
+        let known = files plan before in
+        let after : files plan (before ++ Took input c ∷ []) ≡ after_upper known src (Data transfer first bytes) =
+        files-more plan before (Took input c ∷ [])
+        ∙ ap (λ (a : Option Act). fold (after_act plan.address) known (cons_option a [])) came
+        ∙ ap (after_upper known src) e in
+        let most = delivered_most (before ++ Took input c ∷ []) rest (split ∙ sym (append_assoc before (Took input c ∷ []) rest)) src transfer in
+        record {
+          other = node;
+          to = plan;
+          receiver = at_host;
+          address = refl;
+          most = subst (λ (f : Files). next_of f src transfer ≤ bytes_delivered src transfer (log_at logs node)) after most;
+        }
+    answer_true before input c rest q split came (Ack transfer next) e =
+        upper_true before (Took input c ∷ rest) split q.flow.src _
+        (behind_by (files plan before).transfers q.flow.src transfer next (slice_get (files plan before).transfers transfer) refl)
+
+    hosted_true : (before : List Entry) (input : Input) (rest : List Entry)
+        → log_at logs node ≡ before ++ Took input (hosted site plan before input) ∷ rest → MakesTrue (hosted site plan before input)
+    hosted_true before (FromTrace row) rest split =
+        let h = history_of plan (calls before) in
+        let known = files plan before in
+        let e = Took (FromTrace row) (hosted site plan before (FromTrace row)) in
+        let made = made_for site.number plan h known row.time.0 row.what in
+        sent_true before made (made_true h known row.time.0 row.what (λ dst above own.
+        upper_true (before ++ e ∷ []) rest (split ∙ sym (append_assoc before (e ∷ []) rest)) dst above
+        (subst (λ (f : Files). IsOwnUpper f.transfers dst above) (sym (files-more plan before (e ∷ []))) own)))
+    hosted_true before (Arrival time link q) rest split =
+        let h = history_of plan (calls before) in
+        let known = files plan before in
+        receipt_true h time.0 q (answered plan.address known q)
+        (answer_true before (Arrival time link q) (hosted site plan before (Arrival time link q)) rest q split refl (heard plan.address q) refl)
+
+    host_true : (before : List Entry) (input : Input) (c : Content) (rest : List Entry) → log_at logs node ≡ before ++ Took input c ∷ rest
+        → content site before input ≡ Some c → MakesTrue c
+    host_true before input c rest split e =
+        let makes = host_makes site plan host before input c e in
+        subst MakesTrue makes (hosted_true before input rest (split ∙ ap (λ (x : Content). before ++ Took input x ∷ rest) (sym makes)))
+
+-- ## in a run
+
+module _ (config : Config) (rows : List Row) (until : ℕ) (logs : Logs) (valid : IsConfig config) (traced : AreTraceRows config rows)
+    (run : IsRunTo config rows until logs) where
+  makes_by : (node : ℕ) (site : Site) (plan : NodePlan) → site.plan ≡ plan → site_at config node ≡ Some site
+      → (before : List Entry) (input : Input) (c : Content) (rest : List Entry) → log_at logs node ≡ before ++ Took input c ∷ rest
+      → content site before input ≡ Some c → MakesTrue config logs c
+  makes_by node site (plans.Router plan) kind is before input c rest split e =
+      routed_true config logs site.number plan before input c (subst (λ (p : NodePlan). content_by site p before input ≡ Some c) kind e)
+  makes_by node site (plans.Host plan) kind is before input c rest split e =
+      host_true config logs rows until valid traced run node site plan is kind before input c rest split e
+
+  -- each packet that a node's log names has a true upper part
+  pub all_true : (node : ℕ) (site : Site) → site_at config node ≡ Some site
+      → AllByRecursion (IsEntryGood (IsTruePacket config logs) AnyRow) (log_at logs node)
+  all_true node site is =
+      all_good (IsTruePacket config logs) AnyRow (hands_on config logs) config rows until logs valid run (any_rows rows)
+      (λ m there at before input c rest split e given. makes_by m there there.plan refl at before input c rest split e) node site is
