@@ -23,7 +23,7 @@ use Rattle.tva_run.proofs.Reports.{no_more_events}
 use Rattle.tva_promises.proofs.Runs.{read_run_keeps}
 use Rattle.tva_paths.proofs.Read.{read_given}
 use Rattle.tva_paths.proofs.Steady.{honest_regular}
-use Rattle.tva_delivery.proofs.Kept.{files_kept}
+use Rattle.tva_delivery.proofs.Kept.{keeps}
 use Rattle.tva_trace.proofs.FewFiles.{files_few}
 use Rattle.tva_existence.proofs.Whole.{read_events}
 use Rattle.tva_gen.specs.Text.{generated}
@@ -132,7 +132,7 @@ files_of_each = record {
   of_text = λ text. tt;
   of_shim = λ bytes. tt;
   of_trace =
-      λ plan trace said valid read rows are until logs run. files_kept plan rows until logs valid (files_few plan trace rows are) run;
+      λ plan trace said valid read rows are until logs run. keeps plan rows until logs valid (files_few plan trace rows are) run;
   of_refusal = λ r. tt;
 }
 

@@ -1,9 +1,10 @@
 -- Each upper part under way in a run is true: a range is of a transfer of its source, and what is acknowledged was
 -- delivered. A host makes no other, and no router changes one.
 use Rattle.std.proofs.Common.{◌≡◌, ℕ, ◌+◌, ◌<◌, ◌≤◌, Bool, true, false, cond, eqb, List, [], ◌∷◌, ◌++◌, Option, Some, None, refl, sym, ap, subst, ◌∙◌, append_assoc, arith}
-use Rattle.std.specs.Prelude.{fold, slice_get}
+use Rattle.std.specs.Prelude.{slice_get}
 use Rattle.std.specs.Option.{option_map, IfSome}
-use Rattle.std.specs.List.{AllByRecursion, cons_option}
+use Rattle.std.specs.List.{AllByRecursion}
+use Rattle.std.proofs.lemmas.List.Elements.{filter_map-append}
 use Rattle.std.proofs.lemmas.Option.{slice_get_within}
 use Rattle.tva_base.specs.declared.addresses.Address.{Address}
 use Rattle.tva_base.specs.declared.packet.Flow.{Flow}
@@ -28,17 +29,18 @@ use Rattle.tva_plan.specs.declared.config.NodePlan.{NodePlan}
 use Rattle.tva_plan.specs.declared.config.NodePlan.TheVariants as plans
 use Rattle.tva_plan.specs.Valid.{IsConfig}
 use Rattle.tva_transfer.specs.declared.transfers.Transfer.{Transfer}
-use Rattle.tva_transfer.specs.Files.{Files, Act, Came, after_act, after_upper, answer_to, answered, first_segment, heard, next_of, number_of, segment_due}
-use Rattle.tva_transfer.specs.Couriers.{to_from}
+use Rattle.tva_transfer.specs.Files.{Files, Act, Came, Filed, Ticked, answered, files_of, first_segment, next_of, number_of, segment_due}
+use Rattle.tva_transfer.specs.Couriers.{sent_by, to_from}
+use Rattle.tva_transfer.proofs.Sent.{IsKept, sent_ack, sent_data, stays}
 use Rattle.tva_trace.specs.declared.rows.Row.{Row}
 use Rattle.tva_trace.specs.declared.rows.RowWhat.{RowWhat}
 use Rattle.tva_trace.specs.declared.rows.RowWhat.TheVariants.{Send, Inject, File, Tick}
-use Rattle.tva_trace.specs.Valid.{AreTraceRows}
+use Rattle.tva_trace.specs.Valid.{files_at}
 use Rattle.tva_log.specs.declared.kinds.Input.{Input}
 use Rattle.tva_log.specs.declared.kinds.Input.TheVariants.{FromTrace, Arrival}
 use Rattle.tva_log.specs.Sites.{Site}
 use Rattle.tva_log.specs.Entries.{Content, Entry, Took}
-use Rattle.tva_log.specs.Parts.{act_of_input, act_of_row, calls, files}
+use Rattle.tva_log.specs.Parts.{act_of, act_of_row, acts, calls, files}
 use Rattle.tva_log.specs.Contents.{arrived, content, content_by, hosted, made_for, next_id, packet_of_row, routed, sent_with, sent_out}
 use Rattle.tva_log.specs.NodeLog.{due}
 use Rattle.tva_run.specs.Reaching.{Logs, log_at, site_at}
@@ -48,8 +50,7 @@ use Rattle.tva_paths.proofs.Origins.{AnyRow, any_rows, onward_keeps}
 use Rattle.tva_paths.proofs.Walks.{IsEntryGood, all_good}
 use Rattle.tva_delivery.specs.Delivery.{IsHostAt, bytes_delivered, transfer_at}
 use Rattle.tva_delivery.proofs.Lists.{some_same}
-use Rattle.tva_delivery.proofs.Holding.{IsHeld, IsOwn, IsOwnUpper, behind_by, due_own, first_own}
-use Rattle.tva_delivery.proofs.Ranges.{bytes-more, bytes_at, files-more, files_hold, host_makes}
+use Rattle.tva_delivery.proofs.Ranges.{bytes-more, bytes_at, files_act, host_makes}
 use Rattle.tva_delivery.proofs.Counting.{few_transfers}
 
 -- ## what is true
@@ -104,11 +105,13 @@ module _ (config : Config) (logs : Logs) where
   none_true : (p : PacketData) → None ≡ Some p → IsTruePacket config logs p
   none_true p e = absurd (cc)
 
-  injected_true : (plan : RouterPlan) (before : List Entry) (now : ℕ) (q : PacketData) → IsTruePacket config logs q → MakesTrue (arrived plan before now None q)
+  injected_true : (plan : RouterPlan) (before : List Entry) (now : ℕ) (q : PacketData) → IsTruePacket config logs q
+      → MakesTrue (arrived plan before now None q)
   unfolding arrived
   injected_true plan before now q k p e = some_true q k p e
 
-  passed_true : (plan : RouterPlan) (before : List Entry) (now link : ℕ) (q : PacketData) → MakesTrue (arrived plan before now (Some link) q)
+  passed_true : (plan : RouterPlan) (before : List Entry) (now link : ℕ) (q : PacketData)
+      → MakesTrue (arrived plan before now (Some link) q)
   unfolding arrived
   passed_true plan before now link q p e = none_true p e
 
@@ -121,64 +124,97 @@ module _ (config : Config) (logs : Logs) where
       let q : PacketData = made_packet (next_id number before) flow payload carries in
       subst MakesTrue (some_same (arrived plan before now None q) c e) (injected_true plan before now q tt)
 
-  routed_true : (number : ℕ) (plan : RouterPlan) (before : List Entry) (i : Input) (c : Content) → routed number plan before i ≡ Some c → MakesTrue c
+  routed_true : (number : ℕ) (plan : RouterPlan) (before : List Entry) (i : Input) (c : Content)
+      → routed number plan before i ≡ Some c → MakesTrue c
   routed_true number plan before (FromTrace row) c e = row_true number plan before row.time.0 row.what c e
   routed_true number plan before (Arrival time link packet) c e =
       subst MakesTrue (some_same (arrived plan before time.0 (Some link) packet) c e) (passed_true plan before time.0 link packet)
 
   -- ## a host
 
-  module _ (rows : List Row) (until : ℕ) (valid : IsConfig config) (traced : AreTraceRows config rows) (run : IsRunTo config rows until logs)
+  module _ (rows : List Row) (until : ℕ) (few : (node : ℕ) → files_at node rows ≤ 65536) (run : IsRunTo config rows until logs)
       (node : ℕ) (site : Site) (plan : HostPlan) (is : site_at config node ≡ Some site) (host : site.plan ≡ plans.Host plan) where
     at_host : IsHostAt config node plan
     at_host = (site, is, host)
 
-    -- a range that is of a transfer after some entries is of one after all
-    own_true : (before rest : List Entry) → log_at logs node ≡ before ++ rest → (dst : Address) (transfer first bytes : ℕ)
-        → IsOwn (files plan before).transfers dst transfer first bytes → IsSegment config logs (to_from dst plan.address) transfer first bytes
-    own_true before rest split dst transfer first bytes own =
-        let all : IsHeld (files plan (log_at logs node)).transfers own.place dst own.size =
-        subst (λ (log : List Entry). IsHeld (files plan log).transfers own.place dst own.size) (sym split)
-        (files_hold plan before rest own.place dst own.size own.held) in
-        let few = few_transfers config rows until logs traced run node site plan is in
-        let there = slice_get_within (files plan (log_at logs node)).transfers own.place all.file all.is in
-        let number : transfer ≡ own.place = own.number ∙ small own.place (omega (arith, few, there)) in
+    -- as much is delivered in the whole log as after some entries
+    delivered_most : (front back : List Entry) → log_at logs node ≡ front ++ back → (s : Address) (t : ℕ)
+        → next_of (files plan front) s t ≤ bytes_delivered s t (log_at logs node)
+    delivered_most front back split s t =
+        let has = run.each node site is in
+        let here = bytes_at site plan host (due until has.inputs) (log_at logs node) front back has.is_log.steps split s t in
+        let most = bytes-more s t front back in
+        let all : bytes_delivered s t (log_at logs node) ≡ bytes_delivered s t (front ++ back) = ap (bytes_delivered s t) split in
+        omega (arith, here, most, all)
+
+    -- a transfer is at its place in the whole log as it is after some entries
+    kept : (front back : List Entry) → log_at logs node ≡ front ++ back → (place : ℕ) (t : Transfer)
+        → slice_get (files plan front).transfers place ≡ Some t → IsKept (files plan (log_at logs node)).transfers place t
+    kept front back split place t here =
+        let all : files plan (log_at logs node) ≡ files_of plan.address (acts front ++ acts back) =
+        ap (files plan) split ∙ ap (files_of plan.address) (filter_map-append act_of front back) in
+        subst (λ (f : Files). IsKept f.transfers place t) (sym all) (stays plan.address (acts front) (acts back) place t here)
+
+    -- what is sent by an act is true
+    act_true : (before : List Entry) (e : Entry) (rest : List Entry) → log_at logs node ≡ before ++ e ∷ rest → (act : Act)
+        → act_of e ≡ Some act
+        → (dst : Address) (above : Upper) → sent_by plan.address (files plan before) act ≡ Some (to_from dst plan.address, above)
+        → IsTrueUpper config logs (to_from dst plan.address) above
+    act_true before e rest split act does dst Nothing sent = tt
+    act_true before e rest split act does dst (Data transfer first bytes) sent =
+        let own = sent_data plan.address (files plan before) act (to_from dst plan.address) transfer first bytes sent in
+        let after = files_act plan before e act does in
+        let here : slice_get (files plan (before ++ e ∷ [])).transfers own.place ≡ Some own.transfer =
+        ap (λ (f : Files). slice_get f.transfers own.place) after ∙ own.at in
+        let all = kept (before ++ e ∷ []) rest (split ∙ sym (append_assoc before (e ∷ []) rest)) own.place own.transfer here in
+        let room = few_transfers config rows until logs few run node site plan is in
+        let there = slice_get_within (files plan (log_at logs node)).transfers own.place all.now all.at in
+        let number : transfer ≡ own.place = sym own.numbered ∙ small own.place (omega (arith, room, there)) in
         record {
           other = node;
           from = plan;
           sender = at_host;
           address = refl;
-          file = all.file;
-          is = ap (slice_get (files plan (log_at logs node)).transfers) number ∙ all.is;
-          dst = all.dst;
-          within = (let w = own.within in let size = all.size in omega (arith, w, size));
+          file = all.now;
+          is = ap (slice_get (files plan (log_at logs node)).transfers) number ∙ all.at;
+          dst = all.dst ∙ own.to;
+          within = (let fits = own.fits in let size = all.size in omega (arith, fits, size));
         }
-
-    upper_true : (before rest : List Entry) → log_at logs node ≡ before ++ rest → (dst : Address) (above : Upper) → IsOwnUpper (files plan before).transfers dst above
-        → IsTrueUpper config logs (to_from dst plan.address) above
-    upper_true before rest split dst Nothing own = tt
-    upper_true before rest split dst (Data transfer first bytes) own = own_true before rest split dst transfer first bytes own
-    upper_true before rest split dst (Ack transfer next) own = absurd own
+    act_true before e rest split act does dst (Ack transfer next) sent =
+        let tells = sent_ack plan.address (files plan before) act (to_from dst plan.address) transfer next sent in
+        let after = files_act plan before e act does in
+        let most = delivered_most (before ++ e ∷ []) rest (split ∙ sym (append_assoc before (e ∷ []) rest)) dst transfer in
+        record {
+          other = node;
+          to = plan;
+          receiver = at_host;
+          address = refl;
+          most = subst (λ n. n ≤ bytes_delivered dst transfer (log_at logs node))
+              (ap (λ (f : Files). next_of f dst transfer) after ∙ sym tells) most;
+        }
 
     -- ## for a row
 
-    due_true : (h : History) (now : ℕ) (dst : Address) (ts : List Transfer) (o : Option Upper)
-        → ((above : Upper) → IsOwnUpper ts dst above → IsTrueUpper config logs (to_from dst plan.address) above)
-        → IfSome o (IsOwnUpper ts dst)
+    due_true : (h : History) (now : ℕ) (dst : Address) (o : Option Upper)
+        → ((above : Upper) → option_map {U = Flow × Upper} (λ u. (to_from dst plan.address, u)) o ≡ Some (to_from dst plan.address, above)
+        → IsTrueUpper config logs (to_from dst plan.address) above)
         → IfSome (option_map (sent_with site.number plan h now dst) o) (λ (made : Made). IsTruePacket config logs made.packet)
     unfolding intended
-    due_true h now dst ts None lifts own = tt
-    due_true h now dst ts (Some above) lifts own = lifts above own
+    due_true h now dst None lifts = tt
+    due_true h now dst (Some above) lifts = lifts above refl
 
     made_true : (h : History) (known : Files) (now : ℕ) (w : RowWhat)
-        → ((dst : Address) (above : Upper) → IsOwnUpper (fold (after_act plan.address) known (cons_option (act_of_row w) [])).transfers dst above
+        → ((act : Act) → act_of_row w ≡ Some act → (dst : Address) (above : Upper)
+        → sent_by plan.address known act ≡ Some (to_from dst plan.address, above)
         → IsTrueUpper config logs (to_from dst plan.address) above)
         → IfSome (made_for site.number plan h known now w) (λ (made : Made). IsTruePacket config logs made.packet)
     unfolding intended
     made_true h known now (Send dst payload) lifts = tt
     made_true h known now (Inject flow payload carries) lifts = tt
-    made_true h known now (File dst size segment) lifts = lifts dst (first_segment known dst size segment) (first_own known dst size segment)
-    made_true h known now (Tick dst) lifts = due_true h now dst known.transfers (segment_due known dst) (lifts dst) (due_own known dst)
+    made_true h known now (File dst size segment) lifts =
+        lifts (Filed dst size segment) refl dst (first_segment known dst size segment) refl
+    made_true h known now (Tick dst) lifts =
+        due_true h now dst (segment_due known dst) (λ above e. lifts (Ticked dst) refl dst above e)
 
     sent_true : (before : List Entry) (made : Option Made) → IfSome made (λ (m : Made). IsTruePacket config logs m.packet)
         → MakesTrue (sent_out site plan before made)
@@ -187,7 +223,8 @@ module _ (config : Config) (logs : Logs) where
 
     -- ## for a packet that comes in
 
-    reply_true : (h : History) (now : ℕ) (src : Address) (back : Option ReturnInfo) (above : Upper) → IsTrueUpper config logs (to_from src plan.address) above
+    reply_true : (h : History) (now : ℕ) (src : Address) (back : Option ReturnInfo) (above : Upper)
+        → IsTrueUpper config logs (to_from src plan.address) above
         → (p : PacketData) → option_map (λ (made : Made). made.packet) (reply_of site.number plan h now src back above) ≡ Some p
         → IsTruePacket config logs p
     reply_true h now src None above k p e = none_true p e
@@ -200,7 +237,8 @@ module _ (config : Config) (logs : Logs) where
     either_true true r s k l = k
     either_true false r s k l = l
 
-    receipt_true : (h : History) (now : ℕ) (q : PacketData) (above : Upper) → IsTrueUpper config logs (to_from q.flow.src plan.address) above
+    receipt_true : (h : History) (now : ℕ) (q : PacketData) (above : Upper)
+        → IsTrueUpper config logs (to_from q.flow.src plan.address) above
         → RepliesTrue (receipt_of site.number plan h now q above)
     unfolding receipt_of
     receipt_true h now q above k =
@@ -209,55 +247,20 @@ module _ (config : Config) (logs : Logs) where
         (brought_by above (receiving.answer_to plan h.deeds q.flow.src q.carried (claim_in q.carried))) above k)
         (λ p e. none_true p e)
 
-    -- as much is delivered in the whole log as after some entries
-    delivered_most : (front back : List Entry) → log_at logs node ≡ front ++ back → (s : Address) (t : ℕ)
-        → next_of (files plan front) s t ≤ bytes_delivered s t (log_at logs node)
-    delivered_most front back split s t =
-        let has = run.each node site is in
-        let here = bytes_at site plan host (due until has.inputs) (log_at logs node) front back has.is_log.steps split s t in
-        let most = bytes-more s t front back in
-        let all : bytes_delivered s t (log_at logs node) ≡ bytes_delivered s t (front ++ back) = ap (bytes_delivered s t) split in
-        omega (arith, here, most, all)
-
-    answer_true : (before : List Entry) (input : Input) (c : Content) (rest : List Entry) (q : PacketData) → log_at logs node ≡ before ++ Took input c ∷ rest
-        → act_of_input input ≡ Some (Came q) → (above : Upper) → heard plan.address q ≡ above
-        → IsTrueUpper config logs (to_from q.flow.src plan.address) (answer_to (files plan before) q.flow.src above)
-    unfolding answer_to
-    answer_true before input c rest q split came Nothing e = tt
-    answer_true before input c rest q split came (Data transfer first bytes) e =
-        let src = q.flow.src in
-        let known = files plan before in
-        let after : files plan (before ++ Took input c ∷ []) ≡ after_upper known src (Data transfer first bytes) =
-        files-more plan before (Took input c ∷ [])
-        ∙ ap (λ (a : Option Act). fold (after_act plan.address) known (cons_option a [])) came
-        ∙ ap (after_upper known src) e in
-        let most = delivered_most (before ++ Took input c ∷ []) rest (split ∙ sym (append_assoc before (Took input c ∷ []) rest)) src transfer in
-        record {
-          other = node;
-          to = plan;
-          receiver = at_host;
-          address = refl;
-          most = subst (λ (f : Files). next_of f src transfer ≤ bytes_delivered src transfer (log_at logs node)) after most;
-        }
-    answer_true before input c rest q split came (Ack transfer next) e =
-        upper_true before (Took input c ∷ rest) split q.flow.src _
-        (behind_by (files plan before).transfers q.flow.src transfer next (slice_get (files plan before).transfers transfer) refl)
-
     hosted_true : (before : List Entry) (input : Input) (rest : List Entry)
         → log_at logs node ≡ before ++ Took input (hosted site plan before input) ∷ rest → MakesTrue (hosted site plan before input)
     hosted_true before (FromTrace row) rest split =
         let h = history_of plan (calls before) in
         let known = files plan before in
         let e = Took (FromTrace row) (hosted site plan before (FromTrace row)) in
-        let made = made_for site.number plan h known row.time.0 row.what in
-        sent_true before made (made_true h known row.time.0 row.what (λ dst above own.
-        upper_true (before ++ e ∷ []) rest (split ∙ sym (append_assoc before (e ∷ []) rest)) dst above
-        (subst (λ (f : Files). IsOwnUpper f.transfers dst above) (sym (files-more plan before (e ∷ []))) own)))
+        sent_true before (made_for site.number plan h known row.time.0 row.what)
+        (made_true h known row.time.0 row.what (λ act is dst above sent.
+        act_true before e rest split act is dst above sent))
     hosted_true before (Arrival time link q) rest split =
         let h = history_of plan (calls before) in
-        let known = files plan before in
-        receipt_true h time.0 q (answered plan.address known q)
-        (answer_true before (Arrival time link q) (hosted site plan before (Arrival time link q)) rest q split refl (heard plan.address q) refl)
+        let above = answered plan.address (files plan before) q in
+        let e = Took (Arrival time link q) (hosted site plan before (Arrival time link q)) in
+        receipt_true h time.0 q above (act_true before e rest split (Came q) refl q.flow.src above refl)
 
     host_true : (before : List Entry) (input : Input) (c : Content) (rest : List Entry) → log_at logs node ≡ before ++ Took input c ∷ rest
         → content site before input ≡ Some c → MakesTrue c
@@ -267,7 +270,7 @@ module _ (config : Config) (logs : Logs) where
 
 -- ## in a run
 
-module _ (config : Config) (rows : List Row) (until : ℕ) (logs : Logs) (valid : IsConfig config) (traced : AreTraceRows config rows)
+module _ (config : Config) (rows : List Row) (until : ℕ) (logs : Logs) (valid : IsConfig config) (few : (node : ℕ) → files_at node rows ≤ 65536)
     (run : IsRunTo config rows until logs) where
   makes_by : (node : ℕ) (site : Site) (plan : NodePlan) → site.plan ≡ plan → site_at config node ≡ Some site
       → (before : List Entry) (input : Input) (c : Content) (rest : List Entry) → log_at logs node ≡ before ++ Took input c ∷ rest
@@ -275,7 +278,7 @@ module _ (config : Config) (rows : List Row) (until : ℕ) (logs : Logs) (valid 
   makes_by node site (plans.Router plan) kind is before input c rest split e =
       routed_true config logs site.number plan before input c (subst (λ (p : NodePlan). content_by site p before input ≡ Some c) kind e)
   makes_by node site (plans.Host plan) kind is before input c rest split e =
-      host_true config logs rows until valid traced run node site plan is kind before input c rest split e
+      host_true config logs rows until few run node site plan is kind before input c rest split e
 
   -- each packet that a node's log names has a true upper part
   pub all_true : (node : ℕ) (site : Site) → site_at config node ≡ Some site

@@ -2,7 +2,6 @@
 use Rattle.std.proofs.Common.{◌≡◌, ℕ, zero, suc, List, [], ◌∷◌, Contains, Option, Some, None, refl, sym, ap, subst, ◌∙◌, arith}
 use Rattle.std.specs.Prelude.{slice_get}
 use Rattle.std.specs.Option.{option_map}
-use Rattle.tva_base.specs.declared.addresses.Address.{Address}
 use Rattle.tva_base.specs.declared.plan.HostPlan.{HostPlan}
 use Rattle.tva_base.specs.Plan.{AreDistinct}
 use Rattle.tva_plan.specs.declared.config.Config.{Config}
@@ -14,10 +13,6 @@ use Rattle.tva_run.specs.Reaching.{links_out}
 use Rattle.tva_delivery.specs.Delivery.{IsHostAt}
 use Rattle.tva_delivery.proofs.Lists.{some_same}
 
--- addresses of one number are one
-pub address_same : (a b : Address) → a.0 ≡ b.0 → a ≡ b
-address_same a b e = let made : ℕ → Address = λ n. record { 0 = n } in ap made e
-
 contained : (ps : List NodePlan) (n : ℕ) (p : HostPlan) → slice_get ps n ≡ Some (plans.Host p) → Contains (addresses_at ps) p.address
 contained [] n p here = absurd (cc)
 contained (plans.Router q ∷ ps) zero p here = absurd (cc)
@@ -25,10 +20,12 @@ contained (plans.Router q ∷ ps) (suc n) p here = contained ps n p here
 contained (plans.Host q ∷ ps) zero p here = let same : q ≡ p = cc in (0, omega arith, ap (λ (h : HostPlan). h.address) same)
 contained (plans.Host q ∷ ps) (suc n) p here = let c = contained ps n p here in (suc c.0, (let l = c.1 in omega (arith, l)), c.2)
 
-other : (ps : List NodePlan) (q p : HostPlan) (n : ℕ) → AreDistinct (q.address ∷ addresses_at ps) → slice_get ps n ≡ Some (plans.Host p) → q.address ≡ p.address → ⊥
+other : (ps : List NodePlan) (q p : HostPlan) (n : ℕ) → AreDistinct (q.address ∷ addresses_at ps)
+    → slice_get ps n ≡ Some (plans.Host p) → q.address ≡ p.address → ⊥
 other ps q p n d here same = d.0 (subst (Contains (addresses_at ps)) (sym same) (contained ps n p here))
 
-one_place : (ps : List NodePlan) (n m : ℕ) (p q : HostPlan) → AreDistinct (addresses_at ps) → slice_get ps n ≡ Some (plans.Host p) → slice_get ps m ≡ Some (plans.Host q) → p.address ≡ q.address → n ≡ m
+one_place : (ps : List NodePlan) (n m : ℕ) (p q : HostPlan) → AreDistinct (addresses_at ps) → slice_get ps n ≡ Some (plans.Host p)
+    → slice_get ps m ≡ Some (plans.Host q) → p.address ≡ q.address → n ≡ m
 one_place [] n m p q d here there same = absurd (cc)
 one_place (r ∷ ps) zero zero p q d here there same = refl
 one_place (plans.Router r ∷ ps) zero (suc m) p q d here there same = absurd (cc)
@@ -40,12 +37,15 @@ one_place (plans.Host r ∷ ps) (suc n) zero p q d here there same =
     let is : r ≡ q = cc in absurd (other ps r p n d here (ap (λ (h : HostPlan). h.address) is ∙ sym same))
 one_place (plans.Host r ∷ ps) (suc n) (suc m) p q d here there same = ap suc (one_place ps n m p q d.1 here there same)
 
-plan_by : (config : Config) (n : ℕ) (site : Site) (plan : HostPlan) (o : Option NodePlan) → option_map (λ p. site_of n p (links_out n config.links)) o ≡ Some site → site.plan ≡ plans.Host plan → o ≡ Some (plans.Host plan)
+plan_by : (config : Config) (n : ℕ) (site : Site) (plan : HostPlan) (o : Option NodePlan)
+    → option_map (λ p. site_of n p (links_out n config.links)) o ≡ Some site → site.plan ≡ plans.Host plan → o ≡ Some (plans.Host plan)
 plan_by config n site plan None h e = absurd (cc)
-plan_by config n site plan (Some p) h e = ap Some (ap (λ (s : Site). s.plan) (some_same (site_of n p (links_out n config.links)) site h) ∙ e)
+plan_by config n site plan (Some p) h e =
+    ap Some (ap (λ (s : Site). s.plan) (some_same (site_of n p (links_out n config.links)) site h) ∙ e)
 
 -- hosts of one address are one
-pub hosts_apart : (config : Config) (n m : ℕ) (p q : HostPlan) → IsConfig config → IsHostAt config n p → IsHostAt config m q → p.address ≡ q.address → n ≡ m
+pub hosts_apart : (config : Config) (n m : ℕ) (p q : HostPlan) → IsConfig config → IsHostAt config n p → IsHostAt config m q
+    → p.address ≡ q.address → n ≡ m
 hosts_apart config n m p q valid here there same =
     one_place config.nodes n m p q valid.addresses
     (plan_by config n here.0 p (slice_get config.nodes n) here.1 here.2)

@@ -18,7 +18,7 @@ use Rattle.tva_transfer.specs.Files.{Files, Act, after_act, after_upper, begun, 
 use Rattle.tva_trace.specs.declared.rows.Row.{Row}
 use Rattle.tva_trace.specs.declared.rows.RowWhat.{RowWhat}
 use Rattle.tva_trace.specs.declared.rows.RowWhat.TheVariants.{Send, Inject, File, Tick}
-use Rattle.tva_trace.specs.Valid.{AreTraceRows, begins, files_at}
+use Rattle.tva_trace.specs.Valid.{begins, files_at}
 use Rattle.tva_log.specs.declared.kinds.Input.{Input}
 use Rattle.tva_log.specs.declared.kinds.Input.TheVariants.{FromTrace, Arrival}
 use Rattle.tva_log.specs.Sites.{Site}
@@ -37,11 +37,13 @@ acked_count : (ts : List Transfer) (source : Address) (transfer next : ℕ) (o :
 acked_count ts source transfer next None = refl
 acked_count ts source transfer next (Some t) = length-set ts transfer (with_acked source next t)
 
-range_count : (known : Files) (source : Address) (o : Option DataLine) → length (with_range source o known).transfers ≡ length known.transfers
+range_count : (known : Files) (source : Address) (o : Option DataLine)
+    → length (with_range source o known).transfers ≡ length known.transfers
 range_count known source None = refl
 range_count known source (Some r) = refl
 
-upper_count : (known : Files) (source : Address) (above : Upper) → length (after_upper known source above).transfers ≡ length known.transfers
+upper_count : (known : Files) (source : Address) (above : Upper)
+    → length (after_upper known source above).transfers ≡ length known.transfers
 unfolding after_upper
 upper_count known source Nothing = refl
 upper_count known source (Data transfer first bytes) = range_count known source (range_of known source (Data transfer first bytes))
@@ -60,13 +62,15 @@ abbrev begins_in : Input → Bool
 begins_in (FromTrace row) = begins row.what
 begins_in (Arrival time link packet) = false
 
+no_count : (n : ℕ) → n ≡ 0 + n
+no_count n = omega arith
+
 input_count : (home : Address) (known : Files) (input : Input)
-    → length (fold (after_act home) known (cons_option (act_of_input input) [])).transfers ≡ one_if (begins_in input) + length known.transfers
+    → length (fold (after_act home) known (cons_option (act_of_input input) [])).transfers
+    ≡ one_if (begins_in input) + length known.transfers
 input_count home known (FromTrace row) = row_count home known row.what
-input_count home known (Arrival time link packet) = upper_count known packet.flow.src (heard home packet) ∙ zero_more (length known.transfers)
-  where
-    zero_more : (n : ℕ) → n ≡ 0 + n
-    zero_more n = omega arith
+input_count home known (Arrival time link packet) =
+    upper_count known packet.flow.src (heard home packet) ∙ no_count (length known.transfers)
 
 abbrev begins_at : Entry → Bool
 begins_at (Took input content) = begins_in input
@@ -80,9 +84,6 @@ fold_option home known (Some act) more = refl
 two_counts : (a b n m : ℕ) → m ≡ a + n → b + m ≡ (a + b) + n
 two_counts a b n m e = omega (arith, e)
 
-no_count : (n : ℕ) → n ≡ 0 + n
-no_count n = omega arith
-
 log_count : (home : Address) (known : Files) (log : List Entry)
     → length (fold (after_act home) known (acts log)).transfers ≡ count_by begins_at log + length known.transfers
 log_count home known [] = no_count (length known.transfers)
@@ -90,17 +91,21 @@ log_count home known (Took input content ∷ es) =
     let then = fold (after_act home) known (cons_option (act_of_input input) []) in
     ap (λ (f : Files). length f.transfers) (fold_option home known (act_of_input input) (acts es))
     ∙ log_count home then es
-    ∙ two_counts (one_if (begins_in input)) (count_by begins_at es) (length known.transfers) (length then.transfers) (input_count home known input)
+    ∙ two_counts (one_if (begins_in input)) (count_by begins_at es) (length known.transfers) (length then.transfers)
+    (input_count home known input)
     ∙ ap (λ n. n + length known.transfers) (sym (count-cons begins_at (Took input content) es))
 log_count home known (Started time link class packet ∷ es) =
     log_count home known es
-    ∙ ap (λ n. n + length known.transfers) (no_count (count_by begins_at es) ∙ sym (count-cons begins_at (Started time link class packet) es))
+    ∙ ap (λ n. n + length known.transfers)
+    (no_count (count_by begins_at es) ∙ sym (count-cons begins_at (Started time link class packet) es))
 
-start_count : (time link : ℕ) (class : Class) (packet : PacketData) (es : List Entry) → count_by begins_at (Started time link class packet ∷ es) ≡ count_by begins_at es
+start_count : (time link : ℕ) (class : Class) (packet : PacketData) (es : List Entry)
+    → count_by begins_at (Started time link class packet ∷ es) ≡ count_by begins_at es
 start_count time link class packet es = count-cons begins_at (Started time link class packet) es ∙ sym (no_count (count_by begins_at es))
 
 -- as many are taken as come in
-taken_count : (site : Site) (before : List Entry) (is : List Input) (es : List Entry) → GoesOn site before is es → count_by begins_at es ≡ count_by begins_in is
+taken_count : (site : Site) (before : List Entry) (is : List Input) (es : List Entry) → GoesOn site before is es
+    → count_by begins_at es ≡ count_by begins_in is
 taken_count site before [] [] g = refl
 taken_count site before (i ∷ is) [] g = absurd g
 taken_count site before [] (Took j c ∷ es) g = absurd g
@@ -124,15 +129,18 @@ rows_count node (row ∷ rows) =
     by (row.node == node) (rows_count node rows) ∙ sym (count-cons (λ (r : Row). (r.node == node) && begins r.what) row rows)
   where
     by : (b : Bool) → count_by begins_in (rows_at rows node) ≡ files_at node rows
-        → count_by begins_in (map FromTrace (cond b (row ∷ filter (λ (r : Row). r.node == node) rows) (filter (λ (r : Row). r.node == node) rows)))
+        → count_by begins_in (map FromTrace (cond b (row ∷ filter (λ (r : Row). r.node == node) rows)
+        (filter (λ (r : Row). r.node == node) rows)))
         ≡ one_if (b && begins row.what) + files_at node rows
     by true e = count-cons begins_in (FromTrace row) (rows_at rows node) ∙ ap (λ n. one_if (begins row.what) + n) e
     by false e = e ∙ no_count (files_at node rows)
 
 -- a node has at most as many transfers as there are numbers
-pub few_transfers : (config : Config) (rows : List Row) (until : ℕ) (logs : Logs) → AreTraceRows config rows → IsRunTo config rows until logs
-    → (node : ℕ) (site : Site) (plan : HostPlan) → site_at config node ≡ Some site → length (files plan (log_at logs node)).transfers ≤ 65536
-few_transfers config rows until logs traced run node site plan is =
+pub few_transfers : (config : Config) (rows : List Row) (until : ℕ) (logs : Logs) → ((node : ℕ) → files_at node rows ≤ 65536)
+    → IsRunTo config rows until logs
+    → (node : ℕ) (site : Site) (plan : HostPlan) → site_at config node ≡ Some site
+    → length (files plan (log_at logs node)).transfers ≤ 65536
+few_transfers config rows until logs few run node site plan is =
     let has = run.each node site is in
     let taken = due until has.inputs in
     let own = rows_at rows site.number in
@@ -142,5 +150,5 @@ few_transfers config rows until logs traced run node site plan is =
     let source = ap (count_by begins_in) (source_due config rows until until logs site.number 0 has.inputs (omega arith) has.join) in
     let some = count-filter begins_in (λ (i : Input). nat_lt (input_time i) until) own in
     let rows' = rows_count site.number rows in
-    let most = traced.files site.number in
+    let most = few site.number in
     omega (arith, all, steps, among, source, some, rows', most)

@@ -1,6 +1,5 @@
 pub mod Lists
 pub mod Apart
-pub mod Holding
 pub mod Ranges
 pub mod Counting
 pub mod Above

@@ -1,21 +1,24 @@
--- The ranges that a host's log tells are those of what it knows of files, and its transfers keep their places along it.
-use Rattle.std.proofs.Common.{◌≡◌, ℕ, ◌≤◌, Bool, true, false, cond, List, [], ◌∷◌, ◌++◌, map, filter, Option, Some, None, refl, sym, ap, subst, ◌∙◌, append_assoc, arith}
+-- The ranges that a host's log tells are those of what it knows of files.
+use Rattle.std.proofs.Common.{◌≡◌, ℕ, ◌+◌, ◌≤◌, Bool, true, false, cond, List, [], ◌∷◌, ◌++◌, map, filter, Option, Some, None, refl, sym, ap, subst, ◌∙◌, append_assoc, arith}
 use Rattle.std.specs.Prelude.{fold, sum_by}
 use Rattle.std.specs.Option.{option_and_then}
 use Rattle.std.specs.List.{cons_option}
-use Rattle.std.proofs.lemmas.List.{append-nil}
-use Rattle.std.proofs.lemmas.List.Elements.{filter_map-append}
-use Rattle.std.proofs.lemmas.List.Sums.{fold-append, sum_by-append}
+use Rattle.std.proofs.lemmas.List.{append-nil, map-append}
+use Rattle.std.proofs.lemmas.List.Elements.{filter-append, filter_map-append}
+use Rattle.std.proofs.lemmas.List.Sums.{fold-append, sum_by-append, sum_by-cons}
 use Rattle.tva_base.specs.declared.addresses.Address.{Address}
 use Rattle.tva_base.specs.declared.event.DataLine.{DataLine}
+use Rattle.tva_base.specs.declared.packet.Upper.{Upper}
+use Rattle.tva_base.specs.declared.packet.Upper.TheVariants.{Nothing, Data, Ack}
 use Rattle.tva_base.specs.declared.plan.HostPlan.{HostPlan}
 use Rattle.tva_shim.specs.Packets.{PacketData}
 use Rattle.tva_host.specs.declared.made.Made.{Made}
 use Rattle.tva_host.specs.Calls.{history_of}
 use Rattle.tva_plan.specs.declared.config.NodePlan.{NodePlan}
 use Rattle.tva_plan.specs.declared.config.NodePlan.TheVariants as plans
-use Rattle.tva_transfer.specs.Files.{Files, Act, Came, after_act, delivered, files_of, heard, is_of, next_of, no_files, with_range}
+use Rattle.tva_transfer.specs.Files.{Files, Act, Came, after_act, after_upper, delivered, files_of, heard, is_of, next_of, no_files, range_of, with_range}
 use Rattle.tva_transfer.specs.Couriers.{Follow, ranges_of}
+use Rattle.tva_transfer.proofs.History.{ranges_follow}
 use Rattle.tva_trace.specs.declared.rows.RowWhat.{RowWhat}
 use Rattle.tva_trace.specs.declared.rows.RowWhat.TheVariants.{Send, Inject, File, Tick}
 use Rattle.tva_log.specs.declared.kinds.Input.{Input}
@@ -27,22 +30,53 @@ use Rattle.tva_log.specs.Contents.{content, content_by, hosted, made_for, sent_o
 use Rattle.tva_log.specs.NodeLog.{GoesOn}
 use Rattle.tva_delivery.specs.Delivery.{bytes_delivered, range_at, range_by, range_in, ranges}
 use Rattle.tva_delivery.proofs.Lists.{some_same}
-use Rattle.tva_delivery.proofs.Holding.{IsHeld, acts_follow, acts_hold, more_ranges, next_is, upper_ranges}
 
 -- ## what is known after more entries
 
-pub files-more : (plan : HostPlan) (before more : List Entry) → files plan (before ++ more) ≡ fold (after_act plan.address) (files plan before) (acts more)
+pub files-more : (plan : HostPlan) (before more : List Entry)
+    → files plan (before ++ more) ≡ fold (after_act plan.address) (files plan before) (acts more)
 files-more plan before more =
     ap (files_of plan.address) (filter_map-append act_of before more)
     ∙ fold-append (after_act plan.address) no_files (acts before) (acts more)
 
-pub files_hold : (plan : HostPlan) (before more : List Entry) (place : ℕ) (dst : Address) (size : ℕ) → IsHeld (files plan before).transfers place dst size
-    → IsHeld (files plan (before ++ more)).transfers place dst size
-files_hold plan before more place dst size h =
-    subst (λ (f : Files). IsHeld f.transfers place dst size) (sym (files-more plan before more))
-    (acts_hold plan.address (files plan before) (acts more) place dst size h)
+-- after one more entry
+pub files_act : (plan : HostPlan) (before : List Entry) (e : Entry) (act : Act) → act_of e ≡ Some act
+    → files plan (before ++ e ∷ []) ≡ after_act plan.address (files plan before) act
+files_act plan before e act is =
+    files-more plan before (e ∷ []) ∙ ap (λ (o : Option Act). fold (after_act plan.address) (files plan before) (cons_option o [])) is
 
 -- ## ranges
+
+upper_ranges : (known : Files) (source : Address) (above : Upper)
+    → (after_upper known source above).ranges ≡ (with_range source (range_of known source above) known).ranges
+unfolding after_upper range_of
+upper_ranges known source Nothing = refl
+upper_ranges known source (Data transfer first bytes) = refl
+upper_ranges known source (Ack transfer next) = refl
+
+bytes_of : (rs : List (Address × DataLine)) → sum_by (λ (r : Address × DataLine). r.1.bytes) rs
+    ≡ sum_by (λ (r : DataLine). r.bytes) (map (λ (r : Address × DataLine). r.1) rs)
+bytes_of [] = refl
+bytes_of (r ∷ rs) =
+    sum_by-cons (λ (x : Address × DataLine). x.1.bytes) r rs
+    ∙ ap (λ n. r.1.bytes + n) (bytes_of rs)
+    ∙ sym (sum_by-cons (λ (x : DataLine). x.bytes) r.1 (map (λ (x : Address × DataLine). x.1) rs))
+
+next_is : (known : Files) (source : Address) (transfer : ℕ)
+    → next_of known source transfer ≡ sum_by (λ (r : DataLine). r.bytes) (ranges_of known source transfer)
+next_is known source transfer = bytes_of (filter (is_of source transfer) known.ranges)
+
+more_ranges : (known : Files) (source : Address) (r : DataLine) (s : Address) (t : ℕ)
+    → ranges_of known s t ++ cond (is_of s t (source, r)) (r ∷ []) [] ≡ ranges_of (with_range source (Some r) known) s t
+more_ranges known source r s t =
+    let first : Address × DataLine → DataLine = λ x. x.1 in
+    sym (ap (map first) (filter-append (is_of s t) known.ranges ((source, r) ∷ []))
+    ∙ map-append first (filter (is_of s t) known.ranges) (filter (is_of s t) ((source, r) ∷ []))
+    ∙ ap (λ (xs : List DataLine). ranges_of known s t ++ xs) (by (is_of s t (source, r))))
+  where
+    by : (b : Bool) → map (λ (x : Address × DataLine). x.1) (cond b ((source, r) ∷ []) []) ≡ cond b (r ∷ []) []
+    by true = refl
+    by false = refl
 
 -- those that these entries tell are those that the host knows of
 abbrev pub Tells : HostPlan → List Entry → Type 0
@@ -52,7 +86,8 @@ ranges-more : (s : Address) (t : ℕ) (before more : List Entry) → ranges s t 
 ranges-more s t before more = filter_map-append (range_at s t) before more
 
 none_told : (plan : HostPlan) (before : List Entry) (e : Entry) → ((s : Address) (t : ℕ) → range_at s t e ≡ None)
-    → (fold (after_act plan.address) (files plan before) (acts (e ∷ []))).ranges ≡ (files plan before).ranges → Tells plan before → Tells plan (before ++ e ∷ [])
+    → (fold (after_act plan.address) (files plan before) (acts (e ∷ []))).ranges ≡ (files plan before).ranges → Tells plan before
+    → Tells plan (before ++ e ∷ [])
 none_told plan before e none same h s t =
     ranges-more s t before (e ∷ [])
     ∙ ap (λ (o : Option DataLine). ranges s t before ++ cons_option o []) (none s t)
@@ -61,11 +96,13 @@ none_told plan before e none same h s t =
     ∙ ap (λ (rs : List (Address × DataLine)). map (λ (r : Address × DataLine). r.1) (filter (is_of s t) rs))
     (sym (ap (λ (f : Files). f.ranges) (files-more plan before (e ∷ [])) ∙ same))
 
-pub sent_none : (site : Site) (plan : HostPlan) (before : List Entry) (made : Option Made) (s : Address) (t : ℕ) → range_in s t (sent_out site plan before made) ≡ None
+pub sent_none : (site : Site) (plan : HostPlan) (before : List Entry) (made : Option Made) (s : Address) (t : ℕ)
+    → range_in s t (sent_out site plan before made) ≡ None
 sent_none site plan before None s t = refl
 sent_none site plan before (Some made) s t = refl
 
-row_ranges : (home : Address) (known : Files) (what : RowWhat) → (fold (after_act home) known (cons_option (act_of_row what) [])).ranges ≡ known.ranges
+row_ranges : (home : Address) (known : Files) (what : RowWhat)
+    → (fold (after_act home) known (cons_option (act_of_row what) [])).ranges ≡ known.ranges
 row_ranges home known (Send dst payload) = refl
 row_ranges home known (Inject flow payload carries) = refl
 row_ranges home known (File dst size segment) = refl
@@ -81,7 +118,8 @@ told_by known p s t (Some r) =
     by true = refl
     by false = refl
 
-arrival_told : (site : Site) (plan : HostPlan) (before : List Entry) (input : Input) (c : Content) (p : PacketData) → act_of (Took input c) ≡ Some (Came p)
+arrival_told : (site : Site) (plan : HostPlan) (before : List Entry) (input : Input) (c : Content) (p : PacketData)
+    → act_of (Took input c) ≡ Some (Came p)
     → ((s : Address) (t : ℕ) → range_in s t c ≡ option_and_then (range_by s t p) (delivered plan.address (files plan before) p))
     → Tells plan before → Tells plan (before ++ Took input c ∷ [])
 arrival_told site plan before input c p is gives h s t =
@@ -92,33 +130,39 @@ arrival_told site plan before input c p is gives h s t =
     ∙ ap (λ (xs : List DataLine). xs ++ cons_option (option_and_then (range_by s t p) o) []) (h s t)
     ∙ told_by known p s t o
     ∙ ap (λ (rs : List (Address × DataLine)). map (λ (r : Address × DataLine). r.1) (filter (is_of s t) rs))
-    (sym (ap (λ (f : Files). f.ranges) (files-more plan before (Took input c ∷ [])
-    ∙ ap (λ (a : Option Act). fold (after_act plan.address) known (cons_option a [])) is)
+    (sym (ap (λ (f : Files). f.ranges) (files_act plan before (Took input c) (Came p) is)
     ∙ upper_ranges known p.flow.src (heard plan.address p)))
 
-took_told : (site : Site) (plan : HostPlan) (before : List Entry) (input : Input) → Tells plan before → Tells plan (before ++ Took input (hosted site plan before input) ∷ [])
+took_told : (site : Site) (plan : HostPlan) (before : List Entry) (input : Input) → Tells plan before
+    → Tells plan (before ++ Took input (hosted site plan before input) ∷ [])
 took_told site plan before (FromTrace row) h =
     none_told plan before (Took (FromTrace row) (hosted site plan before (FromTrace row)))
     (sent_none site plan before (made_for site.number plan (history_of plan (calls before)) (files plan before) row.time.0 row.what))
     (row_ranges plan.address (files plan before) row.what) h
 took_told site plan before (Arrival time link packet) h =
-    arrival_told site plan before (Arrival time link packet) (hosted site plan before (Arrival time link packet)) packet refl (λ s t. refl) h
+    let input = Arrival time link packet in
+    arrival_told site plan before input (hosted site plan before input) packet refl (λ s t. refl) h
 
 module _ (site : Site) (plan : HostPlan) (host : site.plan ≡ plans.Host plan) where
   -- what a host makes of an input
-  pub host_makes : (before : List Entry) (input : Input) (c : Content) → content site before input ≡ Some c → hosted site plan before input ≡ c
+  pub host_makes : (before : List Entry) (input : Input) (c : Content) → content site before input ≡ Some c
+      → hosted site plan before input ≡ c
   host_makes before input c e =
       some_same (hosted site plan before input) c (subst (λ (p : NodePlan). content_by site p before input ≡ Some c) host e)
 
-  one_told : (before : List Entry) (input : Input) (c : Content) → content site before input ≡ Some c → Tells plan before → Tells plan (before ++ Took input c ∷ [])
+  one_told : (before : List Entry) (input : Input) (c : Content) → content site before input ≡ Some c → Tells plan before
+      → Tells plan (before ++ Took input c ∷ [])
   one_told before input c e h =
       subst (λ (x : Content). Tells plan (before ++ Took input x ∷ [])) (host_makes before input c e) (took_told site plan before input h)
 
-  start_told : (before : List Entry) (e : Entry) → ((s : Address) (t : ℕ) → range_at s t e ≡ None) → act_of e ≡ None → Tells plan before → Tells plan (before ++ e ∷ [])
+  start_told : (before : List Entry) (e : Entry) → ((s : Address) (t : ℕ) → range_at s t e ≡ None) → act_of e ≡ None
+      → Tells plan before → Tells plan (before ++ e ∷ [])
   start_told before e none act h =
-      none_told plan before e none (ap (λ (a : Option Act). (fold (after_act plan.address) (files plan before) (cons_option a [])).ranges) act) h
+      none_told plan before e none
+      (ap (λ (a : Option Act). (fold (after_act plan.address) (files plan before) (cons_option a [])).ranges) act) h
 
-  pub told : (before : List Entry) (is : List Input) (front back : List Entry) → GoesOn site before is (front ++ back) → Tells plan before → Tells plan (before ++ front)
+  pub told : (before : List Entry) (is : List Input) (front back : List Entry) → GoesOn site before is (front ++ back)
+      → Tells plan before → Tells plan (before ++ front)
   told before is [] back g h = subst (Tells plan) (sym (append-nil before)) h
   told before [] (Took j c ∷ front) back g h = absurd g
   told before (i ∷ is) (Took j c ∷ front) back g h =
@@ -139,14 +183,16 @@ module _ (site : Site) (plan : HostPlan) (host : site.plan ≡ plans.Host plan) 
       ap (sum_by (λ (r : DataLine). r.bytes)) (told [] is front back (subst (GoesOn site [] is) split g) (λ x y. refl) s t)
       ∙ sym (next_is (files plan front) s t)
 
+  pub log_told : (is : List Input) (log : List Entry) → GoesOn site [] is log → Tells plan log
+  log_told is log g s t = told [] is log [] (subst (GoesOn site [] is) (sym (append-nil log)) g) (λ x y. refl) s t
+
   -- the ranges of a host's log follow one another
   pub log_follows : (is : List Input) (log : List Entry) → GoesOn site [] is log → (s : Address) (t : ℕ) → Follow 0 (ranges s t log)
-  log_follows is log g s t =
-      subst (Follow 0) (sym (told [] is log [] (subst (GoesOn site [] is) (sym (append-nil log)) g) (λ x y. refl) s t))
-      (acts_follow plan.address no_files (acts log) (λ x y. tt) s t)
+  log_follows is log g s t = subst (Follow 0) (sym (log_told is log g s t)) (ranges_follow plan.address (acts log) s t)
 
 -- more entries deliver no less
 pub bytes-more : (s : Address) (t : ℕ) (before more : List Entry) → bytes_delivered s t before ≤ bytes_delivered s t (before ++ more)
 bytes-more s t before more =
-    let e = ap (sum_by (λ (r : DataLine). r.bytes)) (ranges-more s t before more) ∙ sum_by-append (λ (r : DataLine). r.bytes) (ranges s t before) (ranges s t more) in
+    let e = ap (sum_by (λ (r : DataLine). r.bytes)) (ranges-more s t before more)
+    ∙ sum_by-append (λ (r : DataLine). r.bytes) (ranges s t before) (ranges s t more) in
     omega (arith, e)

@@ -1,5 +1,6 @@
 -- What every run keeps of files, by the logs of its nodes.
-use Rattle.std.specs.Prelude.{◌≡◌, ℕ, ◌+◌, ◌≤◌, ◌==◌, ◌&&◌, if◌then◌else◌, List, Contains, slice_get, sum_by, Option, Some, None}
+use Rattle.std.specs.Prelude.{◌≡◌, ℕ, ◌+◌, ◌≤◌, ◌==◌, ◌&&◌, if◌then◌else◌, List, Contains, slice_get, sum_by}
+use Rattle.std.specs.Prelude.{Option, Some, None}
 use Rattle.std.specs.Option.{option_and_then}
 use Rattle.std.specs.List.{filter_map}
 use Rattle.tva_base.specs.declared.addresses.Address.{Address}
@@ -46,9 +47,10 @@ IsHostAt config node plan = (site : Site) × (site_at config node ≡ Some site)
 abbrev pub transfer_at : HostPlan → List Entry → ℕ → Option Transfer
 transfer_at plan log transfer = slice_get (files plan log).transfers transfer
 
--- a range that was delivered at a node is of a file of its source: that is a host, which began a transfer of that number
--- to the node, and the range ends within its size
-pub record IsOfFile (config : Config) (logs : Logs) (node : ℕ) (source : Address) (transfer : ℕ) (r : DataLine) : Type 0 where
+-- a range that was delivered at a node is of a file of its source: the node and the source are hosts, the source began
+-- a transfer of that number to the node, and the range ends within its size
+pub record IsOfFile (config : Config) (logs : Logs) (node : ℕ) (source : Address) (transfer : ℕ) (r : DataLine)
+    : Type 0 where
   pub to : HostPlan
   pub receiver : IsHostAt config node to
   pub other : ℕ

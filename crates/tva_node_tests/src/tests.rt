@@ -1,6 +1,7 @@
 // Nodes of a small network one by one, and halves at once.
 mod changes;
 mod edges;
+mod files;
 mod halves;
 mod makers;
 mod notice;
@@ -10,6 +11,7 @@ mod walk;
 
 use changes::{CHANGED, play_changes};
 use edges::EDGES;
+use files::FILED;
 use notice::NOTICES;
 use playing::play;
 use renewal::RENEWALS;
@@ -31,6 +33,16 @@ fn nodes_of_worked_runs(rt: HostRuntime) -> Result<(), Fail> {
 #[test]
 fn nodes_at_their_edges(rt: HostRuntime) -> Result<(), Fail> {
     for case in &EDGES {
+        play(&rt, rt.alloc(), case)?;
+    }
+    Ok(())
+}
+
+/// A file and its acknowledgement, ticks with and without something to send, a segment that comes twice or
+/// is for another host, and an acknowledgement of another host.
+#[test]
+fn hosts_with_files(rt: HostRuntime) -> Result<(), Fail> {
+    for case in &FILED {
         play(&rt, rt.alloc(), case)?;
     }
     Ok(())

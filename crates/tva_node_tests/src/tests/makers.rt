@@ -1,20 +1,20 @@
 // Nodes of one small network, each by itself, and what comes to them. Nodes are R1, A and B, and the links
 // are A's to R1, R1's to A, R1's to B, and B's to R1.
-ghost use Rattle.std.specs.Prelude.{◌≡◌, ◌≤◌, IfOk, OnOk};
+ghost use Rattle.std.specs.Prelude.{◌≡◌, ◌≤◌, true, IfOk, OnOk};
 ghost use Rattle.tva_base.specs.Plan.{AreClassLimits, AreLinkLimits};
 ghost use Rattle.tva_node.specs.States.{Stands};
 ghost use Rattle.tva_node_tests.specs.Ready.{AreChanges, IsHost, IsReady};
-ghost use Rattle.tva_shim.specs.Packets.{IsCarried};
+ghost use Rattle.tva_shim.specs.Packets.{IsCarried, IsUpper};
 
 use std::alloc::{AllocError, Global};
 use tva_base::{
     Address, DrrLimits, Flow, HostPlan, LinkLimits, LinkPlan, Listed, Name, PacketId, PolicyKind,
-    PolicyPlan, Prefix, Rights, Route, RouterPlan, Time,
+    PolicyPlan, Prefix, Rights, Route, RouterPlan, Time, Upper,
 };
 use tva_log::Input;
 use tva_node::Node;
 use tva_plan::NodePlan;
-use tva_shim::{Carried, Packet, decode};
+use tva_shim::{Carried, Packet, decode, upper_size};
 use tva_trace::{Row, RowWhat};
 
 pub const HORIZON: Time = Time(10_000_000_000);
@@ -230,6 +230,46 @@ pub fn send(node: &mut Node, time: u64, dst: Address, payload: u16) -> Result<()
     }))
 }
 
+// A row that begins a file at a host.
+pub fn file(
+    node: &mut Node,
+    time: u64,
+    dst: Address,
+    size: u32,
+    segment: u16,
+) -> Result<(), AllocError>
+    requires ready { IsReady node.old }
+    requires host { IsHost node.old.site.plan }
+    requires time { time ≤ 10000000000 }
+    requires size { (1 ≤ size) × (size ≤ 100000000) }
+    requires segment { (1 ≤ segment) × (segment ≤ 1500) }
+    ensures ready { OnOk result (IsReady node.new) }
+    ensures host { OnOk result (IsHost node.new.site.plan) }
+    ensures stands { Stands node.old → OnOk result (Stands node.new) }
+{
+    node.post(Input::FromTrace(Row {
+        time: Time(time),
+        node: node.number(),
+        what: RowWhat::File { dst, size, segment },
+    }))
+}
+
+// A tick at a host.
+pub fn tick(node: &mut Node, time: u64, dst: Address) -> Result<(), AllocError>
+    requires ready { IsReady node.old }
+    requires host { IsHost node.old.site.plan }
+    requires time { time ≤ 10000000000 }
+    ensures ready { OnOk result (IsReady node.new) }
+    ensures host { OnOk result (IsHost node.new.site.plan) }
+    ensures stands { Stands node.old → OnOk result (Stands node.new) }
+{
+    node.post(Input::FromTrace(Row {
+        time: Time(time),
+        node: node.number(),
+        what: RowWhat::Tick { dst },
+    }))
+}
+
 // What a packet carries that has those bytes as its shim.
 fn carried(bytes: &[u8]) -> Carried
     ensures { IsCarried result }
@@ -289,5 +329,40 @@ pub fn arrive(
         time: Time(time),
         link,
         packet: Packet::new(id, flow, 0, payload, carried),
+    })
+}
+
+// Whether a range is short enough for a packet.
+pub fn is_short(upper: Upper) -> bool
+    ensures { result ≡ true → IsUpper upper }
+{
+    match upper {
+        Upper::Data { first, bytes, .. } => first <= 100_000_000 && bytes <= 1500,
+        Upper::Nothing | Upper::Ack { .. } => true,
+    }
+}
+
+// A packet that arrives with an upper part, which is all its payload.
+pub fn bring(
+    node: &mut Node,
+    time: u64,
+    link: u16,
+    id: PacketId,
+    flow: Flow,
+    bytes: &[u8],
+    upper: Upper,
+) -> Result<(), AllocError>
+    requires ready { IsReady node.old }
+    requires time { time ≤ 10000000000 }
+    requires upper { IsUpper upper }
+    ensures ready { OnOk result (IsReady node.new) }
+    ensures host { IsHost node.old.site.plan → OnOk result (IsHost node.new.site.plan) }
+    ensures stands { Stands node.old → OnOk result (Stands node.new) }
+{
+    let carried = carried(bytes);
+    node.post(Input::Arrival {
+        time: Time(time),
+        link,
+        packet: Packet::made_with(id, flow, upper_size(upper), carried, upper),
     })
 }

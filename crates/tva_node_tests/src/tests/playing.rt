@@ -3,12 +3,12 @@ ghost use Rattle.std.specs.Prelude.{◌≡◌, true, OnOk};
 ghost use Rattle.tva_node.specs.States.{Stands};
 ghost use Rattle.tva_node_tests.specs.Ready.{IsHost, IsReady};
 
-use super::makers::{HORIZON, arrive, host, inject, router, send};
+use super::makers::{HORIZON, arrive, bring, file, host, inject, is_short, router, send, tick};
 use std::alloc::{AllocError, Global};
 use std::process::Abort;
 use tva_base::{
-    Address, BackKind, Cause, Class, Event, Fate, Flow, Grant, Happened, Outcome, PacketId,
-    PolicyKind, ReplyLine, ShapeKind, Time, WhatKind,
+    Address, BackKind, Cause, Class, DataLine, Event, Fate, Flow, Grant, Happened, Outcome,
+    PacketId, PolicyKind, ReplyLine, ShapeKind, Time, Upper, WhatKind,
 };
 use tva_node::Node;
 
@@ -21,10 +21,14 @@ pub struct HostAt {
 }
 
 /// A row at a node at a time: it sends so many bytes to an address, or injects a packet of a flow with so
-/// many bytes of payload, and with these as its shim.
+/// many bytes of payload, and with these as its shim; it sends a file to an address of so many bytes in
+/// segments of so many, or ticks for an address. Or a packet with an upper part arrives then by a link.
 pub enum NodeRow {
     Sends(u64, Address, u16),
     Injects(u64, Flow, u16, &'static [u8]),
+    Files(u64, Address, u32, u16),
+    Ticks(u64, Address),
+    Brings(u64, u16, PacketId, Flow, &'static [u8], Upper),
 }
 
 /// A packet that arrives by a link, with these bytes as its shim.
@@ -43,13 +47,16 @@ pub struct Reply(pub PacketId, pub u32, pub ShapeKind, pub BackKind, pub u16);
 /// What happens at a time to a packet of a length, as a line of a report has it. It is sent in a shape by
 /// a link; a link starts it in a class, and is free again at a time; it comes to a router by a link, and
 /// goes on in a class by another, with what it is charged; it is demoted there for a cause and goes on by
-/// a link; or it comes to a host by a link, with so much payload.
+/// a link; or it comes to a host by a link, with so much payload. There it may deliver a range of a file,
+/// without return info. A tick may send nothing.
 pub enum Told {
     Sends(u64, PacketId, u32, ShapeKind, u16),
     Starts(u64, PacketId, u32, u16, Class, u64),
     Passes(u64, PacketId, u32, u16, Class, Option<Grant>, u16),
     Demotes(u64, PacketId, u32, u16, Cause, u16),
     Receives(u64, PacketId, u32, u16, u16, WhatKind, BackKind, Option<Reply>),
+    Delivers(u64, PacketId, u32, u16, u16, WhatKind, Reply, DataLine),
+    Ticks(u64),
 }
 
 /// What comes to a node, and what happens there of it.
@@ -157,6 +164,26 @@ fn give_row<R: Abort>(rt: &R, node: &mut Node, sends: bool, row: &NodeRow) -> Re
             assert!(rt; *time <= HORIZON.0);
             assert!(rt; *payload <= 1600);
             inject(node, *time, *flow, *payload, *shim)?;
+            Ok(())
+        }
+        NodeRow::Files(time, dst, size, segment) => {
+            assert!(rt; sends);
+            assert!(rt; *time <= HORIZON.0);
+            assert!(rt; 1 <= *size && *size <= 100_000_000);
+            assert!(rt; 1 <= *segment && *segment <= 1500);
+            file(node, *time, *dst, *size, *segment)?;
+            Ok(())
+        }
+        NodeRow::Ticks(time, dst) => {
+            assert!(rt; sends);
+            assert!(rt; *time <= HORIZON.0);
+            tick(node, *time, *dst)?;
+            Ok(())
+        }
+        NodeRow::Brings(time, link, id, flow, shim, upper) => {
+            assert!(rt; *time <= HORIZON.0);
+            assert!(rt; is_short(*upper));
+            bring(node, *time, *link, *id, *flow, *shim, *upper)?;
             Ok(())
         }
     }
@@ -277,7 +304,27 @@ fn event_of(node: u16, told: &Told) -> Event {
                 what: *what,
                 back: *back,
                 reply: reply_of(reply),
+                range: None,
             },
+        },
+        Told::Delivers(time, id, length, from, payload, what, reply, range) => Event {
+            time: Time(*time),
+            node,
+            happened: Happened::Received {
+                id: *id,
+                length: *length,
+                from: *from,
+                payload: *payload,
+                what: *what,
+                back: BackKind::Nothing,
+                reply: Some(line_of(reply)),
+                range: Some(*range),
+            },
+        },
+        Told::Ticks(time) => Event {
+            time: Time(*time),
+            node,
+            happened: Happened::Ticked,
         },
     }
 }
@@ -297,13 +344,18 @@ fn arrived(time: u64, node: u16, id: PacketId, length: u32, from: u16, fate: Fat
 
 fn reply_of(reply: &Option<Reply>) -> Option<ReplyLine> {
     match reply {
-        Some(Reply(id, length, shape, back, link)) => Some(ReplyLine {
-            id: *id,
-            length: *length,
-            shape: *shape,
-            back: *back,
-            outcome: Outcome::Queued(*link),
-        }),
+        Some(reply) => Some(line_of(reply)),
         None => None,
+    }
+}
+
+fn line_of(reply: &Reply) -> ReplyLine {
+    let Reply(id, length, shape, back, link) = reply;
+    ReplyLine {
+        id: *id,
+        length: *length,
+        shape: *shape,
+        back: *back,
+        outcome: Outcome::Queued(*link),
     }
 }

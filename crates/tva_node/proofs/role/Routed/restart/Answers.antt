@@ -11,6 +11,6 @@ returns-in-Some-clause-goes c =
     let now = c.args.now.0 in
     let made = c.in-Some.ensures in
     let boot = c.restarted_by.new.self.boot in
-    let is = subst (λ (xs : List (Time × List ℕ)). IsRestarted xs now r.changes.boot boot (Some c.in-Some.master)) c.restarts.ensures made.passed in
+    let is = subst (λ (xs : List (Time × List ℕ)). IsRestarted xs now r.changes.boot boot (Some c.in-Some.master)) c.restarts.ensures.restarts made.passed in
     subst (λ (x : Changes). StandsOn now r (record { router = c.restart.new.self; next = r.next; changes = x })) (λ i. record { boot = boot; moves = sym made.same.0 i; moved = sym made.same.1 i })
     (restarts_on now r c.restart.new.self boot c.in-Some.master c.requires is c.restart.ensures.last c.restart.ensures.built c.restart.ensures.plan c.restart.ensures.stands)
