@@ -4,4 +4,6 @@ pub mod Replays
 pub mod Settled
 pub mod HexWords
 pub mod Windowed
+pub mod Reported
 pub mod Wants
+pub mod Audits

@@ -1,5 +1,6 @@
--- What holds of every run that a replay can have, whatever the replay answers.
-use Rattle.std.specs.Prelude.{◌≡◌, ℕ, List, Some}
+-- What holds of every run that a replay or an audit can have, whatever it answers.
+use Rattle.std.specs.Prelude.{◌≡◌, ◌<◌, ℕ, List, All, Option, None, Some}
+use Rattle.tva_base.specs.declared.packet.Grant.{Grant}
 use Rattle.tva_plan.specs.declared.config.Config.{Config}
 use Rattle.tva_trace.specs.declared.rows.Row.{Row}
 use Rattle.tva_trace.specs.Meaning.{AreRows}
@@ -9,6 +10,9 @@ use Rattle.tva_run.specs.Run.{IsRunTo}
 use Rattle.tva_promises.specs.Promises.{KeepsPromises}
 use Rattle.tva_paths.specs.Paths.{AreHonestRegular}
 use Rattle.tva_delivery.specs.Delivery.{KeepsFiles}
+use Rattle.tva_sums.specs.Sums.{limit_of}
+use Rattle.tva_audit.specs.Audit.{HasSums}
+use Rattle.tva_audit.specs.declared.sums.RouterSum.{RouterSum}
 use Rattle.tva.specs.Expected.{Expected, replays, audits}
 
 -- in every run up to any time the log of each node keeps its promises, a router's for each of its boots
@@ -17,14 +21,13 @@ EachKeepsPromises plan rows =
     (until : ℕ) (logs : Logs) → IsRunTo plan rows until logs
     → (node : ℕ) (site : Site) → site_at plan node ≡ Some site → KeepsPromises site until (log_at logs node)
 
--- so it is in every run of a trace that is to be replayed
+-- so it is in every run of a trace that is to be replayed, or whose report is to be audited
 abbrev pub ArePromisesKept : Expected → Type 0
 ArePromisesKept (replays plan trace) = (rows : List Row) → AreRows plan trace rows → EachKeepsPromises plan rows
 ArePromisesKept (audits plan trace report) = ArePromisesKept (replays plan trace)
 ArePromisesKept x = Unit {0}
 
--- in every run of a trace that is to be replayed, up to any time, what an honest sender shows is regular at each router to
--- which its path is steady
+-- in every such run, up to any time, what an honest sender shows is regular at each router to which its path is steady
 abbrev pub AreHonestTaken : Expected → Type 0
 AreHonestTaken (replays plan trace) = (rows : List Row) → AreRows plan trace rows
     → (until : ℕ) (logs : Logs) → IsRunTo plan rows until logs → AreHonestRegular plan logs
@@ -39,7 +42,15 @@ AreFilesKept (replays plan trace) = (rows : List Row) → AreRows plan trace row
 AreFilesKept (audits plan trace report) = AreFilesKept (replays plan trace)
 AreFilesKept x = Unit {0}
 
--- in the sums of an audited run no sum of a worst grant comes up to twice its units
+-- the sum of a worst grant doesn't come up to twice its units
+abbrev pub IsWorstBelow : Option (Grant × ℕ) → Type 0
+IsWorstBelow None = Unit {0}
+IsWorstBelow (Some worst) = worst.1 < limit_of worst.0
+
+abbrev pub IsBelow : RouterSum → Type 0
+IsBelow s = IsWorstBelow s.worst
+
+-- so it is in the sums of each audited run
 abbrev pub AreSumsBelow : Expected → Type 0
 AreSumsBelow (audits plan trace report) = (rows : List Row) → AreRows plan trace rows
     → (sums : List RouterSum) → HasSums plan rows sums → All IsBelow sums

@@ -55,6 +55,11 @@ pub enum Command<'a> {
         count: u32,
         config: &'a str,
     },
+    Audit {
+        config: &'a str,
+        trace: &'a str,
+        report: &'a str,
+    },
 }
 
 /// The command that the words are, if they are one.
@@ -76,6 +81,11 @@ pub fn parse(words: &[String]) -> Option<Command<'_>>
         [word, seed, count, config] if word.as_str() == "gen" => {
             gen_of(seed.as_str(), count.as_str(), config.as_str())
         }
+        [word, config, trace, report] if word.as_str() == "audit" => Some(Command::Audit {
+            config: config.as_str(),
+            trace: trace.as_str(),
+            report: report.as_str(),
+        }),
         _ => None,
     }
 }
