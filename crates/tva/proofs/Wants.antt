@@ -282,7 +282,7 @@ module _ (plan : Config) (trace : List ℕ) (rows : List Row) (valid : IsConfig 
     differs_audit text f Done has differs o =
         let same : text ≡ report = one_report plan rows valid text report has o in
         absurd (none_or_some (sym (none_of_same 1 (report_lines report))
-                ∙ subst (λ (t : List ℕ). first_difference (report_lines t) (report_lines report) ≡ Some f) same differs))
+        ∙ subst (λ (t : List ℕ). first_difference (report_lines t) (report_lines report) ≡ Some f) same differs))
     differs_audit text f (Differs g) has differs o = ap Differs (some_same (sym (of_text_of text g has o) ∙ differs))
     differs_audit text f Usage has differs o = absurd o
     differs_audit text f ReadFault has differs o = absurd o

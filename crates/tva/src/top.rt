@@ -12,11 +12,11 @@ ghost use Rattle.tva.specs.Answer.{Answers, BeginsEach, HasFound, WroteAll, Wrot
 ghost use Rattle.tva.specs.Network.{AreFilesKept, AreHonestTaken, ArePromisesKept, AreSumsBelow};
 ghost use Rattle.tva.specs.Wanted.{wanted, HasOneEnd, IsRefusal, NeedsNoFile, Settles, SettlesRefusal};
 
+use crate::REPORT_MAX;
 use crate::audited::audit_rows;
 use crate::check::put_check_line;
 use crate::command::{Command, parse};
 use crate::parts::{load, load_plan, load_rows, send, send_both};
-use crate::REPORT_MAX;
 use crate::replay::replay_rows;
 use crate::status::Status;
 use arrayvec::ArrayString;
