@@ -1,5 +1,5 @@
 -- Lemmas on pairs of a boot and a grant, and on the sums of one more charge.
-use Rattle.std.proofs.Common.{◌≡◌, ◌≢◌, ℕ, ◌+◌, ◌*◌, ◌<◌, ◌≤◌, Bool, true, false, not, ◌&&◌, List, [], ◌∷◌, ◌++◌, length, get_or, map, filter, cond, refl, sym, ◌∙◌, ap, arith, inl, inr, ◌⊎◌, Some, None, Option, add-zero, zero-add, append-nil, subst}
+use Rattle.std.proofs.Common.{◌≡◌, ◌≢◌, ℕ, ◌+◌, ◌*◌, ◌<◌, ◌≤◌, Bool, true, false, not, ◌&&◌, List, [], ◌∷◌, ◌++◌, length, get_or, map, filter, cond, refl, sym, ◌∙◌, ap, arith, inl, inr, ◌⊎◌, Some, None, Option, add-zero, zero-add, append-nil, subst, All}
 use Rattle.std.specs.Prelude.{◌==◌, sum_by}
 use Rattle.std.specs.List.{list_any}
 use Rattle.std.specs.Ordering.{is_eq, nat_cmp, ordering_then}
@@ -8,7 +8,7 @@ use Rattle.std.specs.declared.cmp.Ordering.TheVariants.{Less, Equal, Greater}
 use Rattle.std.specs.Cmp.{Equal-is}
 use Rattle.std.proofs.lemmas.Bool.{cases_Bool, eqb-true, eq-eqb, le-ltb}
 use Rattle.std.proofs.lemmas.List.{map-append}
-use Rattle.std.proofs.lemmas.List.Elements.{filter-append}
+use Rattle.std.proofs.lemmas.List.Elements.{All-cons, All-head, All-nil, All-tail, All-weaker}
 use Rattle.std.proofs.lemmas.List.Sums.{sum_by-cons, sum_by-append}
 use Rattle.std.proofs.lemmas.Map.Lookups.{exact_unsigned}
 use Rattle.tva_base.specs.declared.packet.Grant.{Grant}
@@ -147,3 +147,16 @@ module _ (restarts : List (Time × List ℕ)) where
       ap (λ keys. with_sums all (firsts same_pair keys)) (map-append (pair_of restarts) cs (c ∷ []))
       ∙ sums_push same_pair tells_pairs (pair_of restarts c) c.length (bytes_of_pair restarts cs) all
       (bytes_push cs c) (map (pair_of restarts) cs) (bytes_none (pair_of restarts c) cs)
+
+-- ## bounds
+
+pub parts-add : (pair : Pair) (more most : ℕ) (sums : List (Pair × ℕ)) → All (λ s. s.1 ≤ most) sums → All (λ s. s.1 ≤ most + more) (add_to same_pair pair more sums)
+parts-add pair more most [] h = All-cons (λ s. s.1 ≤ most + more) (pair, more) [] (omega arith) (All-nil (λ s. s.1 ≤ most + more))
+parts-add pair more most (s ∷ sums) h =
+    let here : s.1 ≤ most = All-head (λ s. s.1 ≤ most) s sums h in
+    let rest = All-tail (λ s. s.1 ≤ most) s sums h in
+    elim (cases_Bool (same_pair s.0 pair)) [
+      | inl e ↦
+          rw e (All-cons (λ s. s.1 ≤ most + more) (s.0, s.1 + more) sums (omega arith) (All-weaker (λ s. s.1 ≤ most) (λ s. s.1 ≤ most + more) (λ x l. omega arith) sums rest))
+      | inr e ↦ rw e (All-cons (λ s. s.1 ≤ most + more) s (add_to same_pair pair more sums) (omega arith) (parts-add pair more most sums rest))
+    ]

@@ -4,7 +4,7 @@ use Rattle.std.specs.List.{filter_map}
 use Rattle.std.specs.Option.{option_map}
 use Rattle.tva_base.specs.declared.event.Event.{Event}
 use Rattle.tva_base.specs.declared.event.Happened.{Happened}
-use Rattle.tva_base.specs.declared.event.Happened.TheVariants.{Arrived, Sent, Received, Started}
+use Rattle.tva_base.specs.declared.event.Happened.TheVariants.{Arrived, Sent, Received, Started, Ticked}
 use Rattle.tva_base.specs.declared.packet.Grant.{Grant}
 use Rattle.tva_base.specs.declared.packet.Time.{Time}
 use Rattle.tva_base.specs.Changes.{has_come}
@@ -17,8 +17,9 @@ charged time length grant = record { time = time; grant = grant; length = length
 abbrev pub charged_by : Time → Happened → Option Charged
 charged_by time (Arrived id length from fate) = option_map (charged time length) fate.charge
 charged_by time (Sent id length shape outcome) = None
-charged_by time (Received id length from payload what back reply) = None
+charged_by time (Received id length from payload what back reply range) = None
 charged_by time (Started id length link class end) = None
+charged_by time Ticked = None
 
 abbrev pub charged_in : Event → Option Charged
 charged_in event = charged_by event.time event.happened

@@ -1,13 +1,14 @@
 // The sums of a router.
 ghost use Rattle.std.specs.Prelude.{◌≡◌, ◌+◌, ◌<◌, ◌≤◌, ◌^◌, [], ◌∷◌, ◌++◌, ℕ, List, length, map, OnOk, IfOk};
 ghost use Rattle.tva_base.specs.Plan.{AreRising};
+ghost use Rattle.tva_base.specs.declared.event.Event.{Event};
 ghost use Rattle.tva_base.specs.declared.packet.Time.{Time};
 ghost use Rattle.tva_sums.specs.declared.charged.Charged.{Charged};
 ghost use Rattle.tva_sums.specs.Charged.{charges_in};
-ghost use Rattle.tva_sums.specs.Sums.{limit_of, sums_of};
+ghost use Rattle.tva_sums.specs.Sums.{limit_of, pair_of, sums_of};
 ghost use Rattle.tva_sums.specs.Table.{IsSound, StandsFor};
 
-use crate::charged::{Charged, boot_among, charged_in};
+use crate::charged::{boot_among, charged_in};
 use crate::pairs::{Pair, Table, worst};
 use std::alloc::{AllocError, Global};
 use tva_base::{Event, Grant, Time};
@@ -43,9 +44,7 @@ pub fn router_sums(
 {
     let mut tally = Tally::new(alloc);
     for event in events {
-        if let Some(charged) = charged_in(event) {
-            tally.add(restarts, charged)?;
-        }
+        tally.tell(restarts, event)?;
     }
     Ok(tally.sums())
 }
@@ -71,23 +70,39 @@ impl Tally {
         }
     }
 
-    // One more charge.
-    fn add(&mut self, restarts: &[(Time, [u8; 32])], charged: Charged) -> Result<(), AllocError>
+    // One more event.
+    fn tell(&mut self, restarts: &[(Time, [u8; 32])], event: &Event) -> Result<(), AllocError>
         requires rising { AreRising (map (λ c. c.0.0) restarts.now) }
         requires sound { IsSound self.old }
         requires few { self.old.charges < 4000000 }
         ensures sound { OnOk result (IsSound self.new) }
-        ensures stands { (cs : List Charged) → StandsFor self.old restarts.now cs → OnOk result (StandsFor self.new restarts.now (cs ++ charged ∷ [])) }
-        ensures counted { OnOk result (self.new.charges ≡ self.old.charges + 1) }
+        ensures few { OnOk result (self.new.charges ≤ self.old.charges + 1) }
+        ensures stands { (events : List Event) → StandsFor self.old restarts.now (charges_in events) → OnOk result (StandsFor self.new restarts.now (charges_in (events ++ event.now ∷ []))) }
     {
-        let boot = boot_among(restarts, charged.time);
-        let pair = Pair {
-            boot,
-            grant: charged.grant,
-        };
-        self.table.add(pair, charged.length)?;
+        match charged_in(event) {
+            Some(charged) => {
+                let boot = boot_among(restarts, charged.time);
+                let pair = Pair {
+                    boot,
+                    grant: charged.grant,
+                };
+                self.add(pair, charged.length)
+            }
+            None => Ok(()),
+        }
+    }
+
+    // One more charge of the pair.
+    fn add(&mut self, pair: Pair, length: u32) -> Result<(), AllocError>
+        requires sound { IsSound self.old }
+        requires few { self.old.charges < 4000000 }
+        ensures sound { OnOk result (IsSound self.new) }
+        ensures counted { OnOk result (self.new.charges ≡ self.old.charges + 1) }
+        ensures stands { (restarts : List (Time × List ℕ)) (cs : List Charged) (c : Charged) → pair_of restarts c ≡ pair → c.length ≡ length → StandsFor self.old restarts cs → OnOk result (StandsFor self.new restarts (cs ++ c ∷ [])) }
+    {
+        self.table.add(pair, length)?;
         self.charges += 1;
-        self.bytes += u64::from(charged.length);
+        self.bytes += u64::from(length);
         Ok(())
     }
 
