@@ -5,7 +5,7 @@ use Rattle.tva_base.specs.declared.packet.Grant.{Grant}
 use Rattle.tva_plan.specs.declared.config.Config.{Config}
 use Rattle.tva_trace.specs.Lines.{ended, name_of}
 use Rattle.tva_sums.specs.Sums.{limit_of}
-use Rattle.tva_audit.specs.declared.sums.RouterSum.{RouterSum}
+use Rattle.tva_audit.specs.declared.routers.RouterSum.{RouterSum}
 
 -- how near the worst grant came to twice its units, in bytes
 abbrev pub worst_word : Option (Grant × ℕ) → List ℕ

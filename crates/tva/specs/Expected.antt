@@ -15,7 +15,7 @@ use Rattle.tva_trace.specs.Meaning.{AreRows}
 use Rattle.tva_trace.specs.ShimText.{IsTextOf}
 use Rattle.tva_gen.specs.Text.{generated}
 use Rattle.tva_audit.specs.Audit.{HasSums, IsFound}
-use Rattle.tva_audit.specs.declared.sums.RouterSum.{RouterSum}
+use Rattle.tva_audit.specs.declared.routers.RouterSum.{RouterSum}
 use Rattle.tva_report.specs.Lines.{first_bad, report_lines}
 use Rattle.tva.specs.Audit.{audit_text}
 use Rattle.tva.specs.Check.{check_line}

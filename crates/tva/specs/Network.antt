@@ -1,6 +1,5 @@
 -- What holds of every run that a replay or an audit can have, whatever it answers.
-use Rattle.std.specs.Prelude.{◌≡◌, ◌<◌, ℕ, List, All, Option, None, Some}
-use Rattle.tva_base.specs.declared.packet.Grant.{Grant}
+use Rattle.std.specs.Prelude.{◌≡◌, ℕ, List, All, Some}
 use Rattle.tva_plan.specs.declared.config.Config.{Config}
 use Rattle.tva_trace.specs.declared.rows.Row.{Row}
 use Rattle.tva_trace.specs.Meaning.{AreRows}
@@ -10,9 +9,9 @@ use Rattle.tva_run.specs.Run.{IsRunTo}
 use Rattle.tva_promises.specs.Promises.{KeepsPromises}
 use Rattle.tva_paths.specs.Paths.{AreHonestRegular}
 use Rattle.tva_delivery.specs.Delivery.{KeepsFiles}
-use Rattle.tva_sums.specs.Sums.{limit_of}
 use Rattle.tva_audit.specs.Audit.{HasSums}
-use Rattle.tva_audit.specs.declared.sums.RouterSum.{RouterSum}
+use Rattle.tva_audit.specs.Sums.{IsBelowLimit}
+use Rattle.tva_audit.specs.declared.routers.RouterSum.{RouterSum}
 use Rattle.tva.specs.Expected.{Expected, replays, audits}
 
 -- in every run up to any time the log of each node keeps its promises, a router's for each of its boots
@@ -42,16 +41,8 @@ AreFilesKept (replays plan trace) = (rows : List Row) → AreRows plan trace row
 AreFilesKept (audits plan trace report) = AreFilesKept (replays plan trace)
 AreFilesKept x = Unit {0}
 
--- the sum of a worst grant doesn't come up to twice its units
-abbrev pub IsWorstBelow : Option (Grant × ℕ) → Type 0
-IsWorstBelow None = Unit {0}
-IsWorstBelow (Some worst) = worst.1 < limit_of worst.0
-
-abbrev pub IsBelow : RouterSum → Type 0
-IsBelow s = IsWorstBelow s.worst
-
--- so it is in the sums of each audited run
+-- in the sums of each audited run the worst grant of each router has less than twice its units
 abbrev pub AreSumsBelow : Expected → Type 0
 AreSumsBelow (audits plan trace report) = (rows : List Row) → AreRows plan trace rows
-    → (sums : List RouterSum) → HasSums plan rows sums → All IsBelow sums
+    → (sums : List RouterSum) → HasSums plan rows sums → All IsBelowLimit sums
 AreSumsBelow x = Unit {0}

@@ -10,9 +10,9 @@ use Rattle.tva_net.specs.declared.kinds.NetError.{NetError}
 use Rattle.tva_net.specs.declared.kinds.NetError.TheVariants as error
 use Rattle.tva_report.specs.Lines.{first_bad, report_lines}
 use Rattle.tva_audit.specs.Audit.{HasSums, IsFound as IsDifference}
-use Rattle.tva_audit.specs.declared.sums.RouterSum.{RouterSum}
-use Rattle.tva_audit.specs.declared.audit.AuditError.{AuditError}
-use Rattle.tva_audit.specs.declared.audit.AuditError.TheVariants as audit
+use Rattle.tva_audit.specs.declared.routers.RouterSum.{RouterSum}
+use Rattle.tva_audit.specs.declared.audits.AuditError.{AuditError}
+use Rattle.tva_audit.specs.declared.audits.AuditError.TheVariants as audit
 use Rattle.tva.specs.Audit.{audit_text}
 use Rattle.tva.specs.Expected.{Found}
 use Rattle.tva_run.specs.Shown.{HasReport, IsBegun, IsCutShort, IsPastLimit}
