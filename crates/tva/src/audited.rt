@@ -133,6 +133,9 @@ fn line_count(report: &[u8]) -> u64
     ensures { result ≡ length (report_lines report.now) }
 {
     let mut pieces = Pieces::new(report);
-    while let Some(_) = pieces.next() {}
-    pieces.number() - 1
+    let mut count = 0;
+    while let Some(line) = pieces.next() {
+        count = line.number;
+    }
+    count
 }
