@@ -5,5 +5,6 @@ pub mod Settled
 pub mod HexWords
 pub mod Windowed
 pub mod Reported
+pub mod SumLines
 pub mod Wants
 pub mod Audits

@@ -15,8 +15,8 @@ use Rattle.tva_run.specs.Shown.{HasReport}
 use Rattle.tva_run.proofs.Runs.{are_delayed}
 use Rattle.tva_run.proofs.Reports.{one_list}
 
-pub none_or_some : {A : Type 0} {x : A} → None {A = A} ≡ Some x → ⊥
-none_or_some e = cc
+pub some_is_there : {A : Type 0} (x : A) → Some x ≡ None → ⊥
+some_is_there x e = cc
 
 pub some_same : {A : Type 0} {x y : A} → Some x ≡ Some y → x ≡ y
 some_same e = cc
@@ -27,7 +27,7 @@ one_report plan rows valid text other a b =
     a.whole ∙ ap (report_of plan) (one_list plan rows (are_delayed plan valid) (plan.horizon.0 + 1) a.told b.told a.events b.events) ∙ sym b.whole
 
 -- a text that a line feed ends
-pub IsFed : List ℕ → Type 0
+abbrev pub IsFed : List ℕ → Type 0
 IsFed text = (front : List ℕ) × (text ≡ front ++ 10 ∷ [])
 
 -- a line feed ends each of its pieces, of which there is one at least

@@ -38,7 +38,7 @@ use Rattle.tva.specs.Expected.{Expected, writes, shows, replays, audits, refuses
 use Rattle.tva.specs.Network.{ArePromisesKept, AreHonestTaken, AreFilesKept, AreSumsBelow}
 use Rattle.tva_run.specs.Shown.{HasReport, IsPastLimit, IsWithinLimit}
 use Rattle.tva.specs.Wanted.{wanted, HasOneEnd}
-use Rattle.tva.proofs.Reported.{ends_report, none_or_some, one_report, some_same, text_of_same}
+use Rattle.tva.proofs.Reported.{ends_report, one_report, some_is_there, some_same, text_of_same}
 use Rattle.tva.specs.declared.status.Status as status
 use Rattle.tva.specs.declared.status.Status.TheVariants.{Done, Found as Differs, Usage, ReadFault, WriteFault, TooLarge, BadConfig, BadTrace, EventLimit, OutOfMemory, BadReport}
 
@@ -266,7 +266,7 @@ module _ (plan : Config) (trace : List ℕ) (rows : List Row) (valid : IsConfig 
     same_audit : (text : List ℕ) (other : status.Status) → HasReport plan rows text
         → first_difference (report_lines text) (report_lines report) ≡ None → EndsAudit plan rows report other → other ≡ Done
     same_audit text Done has same o = refl
-    same_audit text (Differs f) has same o = absurd (none_or_some (sym same ∙ of_text_of text f has o))
+    same_audit text (Differs f) has same o = absurd (some_is_there f (sym (of_text_of text f has o) ∙ same))
     same_audit text Usage has same o = absurd o
     same_audit text ReadFault has same o = absurd o
     same_audit text WriteFault has same o = absurd o
@@ -281,8 +281,9 @@ module _ (plan : Config) (trace : List ℕ) (rows : List Row) (valid : IsConfig 
         → first_difference (report_lines text) (report_lines report) ≡ Some f → EndsAudit plan rows report other → other ≡ Differs f
     differs_audit text f Done has differs o =
         let same : text ≡ report = one_report plan rows valid text report has o in
-        absurd (none_or_some (sym (none_of_same 1 (report_lines report))
-        ∙ subst (λ (t : List ℕ). first_difference (report_lines t) (report_lines report) ≡ Some f) same differs))
+        let found : first_difference (report_lines report) (report_lines report) ≡ Some f =
+        subst (λ (t : List ℕ). first_difference (report_lines t) (report_lines report) ≡ Some f) same differs in
+        absurd (some_is_there f (sym found ∙ none_of_same 1 (report_lines report)))
     differs_audit text f (Differs g) has differs o = ap Differs (some_same (sym (of_text_of text g has o) ∙ differs))
     differs_audit text f Usage has differs o = absurd o
     differs_audit text f ReadFault has differs o = absurd o

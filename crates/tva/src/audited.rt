@@ -1,5 +1,6 @@
 // The audit of a report.
 ghost use Rattle.std.specs.Prelude.{◌≡◌, ◌≤◌, ◌++◌, OnOk, decimal, length};
+ghost use Rattle.std.specs.List.{flat_map};
 ghost use Rattle.tva_outside.specs.Faults.{Rose};
 ghost use Rattle.tva_plan.specs.Valid.{IsConfig};
 ghost use Rattle.tva_report.specs.Lines.{report_lines};
@@ -70,12 +71,20 @@ fn put_audit(
 ) -> Result<(), AllocError>
     ensures { OnOk result (text.new.items ≡ audit_text plan.now sums.now (length (report_lines report.now))) }
 {
+    put_sums(plan, sums, text)?;
+    put_count("report ok lines=", line_count(report), text)?;
+    text.push(b'\n')?;
+    Ok(())
+}
+
+// Leaves the lines of the routers in `text`, and nothing else.
+fn put_sums(plan: &Config, sums: &[RouterSum], text: &mut Vec<u8>) -> Result<(), AllocError>
+    ensures { OnOk result (text.new.items ≡ flat_map (sum_line plan.now) sums.now) }
+{
     text.clear();
     for sum in sums {
         put_sum(plan, sum, text)?;
     }
-    put_count("report ok lines=", line_count(report), text)?;
-    text.push(b'\n')?;
     Ok(())
 }
 

@@ -256,5 +256,5 @@ fn run_audit<R: Threads + Sync, S: Shelf, W: Sink, G: Gate>(
         Ok(text) => text,
         Err(status) => return status,
     };
-    audit_rows(rt, alloc, &plan, rows, &text, out, gate)
+    audit_rows(rt, alloc, &plan, rows, text.as_slice(), out, gate)
 }
