@@ -1,5 +1,5 @@
 -- What an audit answers: whether a report is the one that a configuration and a trace have.
-use Rattle.std.specs.Prelude.{◌≡◌, ℕ, List, Option, Some, None, Result, Ok, Err}
+use Rattle.std.specs.Prelude.{◌≡◌, ℕ, List, Some, None, Result, Ok, Err}
 use Rattle.tva_plan.specs.declared.config.Config.{Config}
 use Rattle.tva_trace.specs.declared.rows.Row.{Row}
 use Rattle.tva_run.specs.Reaching.{Logs}
@@ -8,18 +8,18 @@ use Rattle.tva_run.specs.Shown.{HasReport, IsPastLimit}
 use Rattle.tva_report.specs.declared.differences.Finding.{Finding}
 use Rattle.tva_report.specs.Lines.{first_bad, report_lines}
 use Rattle.tva_report.specs.Differences.{first_difference}
-use Rattle.tva_audit.specs.declared.sums.RouterSum.{RouterSum}
-use Rattle.tva_audit.specs.declared.audit.Audited.{Audited}
-use Rattle.tva_audit.specs.declared.audit.Audited.TheVariants.{Same, Differs}
-use Rattle.tva_audit.specs.declared.audit.AuditError.{AuditError}
-use Rattle.tva_audit.specs.declared.audit.AuditError.TheVariants.{BadReport, EventLimit, OutOfMemory}
+use Rattle.tva_audit.specs.declared.routers.RouterSum.{RouterSum}
+use Rattle.tva_audit.specs.declared.audits.Audited.{Audited}
+use Rattle.tva_audit.specs.declared.audits.Audited.TheVariants.{Same, Differs}
+use Rattle.tva_audit.specs.declared.audits.AuditError.{AuditError}
+use Rattle.tva_audit.specs.declared.audits.AuditError.TheVariants.{BadReport, EventLimit, OutOfMemory}
 use Rattle.tva_audit.specs.Sums.{run_sums}
 
 -- these are the sums of the routers in the run
 pub record HasSums (config : Config) (rows : List Row) (sums : List RouterSum) : Type 0 where
   pub logs : Logs
   pub run : IsRun config rows logs
-  pub sums : sums ≡ run_sums config logs
+  pub each : sums ≡ run_sums config logs
 
 -- the run has a report, from which this is the first difference of a text
 pub record IsFound (config : Config) (rows : List Row) (report : List ℕ) (f : Finding) : Type 0 where

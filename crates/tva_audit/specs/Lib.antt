@@ -1,2 +1,5 @@
 pub mod Sums
 pub mod Audit
+pub mod Lines
+pub mod Chunks
+pub mod Deciding

@@ -1,5 +1,5 @@
 -- What each router let through, in a run and as nodes tell it.
-use Rattle.std.specs.Prelude.{ℕ, List, map, Option, Some, None}
+use Rattle.std.specs.Prelude.{ℕ, ◌<◌, List, map, Option, Some, None, IfSome}
 use Rattle.std.specs.List.{filter_map}
 use Rattle.tva_base.specs.declared.event.Event.{Event}
 use Rattle.tva_flow.specs.Charges.{Charge}
@@ -15,8 +15,8 @@ use Rattle.tva_node.specs.States.{NodeState}
 use Rattle.tva_sums.specs.declared.charged.Charged.{Charged}
 use Rattle.tva_sums.specs.declared.sums.Sums.{Sums}
 use Rattle.tva_sums.specs.Charged.{charged, charges_in}
-use Rattle.tva_sums.specs.Sums.{sums_of}
-use Rattle.tva_audit.specs.declared.sums.RouterSum.{RouterSum}
+use Rattle.tva_sums.specs.Sums.{limit_of, sums_of}
+use Rattle.tva_audit.specs.declared.routers.RouterSum.{RouterSum}
 
 abbrev pub numbered : ℕ → Sums → RouterSum
 numbered node s =
@@ -46,3 +46,9 @@ sum_told number (Host plan) told = None
 -- one for each router among these nodes, in their order
 abbrev pub sums_told : List NodeState → List RouterSum
 sums_told nodes = filter_map (λ v. sum_told v.site.number v.site.plan v.events) nodes
+
+-- ## what each sum is below
+
+-- the worst grant has less than twice its units
+abbrev pub IsBelowLimit : RouterSum → Type 0
+IsBelowLimit s = IfSome s.worst (λ worst. worst.1 < limit_of worst.0)

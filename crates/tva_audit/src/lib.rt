@@ -4,9 +4,13 @@
 //! the sums are the definition's over the routers' charges.
 #![tactic(auto)]
 
-mod audit;
-mod sums;
+mod audits;
+mod laws;
+mod lines;
+mod routers;
 
-pub use audit::{AuditError, Audited, audit};
-pub use sums::{RouterSum, sums};
+pub use audits::{AuditError, Audited, audit};
+pub use laws::{events_tell_charges, sums_are_below_their_limits};
+pub use lines::{put_lines, step_and_put};
+pub use routers::{RouterSum, sums};
 pub use tva_report::Finding;

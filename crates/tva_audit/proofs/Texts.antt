@@ -1,0 +1,56 @@
+-- The lines of events are lines of a report.
+use Rattle.std.proofs.Common.{◌≡◌, ◌<◌, ℕ, ◌+◌, List, [], ◌∷◌, ◌++◌, length, take, get_or, All, None, sym, ap, ap₂, ◌∙◌, subst, append-nil}
+use Rattle.std.specs.Prelude.{codes}
+use Rattle.std.proofs.lemmas.Grind.{flat_map-append}
+use Rattle.std.proofs.lemmas.List.{map-append, take_more}
+use Rattle.std.proofs.lemmas.List.Folds.{flat_map-map}
+use Rattle.std.proofs.lemmas.List.Elements.{All-append, All-from_recursion}
+use Rattle.tva_base.specs.Printable.{IsLine}
+use Rattle.tva_base.specs.declared.event.Event.{Event}
+use Rattle.tva_plan.specs.declared.config.Config.{Config}
+use Rattle.tva_trace.specs.Lines.{line_of, text_of_event}
+use Rattle.tva_report.specs.Lines.{ended, first_bad, report_lines, text_of}
+use Rattle.tva_report.proofs.LinesBack.{good_made, lines_made}
+use Rattle.tva_run.specs.Report.{lines_of}
+use Rattle.tva_audit.specs.Lines.{texts_of}
+
+-- a text without a bad line that has these lines
+pub record IsText (lines : List (List ℕ)) (text : List ℕ) : Type 0 where
+  pub good : first_bad text ≡ None
+  pub has : report_lines text ≡ lines
+
+pub made : (lines : List (List ℕ)) → All IsLine lines → IsText lines (text_of lines)
+made lines each = record { good = good_made lines each; has = lines_made lines each }
+
+pub one_line : (line : List ℕ) → IsLine line → IsText (line ∷ []) (line ++ codes "\n")
+one_line line is =
+    let same : text_of (line ∷ []) ≡ line ++ 10 ∷ [] = append-nil (ended line) in
+    subst (IsText (line ∷ [])) same (made (line ∷ []) (All-from_recursion IsLine (line ∷ []) (is, tt)))
+
+pub lines_same : (config : Config) (list : List Event) → text_of (texts_of config list) ≡ lines_of config list
+lines_same config list = flat_map-map ended (text_of_event config) list
+
+pub lines_fit : (config : Config) (list : List Event) → All IsLine (texts_of config list) → IsText (texts_of config list) (lines_of config list)
+lines_fit config list each = subst (IsText (texts_of config list)) (lines_same config list) (made (texts_of config list) each)
+
+pub texts_more : (config : Config) (told list : List Event) → texts_of config (told ++ list) ≡ texts_of config told ++ texts_of config list
+texts_more config told list = map-append (text_of_event config) told list
+
+-- with one line more
+pub text_of_more : (lines : List (List ℕ)) (line : List ℕ) → text_of (lines ++ line ∷ []) ≡ text_of lines ++ (line ++ codes "\n")
+text_of_more lines line = flat_map-append ended lines (line ∷ []) ∙ ap (λ t. text_of lines ++ t) (append-nil (ended line))
+
+-- one event more
+pub put_more : (config : Config) (list : List Event) (i : ℕ) (d : Event) (old bytes new : List ℕ) → i < length list
+    → old ≡ lines_of config (take i list) → bytes ≡ line_of config (get_or list i d) → new ≡ old ++ bytes → new ≡ lines_of config (take (i + 1) list)
+put_more config list i d old bytes new below before line more =
+    let e = get_or list i d in
+    let all : lines_of config (take (i + 1) list) ≡ lines_of config (take i list) ++ line_of config e =
+    ap (lines_of config) (take_more list i d below) ∙ flat_map-append (line_of config) (take i list) (e ∷ []) ∙ ap (λ (t : List ℕ). lines_of config (take i list) ++ t) (append-nil (line_of config e)) in
+    more ∙ ap₂ ◌++◌ before line ∙ sym all
+
+pub each_more : (config : Config) (list : List Event) (i : ℕ) (d : Event) → i < length list
+    → All (λ x. IsLine (text_of_event config x)) (take i list) → IsLine (text_of_event config (get_or list i d)) → All (λ x. IsLine (text_of_event config x)) (take (i + 1) list)
+each_more config list i d below before line =
+    subst (All (λ x. IsLine (text_of_event config x))) (sym (take_more list i d below))
+    (All-append (λ x. IsLine (text_of_event config x)) (take i list) (get_or list i d ∷ []) before (All-from_recursion (λ x. IsLine (text_of_event config x)) (get_or list i d ∷ []) (line, tt)))

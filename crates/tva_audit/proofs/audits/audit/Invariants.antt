@@ -1,0 +1,10 @@
+use Rattle.std.proofs.Common.{◌-◌}
+use Rattle.tva_audit.proofs.Windowed.{IsBehind}
+use Rattle.tva_audit.proofs.audits.audit.Given as goal
+
+-- the report is compared with the lines of what the network gave before the last window
+abbrev pub invariant-loop-comparison : goal.invariant-loop-comparison
+invariant-loop-comparison g l = IsBehind l.config l.fn.rows.items l.report l.comparison l.events.items l.net
+
+abbrev pub decreases-loop-comparison : goal.decreases-loop-comparison
+decreases-loop-comparison g l = l.net.limit - l.net.totals.events

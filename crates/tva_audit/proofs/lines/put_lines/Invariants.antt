@@ -1,0 +1,12 @@
+use Rattle.std.proofs.Common.{◌≡◌, take, All}
+use Rattle.tva_base.specs.Printable.{IsLine}
+use Rattle.tva_run.specs.Report.{lines_of}
+use Rattle.tva_trace.specs.Lines.{text_of_event}
+use Rattle.tva_audit.proofs.lines.put_lines.Given as goal
+
+-- the lines of the events up to here
+abbrev pub invariant-loop-event : goal.invariant-loop-event
+invariant-loop-event l = record {
+  lines : l.text.items ≡ lines_of l.config (take l.event-index l.events);
+  printable : All (λ e. IsLine (text_of_event l.config e)) (take l.event-index l.events);
+}

@@ -1,0 +1,15 @@
+use Rattle.std.proofs.Common.{◌≡◌, List, ◌∙◌, subst}
+use Rattle.std.specs.Prelude.{IfOk, slice_index_or}
+use Rattle.tva_node.specs.States.{NodeState}
+use Rattle.tva_audit.specs.Sums.{sums_told}
+use Rattle.tva_audit.proofs.Parts.{joined_told}
+use Rattle.tva_audit.proofs.routers.sums_by_chunks.Goals as goal
+
+pub returns : goal.returns
+returns g c =
+    let items = c.in_ok-parts.parts.items in
+    let nodes = c.args.nodes.now in
+    joined_told c.joined.result c.as_slice.result.now items nodes c.args.size c.as_slice.ensures.value c.joined.ensures
+    (λ n d below. let fact = (c.in_ok-parts.ensures.each n d below).1 in
+    subst (λ (ns : List NodeState). IfOk (slice_index_or items n d) (λ sums. sums.items ≡ sums_told ns)) fact.argument_is.value fact.call)
+    c.requires.size (c.as_slice.ensures.len ∙ c.in_ok-parts.ensures.len)

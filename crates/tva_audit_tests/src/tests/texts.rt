@@ -1,0 +1,140 @@
+// Audits from outside: name, configuration, trace, report, and what the audit says.
+
+static AUDITS: [(&str, &str, &str, &str, &str); 18] = [
+    (
+        "one grant at one router",
+        "horizon_ns = 1000000000000\nmax_events = 1000\n[[router]]\nname = \"R1\"\nmaster = \"000102030405060708090a0b0c0d0e0f101112131415161718191a1b1c1d1e1f\"\nslots = 8\n",
+        "time,node,kind,src,dst,payload,shim\n5000000000,R1,list,10.0.0.1,10.0.1.1,472,00000000000a/1/10/0/R1@5\n5000000000,R1,list,10.0.0.1,10.0.1.1,472,00000000000a/1/10/0/0500112233445566\n7000000000,R1,list,10.0.0.1,10.0.1.1,472,00000000000a/1/2/0/R1@5\n",
+        "5000000000 R1 in R1#1 512 trace regular - dropped:no-route\n5000000000 R1 in R1#2 512 trace legacy bad-hash dropped:no-route\n7000000000 R1 in R1#3 512 trace legacy expired dropped:no-route\ntotal events=3 routed=3 authorised=1 demoted=2 dropped=3 started=0 received=0 bytes=0\n",
+        "same 0 1 1 512 512/2048,",
+    ),
+    (
+        "hosts have no line",
+        "horizon_ns = 1000000000\nmax_events = 1000\n[[router]]\nname = \"R1\"\nmaster = \"000102030405060708090a0b0c0d0e0f101112131415161718191a1b1c1d1e1f\"\nslots = 8\n[[host]]\nname = \"A\"\naddress = \"10.0.0.1\"\npolicy = \"client\"\n[[host]]\nname = \"B\"\naddress = \"10.0.1.1\"\npolicy = \"server\"\n[[link]]\nfrom = \"A\"\nto = \"R1\"\nns_per_byte = 10\ndelay_ns = 1000000\ntag = 1\n[[link]]\nfrom = \"R1\"\nto = \"A\"\nns_per_byte = 10\ndelay_ns = 1000000\n[[link]]\nfrom = \"R1\"\nto = \"B\"\nns_per_byte = 10\ndelay_ns = 1000000\n[[link]]\nfrom = \"B\"\nto = \"R1\"\nns_per_byte = 10\ndelay_ns = 1000000\ntag = 2\n[[route]]\nrouter = \"R1\"\nprefix = \"10.0.0.0/24\"\nvia = \"A\"\n[[route]]\nrouter = \"R1\"\nprefix = \"10.0.1.0/24\"\nvia = \"B\"\n",
+        "time,node,kind,src,dst,payload,shim\n0,A,send,,10.0.1.1,77,\n10000000,A,send,,10.0.1.1,1000,\n",
+        "0 A send A#1 100 request queued:R1\n0 A start A#1 100 R1 request 1000\n1001000 R1 in A#1 100 A request - queued:B\n1001000 R1 start A#1 110 B request 1002100\n2002100 B recv A#1 110 R1 request - B#1/35/request/grant/queued:R1\n2002100 B start B#1 35 R1 request 2002450\n3002450 R1 in B#1 35 B request - queued:A\n3002450 R1 start B#1 45 A request 3002900\n4002900 A recv B#1 45 R1 request grant A#2/52/list/grant/queued:R1\n4002900 A start A#2 52 R1 regular 4003420\n5003420 R1 in A#2 52 A regular - queued:B\n5003420 R1 start A#2 52 B regular 5003940\n6003940 B recv A#2 52 R1 regular grant -\n10000000 A send A#3 1028 nonce queued:R1\n10000000 A start A#3 1028 R1 regular 10010280\n11010280 R1 in A#3 1028 A regular - queued:B\n11010280 R1 start A#3 1028 B regular 11020560\n12020560 B recv A#3 1028 R1 regular - -\ntotal events=18 routed=4 authorised=2 demoted=0 dropped=0 started=8 received=4 bytes=1077\n",
+        "same 0 1 2 1080 1080/65536,",
+    ),
+    (
+        "no row: no grant",
+        "horizon_ns = 1000000000000\nmax_events = 1000\n[[router]]\nname = \"R1\"\nmaster = \"000102030405060708090a0b0c0d0e0f101112131415161718191a1b1c1d1e1f\"\nslots = 8\n",
+        "time,node,kind,src,dst,payload,shim\n",
+        "total events=0 routed=0 authorised=0 demoted=0 dropped=0 started=0 received=0 bytes=0\n",
+        "same 0 0 0 0 -,",
+    ),
+    (
+        "no router: no sum",
+        "horizon_ns = 1000000000000\nmax_events = 1000\n[[host]]\nname = \"A\"\naddress = \"10.0.0.1\"\npolicy = \"client\"\n[[host]]\nname = \"B\"\naddress = \"10.0.1.1\"\npolicy = \"server\"\n[[link]]\nfrom = \"A\"\nto = \"B\"\nns_per_byte = 10\ndelay_ns = 1000000\n[[link]]\nfrom = \"B\"\nto = \"A\"\nns_per_byte = 10\ndelay_ns = 1000000\n",
+        "time,node,kind,src,dst,payload,shim\n0,A,send,,10.0.1.1,77,\n",
+        "0 A send A#1 100 request queued:B\n0 A start A#1 100 B request 1000\n1001000 B recv A#1 100 A request - B#1/27/request/grant/queued:A\n1001000 B start B#1 27 A request 1001270\n2001270 A recv B#1 27 B request grant A#2/36/list/grant/queued:B\n2001270 A start A#2 36 B regular 2001630\n3001630 B recv A#2 36 A regular grant -\ntotal events=7 routed=0 authorised=0 demoted=0 dropped=0 started=3 received=3 bytes=77\n",
+        "same",
+    ),
+    (
+        "routers in the order of the file, charges of a packet that is dropped, one router without a packet and one without a charge",
+        "horizon_ns = 1000000000000\nmax_events = 1000\n[[router]]\nname = \"Z9\"\nmaster = \"000102030405060708090a0b0c0d0e0f101112131415161718191a1b1c1d1e1f\"\nslots = 8\n[[router]]\nname = \"A1\"\nmaster = \"ffffffffffffffffffffffffffffffffffffffffffffffffffffffffffffffff\"\nslots = 8\n[[router]]\nname = \"M5\"\nmaster = \"000102030405060708090a0b0c0d0e0f101112131415161718191a1b1c1d1e1f\"\nslots = 8\n[[router]]\nname = \"B2\"\nmaster = \"000102030405060708090a0b0c0d0e0f101112131415161718191a1b1c1d1e1f\"\nslots = 8\n[[link]]\nfrom = \"Z9\"\nto = \"A1\"\nns_per_byte = 10\ndelay_ns = 1000000\nregular_ring = 1\n[[link]]\nfrom = \"A1\"\nto = \"B2\"\nns_per_byte = 10\ndelay_ns = 1000000\n[[route]]\nrouter = \"Z9\"\nprefix = \"10.0.1.0/24\"\nvia = \"A1\"\n[[route]]\nrouter = \"A1\"\nprefix = \"10.0.1.0/24\"\nvia = \"B2\"\n",
+        "time,node,kind,src,dst,payload,shim\n5000000000,Z9,list,10.0.0.1,10.0.1.1,52,00000000000a/4/10/0/Z9@5;A1@5\n5000000000,Z9,list,10.0.0.2,10.0.1.1,52,00000000000a/4/10/0/Z9@5;A1@5\n5100000000,Z9,list,10.0.0.3,10.0.1.1,52,00000000000a/2/10/0/Z9@5;A1@6\n",
+        "5000000000 Z9 in Z9#1 100 trace regular - queued:A1\n5000000000 Z9 in Z9#2 100 trace regular - dropped:queue-full\n5000000000 Z9 start Z9#1 100 A1 regular 5000001000\n5001001000 A1 in Z9#1 100 Z9 regular - queued:B2\n5001001000 A1 start Z9#1 100 B2 regular 5001002000\n5002002000 B2 in Z9#1 100 A1 legacy no-capability dropped:no-route\n5100000000 Z9 in Z9#3 100 trace regular - queued:A1\n5100000000 Z9 start Z9#3 100 A1 regular 5100001000\n5101001000 A1 in Z9#3 100 Z9 legacy expired queued:B2\n5101001000 A1 start Z9#3 100 B2 legacy 5101002000\n5102002000 B2 in Z9#3 100 A1 legacy - dropped:no-route\ntotal events=11 routed=7 authorised=4 demoted=2 dropped=3 started=4 received=0 bytes=0\n",
+        "same 0 3 3 300 100/4096, 1 1 1 100 100/8192, 2 0 0 0 -, 3 0 0 0 -,",
+    ),
+    (
+        "of two equal shares the one charged first",
+        "horizon_ns = 1000000000000\nmax_events = 1000\n[[router]]\nname = \"R1\"\nmaster = \"000102030405060708090a0b0c0d0e0f101112131415161718191a1b1c1d1e1f\"\nslots = 8\n",
+        "time,node,kind,src,dst,payload,shim\n5000000000,R1,list,10.0.0.1,10.0.1.1,984,00000000000a/2/10/0/R1@5\n5000000000,R1,list,10.0.0.2,10.0.1.1,472,00000000000a/1/10/0/R1@5\n",
+        "5000000000 R1 in R1#1 1024 trace regular - dropped:no-route\n5000000000 R1 in R1#2 512 trace regular - dropped:no-route\ntotal events=2 routed=2 authorised=2 demoted=0 dropped=2 started=0 received=0 bytes=0\n",
+        "same 0 2 2 1536 1024/4096,",
+    ),
+    (
+        "restarts: two sums of 600 are no sum of 1,200",
+        "horizon_ns = 1000000000000\nmax_events = 1000\n[[router]]\nname = \"R1\"\nmaster = \"000102030405060708090a0b0c0d0e0f101112131415161718191a1b1c1d1e1f\"\nslots = 8\n[[restart]]\nrouter = \"R1\"\nat_ns = 5500000000\nmaster = \"000102030405060708090a0b0c0d0e0f101112131415161718191a1b1c1d1e1f\"\n[[restart]]\nrouter = \"R1\"\nat_ns = 5600000000\nmaster = \"000102030405060708090a0b0c0d0e0f101112131415161718191a1b1c1d1e1f\"\n",
+        "time,node,kind,src,dst,payload,shim\n5000000000,R1,list,10.0.0.1,10.0.1.1,560,00000000000a/1/10/0/R1@5\n5100000000,R1,list,10.0.0.2,10.0.1.1,660,00000000000a/1/10/0/R1@5\n5700000000,R1,list,10.0.0.1,10.0.1.1,560,00000000000a/1/10/0/R1@5\n",
+        "5000000000 R1 in R1#1 600 trace regular - dropped:no-route\n5100000000 R1 in R1#2 700 trace regular - dropped:no-route\n5700000000 R1 in R1#3 600 trace regular - dropped:no-route\ntotal events=3 routed=3 authorised=3 demoted=0 dropped=3 started=0 received=0 bytes=0\n",
+        "same 0 3 3 1900 700/2048,",
+    ),
+    (
+        "a word changed",
+        "horizon_ns = 1000000000\nmax_events = 1000\n[[router]]\nname = \"R1\"\nmaster = \"000102030405060708090a0b0c0d0e0f101112131415161718191a1b1c1d1e1f\"\nslots = 8\n[[host]]\nname = \"A\"\naddress = \"10.0.0.1\"\npolicy = \"client\"\n[[host]]\nname = \"B\"\naddress = \"10.0.1.1\"\npolicy = \"server\"\n[[link]]\nfrom = \"A\"\nto = \"R1\"\nns_per_byte = 10\ndelay_ns = 1000000\ntag = 1\n[[link]]\nfrom = \"R1\"\nto = \"A\"\nns_per_byte = 10\ndelay_ns = 1000000\n[[link]]\nfrom = \"R1\"\nto = \"B\"\nns_per_byte = 10\ndelay_ns = 1000000\n[[link]]\nfrom = \"B\"\nto = \"R1\"\nns_per_byte = 10\ndelay_ns = 1000000\ntag = 2\n[[route]]\nrouter = \"R1\"\nprefix = \"10.0.0.0/24\"\nvia = \"A\"\n[[route]]\nrouter = \"R1\"\nprefix = \"10.0.1.0/24\"\nvia = \"B\"\n",
+        "time,node,kind,src,dst,payload,shim\n0,A,send,,10.0.1.1,77,\n10000000,A,send,,10.0.1.1,1000,\n",
+        "0 A send A#1 100 request queued:R1\n0 A start A#1 100 R1 request 1000\n1001000 R1 in A#1 100 A request - queued:B\n1001000 R1 start A#1 110 B request 1002100\n2002100 B recv A#1 110 R1 request - B#1/35/request/grant/queued:R1\n2002100 B start B#1 35 R1 request 2002450\n3002450 R1 in B#1 35 B request - queued:A\n3002450 R1 start B#1 45 A request 3002900\n4002900 A recv B#1 45 R1 request grant A#2/52/list/grant/queued:R1\n4002900 A start A#2 52 R1 regular 4003420\n5003420 R1 in A#2 52 A regular - queued:B\n5003420 R1 start A#2 52 B regular 5003940\n6003940 B recv A#2 52 R1 regular grant -\n10000000 A send A#3 1028 nonce queued:R1\n10000000 A start A#3 1028 R1 regular 10010280\n11010280 R1 in A#3 1028 A regular over-n queued:B\n11010280 R1 start A#3 1028 B regular 11020560\n12020560 B recv A#3 1028 R1 regular - -\ntotal events=18 routed=4 authorised=2 demoted=0 dropped=0 started=8 received=4 bytes=1077\n",
+        "line 16: 11010280 R1 in A#3 1028 A regular - queued:B; 11010280 R1 in A#3 1028 A regular over-n queued:B",
+    ),
+    (
+        "only the total line changed",
+        "horizon_ns = 1000000000\nmax_events = 1000\n[[router]]\nname = \"R1\"\nmaster = \"000102030405060708090a0b0c0d0e0f101112131415161718191a1b1c1d1e1f\"\nslots = 8\n[[host]]\nname = \"A\"\naddress = \"10.0.0.1\"\npolicy = \"client\"\n[[host]]\nname = \"B\"\naddress = \"10.0.1.1\"\npolicy = \"server\"\n[[link]]\nfrom = \"A\"\nto = \"R1\"\nns_per_byte = 10\ndelay_ns = 1000000\ntag = 1\n[[link]]\nfrom = \"R1\"\nto = \"A\"\nns_per_byte = 10\ndelay_ns = 1000000\n[[link]]\nfrom = \"R1\"\nto = \"B\"\nns_per_byte = 10\ndelay_ns = 1000000\n[[link]]\nfrom = \"B\"\nto = \"R1\"\nns_per_byte = 10\ndelay_ns = 1000000\ntag = 2\n[[route]]\nrouter = \"R1\"\nprefix = \"10.0.0.0/24\"\nvia = \"A\"\n[[route]]\nrouter = \"R1\"\nprefix = \"10.0.1.0/24\"\nvia = \"B\"\n",
+        "time,node,kind,src,dst,payload,shim\n0,A,send,,10.0.1.1,77,\n10000000,A,send,,10.0.1.1,1000,\n",
+        "0 A send A#1 100 request queued:R1\n0 A start A#1 100 R1 request 1000\n1001000 R1 in A#1 100 A request - queued:B\n1001000 R1 start A#1 110 B request 1002100\n2002100 B recv A#1 110 R1 request - B#1/35/request/grant/queued:R1\n2002100 B start B#1 35 R1 request 2002450\n3002450 R1 in B#1 35 B request - queued:A\n3002450 R1 start B#1 45 A request 3002900\n4002900 A recv B#1 45 R1 request grant A#2/52/list/grant/queued:R1\n4002900 A start A#2 52 R1 regular 4003420\n5003420 R1 in A#2 52 A regular - queued:B\n5003420 R1 start A#2 52 B regular 5003940\n6003940 B recv A#2 52 R1 regular grant -\n10000000 A send A#3 1028 nonce queued:R1\n10000000 A start A#3 1028 R1 regular 10010280\n11010280 R1 in A#3 1028 A regular - queued:B\n11010280 R1 start A#3 1028 B regular 11020560\n12020560 B recv A#3 1028 R1 regular - -\ntotal events=18 routed=4 authorised=2 demoted=0 dropped=0 started=8 received=4 bytes=1078\n",
+        "line 19: total events=18 routed=4 authorised=2 demoted=0 dropped=0 started=8 received=4 bytes=1077; total events=18 routed=4 authorised=2 demoted=0 dropped=0 started=8 received=4 bytes=1078",
+    ),
+    (
+        "a line after the total",
+        "horizon_ns = 1000000000000\nmax_events = 1000\n[[router]]\nname = \"R1\"\nmaster = \"000102030405060708090a0b0c0d0e0f101112131415161718191a1b1c1d1e1f\"\nslots = 8\n",
+        "time,node,kind,src,dst,payload,shim\n5000000000,R1,list,10.0.0.1,10.0.1.1,472,00000000000a/1/10/0/R1@5\n5000000000,R1,list,10.0.0.1,10.0.1.1,472,00000000000a/1/10/0/0500112233445566\n7000000000,R1,list,10.0.0.1,10.0.1.1,472,00000000000a/1/2/0/R1@5\n",
+        "5000000000 R1 in R1#1 512 trace regular - dropped:no-route\n5000000000 R1 in R1#2 512 trace legacy bad-hash dropped:no-route\n7000000000 R1 in R1#3 512 trace legacy expired dropped:no-route\ntotal events=3 routed=3 authorised=1 demoted=2 dropped=3 started=0 received=0 bytes=0\nx\n",
+        "line 5: ; x",
+    ),
+    (
+        "the total line left out",
+        "horizon_ns = 1000000000000\nmax_events = 1000\n[[router]]\nname = \"R1\"\nmaster = \"000102030405060708090a0b0c0d0e0f101112131415161718191a1b1c1d1e1f\"\nslots = 8\n",
+        "time,node,kind,src,dst,payload,shim\n5000000000,R1,list,10.0.0.1,10.0.1.1,472,00000000000a/1/10/0/R1@5\n5000000000,R1,list,10.0.0.1,10.0.1.1,472,00000000000a/1/10/0/0500112233445566\n7000000000,R1,list,10.0.0.1,10.0.1.1,472,00000000000a/1/2/0/R1@5\n",
+        "5000000000 R1 in R1#1 512 trace regular - dropped:no-route\n5000000000 R1 in R1#2 512 trace legacy bad-hash dropped:no-route\n7000000000 R1 in R1#3 512 trace legacy expired dropped:no-route\n",
+        "line 4: total events=3 routed=3 authorised=1 demoted=2 dropped=3 started=0 received=0 bytes=0; ",
+    ),
+    (
+        "the empty report",
+        "horizon_ns = 1000000000000\nmax_events = 1000\n[[router]]\nname = \"R1\"\nmaster = \"000102030405060708090a0b0c0d0e0f101112131415161718191a1b1c1d1e1f\"\nslots = 8\n",
+        "time,node,kind,src,dst,payload,shim\n5000000000,R1,list,10.0.0.1,10.0.1.1,472,00000000000a/1/10/0/R1@5\n5000000000,R1,list,10.0.0.1,10.0.1.1,472,00000000000a/1/10/0/0500112233445566\n7000000000,R1,list,10.0.0.1,10.0.1.1,472,00000000000a/1/2/0/R1@5\n",
+        "",
+        "line 1: 5000000000 R1 in R1#1 512 trace regular - dropped:no-route; ",
+    ),
+    (
+        "no last line feed",
+        "horizon_ns = 1000000000\nmax_events = 1000\n[[router]]\nname = \"R1\"\nmaster = \"000102030405060708090a0b0c0d0e0f101112131415161718191a1b1c1d1e1f\"\nslots = 8\n[[host]]\nname = \"A\"\naddress = \"10.0.0.1\"\npolicy = \"client\"\n[[host]]\nname = \"B\"\naddress = \"10.0.1.1\"\npolicy = \"server\"\n[[link]]\nfrom = \"A\"\nto = \"R1\"\nns_per_byte = 10\ndelay_ns = 1000000\ntag = 1\n[[link]]\nfrom = \"R1\"\nto = \"A\"\nns_per_byte = 10\ndelay_ns = 1000000\n[[link]]\nfrom = \"R1\"\nto = \"B\"\nns_per_byte = 10\ndelay_ns = 1000000\n[[link]]\nfrom = \"B\"\nto = \"R1\"\nns_per_byte = 10\ndelay_ns = 1000000\ntag = 2\n[[route]]\nrouter = \"R1\"\nprefix = \"10.0.0.0/24\"\nvia = \"A\"\n[[route]]\nrouter = \"R1\"\nprefix = \"10.0.1.0/24\"\nvia = \"B\"\n",
+        "time,node,kind,src,dst,payload,shim\n0,A,send,,10.0.1.1,77,\n10000000,A,send,,10.0.1.1,1000,\n",
+        "0 A send A#1 100 request queued:R1\n0 A start A#1 100 R1 request 1000\n1001000 R1 in A#1 100 A request - queued:B\n1001000 R1 start A#1 110 B request 1002100\n2002100 B recv A#1 110 R1 request - B#1/35/request/grant/queued:R1\n2002100 B start B#1 35 R1 request 2002450\n3002450 R1 in B#1 35 B request - queued:A\n3002450 R1 start B#1 45 A request 3002900\n4002900 A recv B#1 45 R1 request grant A#2/52/list/grant/queued:R1\n4002900 A start A#2 52 R1 regular 4003420\n5003420 R1 in A#2 52 A regular - queued:B\n5003420 R1 start A#2 52 B regular 5003940\n6003940 B recv A#2 52 R1 regular grant -\n10000000 A send A#3 1028 nonce queued:R1\n10000000 A start A#3 1028 R1 regular 10010280\n11010280 R1 in A#3 1028 A regular - queued:B\n11010280 R1 start A#3 1028 B regular 11020560\n12020560 B recv A#3 1028 R1 regular - -\ntotal events=18 routed=4 authorised=2 demoted=0 dropped=0 started=8 received=4 bytes=1077",
+        "bad 19",
+    ),
+    (
+        "the limit of events passed with the right report",
+        "horizon_ns = 1000000000000\nmax_events = 2\n[[router]]\nname = \"R1\"\nmaster = \"000102030405060708090a0b0c0d0e0f101112131415161718191a1b1c1d1e1f\"\nslots = 8\n",
+        "time,node,kind,src,dst,payload,shim\n5000000000,R1,list,10.0.0.1,10.0.1.1,472,00000000000a/1/10/0/R1@5\n5000000000,R1,list,10.0.0.1,10.0.1.1,472,00000000000a/1/10/0/0500112233445566\n7000000000,R1,list,10.0.0.1,10.0.1.1,472,00000000000a/1/2/0/R1@5\n",
+        "5000000000 R1 in R1#1 512 trace regular - dropped:no-route\n5000000000 R1 in R1#2 512 trace legacy bad-hash dropped:no-route\n7000000000 R1 in R1#3 512 trace legacy expired dropped:no-route\ntotal events=3 routed=3 authorised=1 demoted=2 dropped=3 started=0 received=0 bytes=0\n",
+        "limit 2",
+    ),
+    (
+        "the limit of events passed after a line that differs",
+        "horizon_ns = 1000000000\nmax_events = 17\n[[router]]\nname = \"R1\"\nmaster = \"000102030405060708090a0b0c0d0e0f101112131415161718191a1b1c1d1e1f\"\nslots = 8\n[[host]]\nname = \"A\"\naddress = \"10.0.0.1\"\npolicy = \"client\"\n[[host]]\nname = \"B\"\naddress = \"10.0.1.1\"\npolicy = \"server\"\n[[link]]\nfrom = \"A\"\nto = \"R1\"\nns_per_byte = 10\ndelay_ns = 1000000\ntag = 1\n[[link]]\nfrom = \"R1\"\nto = \"A\"\nns_per_byte = 10\ndelay_ns = 1000000\n[[link]]\nfrom = \"R1\"\nto = \"B\"\nns_per_byte = 10\ndelay_ns = 1000000\n[[link]]\nfrom = \"B\"\nto = \"R1\"\nns_per_byte = 10\ndelay_ns = 1000000\ntag = 2\n[[route]]\nrouter = \"R1\"\nprefix = \"10.0.0.0/24\"\nvia = \"A\"\n[[route]]\nrouter = \"R1\"\nprefix = \"10.0.1.0/24\"\nvia = \"B\"\n",
+        "time,node,kind,src,dst,payload,shim\n0,A,send,,10.0.1.1,77,\n10000000,A,send,,10.0.1.1,1000,\n",
+        "x\n",
+        "limit 17",
+    ),
+    (
+        "the limit of events equal to the events",
+        "horizon_ns = 1000000000\nmax_events = 18\n[[router]]\nname = \"R1\"\nmaster = \"000102030405060708090a0b0c0d0e0f101112131415161718191a1b1c1d1e1f\"\nslots = 8\n[[host]]\nname = \"A\"\naddress = \"10.0.0.1\"\npolicy = \"client\"\n[[host]]\nname = \"B\"\naddress = \"10.0.1.1\"\npolicy = \"server\"\n[[link]]\nfrom = \"A\"\nto = \"R1\"\nns_per_byte = 10\ndelay_ns = 1000000\ntag = 1\n[[link]]\nfrom = \"R1\"\nto = \"A\"\nns_per_byte = 10\ndelay_ns = 1000000\n[[link]]\nfrom = \"R1\"\nto = \"B\"\nns_per_byte = 10\ndelay_ns = 1000000\n[[link]]\nfrom = \"B\"\nto = \"R1\"\nns_per_byte = 10\ndelay_ns = 1000000\ntag = 2\n[[route]]\nrouter = \"R1\"\nprefix = \"10.0.0.0/24\"\nvia = \"A\"\n[[route]]\nrouter = \"R1\"\nprefix = \"10.0.1.0/24\"\nvia = \"B\"\n",
+        "time,node,kind,src,dst,payload,shim\n0,A,send,,10.0.1.1,77,\n10000000,A,send,,10.0.1.1,1000,\n",
+        "0 A send A#1 100 request queued:R1\n0 A start A#1 100 R1 request 1000\n1001000 R1 in A#1 100 A request - queued:B\n1001000 R1 start A#1 110 B request 1002100\n2002100 B recv A#1 110 R1 request - B#1/35/request/grant/queued:R1\n2002100 B start B#1 35 R1 request 2002450\n3002450 R1 in B#1 35 B request - queued:A\n3002450 R1 start B#1 45 A request 3002900\n4002900 A recv B#1 45 R1 request grant A#2/52/list/grant/queued:R1\n4002900 A start A#2 52 R1 regular 4003420\n5003420 R1 in A#2 52 A regular - queued:B\n5003420 R1 start A#2 52 B regular 5003940\n6003940 B recv A#2 52 R1 regular grant -\n10000000 A send A#3 1028 nonce queued:R1\n10000000 A start A#3 1028 R1 regular 10010280\n11010280 R1 in A#3 1028 A regular - queued:B\n11010280 R1 start A#3 1028 B regular 11020560\n12020560 B recv A#3 1028 R1 regular - -\ntotal events=18 routed=4 authorised=2 demoted=0 dropped=0 started=8 received=4 bytes=1077\n",
+        "same 0 1 2 1080 1080/65536,",
+    ),
+    (
+        "a bad line behind a line that differs",
+        "horizon_ns = 1000000000\nmax_events = 1000\n[[router]]\nname = \"R1\"\nmaster = \"000102030405060708090a0b0c0d0e0f101112131415161718191a1b1c1d1e1f\"\nslots = 8\n[[host]]\nname = \"A\"\naddress = \"10.0.0.1\"\npolicy = \"client\"\n[[host]]\nname = \"B\"\naddress = \"10.0.1.1\"\npolicy = \"server\"\n[[link]]\nfrom = \"A\"\nto = \"R1\"\nns_per_byte = 10\ndelay_ns = 1000000\ntag = 1\n[[link]]\nfrom = \"R1\"\nto = \"A\"\nns_per_byte = 10\ndelay_ns = 1000000\n[[link]]\nfrom = \"R1\"\nto = \"B\"\nns_per_byte = 10\ndelay_ns = 1000000\n[[link]]\nfrom = \"B\"\nto = \"R1\"\nns_per_byte = 10\ndelay_ns = 1000000\ntag = 2\n[[route]]\nrouter = \"R1\"\nprefix = \"10.0.0.0/24\"\nvia = \"A\"\n[[route]]\nrouter = \"R1\"\nprefix = \"10.0.1.0/24\"\nvia = \"B\"\n",
+        "time,node,kind,src,dst,payload,shim\n0,A,send,,10.0.1.1,77,\n10000000,A,send,,10.0.1.1,1000,\n",
+        "0 A send A#1 100 request queued:R1\n0 A start A#1 100 R1 request 1000\n1001000 R1 in A#1 100 A request - queued:B\n1001000 R1 start A#1 110 B request 1002100\n2002100 B recv A#1 110 R1 request - B#1/35/request/grant/queued:R1\n2002100 B start B#1 35 R1 request 2002450\n3002450 R1 in B#1 35 B request - queued:A\n3002450 R1 start B#1 45 A request 3002900\n4002900 A recv B#1 45 R1 request grant A#2/52/list/grant/queued:R1\n4002900 A start A#2 52 R1 regular 4003420\n5003420 R1 in A#2 52 A regular - queued:B\n5003420 R1 start A#2 52 B regular 5003940\n6003940 B recv A#2 52 R1 regular grant -\n10000000 A send A#3 1028 nonce queued:R1\n10000000 A start A#3 1028 R1 regular 10010280\n11010280 R1 in A#3 1028 A regular over-n queued:B\n11010280 R1 start A#3 1028 B regular 11020560\n12020560 B recv A#3 1028 R1 regular - -\ntotal events=18 routed=4 authorised=2 demoted=0 dropped=0 started=8 received=4 bytes=1077",
+        "bad 19",
+    ),
+    (
+        "a bad line before the limit of events",
+        "horizon_ns = 1000000000000\nmax_events = 2\n[[router]]\nname = \"R1\"\nmaster = \"000102030405060708090a0b0c0d0e0f101112131415161718191a1b1c1d1e1f\"\nslots = 8\n",
+        "time,node,kind,src,dst,payload,shim\n5000000000,R1,list,10.0.0.1,10.0.1.1,472,00000000000a/1/10/0/R1@5\n5000000000,R1,list,10.0.0.1,10.0.1.1,472,00000000000a/1/10/0/0500112233445566\n7000000000,R1,list,10.0.0.1,10.0.1.1,472,00000000000a/1/2/0/R1@5\n",
+        "5000000000 R1 in R1#1 512 trace regular - dropped:no-route\n\n5000000000 R1 in R1#2 512 trace legacy bad-hash dropped:no-route\n7000000000 R1 in R1#3 512 trace legacy expired dropped:no-route\ntotal events=3 routed=3 authorised=1 demoted=2 dropped=3 started=0 received=0 bytes=0\n",
+        "bad 2",
+    ),
+];
+
+pub fn audits() -> &'static [(
+    &'static str,
+    &'static str,
+    &'static str,
+    &'static str,
+    &'static str,
+)] {
+    &AUDITS
+}
