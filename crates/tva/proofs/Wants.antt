@@ -1,5 +1,5 @@
 -- What holds of all that words can come to: its runs keep their promises, and it is to end in just one way.
-use Rattle.std.proofs.Common.{◌≡◌, ℕ, ◌+◌, Bool, true, false, cond, List, length, Result, Ok, Err, Some, None, IfSome, refl, sym, ◌∙◌, ap, subst, inl, inr, arith}
+use Rattle.std.proofs.Common.{◌≡◌, ℕ, ◌+◌, All, Bool, true, false, cond, List, length, Result, Ok, Err, Some, None, IfSome, refl, sym, ◌∙◌, ap, subst, inl, inr, arith}
 use Rattle.std.specs.declared.option.Option.{Option}
 use Rattle.std.specs.Prelude.{nat_lt, option_and_then}
 use Rattle.tva_outside.specs.Held.{Held, bytes_at}
@@ -30,7 +30,10 @@ use Rattle.tva_report.specs.declared.differences.Finding.{Finding}
 use Rattle.tva_report.specs.Differences.{first_difference}
 use Rattle.tva_report.specs.Lines.{first_bad, report_lines}
 use Rattle.tva_report.proofs.Differing.{none_of_same}
+use Rattle.tva_audit.specs.declared.routers.RouterSum.{RouterSum}
 use Rattle.tva_audit.specs.Audit.{IsFound}
+use Rattle.tva_audit.specs.Sums.{IsBelowLimit}
+use Rattle.tva_audit.proofs.Budgets.{sums_below}
 use Rattle.tva_gen.specs.Text.{generated}
 use Rattle.tva.specs.Check.{check_line}
 use Rattle.tva.specs.Command.{Command, command_of, replay, check, shim, gen, audit}
@@ -181,7 +184,11 @@ below_of_each = record {
   of_text = λ text. tt;
   of_shim = λ bytes. tt;
   of_trace = λ plan trace said valid read. tt;
-  of_audit = λ plan trace said report valid read good rows are sums are_sums. ?;
+  of_audit =
+      λ plan trace said report valid read good rows are sums has.
+      subst (λ (ss : List RouterSum). All IsBelowLimit ss) (sym has.each)
+      (sums_below plan (plan.horizon.0 + 1) has.logs
+       (λ node site is. read_run_keeps plan trace rows (plan.horizon.0 + 1) has.logs valid are has.run node site is));
   of_refusal = λ r. tt;
 }
 
