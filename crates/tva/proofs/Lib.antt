@@ -4,4 +4,7 @@ pub mod Replays
 pub mod Settled
 pub mod HexWords
 pub mod Windowed
+pub mod Reported
+pub mod SumLines
 pub mod Wants
+pub mod Audits

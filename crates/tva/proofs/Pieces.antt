@@ -8,7 +8,7 @@ use Rattle.std.specs.Io.KnownBytes.{append_known}
 use Rattle.tva_outside.proofs.Written.{append_known-append_known}
 use Rattle.tva.specs.Parts.{IsWritten, IsCut}
 use Rattle.tva.specs.declared.status.Status as status
-use Rattle.tva.specs.declared.status.Status.TheVariants.{Done, Usage, ReadFault, WriteFault, TooLarge, BadConfig, BadTrace, EventLimit, OutOfMemory}
+use Rattle.tva.specs.declared.status.Status.TheVariants.{Done, Found as Differs, Usage, ReadFault, WriteFault, TooLarge, BadConfig, BadTrace, EventLimit, OutOfMemory, BadReport}
 
 -- no bytes
 pub append_known-nil : (known : Option (List ℕ)) → append_known known [] ≡ known
@@ -31,6 +31,8 @@ written_both old mid new before between now first second Done done later w =
 written_both old mid new before between now first second WriteFault done later w = (omega (arith, w.0, later), cut_of_both old mid new first second done w.1)
 written_both old mid new before between now first second OutOfMemory done later w = cut_of_both old mid new first second done w
 written_both old mid new before between now first second Usage done later w = absurd w
+written_both old mid new before between now first second (Differs f) done later w = absurd w
+written_both old mid new before between now first second (BadReport k) done later w = absurd w
 written_both old mid new before between now first second ReadFault done later w = absurd w
 written_both old mid new before between now first second (TooLarge k) done later w = absurd w
 written_both old mid new before between now first second (BadConfig f) done later w = absurd w
@@ -53,6 +55,8 @@ stopped_first old new rose first second Done not_done w = absurd (not_done refl)
 stopped_first old new rose first second WriteFault not_done w = (w.0, cut_of_longer old new first second w.1)
 stopped_first old new rose first second OutOfMemory not_done w = cut_of_longer old new first second w
 stopped_first old new rose first second Usage not_done w = absurd w
+stopped_first old new rose first second (Differs f) not_done w = absurd w
+stopped_first old new rose first second (BadReport k) not_done w = absurd w
 stopped_first old new rose first second ReadFault not_done w = absurd w
 stopped_first old new rose first second (TooLarge k) not_done w = absurd w
 stopped_first old new rose first second (BadConfig f) not_done w = absurd w

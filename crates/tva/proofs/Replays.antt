@@ -21,7 +21,7 @@ use Rattle.tva.specs.Answer.{Answers}
 use Rattle.tva.specs.Parts.{IsCut, IsFound, IsReplayed}
 use Rattle.tva_run.specs.Shown.{IsBegun, IsCutShort, all_of}
 use Rattle.tva.specs.declared.status.Status as status
-use Rattle.tva.specs.declared.status.Status.TheVariants.{Done, Usage, ReadFault, WriteFault, TooLarge, BadConfig, BadTrace, EventLimit, OutOfMemory}
+use Rattle.tva.specs.declared.status.Status.TheVariants.{Done, Found as Differs, Usage, ReadFault, WriteFault, TooLarge, BadConfig, BadTrace, EventLimit, OutOfMemory, BadReport}
 use Rattle.tva.proofs.Pieces.{append_known-nil, cut_of_longer}
 
 -- the lines of the windows before the one that passes the number of events are the first of all up to its end
@@ -83,6 +83,8 @@ module _ (plan : Config) (trace : List ℕ) (rows : List Row) (valid : IsConfig 
       (record { told = has.told; events = has.events; whole = has.whole }) (of_rows other others theirs report)) in
       ((text, (rows, are, has), written), each)
   answers_of_replayed w old new Usage a = absurd a
+  answers_of_replayed w old new (Differs f) a = absurd a
+  answers_of_replayed w old new (BadReport k) a = absurd a
   answers_of_replayed w old new ReadFault a = absurd a
   answers_of_replayed w old new WriteFault (rose, (text, begun, cut)) =
       let begins : (others : List Row) (other : List ℕ) → AreRows plan trace others → IsReport plan others other → IsCut old new other =
@@ -104,8 +106,10 @@ module _ (plan : Config) (trace : List ℕ) (rows : List Row) (valid : IsConfig 
 -- ## files
 
 -- an answer of what reads no more is one of what has read
-with_reads : (x : Expected) (r w : Type 0) (old new : Option (List ℕ)) (s : status.Status) → Answers (Some x) ⊥ w old new s → Answers (Some x) r w old new s
+pub with_reads : (x : Expected) (r w : Type 0) (old new : Option (List ℕ)) (s : status.Status) → Answers (Some x) ⊥ w old new s → Answers (Some x) r w old new s
 with_reads x r w old new Done a = a
+with_reads x r w old new (Differs f) a = a
+with_reads x r w old new (BadReport k) a = a
 with_reads x r w old new Usage a = a
 with_reads x r w old new ReadFault a = (elim a.0 [ inl none ↦ absurd none | inr missing ↦ inr missing ], a.1)
 with_reads x r w old new WriteFault a = a
@@ -116,8 +120,10 @@ with_reads x r w old new (EventLimit m) a = a
 with_reads x r w old new OutOfMemory a = a
 
 -- where the shelf tells nothing, less is said
-untold : (x : Expected) (r w : Type 0) (old new : Option (List ℕ)) (s : status.Status) → (Some x ≡ Some (refuses ReadFault) → ⊥) → Answers (Some x) ⊥ w old new s → Answers None r w old new s
+pub untold : (x : Expected) (r w : Type 0) (old new : Option (List ℕ)) (s : status.Status) → (Some x ≡ Some (refuses ReadFault) → ⊥) → Answers (Some x) ⊥ w old new s → Answers None r w old new s
 untold x r w old new Done apart a = tt
+untold x r w old new (Differs f) apart a = (tt, a.1)
+untold x r w old new (BadReport k) apart a = (tt, a.1)
 untold x r w old new Usage apart a = a
 untold x r w old new ReadFault apart a = absurd (elim a.0 [ inl none ↦ none | inr missing ↦ apart missing ])
 untold x r w old new WriteFault apart a = (a.0, tt)

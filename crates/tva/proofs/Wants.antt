@@ -1,5 +1,5 @@
 -- What holds of all that words can come to: its runs keep their promises, and it is to end in just one way.
-use Rattle.std.proofs.Common.{◌≡◌, ℕ, ◌+◌, Bool, true, false, cond, List, length, Result, Ok, Err, Some, None, IfSome, refl, ap, subst, inl, inr, arith}
+use Rattle.std.proofs.Common.{◌≡◌, ℕ, ◌+◌, All, Bool, true, false, cond, List, length, Result, Ok, Err, Some, None, IfSome, refl, sym, ◌∙◌, ap, subst, inl, inr, arith}
 use Rattle.std.specs.declared.option.Option.{Option}
 use Rattle.std.specs.Prelude.{nat_lt, option_and_then}
 use Rattle.tva_outside.specs.Held.{Held, bytes_at}
@@ -26,23 +26,34 @@ use Rattle.tva_paths.proofs.Steady.{honest_regular}
 use Rattle.tva_delivery.proofs.Kept.{keeps}
 use Rattle.tva_trace.proofs.FewFiles.{files_few}
 use Rattle.tva_existence.proofs.Whole.{read_events}
+use Rattle.tva_report.specs.declared.differences.Finding.{Finding}
+use Rattle.tva_report.specs.Differences.{first_difference}
+use Rattle.tva_report.specs.Lines.{first_bad, report_lines}
+use Rattle.tva_report.proofs.Differing.{none_of_same}
+use Rattle.tva_audit.specs.declared.routers.RouterSum.{RouterSum}
+use Rattle.tva_audit.specs.Audit.{IsFound}
+use Rattle.tva_audit.specs.Sums.{IsBelowLimit}
+use Rattle.tva_audit.proofs.Budgets.{sums_below}
 use Rattle.tva_gen.specs.Text.{generated}
 use Rattle.tva.specs.Check.{check_line}
-use Rattle.tva.specs.Command.{Command, command_of, replay, check, shim, gen}
-use Rattle.tva.specs.Expected.{Expected, writes, shows, replays, refuses, Found, followed, ◌>>=◌, within_limit, plan_at, plan_or_fault, trace_or_fault, of_plan, told, Ends, EndsReplay}
-use Rattle.tva.specs.Network.{ArePromisesKept, AreHonestTaken, AreFilesKept}
-use Rattle.tva_run.specs.Shown.{IsPastLimit, IsWithinLimit}
+use Rattle.tva.specs.Command.{Command, command_of, replay, check, shim, gen, audit}
+use Rattle.tva.specs.Expected.{Expected, writes, shows, replays, audits, refuses, Found, followed, ◌>>=◌, within_limit, plan_at, plan_or_fault, trace_at, trace_or_fault, report_at, report_or_fault, of_plan, of_trace, told, Ends, EndsAudit, EndsReplay}
+use Rattle.tva.specs.Network.{ArePromisesKept, AreHonestTaken, AreFilesKept, AreSumsBelow}
+use Rattle.tva_run.specs.Shown.{HasReport, IsPastLimit, IsWithinLimit}
 use Rattle.tva.specs.Wanted.{wanted, HasOneEnd}
+use Rattle.tva.proofs.Reported.{ends_report, one_report, some_is_there, some_same, text_of_same}
 use Rattle.tva.specs.declared.status.Status as status
-use Rattle.tva.specs.declared.status.Status.TheVariants.{Done, Usage, ReadFault, WriteFault, TooLarge, BadConfig, BadTrace, EventLimit, OutOfMemory}
+use Rattle.tva.specs.declared.status.Status.TheVariants.{Done, Found as Differs, Usage, ReadFault, WriteFault, TooLarge, BadConfig, BadTrace, EventLimit, OutOfMemory, BadReport}
 
 -- ## what holds of each
 
--- it holds of all texts and refusals, and of the replay of each trace that is read under a valid plan
+-- it holds of all texts and refusals, of the replay of each trace that is read under a valid plan, and of its audit with each
+-- report without a bad line
 record HoldsOfEach (P : Expected → Type 0) : Type 0 where
   pub of_text : (text : List ℕ) → P (writes text)
   pub of_shim : (bytes : List ℕ) → P (shows bytes)
   pub of_trace : (plan : Config) (trace : List ℕ) (said : List SaidRow) → IsConfig plan → rows_of plan trace ≡ Ok said → P (replays plan trace)
+  pub of_audit : (plan : Config) (trace : List ℕ) (said : List SaidRow) (report : List ℕ) → IsConfig plan → rows_of plan trace ≡ Ok said → first_bad report ≡ None → P (audits plan trace report)
   pub of_refusal : (r : status.Status) → P (refuses r)
 
 module _ (P : Expected → Type 0) (holds : HoldsOfEach P) where
@@ -69,23 +80,42 @@ module _ (P : Expected → Type 0) (holds : HoldsOfEach P) where
   of_plan_at name files next h =
       of_file 1048576 (bytes_at files name) (λ bytes. plan_or_fault (read_of bytes)) next (λ bytes. of_plan_or_fault bytes (read_of bytes) next refl h)
 
-  of_trace_or_fault : (plan : Config) (text : List ℕ) (r : Result (List SaidRow) TraceFault) → rows_of plan text ≡ r → IsConfig plan
-      → P (followed (trace_or_fault text r) (replays plan))
-  of_trace_or_fault plan text (Ok said) e valid = holds.of_trace plan text said valid e
-  of_trace_or_fault plan text (Err fault) e valid = holds.of_refusal (BadTrace fault)
+  of_trace_or_fault : (plan : Config) (text : List ℕ) (r : Result (List SaidRow) TraceFault) (next : List ℕ → Expected) → rows_of plan text ≡ r
+      → ((said : List SaidRow) → rows_of plan text ≡ Ok said → P (next text))
+      → P (followed (trace_or_fault text r) next)
+  of_trace_or_fault plan text (Ok said) next e h = h said e
+  of_trace_or_fault plan text (Err fault) next e h = holds.of_refusal (BadTrace fault)
 
-  of_trace_at : (name : List ℕ) (files : Held) (plan : Config) → IsConfig plan → P (of_plan name files plan)
-  of_trace_at name files plan valid =
-      of_file 67108864 (bytes_at files name) (λ text. trace_or_fault text (rows_of plan text)) (replays plan) (λ text. of_trace_or_fault plan text (rows_of plan text) refl valid)
+  of_trace_at : (name : List ℕ) (files : Held) (plan : Config) (next : List ℕ → Expected)
+      → ((text : List ℕ) (said : List SaidRow) → rows_of plan text ≡ Ok said → P (next text))
+      → P (followed (trace_at plan name files) next)
+  of_trace_at name files plan next h =
+      of_file 67108864 (bytes_at files name) (λ text. trace_or_fault text (rows_of plan text)) next (λ text. of_trace_or_fault plan text (rows_of plan text) next refl (h text))
+
+  of_report_or_fault : (text : List ℕ) (r : Option ℕ) (next : List ℕ → Expected) → first_bad text ≡ r → (first_bad text ≡ None → P (next text))
+      → P (followed (report_or_fault text r) next)
+  of_report_or_fault text None next e h = h e
+  of_report_or_fault text (Some line) next e h = holds.of_refusal (BadReport line)
+
+  of_report_at : (name : List ℕ) (files : Held) (next : List ℕ → Expected) → ((text : List ℕ) → first_bad text ≡ None → P (next text))
+      → P (followed (report_at name files) next)
+  of_report_at name files next h =
+      of_file 1073741824 (bytes_at files name) (λ text. report_or_fault text (first_bad text)) next (λ text. of_report_or_fault text (first_bad text) next refl (h text))
 
   of_told : (files : Held) (c : Command) → IfSome (told (Some files) c) P
   of_told files (replay config trace) =
-      of_plan_at config files (of_plan trace files) (λ plan valid. of_trace_at trace files plan valid)
+      of_plan_at config files (of_plan trace files)
+      (λ plan valid. of_trace_at trace files plan (replays plan) (λ text said read. holds.of_trace plan text said valid read))
   of_told files (check config) =
       of_plan_at config files (λ plan. writes (check_line plan)) (λ plan valid. holds.of_text (check_line plan))
   of_told files (shim bytes) = holds.of_shim bytes
   of_told files (gen seed count config) =
       of_plan_at config files (λ plan. writes (generated plan seed count)) (λ plan valid. holds.of_text (generated plan seed count))
+  of_told files (audit config trace report) =
+      of_plan_at config files (λ plan. followed (trace_at plan trace files) (of_trace report files plan))
+      (λ plan valid.
+      of_trace_at trace files plan (of_trace report files plan)
+      (λ text said read. of_report_at report files (audits plan text) (λ bytes good. holds.of_audit plan text said bytes valid read good)))
 
   of_command : (files : Held) (c : Option Command) → IfSome (option_and_then (told (Some files)) c) P
   of_command files None = tt
@@ -102,6 +132,8 @@ kept_of_each = record {
   of_shim = λ bytes. tt;
   of_trace =
       λ plan trace said valid read rows are until logs run node site is. read_run_keeps plan trace rows until logs valid are run node site is;
+  of_audit =
+      λ plan trace said report valid read good rows are until logs run node site is. read_run_keeps plan trace rows until logs valid are run node site is;
   of_refusal = λ r. tt;
 }
 
@@ -118,6 +150,9 @@ honest_of_each = record {
   of_trace =
       λ plan trace said valid read rows are until logs run.
       honest_regular plan rows until logs valid (read_given plan trace rows until logs valid are run) run;
+  of_audit =
+      λ plan trace said report valid read good rows are until logs run.
+      honest_regular plan rows until logs valid (read_given plan trace rows until logs valid are run) run;
   of_refusal = λ r. tt;
 }
 
@@ -133,12 +168,33 @@ files_of_each = record {
   of_shim = λ bytes. tt;
   of_trace =
       λ plan trace said valid read rows are until logs run. keeps plan rows until logs valid (files_few plan trace rows are) run;
+  of_audit =
+      λ plan trace said report valid read good rows are until logs run. keeps plan rows until logs valid (files_few plan trace rows are) run;
   of_refusal = λ r. tt;
 }
 
 -- and its files
 pub files_of_wanted : (words : List (List ℕ)) (files : Held) → IfSome (wanted (Some files) words) AreFilesKept
 files_of_wanted = of_wanted AreFilesKept files_of_each
+
+-- ## sums
+
+below_of_each : HoldsOfEach AreSumsBelow
+below_of_each = record {
+  of_text = λ text. tt;
+  of_shim = λ bytes. tt;
+  of_trace = λ plan trace said valid read. tt;
+  of_audit =
+      λ plan trace said report valid read good rows are sums has.
+      subst (λ (ss : List RouterSum). All IsBelowLimit ss) (sym has.each)
+      (sums_below plan (plan.horizon.0 + 1) has.logs
+       (λ node site is. read_run_keeps plan trace rows (plan.horizon.0 + 1) has.logs valid are has.run node site is));
+  of_refusal = λ r. tt;
+}
+
+-- and the sums of an audit are below their limits
+pub below_of_wanted : (words : List (List ℕ)) (files : Held) → IfSome (wanted (Some files) words) AreSumsBelow
+below_of_wanted = of_wanted AreSumsBelow below_of_each
 
 -- ## one end
 
@@ -155,6 +211,8 @@ module _ (plan : Config) (trace : List ℕ) (rows : List Row) (valid : IsConfig 
   within_ends : (other : status.Status) → IsWithinLimit plan rows → EndsReplay plan rows other → other ≡ Done
   within_ends Done w o = refl
   within_ends Usage w o = absurd o
+  within_ends (Differs f) w o = absurd o
+  within_ends (BadReport k) w o = absurd o
   within_ends ReadFault w o = absurd o
   within_ends WriteFault w o = absurd o
   within_ends (TooLarge k) w o = absurd o
@@ -166,6 +224,8 @@ module _ (plan : Config) (trace : List ℕ) (rows : List Row) (valid : IsConfig 
   past_ends : (other : status.Status) → IsPastLimit plan rows → EndsReplay plan rows other → other ≡ EventLimit plan.max_events
   past_ends Done p o = absurd (apart plan rows valid o p)
   past_ends Usage p o = absurd o
+  past_ends (Differs f) p o = absurd o
+  past_ends (BadReport k) p o = absurd o
   past_ends ReadFault p o = absurd o
   past_ends WriteFault p o = absurd o
   past_ends (TooLarge k) p o = absurd o
@@ -185,17 +245,101 @@ module _ (plan : Config) (trace : List ℕ) (rows : List Row) (valid : IsConfig 
         (Done, (rows, are, within), λ other o. within_ends other within (of_these other o))
   ]
 
+  -- ## audits
+
+  module _ (report : List ℕ) (good : first_bad report ≡ None) where
+    audit_of_these : (s : status.Status) → Ends s (audits plan trace report) → EndsAudit plan rows report s
+    audit_of_these s (others, theirs, ends) = subst (λ (rs : List Row). EndsAudit plan rs report s) (rows_are_one plan trace others rows theirs are) ends
+
+    past_audit : (other : status.Status) → IsPastLimit plan rows → EndsAudit plan rows report other → other ≡ EventLimit plan.max_events
+    past_audit Done p o = absurd (apart plan rows valid (report, o) p)
+    past_audit (Differs f) p o = absurd (apart plan rows valid (o.text, o.has) p)
+    past_audit Usage p o = absurd o
+    past_audit ReadFault p o = absurd o
+    past_audit WriteFault p o = absurd o
+    past_audit (TooLarge k) p o = absurd o
+    past_audit (BadConfig fault) p o = absurd o
+    past_audit (BadTrace fault) p o = absurd o
+    past_audit (EventLimit m) p o = ap EventLimit o.0
+    past_audit OutOfMemory p o = absurd o
+    past_audit (BadReport k) p o = absurd o
+
+    -- the report of the run decides the others
+    of_text_of : (text : List ℕ) (f : Finding) → HasReport plan rows text → IsFound plan rows report f
+        → first_difference (report_lines text) (report_lines report) ≡ Some f
+    of_text_of text f has found =
+        subst (λ (t : List ℕ). first_difference (report_lines t) (report_lines report) ≡ Some f) (one_report plan rows valid found.text text found.has has) found.first
+
+    same_audit : (text : List ℕ) (other : status.Status) → HasReport plan rows text
+        → first_difference (report_lines text) (report_lines report) ≡ None → EndsAudit plan rows report other → other ≡ Done
+    same_audit text Done has same o = refl
+    same_audit text (Differs f) has same o = absurd (some_is_there f (sym (of_text_of text f has o) ∙ same))
+    same_audit text Usage has same o = absurd o
+    same_audit text ReadFault has same o = absurd o
+    same_audit text WriteFault has same o = absurd o
+    same_audit text (TooLarge k) has same o = absurd o
+    same_audit text (BadConfig fault) has same o = absurd o
+    same_audit text (BadTrace fault) has same o = absurd o
+    same_audit text (EventLimit m) has same o = absurd (apart plan rows valid (text, has) o.1)
+    same_audit text OutOfMemory has same o = absurd o
+    same_audit text (BadReport k) has same o = absurd o
+
+    differs_audit : (text : List ℕ) (f : Finding) (other : status.Status) → HasReport plan rows text
+        → first_difference (report_lines text) (report_lines report) ≡ Some f → EndsAudit plan rows report other → other ≡ Differs f
+    differs_audit text f Done has differs o =
+        let same : text ≡ report = one_report plan rows valid text report has o in
+        let found : first_difference (report_lines report) (report_lines report) ≡ Some f =
+        subst (λ (t : List ℕ). first_difference (report_lines t) (report_lines report) ≡ Some f) same differs in
+        absurd (some_is_there f (sym found ∙ none_of_same 1 (report_lines report)))
+    differs_audit text f (Differs g) has differs o = ap Differs (some_same (sym (of_text_of text g has o) ∙ differs))
+    differs_audit text f Usage has differs o = absurd o
+    differs_audit text f ReadFault has differs o = absurd o
+    differs_audit text f WriteFault has differs o = absurd o
+    differs_audit text f (TooLarge k) has differs o = absurd o
+    differs_audit text f (BadConfig fault) has differs o = absurd o
+    differs_audit text f (BadTrace fault) has differs o = absurd o
+    differs_audit text f (EventLimit m) has differs o = absurd (apart plan rows valid (text, has) o.1)
+    differs_audit text f OutOfMemory has differs o = absurd o
+    differs_audit text f (BadReport k) has differs o = absurd o
+
+    compared_end : (text : List ℕ) → HasReport plan rows text → (d : Option Finding)
+        → first_difference (report_lines text) (report_lines report) ≡ d → HasOneEnd (audits plan trace report)
+    compared_end text has None same =
+        let is : text ≡ report = text_of_same text report (ends_report plan rows text has) good same in
+        (Done, (rows, are, subst (λ (t : List ℕ). HasReport plan rows t) is has), λ other o. same_audit text other has same (audit_of_these other o))
+    compared_end text has (Some f) differs =
+        (Differs f, (rows, are, record { text = text; has = has; first = differs }), λ other o. differs_audit text f other has differs (audit_of_these other o))
+
+    one_audit : (told : List Event) → AreEventsTo plan rows (plan.horizon.0 + 1) told → HasOneEnd (audits plan trace report)
+    one_audit told events = elim (cases_lt plan.max_events (length told)) [
+      | inl more ↦
+          let past : IsPastLimit plan rows = record { until = plan.horizon.0 + 1; told = told; events = events; more = more } in
+          (EventLimit plan.max_events, (rows, are, (refl, past)), λ other o. past_audit other past (audit_of_these other o))
+      | inr few ↦
+          let text : List ℕ = report_of plan told in
+          compared_end text (record { told = told; events = events; few = few; whole = refl })
+          (first_difference (report_lines text) (report_lines report)) refl
+    ]
+
 end_of_trace : (plan : Config) (trace : List ℕ) (said : List SaidRow) → IsConfig plan → rows_of plan trace ≡ Ok said → HasOneEnd (replays plan trace)
 end_of_trace plan trace said valid read =
     let found = rows_there plan trace said read in
     let events = read_events plan found.0 valid trace found.1 in
     one_end plan trace found.0 valid found.1 events.0 events.1
 
+end_of_audit : (plan : Config) (trace : List ℕ) (said : List SaidRow) (report : List ℕ) → IsConfig plan → rows_of plan trace ≡ Ok said → first_bad report ≡ None
+    → HasOneEnd (audits plan trace report)
+end_of_audit plan trace said report valid read good =
+    let found = rows_there plan trace said read in
+    let events = read_events plan found.0 valid trace found.1 in
+    one_audit plan trace found.0 valid found.1 report good events.0 events.1
+
 one_end_of_each : HoldsOfEach HasOneEnd
 one_end_of_each = record {
   of_text = λ text. (Done, refl, λ other o. o);
   of_shim = λ bytes. (Done, refl, λ other o. o);
   of_trace = end_of_trace;
+  of_audit = end_of_audit;
   of_refusal = λ r. (r, refl, λ other o. o);
 }
 

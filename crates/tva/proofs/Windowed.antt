@@ -24,7 +24,7 @@ use Rattle.tva_net.specs.Steps.{GoesOn, HasEnded, PassesLimit, Refuses}
 use Rattle.tva.specs.Parts.{IsReplayed, IsWritten, WroteCutShort, ended_by}
 use Rattle.tva_run.specs.Shown.{AreLines, HasReport, IsBegun, IsCutShort, all_of}
 use Rattle.tva.specs.declared.status.Status as status
-use Rattle.tva.specs.declared.status.Status.TheVariants.{Done, Usage, ReadFault, WriteFault, TooLarge, BadConfig, BadTrace, EventLimit, OutOfMemory}
+use Rattle.tva.specs.declared.status.Status.TheVariants.{Done, Found as Differs, Usage, ReadFault, WriteFault, TooLarge, BadConfig, BadTrace, EventLimit, OutOfMemory, BadReport}
 use Rattle.tva.proofs.Pieces.{append_known-nil, written_both}
 
 -- each link of a configuration that was read joins two nodes
@@ -94,6 +94,8 @@ module _ (plan : Config) (rows : List Row) where
   begun_ends old now rose text WriteFault b done w = (w.0, (text, b, w.1))
   begun_ends old now rose text OutOfMemory b done w = inr (text, b, w)
   begun_ends old now rose text Usage b done w = absurd w
+  begun_ends old now rose text (Differs f) b done w = absurd w
+  begun_ends old now rose text (BadReport k) b done w = absurd w
   begun_ends old now rose text ReadFault b done w = absurd w
   begun_ends old now rose text (TooLarge k) b done w = absurd w
   begun_ends old now rose text (BadConfig f) b done w = absurd w

@@ -5,12 +5,14 @@ use Rattle.std.specs.Io.KnownBytes.{append_known}
 use Rattle.tva_trace.specs.declared.rows.Row.{Row}
 use Rattle.tva_trace.specs.Meaning.{AreRows}
 use Rattle.tva_run.specs.Report.{IsReport}
-use Rattle.tva.specs.Expected.{Expected, replays, refuses, IsText}
+use Rattle.tva.specs.Expected.{Expected, replays, audits, refuses, IsText}
 use Rattle.tva.specs.Parts.{IsCut, WroteCutShort}
-use Rattle.tva_run.specs.Shown.{IsBegun}
+use Rattle.tva_run.specs.Shown.{IsBegun, IsPastLimit}
+use Rattle.tva_audit.specs.Audit.{IsFound}
+use Rattle.tva_report.specs.declared.differences.Finding.{Finding}
 use Rattle.tva.specs.declared.status.Status as status
-use Rattle.tva.specs.declared.status.Status.TheVariants.{Done, Usage, ReadFault, WriteFault, TooLarge}
-use Rattle.tva.specs.declared.status.Status.TheVariants.{BadConfig, BadTrace, EventLimit, OutOfMemory}
+use Rattle.tva.specs.declared.status.Status.TheVariants.{Done, Found, Usage, ReadFault, WriteFault, TooLarge}
+use Rattle.tva.specs.declared.status.Status.TheVariants.{BadConfig, BadTrace, EventLimit, OutOfMemory, BadReport}
 
 -- ## what is written
 
@@ -31,11 +33,19 @@ WroteCut old new x = (text : List ℕ) × IsBegunText x text × IsCut old new te
 abbrev pub WrotePart : Option (List ℕ) → Option (List ℕ) → Expected → Type 0
 WrotePart old new x = (new ≡ old) ⊎ WroteCut old new x
 
--- the lines of all windows before the one in which the run passes its number of events are written
+-- the lines of all windows before the one in which the run passes its number of events are written; an audit then writes
+-- nothing
 abbrev pub WroteLines : ℕ → Option (List ℕ) → Option (List ℕ) → Expected → Type 0
 WroteLines most old new (replays plan trace) =
     (rows : List Row) × AreRows plan trace rows × WroteCutShort plan rows most old new
+WroteLines most old new (audits plan trace report) =
+    (rows : List Row) × AreRows plan trace rows × (most ≡ plan.max_events) × IsPastLimit plan rows × (new ≡ old)
 WroteLines most old new x = ⊥
+
+-- an audit found a line that differs
+abbrev pub HasFound : Finding → Expected → Type 0
+HasFound f (audits plan trace report) = (rows : List Row) × AreRows plan trace rows × IsFound plan rows report f
+HasFound f x = ⊥
 
 -- ## every run
 
@@ -57,6 +67,8 @@ BeginsEach old new x = Unit {0}
 -- written before and after
 abbrev pub Answers : Option Expected → Type 0 → Type 0 → Option (List ℕ) → Option (List ℕ) → status.Status → Type 0
 Answers e read_rose write_rose old new Done = IfSome e (λ x. WroteAll old new x × WroteEach old new x)
+Answers e read_rose write_rose old new (Found f) = IfSome e (HasFound f) × (new ≡ old)
+Answers e read_rose write_rose old new (BadReport line) = IfSome e (λ x. x ≡ refuses (BadReport line)) × (new ≡ old)
 Answers e read_rose write_rose old new Usage = ⊥
 Answers e read_rose write_rose old new ReadFault = (read_rose ⊎ (e ≡ Some (refuses ReadFault))) × (new ≡ old)
 Answers e read_rose write_rose old new WriteFault = write_rose × IfSome e (λ x. WroteCut old new x × BeginsEach old new x)

@@ -16,6 +16,7 @@ pub data Command : Type 0 where
   check : List ℕ → Command
   shim : List ℕ → Command
   gen : ℕ → ℕ → List ℕ → Command
+  audit : List ℕ → List ℕ → List ℕ → Command
 
 -- the words as bytes
 abbrev pub texts : List (String Global) → List (List ℕ)
@@ -34,7 +35,10 @@ gen_of seed count config = do
 
 -- the command that the words are
 abbrev pub command_of : List (List ℕ) → Option Command
-command_of (word ∷ seed ∷ count ∷ config ∷ []) = if bytes_eq word (codes "gen") then gen_of seed count config else None
+command_of (word ∷ one ∷ two ∷ three ∷ []) =
+    if bytes_eq word (codes "gen") then gen_of one two three
+    else if bytes_eq word (codes "audit") then Some (audit one two three)
+    else None
 command_of (word ∷ config ∷ trace ∷ []) = if bytes_eq word (codes "replay") then Some (replay config trace) else None
 command_of (word ∷ name ∷ []) =
     if bytes_eq word (codes "check") then Some (check name)

@@ -14,18 +14,24 @@ use Rattle.tva_trace.specs.Rows.{rows_of}
 use Rattle.tva_trace.specs.Meaning.{AreRows}
 use Rattle.tva_trace.specs.ShimText.{IsTextOf}
 use Rattle.tva_gen.specs.Text.{generated}
+use Rattle.tva_audit.specs.Audit.{HasSums, IsFound}
+use Rattle.tva_audit.specs.declared.routers.RouterSum.{RouterSum}
+use Rattle.tva_report.specs.Lines.{first_bad, report_lines}
+use Rattle.tva.specs.Audit.{audit_text}
 use Rattle.tva.specs.Check.{check_line}
-use Rattle.tva.specs.Command.{Command, replay, check, shim, gen}
+use Rattle.tva.specs.Command.{Command, replay, check, shim, gen, audit}
 use Rattle.tva_run.specs.Shown.{HasReport, IsWithinLimit, IsPastLimit}
 use Rattle.tva.specs.declared.status.Status as status
-use Rattle.tva.specs.declared.status.Status.TheVariants.{Done, ReadFault, TooLarge, BadConfig, BadTrace}
+use Rattle.tva.specs.declared.status.Status.TheVariants.{Done, Found as Differs, ReadFault, TooLarge, BadConfig, BadTrace, BadReport}
 use Rattle.tva.specs.declared.status.Status.TheVariants.{EventLimit}
 
--- a text to write, the text of a shim's bytes, the report of a trace under a plan, or the status with which it is refused
+-- a text to write, the text of a shim's bytes, the report of a trace under a plan, the audit of a text as that report, or
+-- the status with which it is refused
 pub data Expected : Type 0 where
   writes : List ℕ → Expected
   shows : List ℕ → Expected
   replays : Config → List ℕ → Expected
+  audits : Config → List ℕ → List ℕ → Expected
   refuses : status.Status → Expected
 
 -- what is found, or the status with which it is refused
@@ -67,12 +73,27 @@ trace_or_fault text (Err fault) = Err (BadTrace fault)
 abbrev pub trace_at : Config → List ℕ → Held → Found (List ℕ)
 trace_at plan name files = file_at 67108864 name files >>= λ text. trace_or_fault text (rows_of plan text)
 
+-- a report without a bad line that is held under a name, in at most 1 GiB
+abbrev pub report_or_fault : List ℕ → Option ℕ → Found (List ℕ)
+report_or_fault text None = Ok text
+report_or_fault text (Some line) = Err (BadReport line)
+
+abbrev pub report_at : List ℕ → Held → Found (List ℕ)
+report_at name files = file_at 1073741824 name files >>= λ text. report_or_fault text (first_bad text)
+
 -- what comes of a command that reads files, file by file: each is judged before the next one is loaded
 abbrev pub of_plan : List ℕ → Held → Config → Expected
 of_plan trace files plan = followed (trace_at plan trace files) (replays plan)
 
 abbrev pub of_replay : List ℕ → List ℕ → Held → Expected
 of_replay config trace files = followed (plan_at config files) (of_plan trace files)
+
+abbrev pub of_trace : List ℕ → Held → Config → List ℕ → Expected
+of_trace report files plan rows = followed (report_at report files) (audits plan rows)
+
+abbrev pub of_audit : List ℕ → List ℕ → List ℕ → Held → Expected
+of_audit config trace report files =
+    followed (plan_at config files) (λ plan. followed (trace_at plan trace files) (of_trace report files plan))
 
 abbrev pub of_check : List ℕ → Held → Expected
 of_check config files = followed (plan_at config files) (λ plan. writes (check_line plan))
@@ -86,12 +107,16 @@ told held (replay config trace) = option_map (of_replay config trace) held
 told held (check config) = option_map (of_check config) held
 told held (shim bytes) = Some (shows bytes)
 told held (gen seed count config) = option_map (of_gen seed count config) held
+told held (audit config trace report) = option_map (of_audit config trace report) held
 
 -- the text is what is to be written
 abbrev pub IsText : Expected → List ℕ → Type 0
 IsText (writes whole) text = text ≡ whole
 IsText (shows bytes) text = (line : List ℕ) × IsTextOf bytes line × (text ≡ line ++ codes "\n")
 IsText (replays plan trace) text = (rows : List Row) × AreRows plan trace rows × HasReport plan rows text
+IsText (audits plan trace report) text =
+    (rows : List Row) × AreRows plan trace rows × HasReport plan rows report
+    × (sums : List RouterSum) × HasSums plan rows sums × (text ≡ audit_text plan sums (length (report_lines report)))
 IsText (refuses r) text = ⊥
 
 -- how the replay of rows ends where nothing fails
@@ -100,9 +125,18 @@ EndsReplay plan rows Done = IsWithinLimit plan rows
 EndsReplay plan rows (EventLimit most) = (most ≡ plan.max_events) × IsPastLimit plan rows
 EndsReplay plan rows _ = ⊥
 
+-- how the audit of a report of rows ends where nothing fails: it is the report, the run has more events than it may have,
+-- or a line differs
+abbrev pub EndsAudit : Config → List Row → List ℕ → status.Status → Type 0
+EndsAudit plan rows report Done = HasReport plan rows report
+EndsAudit plan rows report (EventLimit most) = (most ≡ plan.max_events) × IsPastLimit plan rows
+EndsAudit plan rows report (Differs f) = IsFound plan rows report f
+EndsAudit plan rows report _ = ⊥
+
 -- how a run ends where nothing fails
 abbrev pub Ends : status.Status → Expected → Type 0
 Ends s (writes text) = s ≡ Done
 Ends s (shows bytes) = s ≡ Done
 Ends s (replays plan trace) = (rows : List Row) × AreRows plan trace rows × EndsReplay plan rows s
+Ends s (audits plan trace report) = (rows : List Row) × AreRows plan trace rows × EndsAudit plan rows report s
 Ends s (refuses r) = s ≡ r

@@ -1,5 +1,5 @@
--- What holds of every run that a replay can have, whatever the replay answers.
-use Rattle.std.specs.Prelude.{◌≡◌, ℕ, List, Some}
+-- What holds of every run that a replay or an audit can have, whatever it answers.
+use Rattle.std.specs.Prelude.{◌≡◌, ℕ, List, All, Some}
 use Rattle.tva_plan.specs.declared.config.Config.{Config}
 use Rattle.tva_trace.specs.declared.rows.Row.{Row}
 use Rattle.tva_trace.specs.Meaning.{AreRows}
@@ -9,7 +9,16 @@ use Rattle.tva_run.specs.Run.{IsRunTo}
 use Rattle.tva_promises.specs.Promises.{KeepsPromises}
 use Rattle.tva_paths.specs.Paths.{AreHonestRegular}
 use Rattle.tva_delivery.specs.Delivery.{KeepsFiles}
-use Rattle.tva.specs.Expected.{Expected, replays}
+use Rattle.tva_audit.specs.Audit.{HasSums}
+use Rattle.tva_audit.specs.Sums.{IsBelowLimit}
+use Rattle.tva_audit.specs.declared.routers.RouterSum.{RouterSum}
+use Rattle.tva.specs.Expected.{Expected, replays, audits}
+
+-- it holds of the rows of a trace that is to be replayed, or whose report is to be audited
+abbrev pub OfRows : (Config → List Row → Type 0) → Expected → Type 0
+OfRows holds (replays plan trace) = (rows : List Row) → AreRows plan trace rows → holds plan rows
+OfRows holds (audits plan trace report) = (rows : List Row) → AreRows plan trace rows → holds plan rows
+OfRows holds x = Unit {0}
 
 -- in every run up to any time the log of each node keeps its promises, a router's for each of its boots
 abbrev pub EachKeepsPromises : Config → List Row → Type 0
@@ -17,21 +26,26 @@ EachKeepsPromises plan rows =
     (until : ℕ) (logs : Logs) → IsRunTo plan rows until logs
     → (node : ℕ) (site : Site) → site_at plan node ≡ Some site → KeepsPromises site until (log_at logs node)
 
--- so it is in every run of a trace that is to be replayed
 abbrev pub ArePromisesKept : Expected → Type 0
-ArePromisesKept (replays plan trace) = (rows : List Row) → AreRows plan trace rows → EachKeepsPromises plan rows
-ArePromisesKept x = Unit {0}
+ArePromisesKept x = OfRows EachKeepsPromises x
 
--- in every run of a trace that is to be replayed, up to any time, what an honest sender shows is regular at each router to
--- which its path is steady
+-- in every such run, up to any time, what an honest sender shows is regular at each router to which its path is steady
+abbrev pub EachTakesHonest : Config → List Row → Type 0
+EachTakesHonest plan rows = (until : ℕ) (logs : Logs) → IsRunTo plan rows until logs → AreHonestRegular plan logs
+
 abbrev pub AreHonestTaken : Expected → Type 0
-AreHonestTaken (replays plan trace) = (rows : List Row) → AreRows plan trace rows
-    → (until : ℕ) (logs : Logs) → IsRunTo plan rows until logs → AreHonestRegular plan logs
-AreHonestTaken x = Unit {0}
+AreHonestTaken x = OfRows EachTakesHonest x
 
 -- in every such run, up to any time, each receiver delivers the ranges of a transfer in order and once, no more than its
 -- file has, and no sender believes more than was delivered
+abbrev pub EachKeepsFiles : Config → List Row → Type 0
+EachKeepsFiles plan rows = (until : ℕ) (logs : Logs) → IsRunTo plan rows until logs → KeepsFiles plan logs
+
 abbrev pub AreFilesKept : Expected → Type 0
-AreFilesKept (replays plan trace) = (rows : List Row) → AreRows plan trace rows
-    → (until : ℕ) (logs : Logs) → IsRunTo plan rows until logs → KeepsFiles plan logs
-AreFilesKept x = Unit {0}
+AreFilesKept x = OfRows EachKeepsFiles x
+
+-- in the sums of each audited run the worst grant of each router has less than twice its units
+abbrev pub AreSumsBelow : Expected → Type 0
+AreSumsBelow (audits plan trace report) = (rows : List Row) → AreRows plan trace rows
+    → (sums : List RouterSum) → HasSums plan rows sums → All IsBelowLimit sums
+AreSumsBelow x = Unit {0}

@@ -1,5 +1,5 @@
 -- What the parts of a command answer.
-use Rattle.std.specs.Prelude.{◌≡◌, ◌⊎◌, ℕ, List, take, IfSome, Some, Ok, Err}
+use Rattle.std.specs.Prelude.{◌≡◌, ◌⊎◌, ℕ, List, length, take, IfSome, None, Some, Ok, Err}
 use Rattle.std.specs.declared.option.Option.{Option}
 use Rattle.std.specs.Io.KnownBytes.{append_known}
 use Rattle.tva_outside.specs.Held.{Held}
@@ -8,11 +8,17 @@ use Rattle.tva_trace.specs.declared.rows.Row.{Row}
 use Rattle.tva_trace.specs.Meaning.{AreRows}
 use Rattle.tva_net.specs.declared.kinds.NetError.{NetError}
 use Rattle.tva_net.specs.declared.kinds.NetError.TheVariants as error
+use Rattle.tva_report.specs.Lines.{first_bad, report_lines}
+use Rattle.tva_audit.specs.Audit.{HasSums, IsFound as IsDifference}
+use Rattle.tva_audit.specs.declared.routers.RouterSum.{RouterSum}
+use Rattle.tva_audit.specs.declared.audits.AuditError.{AuditError}
+use Rattle.tva_audit.specs.declared.audits.AuditError.TheVariants as audit
+use Rattle.tva.specs.Audit.{audit_text}
 use Rattle.tva.specs.Expected.{Found}
-use Rattle.tva_run.specs.Shown.{HasReport, IsBegun, IsCutShort}
+use Rattle.tva_run.specs.Shown.{HasReport, IsBegun, IsCutShort, IsPastLimit}
 use Rattle.tva.specs.declared.status.Status as status
-use Rattle.tva.specs.declared.status.Status.TheVariants.{Done, ReadFault, WriteFault, TooLarge}
-use Rattle.tva.specs.declared.status.Status.TheVariants.{BadConfig, BadTrace, EventLimit, OutOfMemory}
+use Rattle.tva.specs.declared.status.Status.TheVariants.{Done, Found as Differs, ReadFault, WriteFault, TooLarge}
+use Rattle.tva.specs.declared.status.Status.TheVariants.{BadConfig, BadTrace, EventLimit, OutOfMemory, BadReport}
 
 -- that is what is found, where it is told what is held
 abbrev pub IsFound : {A : Type 0} → Option Held → (Held → Found A) → A → Type 0
@@ -63,3 +69,35 @@ IsReplayed plan rows old new rose _ = ⊥
 abbrev pub ended_by : NetError → status.Status
 ended_by (error.EventLimit most) = EventLimit most
 ended_by error.OutOfMemory = OutOfMemory
+
+-- the text of the audit of a report, which is that of the run
+abbrev pub IsAuditText : Config → List Row → List ℕ → List ℕ → Type 0
+IsAuditText plan rows report text =
+    HasReport plan rows report
+    × (sums : List RouterSum) × HasSums plan rows sums × (text ≡ audit_text plan sums (length (report_lines report)))
+
+-- the first bytes of that text, some or all, are written
+abbrev pub WroteAudit : Config → List Row → List ℕ → Option (List ℕ) → Option (List ℕ) → Type 0
+WroteAudit plan rows report old new = (text : List ℕ) × IsAuditText plan rows report text × IsCut old new text
+
+-- how the audit of a report without a bad line ends
+abbrev pub EndsAudited : Config → List Row → List ℕ → Option (List ℕ) → Option (List ℕ) → Type 0 → status.Status → Type 0
+EndsAudited plan rows report old new rose Done =
+    (text : List ℕ) × IsAuditText plan rows report text × (new ≡ append_known old text)
+EndsAudited plan rows report old new rose (Differs f) = IsDifference plan rows report f × (new ≡ old)
+EndsAudited plan rows report old new rose WriteFault = rose × WroteAudit plan rows report old new
+EndsAudited plan rows report old new rose (EventLimit most) =
+    (most ≡ plan.max_events) × IsPastLimit plan rows × (new ≡ old)
+EndsAudited plan rows report old new rose OutOfMemory = (new ≡ old) ⊎ WroteAudit plan rows report old new
+EndsAudited plan rows report old new rose _ = ⊥
+
+-- how the audit of a report of rows under a plan ends
+abbrev pub IsAudited : Config → List Row → List ℕ → Option (List ℕ) → Option (List ℕ) → Type 0 → status.Status → Type 0
+IsAudited plan rows report old new rose (BadReport line) = (first_bad report ≡ Some line) × (new ≡ old)
+IsAudited plan rows report old new rose s = (first_bad report ≡ None) × EndsAudited plan rows report old new rose s
+
+-- how it ends where the audit comes to an error
+abbrev pub refused_by : AuditError → status.Status
+refused_by (audit.BadReport line) = BadReport line
+refused_by (audit.EventLimit most) = EventLimit most
+refused_by audit.OutOfMemory = OutOfMemory

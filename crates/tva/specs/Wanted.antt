@@ -2,8 +2,8 @@
 use Rattle.std.specs.Prelude.{◌≡◌, ◌⊎◌, ℕ, List, option_and_then, None, Some}
 use Rattle.std.specs.declared.option.Option.{Option}
 use Rattle.tva_outside.specs.Held.{Held}
-use Rattle.tva.specs.Command.{Command, command_of, replay, check, shim, gen}
-use Rattle.tva.specs.Expected.{Expected, writes, shows, replays, refuses, told, Ends}
+use Rattle.tva.specs.Command.{Command, command_of, replay, check, shim, gen, audit}
+use Rattle.tva.specs.Expected.{Expected, writes, shows, replays, audits, refuses, told, Ends}
 use Rattle.tva.specs.declared.status.Status as status
 use Rattle.tva.specs.declared.status.Status.TheVariants.{Done, WriteFault, EventLimit, OutOfMemory}
 
@@ -18,6 +18,7 @@ NeedsNoFile (Some (replay config trace)) = ⊥
 NeedsNoFile (Some (check config)) = ⊥
 NeedsNoFile (Some (shim bytes)) = Unit {0}
 NeedsNoFile (Some (gen seed count config)) = ⊥
+NeedsNoFile (Some (audit config trace report)) = ⊥
 
 -- a status with which nothing is written
 abbrev pub IsRefusal : status.Status → Type 0
@@ -36,6 +37,7 @@ abbrev pub SettlesRefusal : status.Status → Expected → Type 0
 SettlesRefusal s (writes text) = Unit {0}
 SettlesRefusal s (shows bytes) = Unit {0}
 SettlesRefusal s (replays plan trace) = Unit {0}
+SettlesRefusal s (audits plan trace report) = Unit {0}
 SettlesRefusal s (refuses r) = Settles s (refuses r)
 
 -- it is to end in just one way, and no other: a trace that is to be replayed has rows, and their run is within the number of

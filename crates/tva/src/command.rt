@@ -1,5 +1,5 @@
 // The words of the command line.
-ghost use Rattle.std.specs.Prelude.{◌≡◌, IfSome, ◌≤◌, length};
+ghost use Rattle.std.specs.Prelude.{◌≡◌, IfSome, ◌≤◌, [], ◌∷◌, length};
 ghost use Rattle.std.specs.Option.{option_map};
 ghost use Rattle.tva.specs.Asked.{asked};
 ghost use Rattle.tva.specs.Command.{command_of, texts, bytes_of_hex, gen_of};
@@ -55,6 +55,11 @@ pub enum Command<'a> {
         count: u32,
         config: &'a str,
     },
+    Audit {
+        config: &'a str,
+        trace: &'a str,
+        report: &'a str,
+    },
 }
 
 /// The command that the words are, if they are one.
@@ -73,10 +78,27 @@ pub fn parse(words: &[String]) -> Option<Command<'_>>
             Some(bytes) => Some(Command::Shim { bytes }),
             None => None,
         },
-        [word, seed, count, config] if word.as_str() == "gen" => {
-            gen_of(seed.as_str(), count.as_str(), config.as_str())
+        [word, one, two, three] => {
+            of_four(word.as_str(), one.as_str(), two.as_str(), three.as_str())
         }
         _ => None,
+    }
+}
+
+// The command of a word and three more.
+fn of_four<'a>(word: &str, one: &'a str, two: &'a str, three: &'a str) -> Option<Command<'a>>
+    ensures { option_map asked result ≡ command_of (word.now ∷ one.now ∷ two.now ∷ three.now ∷ []) }
+{
+    if word == "gen" {
+        gen_of(one, two, three)
+    } else if word == "audit" {
+        Some(Command::Audit {
+            config: one,
+            trace: two,
+            report: three,
+        })
+    } else {
+        None
     }
 }
 

@@ -4,6 +4,7 @@
 //! prefix of it, and exactly when each refusal comes.
 #![tactic(auto)]
 
+mod audited;
 mod check;
 mod command;
 mod lines;
@@ -27,6 +28,9 @@ const CONFIG_MAX: u64 = 1_048_576;
 
 /// The most bytes of a trace, 64 MiB.
 const TRACE_MAX: u64 = 67_108_864;
+
+/// The most bytes of a report, 1 GiB.
+const REPORT_MAX: u64 = 1_073_741_824;
 
 // The words after the program's name.
 fn words(rt: &(impl std::rt::Env + AllocGlobal)) -> io::Result<Vec<String>> {

@@ -5,13 +5,16 @@ ghost use Rattle.tva.specs.Status.{number_of, text_of_status, config_fault_words
 use arrayvec::ArrayString;
 use itoa::Buffer;
 use tva_config::ConfigFault;
+use tva_report::Finding;
 use tva_trace::TraceFault;
 
-/// How a run ends: with the whole text written, or with the reason why it isn't. `TooLarge` has the
-/// limit of the file and one, and `EventLimit` the greatest number of events.
+/// How a run ends: with the whole text written, or with the reason why it isn't. `Found` has the first
+/// line in which an audited report differs, `TooLarge` the limit of the file and one, `EventLimit` the
+/// greatest number of events, and `BadReport` the number of a report's first bad line.
 #[derive(Debug, Drop)]
 pub enum Status {
     Done,
+    Found(Finding),
     Usage,
     ReadFault,
     WriteFault,
@@ -20,6 +23,7 @@ pub enum Status {
     BadTrace(TraceFault),
     EventLimit(u64),
     OutOfMemory,
+    BadReport(u64),
 }
 
 impl Status {
@@ -29,6 +33,7 @@ impl Status {
     {
         match self {
             Status::Done => 0,
+            Status::Found(_) => 1,
             Status::Usage => 2,
             Status::ReadFault => 3,
             Status::WriteFault => 4,
@@ -37,6 +42,7 @@ impl Status {
             Status::BadTrace(_) => 7,
             Status::EventLimit(_) => 8,
             Status::OutOfMemory => 9,
+            Status::BadReport(_) => 10,
         }
     }
 }
@@ -48,8 +54,12 @@ pub fn status_text(status: &Status, text: &mut ArrayString<128>)
     text.clear();
     match status {
         Status::Done => {}
+        Status::Found(finding) => {
+            text.push_str("found: line ");
+            text.push_str(Buffer::new().format(finding.line));
+        }
         Status::Usage => text.push_str(
-            "usage: tva replay CONFIG TRACE, check CONFIG, shim HEX, gen SEED COUNT CONFIG",
+            "usage: tva replay CONFIG TRACE, check CONFIG, shim HEX, gen SEED COUNT CONFIG, audit CONFIG TRACE REPORT",
         ),
         Status::ReadFault => text.push_str("read fault"),
         Status::WriteFault => text.push_str("write fault"),
@@ -70,6 +80,10 @@ pub fn status_text(status: &Status, text: &mut ArrayString<128>)
             text.push_str(" events");
         }
         Status::OutOfMemory => text.push_str("out of memory"),
+        Status::BadReport(line) => {
+            text.push_str("bad report: line ");
+            text.push_str(Buffer::new().format(*line));
+        }
     }
 }
 

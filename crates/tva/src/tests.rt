@@ -11,7 +11,7 @@ mod damage;
 mod gates;
 
 // Files by their names.
-static FILES: [(&str, &str); 10] = [
+static FILES: [(&str, &str); 11] = [
     (
         "edge",
         "horizon_ns = 1000000000000\nmax_events = 1000\n[[router]]\nname = \"R1\"\nmaster = \"000102030405060708090a0b0c0d0e0f101112131415161718191a1b1c1d1e1f\"\nslots = 8\n",
@@ -49,6 +49,7 @@ static FILES: [(&str, &str); 10] = [
         "steps",
         "time,node,kind,src,dst,payload,shim\n0,A,send,,10.0.1.1,77,\n10000000,A,send,,10.0.1.1,1000,\n",
     ),
+    ("report", REPORT),
 ];
 
 // The report of a replay of `walk` and `steps`.
@@ -73,7 +74,7 @@ fn shelf(rt: &impl AllocGlobal) -> Result<MemoryShelf, AllocError> {
 }
 
 // Words, and what is written where there is memory.
-const WRITTEN: [(&str, &str); 4] = [
+const WRITTEN: [(&str, &str); 5] = [
     ("replay walk steps", REPORT),
     ("check walk", "config nodes=3 links=4 routes=2 slots=8\n"),
     (
@@ -83,6 +84,10 @@ const WRITTEN: [(&str, &str); 4] = [
     (
         "gen 7 1 walk",
         "time,node,kind,src,dst,payload,shim\n83850,A,send,,10.0.0.1,269,\n",
+    ),
+    (
+        "audit walk steps report",
+        "R1 grants=1 charges=2 bytes=1080 worst=1080/65536\nreport ok lines=19\n",
     ),
 ];
 

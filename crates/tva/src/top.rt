@@ -3,17 +3,20 @@ ghost use Rattle.std.specs.Prelude.{◌≡◌, ◌≤◌, ◌⊎◌, ◌↔◌, 
 ghost use Rattle.tva_outside.specs.Held.{Held};
 ghost use Rattle.tva_outside.specs.Faults.{Rose};
 ghost use Rattle.tva_config_entries.specs.declared.faults.ConfigFault.{ConfigFault};
+ghost use Rattle.tva_report.specs.declared.differences.Finding.{Finding};
 ghost use Rattle.tva_trace.specs.declared.rows.TraceFault.{TraceFault};
 ghost use Rattle.tva.specs.Asked.{asked};
-ghost use Rattle.tva.specs.Command.{command_of, texts, replay, check, shim, gen};
+ghost use Rattle.tva.specs.Command.{command_of, texts, replay, check, shim, gen, audit};
 ghost use Rattle.tva.specs.Expected.{told, shows, refuses};
-ghost use Rattle.tva.specs.Answer.{Answers, BeginsEach, WroteAll, WroteEach, WroteLines, WrotePart};
-ghost use Rattle.tva.specs.Network.{AreFilesKept, AreHonestTaken, ArePromisesKept};
+ghost use Rattle.tva.specs.Answer.{Answers, BeginsEach, HasFound, WroteAll, WroteEach, WroteLines, WrotePart};
+ghost use Rattle.tva.specs.Network.{AreFilesKept, AreHonestTaken, ArePromisesKept, AreSumsBelow};
 ghost use Rattle.tva.specs.Wanted.{wanted, HasOneEnd, IsRefusal, NeedsNoFile, Settles, SettlesRefusal};
 
+use crate::REPORT_MAX;
+use crate::audited::audit_rows;
 use crate::check::put_check_line;
 use crate::command::{Command, parse};
-use crate::parts::{load_plan, load_rows, send, send_both};
+use crate::parts::{load, load_plan, load_rows, send, send_both};
 use crate::replay::replay_rows;
 use crate::status::Status;
 use arrayvec::ArrayString;
@@ -25,8 +28,9 @@ use tva_trace::shim_text;
 
 /// Does what the words ask for, over the files of the shelf, and writes to the sink. Refusals come
 /// in this order: words that are no command; then, file by file, a file that can't be loaded or is
-/// too large, and a fault of the configuration or of the trace; then, window by window, more events
-/// than the configuration allows, and failing writes.
+/// too large, and a fault of the configuration or of the trace, or a bad line of the report; then, window
+/// by window, more events than the configuration allows, and failing writes. A line of an audited report
+/// that differs is told where the run ends.
 #[tactic(auto, using(crate::proofs::Fronts::part_of_answer, crate::proofs::Fronts::begins_of_answer, crate::proofs::Settled::settles_of_answer, crate::proofs::Settled::refusal_of_answer))]
 pub fn run<R: Threads + Sync, S: Shelf, W: Sink, G: Gate>(
     rt: &R,
@@ -47,10 +51,15 @@ pub fn run<R: Threads + Sync, S: Shelf, W: Sink, G: Gate>(
         IfSome (wanted (S.held shelf.old) (texts words.now)) (λ x. x ≡ refuses (Status.BadConfig fault)) }
     ensures bad_trace { (fault : TraceFault) → result ≡ Status.BadTrace fault →
         IfSome (wanted (S.held shelf.old) (texts words.now)) (λ x. x ≡ refuses (Status.BadTrace fault)) }
+    ensures bad_report { (line : ℕ) → result ≡ Status.BadReport line →
+        IfSome (wanted (S.held shelf.old) (texts words.now)) (λ x. x ≡ refuses (Status.BadReport line)) }
+    ensures found { (finding : Finding) → result ≡ Status.Found finding →
+        IfSome (wanted (S.held shelf.old) (texts words.now)) (HasFound finding) }
 
-    // What is written: the whole text, and of a replay the report of the run, which is the only one;
-    // with the event limit the lines of all windows before the one that passes it; and always the
-    // first bytes of a text that is to be written, with which the report of each run begins.
+    // What is written: the whole text, of a replay the report of the run, which is the only one, and of
+    // an audit, whose report is that of the run, what its routers let through; with the event limit the
+    // lines of all windows before the one that passes it, and nothing by an audit; and always the first
+    // bytes of a text that is to be written, with which the report of each run begins.
     ensures done { result ≡ Status.Done →
         IfSome (wanted (S.held shelf.old) (texts words.now)) (WroteAll (W.written out.old) (W.written out.new)) }
     ensures one { result ≡ Status.Done →
@@ -70,12 +79,13 @@ pub fn run<R: Threads + Sync, S: Shelf, W: Sink, G: Gate>(
 
     // Of any files, whatever shelf and sink tell, and whatever the answer. There is just one way in
     // which the words are to end over them: a trace that is to be replayed has rows, and their run is
-    // within its number of events, or passes it.
+    // within its number of events, or passes it. An audited report is that of the run, or has a first
+    // line that differs.
     ensures one_end { (files : Held) → IfSome (wanted (Some files) (texts words.now)) HasOneEnd }
 
-    // The network: in every run of a trace that is to be replayed, up to any time, the log of each
-    // node keeps its promises at each of its places. Budgets are counted for each router, each of its
-    // boots and each grant.
+    // The network: in every run of a trace that is to be replayed, or whose report is audited, up to any
+    // time, the log of each node keeps its promises at each of its places. Budgets are counted for each
+    // router, each of its boots and each grant.
     ensures network { (files : Held) → IfSome (wanted (Some files) (texts words.now)) ArePromisesKept }
 
     // Honest senders, in each such run: what shows a grant is charged and regular at each router to
@@ -85,6 +95,9 @@ pub fn run<R: Threads + Sync, S: Shelf, W: Sink, G: Gate>(
     // Files, in each such run: whatever is lost, dropped, demoted, repeated or late, a receiver delivers
     // each range of a transfer once and in order, and its sender never believes more than was delivered.
     ensures delivered { (files : Held) → IfSome (wanted (Some files) (texts words.now)) AreFilesKept }
+
+    // Sums: in each whole run of an audited trace no router let a grant have twice its units in one boot.
+    ensures limits { (files : Held) → IfSome (wanted (Some files) (texts words.now)) AreSumsBelow }
 
     // What stays. Words that need no file leave the shelf as it was, and usage the sink, whatever
     // they are.
@@ -125,6 +138,11 @@ fn run_command<R: Threads + Sync, S: Shelf, W: Sink, G: Gate>(
             count,
             config,
         } => run_gen(alloc, *seed, *count, config, shelf, out),
+        Command::Audit {
+            config,
+            trace,
+            report,
+        } => run_audit(rt, alloc, config, trace, report, shelf, out, gate),
     }
 }
 
@@ -207,4 +225,36 @@ fn run_gen<S: Shelf, W: Sink>(
         Ok(text) => send(out, &text),
         Err(_) => Status::OutOfMemory,
     }
+}
+
+fn run_audit<R: Threads + Sync, S: Shelf, W: Sink, G: Gate>(
+    rt: &R,
+    alloc: Global,
+    config: &str,
+    trace: &str,
+    report: &str,
+    shelf: &mut S,
+    out: &mut W,
+    gate: &G,
+) -> Status
+    ensures held { S.held shelf.new ≡ S.held shelf.old }
+    ensures reads { S.faults shelf.old ≤ S.faults shelf.new }
+    ensures writes { W.faults out.old ≤ W.faults out.new }
+    ensures answer { Answers (told (S.held shelf.old) (audit config.now trace.now report.now))
+        (Rose (S.faults shelf.old) (S.faults shelf.new)) (Rose (W.faults out.old) (W.faults out.new))
+        (W.written out.old) (W.written out.new) result }
+{
+    let plan = match load_plan(alloc, shelf, config) {
+        Ok(plan) => plan,
+        Err(status) => return status,
+    };
+    let rows = match load_rows(alloc, shelf, trace, &plan) {
+        Ok(rows) => rows,
+        Err(status) => return status,
+    };
+    let text = match load(alloc, shelf, report, REPORT_MAX) {
+        Ok(text) => text,
+        Err(status) => return status,
+    };
+    audit_rows(rt, alloc, &plan, rows, text.as_slice(), out, gate)
 }

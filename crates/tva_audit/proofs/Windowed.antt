@@ -165,7 +165,7 @@ module _ (config : Config) (rows : List Row) (report : List ℕ) where
     decided (Ok (Same sums)) good last d =
         let lines : all_lines ≡ report_lines report = same_of_none 1 all_lines (report_lines report) d.0 in
         let text : text_of all_lines ≡ report = ap text_of lines ∙ good_back report good in
-        (subst (HasReport config rows) text reports, has_sums sums.items d.1)
+        (good, subst (HasReport config rows) text reports, has_sums sums.items d.1)
     decided (Err OutOfMemory) good last d = good
     decided (Err (BadReport line)) good last d = absurd d
     decided (Err (EventLimit most)) good last d = absurd d

@@ -35,4 +35,5 @@ IsAudit config rows report (Err (EventLimit most)) =
     (first_bad report ≡ None) × (most ≡ config.max_events) × IsPastLimit config rows
 IsAudit config rows report (Err OutOfMemory) = first_bad report ≡ None
 IsAudit config rows report (Ok (Differs f)) = (first_bad report ≡ None) × IsFound config rows report f
-IsAudit config rows report (Ok (Same sums)) = HasReport config rows report × HasSums config rows sums.items
+IsAudit config rows report (Ok (Same sums)) =
+    (first_bad report ≡ None) × HasReport config rows report × HasSums config rows sums.items

@@ -94,7 +94,7 @@ impl Gate for Starts {
 
 // Words, the names that they load, and how often the first node and the second are told: once a window,
 // and not where nothing is to come.
-static LOADS: [(&str, &str, u64, u64); 16] = [
+static LOADS: [(&str, &str, u64, u64); 23] = [
     ("replay edge trace", "edge trace ", 1, 0),
     ("replay pair both", "pair both ", 1, 1),
     ("replay pair header", "pair header ", 0, 0),
@@ -106,6 +106,13 @@ static LOADS: [(&str, &str, u64, u64); 16] = [
     ("replay nothing trace", "nothing ", 0, 0),
     ("replay huge trace", "huge ", 0, 0),
     ("replay ends trace", "ends ", 0, 0),
+    ("audit edge trace report", "edge trace report ", 1, 0),
+    ("audit pair both report", "pair both report ", 1, 1),
+    ("audit edge trace trace", "edge trace trace ", 1, 0),
+    ("audit edge trace nothing", "edge trace nothing ", 0, 0),
+    ("audit edge falling report", "edge falling ", 0, 0),
+    ("audit ends trace report", "ends ", 0, 0),
+    ("audit edge trace", "", 0, 0),
     ("check walk", "walk ", 0, 0),
     ("gen 7 2 walk", "walk ", 0, 0),
     ("shim 100600", "", 0, 0),
