@@ -196,6 +196,38 @@ fn told(
     }
 }
 
+/// What is told of a call on one of three couriers, or of a packet that is put to the others.
+fn answer(
+    rt: &impl Abort,
+    alloc: Global,
+    a: &mut Courier,
+    b: &mut Courier,
+    c: &mut Courier,
+    packets: &mut Vec<Packet>,
+    call: &str,
+) -> Result<String, Fail>
+    requires a { a.old.host.last ≤ 0 }
+    requires b { b.old.host.last ≤ 0 }
+    requires c { c.old.host.last ≤ 0 }
+    ensures a { a.new.host.last ≤ 0 }
+    ensures b { b.new.host.last ≤ 0 }
+    ensures c { c.new.host.last ≤ 0 }
+{
+    let mut words = call.split(' ');
+    match words.next() {
+        Some("A") => told(rt, alloc, a, packets, call),
+        Some("B") => told(rt, alloc, b, packets, call),
+        Some("C") => told(rt, alloc, c, packets, call),
+        _ => {
+            let src = address_of(words.next());
+            let dst = address_of(words.next());
+            let upper = upper_of(words.next().unwrap_or(""));
+            packets.push(part_of(Flow { src, dst }, upper))?;
+            Ok(upper_word(alloc, upper)?)
+        }
+    }
+}
+
 /// Plays the calls of a case, and counts them.
 fn play(rt: &impl Abort, alloc: Global, case: &str) -> Result<u64, Fail> {
     let mut a = courier_of(alloc, 1, Address(1))?;
@@ -204,24 +236,11 @@ fn play(rt: &impl Abort, alloc: Global, case: &str) -> Result<u64, Fail> {
     let mut packets: Vec<Packet> = Vec::new(alloc);
     let mut calls = 0u64;
     for line in case.lines().skip(1) {
-        let Some((call, wanted)) = line.split_once(" -> ") else {
-            continue;
-        };
-        let mut words = call.split(' ');
-        let answer = match words.next() {
-            Some("A") => told(rt, alloc, &mut a, &mut packets, call)?,
-            Some("B") => told(rt, alloc, &mut b, &mut packets, call)?,
-            Some("C") => told(rt, alloc, &mut c, &mut packets, call)?,
-            _ => {
-                let src = address_of(words.next());
-                let dst = address_of(words.next());
-                let upper = upper_of(words.next().unwrap_or(""));
-                packets.push(part_of(Flow { src, dst }, upper))?;
-                upper_word(alloc, upper)?
-            }
-        };
-        assert_eq!(rt; answer.as_str(), wanted, "{line}");
-        calls = calls.wrapping_add(1);
+        if let Some((call, wanted)) = line.split_once(" -> ") {
+            let told = answer(rt, alloc, &mut a, &mut b, &mut c, &mut packets, call)?;
+            assert_eq!(rt; told.as_str(), wanted, "{line}");
+            calls = calls.wrapping_add(1);
+        }
     }
     Ok(calls)
 }

@@ -81,6 +81,29 @@ fn call<R: Abort>(
     Ok(())
 }
 
+/// One call on one of two couriers.
+fn turn<R: Abort>(
+    rt: &R,
+    alloc: Global,
+    a: &mut Courier,
+    b: &mut Courier,
+    one: &mut Plain,
+    other: &mut Plain,
+    sent: &mut Vec<Packet>,
+    state: &mut u64,
+) -> Result<(), AllocError>
+    requires a { a.old.host.last ≤ 0 }
+    requires b { b.old.host.last ≤ 0 }
+    ensures a { a.new.host.last ≤ 0 }
+    ensures b { b.new.host.last ≤ 0 }
+{
+    if next(state, 2) == 0 {
+        call(rt, alloc, a, one, sent, state)
+    } else {
+        call(rt, alloc, b, other, sent, state)
+    }
+}
+
 /// Makes the calls, and compares each answer.
 pub fn compare<R: Abort>(rt: &R, alloc: Global, seed: u64) -> Result<(), AllocError> {
     let mut a = courier_of(alloc, 0, Address(0))?;
@@ -90,11 +113,9 @@ pub fn compare<R: Abort>(rt: &R, alloc: Global, seed: u64) -> Result<(), AllocEr
     let mut sent: Vec<Packet> = Vec::new(alloc);
     let mut state = seed;
     for _ in 0..CALLS {
-        if next(&mut state, 2) == 0 {
-            call(rt, alloc, &mut a, &mut one, &mut sent, &mut state)?;
-        } else {
-            call(rt, alloc, &mut b, &mut other, &mut sent, &mut state)?;
-        }
+        turn(
+            rt, alloc, &mut a, &mut b, &mut one, &mut other, &mut sent, &mut state,
+        )?;
     }
     let (begun, done) = one.counts();
     assert!(rt;
