@@ -30,6 +30,7 @@ fn word(happened: &Happened) -> &'static str {
         Happened::Sent { .. } => "send",
         Happened::Received { .. } => "recv",
         Happened::Started { .. } => "start",
+        Happened::Ticked => "tick",
     }
 }
 

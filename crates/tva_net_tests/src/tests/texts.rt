@@ -1,6 +1,6 @@
 // Small networks from outside: name, configuration, trace, and what happens in each window and at the end.
 
-static NETWORKS: [(&str, &str, &str, &str); 12] = [
+static NETWORKS: [(&str, &str, &str, &str); 13] = [
     (
         "from a request to nonce packets",
         "horizon_ns = 1000000000\nmax_events = 18\n[[router]]\nname = \"R1\"\nmaster = \"000102030405060708090a0b0c0d0e0f101112131415161718191a1b1c1d1e1f\"\nslots = 8\n[[host]]\nname = \"A\"\naddress = \"10.0.0.1\"\npolicy = \"client\"\n[[host]]\nname = \"B\"\naddress = \"10.0.1.1\"\npolicy = \"server\"\n[[link]]\nfrom = \"A\"\nto = \"R1\"\nns_per_byte = 10\ndelay_ns = 1000000\ntag = 1\n[[link]]\nfrom = \"R1\"\nto = \"A\"\nns_per_byte = 10\ndelay_ns = 1000000\n[[link]]\nfrom = \"R1\"\nto = \"B\"\nns_per_byte = 10\ndelay_ns = 1000000\n[[link]]\nfrom = \"B\"\nto = \"R1\"\nns_per_byte = 10\ndelay_ns = 1000000\ntag = 2\n[[route]]\nrouter = \"R1\"\nprefix = \"10.0.0.0/24\"\nvia = \"A\"\n[[route]]\nrouter = \"R1\"\nprefix = \"10.0.1.0/24\"\nvia = \"B\"\n",
@@ -72,6 +72,12 @@ static NETWORKS: [(&str, &str, &str, &str); 12] = [
         "horizon_ns = 1000000000000\nmax_events = 3\n[[router]]\nname = \"R1\"\nmaster = \"000102030405060708090a0b0c0d0e0f101112131415161718191a1b1c1d1e1f\"\nslots = 8\n",
         "time,node,kind,src,dst,payload,shim\n5000000000,R1,list,10.0.0.1,10.0.1.1,472,00000000000a/1/10/0/R1@5\n5000000000,R1,list,10.0.0.1,10.0.1.1,472,00000000000a/1/10/0/R1@5\n5000000000,R1,list,10.0.0.1,10.0.1.1,472,00000000000a/1/10/0/R1@5\n",
         "5000000000 0 in,5000000000 0 in,5000000000 0 in,|ended",
+    ),
+    (
+        "a file of one segment, and ticks that send nothing",
+        "horizon_ns = 1000000000\nmax_events = 18\n[[router]]\nname = \"R1\"\nmaster = \"000102030405060708090a0b0c0d0e0f101112131415161718191a1b1c1d1e1f\"\nslots = 8\n[[host]]\nname = \"A\"\naddress = \"10.0.0.1\"\npolicy = \"client\"\n[[host]]\nname = \"B\"\naddress = \"10.0.1.1\"\npolicy = \"server\"\n[[link]]\nfrom = \"A\"\nto = \"R1\"\nns_per_byte = 10\ndelay_ns = 1000000\ntag = 1\n[[link]]\nfrom = \"R1\"\nto = \"A\"\nns_per_byte = 10\ndelay_ns = 1000000\n[[link]]\nfrom = \"R1\"\nto = \"B\"\nns_per_byte = 10\ndelay_ns = 1000000\n[[link]]\nfrom = \"B\"\nto = \"R1\"\nns_per_byte = 10\ndelay_ns = 1000000\ntag = 2\n[[route]]\nrouter = \"R1\"\nprefix = \"10.0.0.0/24\"\nvia = \"A\"\n[[route]]\nrouter = \"R1\"\nprefix = \"10.0.1.0/24\"\nvia = \"B\"\n",
+        "time,node,kind,src,dst,payload,shim\n0,A,tick,,10.0.1.1,0,\n1000000,A,file,,10.0.1.1,100,100\n2000000,A,tick,,10.0.2.1,0,\n2000000,A,tick,,10.0.0.1,0,\n20000000,A,tick,,10.0.1.1,0,\n20000000,B,tick,,10.0.0.1,0,\n",
+        "0 1 tick,|1000000 1 send,1000000 1 start,|2000000 1 tick,2000000 1 tick,2001310 0 in,2001310 0 start,|3002720 2 recv,3002720 2 start,|4003150 0 in,4003150 0 start,|5003680 1 recv,5003680 1 start,|6004200 0 in,6004200 0 start,|7004720 2 recv,|20000000 1 tick,20000000 2 tick,|ended",
     ),
 ];
 
