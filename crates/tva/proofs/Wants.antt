@@ -188,7 +188,7 @@ below_of_each = record {
       λ plan trace said report valid read good rows are sums has.
       subst (λ (ss : List RouterSum). All IsBelowLimit ss) (sym has.each)
       (sums_below plan (plan.horizon.0 + 1) has.logs
-       (λ node site is. read_run_keeps plan trace rows (plan.horizon.0 + 1) has.logs valid are has.run node site is));
+      (λ node site is. read_run_keeps plan trace rows (plan.horizon.0 + 1) has.logs valid are has.run node site is));
   of_refusal = λ r. tt;
 }
 
