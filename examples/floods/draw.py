@@ -47,6 +47,8 @@ FATES = [
     ("dropped", 'fs solid 1.0 border rgb "#D55E00" lc rgb "#FFFFFF"'),
 ]
 WIDTHS = {1: 84, 2: 178}  # millimetres
+# millimetres from one row of panels to the next, to the upper edge of a plot and to its lower one; and of a line of the key
+ROW, UPPER, LOWER, LINE = 45, 6, 32, 4.8
 
 
 # ## the runs of a folder
@@ -119,7 +121,7 @@ def terminal(picture, width, height):
     """The terminal of a picture of so many millimetres, with letters of 8 pt."""
     kind = os.path.splitext(picture)[1]
     if kind == ".pdf":
-        return f'pdfcairo size {width / 10}cm,{height / 10}cm font "sans-serif,8" fontscale 1 linewidth 0.7'
+        return f'pdfcairo size {width / 10}cm,{height / 10}cm font "sans-serif,8" fontscale 0.75 linewidth 0.7'
     dots = 96 / 25.4 * (2 if kind == ".png" else 1)
     name, letters = ("pngcairo", 16 * 4 / 3 * 0.75) if kind == ".png" else ("svg", 8 * 4 / 3)
     return f'{name} size {width * dots:.0f},{height * dots:.0f} font "sans-serif,{letters:g}" background rgb "white"'
@@ -150,8 +152,8 @@ def draw(picture, panels, key, columns):
     width = WIDTHS[columns]
     rows = -(-len(panels) // columns)
     across = columns * (2 if max(len(text) for text, _ in key) < 22 else 1)
-    foot = 5 + 4 * -(-len(key) // across)
-    height = 41 * rows + foot
+    foot = 5 + LINE * -(-len(key) // across)
+    height = ROW * rows + foot
     script = f"""set terminal {terminal(picture, width, height)}
 set output "{picture}"
 set encoding utf8
@@ -164,7 +166,7 @@ set multiplot
     for place, panel in enumerate(panels):
         row, column = divmod(place, columns)
         left, right = (column * width / columns + 14) / width, ((column + 1) * width / columns - 3) / width
-        top, bottom = 1 - (row * 41 + 5) / height, 1 - (row * 41 + 32) / height
+        top, bottom = 1 - (row * ROW + UPPER) / height, 1 - (row * ROW + LOWER) / height
         script += f"set lmargin at screen {left:.4f}\nset rmargin at screen {right:.4f}\nset tmargin at screen {top:.4f}\nset bmargin at screen {bottom:.4f}\n"
         script += panel.script()
     # the key is a plot of its own, of which nothing but the key is seen
@@ -205,7 +207,9 @@ def place_of(rate, rates):
 def rates_axis(rates, label):
     """The settings of the axis of rates, which has just those that were made."""
     places = [place_of(rate, rates) for rate in rates]
-    tics = ", ".join(f'"{said_rate(rate)}" {place_of(rate, rates):g}' for rate in rates)
+    # where the next one is near, a rate has its tic alone
+    near = {place for place, after in zip(places, places[1:]) if after < 1.4 * place}
+    tics = ", ".join(f'"{"" if place in near else said_rate(rate)}" {place:g}' for rate, place in zip(rates, places))
     return f"""set logscale x
 set xrange [{min(places) / 1.3:g}:{max(places) * 1.3:g}]
 set xtics ({tics})
