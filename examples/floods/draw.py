@@ -261,6 +261,8 @@ def shares(folder, floods, picture, columns):
 def points_of(every):
     """What the points of curves are."""
     seeds = sorted({len(those) for _, series in every for those in series.rates.values()})
+    if seeds == [1]:
+        return "By one seed."
     return f"Points are means over {' or '.join(map(str, seeds))} seeds, bars go from the least to the greatest."
 
 

@@ -83,8 +83,6 @@ NOTICE = "1c060001"
 GRANT = "1c06000202" + "ffff" + "00f0f0f0f0f0f0f0" * 2
 STRANGE_NONCE = "1206" + "ffffffffffff"
 
-# two levels, with more queues behind a tag than there are senders
-TWO_LEVELS = dict(request_levels=2, request_inner=32)
 # limits of the links of single hosts, past which no flood needs them
 SMALL = dict(request_queues=4, regular_queues=8, request_ring=32, regular_ring=64, legacy_ring=64)
 
@@ -124,6 +122,15 @@ def join_host(it, network, name, router, there={}, **both):
     network.join(name, router, there=there, **dict(ns_per_byte=80, delay_ns=it.setting.near, **both))
 
 
+def levels_of(it):
+    """The numbers of two levels, with more queues behind a tag than there are senders behind one."""
+    if it.levels == 1:
+        return {}
+    if it.transfers:
+        return dict(request_levels=2, **(dict(request_queues=8, request_inner=256) if it.one_tag else dict(request_inner=16)))
+    return dict(request_levels=2, request_inner=32)
+
+
 def colluders_of(it):
     return it.colluders if "authorised" in it.kinds else 0
 
@@ -150,8 +157,7 @@ def join_honest(it, network, layout):
 def build(it):
     """The network of a flood, and where its hosts and bottlenecks are."""
     network = topologies.Network(it.setting.horizon)
-    scarce = dict(it.setting.scarce, **(TWO_LEVELS if it.levels == 2 else {}))
-    scarce.update(it.set)
+    scarce = {**it.setting.scarce, **levels_of(it), **dict(it.set)}
     back = dict(ns_per_byte=it.setting.bottleneck, delay_ns=it.setting.far)
     wide = dict(ns_per_byte=80, delay_ns=MILLISECOND)
     more = dict(border=True) if it.one_tag else {}
