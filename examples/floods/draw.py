@@ -1,12 +1,15 @@
 #!/usr/bin/env python3
 """Draws pictures of floods from what was made and what reports say of it.
 
-    draw.py shares FOLDER [FLOOD..] PICTURE   what becomes of the honest packets, against the attackers' rate
-    draw.py classes REPORT.. PICTURE          how the first bottleneck is filled over time, by class
-    draw.py packets REPORT.. PICTURE          what became of each honest packet
-    draw.py table FOLDER [FLOOD..]            the numbers of the first picture, as lines of a table
+    draw.py shares FOLDER [FLOOD..] PICTURE     what becomes of the honest packets, against the attackers' rate
+    draw.py transfers FOLDER [FLOOD..] PICTURE  how many transfers finish and how long they take, against the attackers
+    draw.py classes REPORT.. PICTURE            how the first bottleneck is filled over time, by class
+    draw.py packets REPORT.. PICTURE            what became of each honest packet
+    draw.py table FOLDER [FLOOD..]              the numbers of the first picture, as lines of a table
+    draw.py table-of-transfers FOLDER [FLOOD..] those of the second
 
-FOLDER holds the runs of a sweep: FLOOD is a flood or a series (legacy-with) in it, and without any all are taken.
+FOLDER holds the runs of a sweep: FLOOD is a flood or a series (legacy-with) in it, and without any all are taken; runs
+with transfers are for the second picture and its table, all others for the first.
 Names, rates, seeds and links are those in the .json beside each report. PICTURE ends in .svg, .pdf or .png, and is as
 wide as a column of a paper, 84 mm, with letters of 8 pt; with `--columns 2` behind the first word it is 178 mm wide.
 Where there are several seeds a point is their mean, and its bar leads from the least to the greatest.
@@ -44,6 +47,8 @@ FATES = [
     ("dropped", 'fs solid 1.0 border rgb "#D55E00" lc rgb "#FFFFFF"'),
 ]
 WIDTHS = {1: 84, 2: 178}  # millimetres
+# millimetres from one row of panels to the next, to the upper edge of a plot and to its lower one; and of a line of the key
+ROW, UPPER, LOWER, LINE = 45, 6, 32, 4.8
 
 
 # ## the runs of a folder
@@ -54,7 +59,7 @@ class Series:
 
     def __init__(self, made):
         self.name, self.flood, self.defence = made["series"], made["flood"], made["defence"]
-        self.said, self.rates = made["said"], {}
+        self.said, self.rates, self.transfers = made["said"], {}, "transfers" in made
 
     def percent(self, rate, *fields):
         """For each seed how many of a hundred honest packets these numbers count."""
@@ -63,26 +68,35 @@ class Series:
     def milliseconds(self, rate, field):
         return [numbers[field] / 1e6 for numbers in self.rates[rate] if numbers[field] is not None]
 
+    def finished(self, rate):
+        """For each seed how many of a hundred transfers finish."""
+        return [100 * numbers["finished"] / max(1, numbers["begun"]) for numbers in self.rates[rate]]
+
+    def seconds(self, rate, of):
+        """For each seed with transfers that finish what `of` makes of their times, in seconds."""
+        return [of(numbers["times"]) / SECOND for numbers in self.rates[rate] if numbers["times"]]
+
     def title(self):
         return self.said + ("" if self.defence else ", without")
 
 
-def found_in(folder, floods):
-    """The series of a folder, in the order of the floods and then of their names."""
+def found_in(folder, floods, transfers=False):
+    """The series of a folder, of transfers or of packets, in the order of the floods and then of their names."""
     if not os.path.isdir(folder):
         refuse(f"there is no folder {folder}")
     found = {}
     for path in sorted(glob.glob(os.path.join(glob.escape(folder), "*.json"))):
         stem = os.path.splitext(path)[0]
         made = reports.made_of(path)
-        if os.path.exists(stem + ".numbers") or os.path.exists(stem + ".report"):
+        if transfers == ("transfers" in made) and (os.path.exists(stem + ".numbers") or os.path.exists(stem + ".report")):
             series = found.setdefault(made["series"], Series(made))
             series.rates.setdefault(made["rate"], []).append(reports.numbers(stem))
+    what = "runs with transfers" if transfers else "runs"
     for flood in floods:
         if not any(flood in (it.flood, it.name) for it in found.values()):
-            refuse(f"{folder} has no runs of {flood}")
+            refuse(f"{folder} has no {what} of {flood}")
     if not found:
-        refuse(f"{folder} has no runs")
+        refuse(f"{folder} has no {what}")
     taken = [it for it in found.values() if not floods or it.flood in floods or it.name in floods]
     return sorted(taken, key=lambda it: (make.FLOODS.index(it.flood), not it.defence, len(it.name), it.name))
 
@@ -107,7 +121,7 @@ def terminal(picture, width, height):
     """The terminal of a picture of so many millimetres, with letters of 8 pt."""
     kind = os.path.splitext(picture)[1]
     if kind == ".pdf":
-        return f'pdfcairo size {width / 10}cm,{height / 10}cm font "sans-serif,8" fontscale 1 linewidth 0.7'
+        return f'pdfcairo size {width / 10}cm,{height / 10}cm font "sans-serif,8" fontscale 0.75 linewidth 0.7'
     dots = 96 / 25.4 * (2 if kind == ".png" else 1)
     name, letters = ("pngcairo", 16 * 4 / 3 * 0.75) if kind == ".png" else ("svg", 8 * 4 / 3)
     return f'{name} size {width * dots:.0f},{height * dots:.0f} font "sans-serif,{letters:g}" background rgb "white"'
@@ -138,8 +152,8 @@ def draw(picture, panels, key, columns):
     width = WIDTHS[columns]
     rows = -(-len(panels) // columns)
     across = columns * (2 if max(len(text) for text, _ in key) < 22 else 1)
-    foot = 5 + 4 * -(-len(key) // across)
-    height = 41 * rows + foot
+    foot = 5 + LINE * -(-len(key) // across)
+    height = ROW * rows + foot
     script = f"""set terminal {terminal(picture, width, height)}
 set output "{picture}"
 set encoding utf8
@@ -152,7 +166,7 @@ set multiplot
     for place, panel in enumerate(panels):
         row, column = divmod(place, columns)
         left, right = (column * width / columns + 14) / width, ((column + 1) * width / columns - 3) / width
-        top, bottom = 1 - (row * 41 + 5) / height, 1 - (row * 41 + 32) / height
+        top, bottom = 1 - (row * ROW + UPPER) / height, 1 - (row * ROW + LOWER) / height
         script += f"set lmargin at screen {left:.4f}\nset rmargin at screen {right:.4f}\nset tmargin at screen {top:.4f}\nset bmargin at screen {bottom:.4f}\n"
         script += panel.script()
     # the key is a plot of its own, of which nothing but the key is seen
@@ -190,14 +204,16 @@ def place_of(rate, rates):
     return rate or min((it for it in rates if it), default=1) / 2
 
 
-def rates_axis(rates):
+def rates_axis(rates, label):
     """The settings of the axis of rates, which has just those that were made."""
     places = [place_of(rate, rates) for rate in rates]
-    tics = ", ".join(f'"{said_rate(rate)}" {place_of(rate, rates):g}' for rate in rates)
+    # where the next one is near, a rate has its tic alone
+    near = {place for place, after in zip(places, places[1:]) if after < 1.4 * place}
+    tics = ", ".join(f'"{"" if place in near else said_rate(rate)}" {place:g}' for rate, place in zip(rates, places))
     return f"""set logscale x
 set xrange [{min(places) / 1.3:g}:{max(places) * 1.3:g}]
 set xtics ({tics})
-set xlabel "attackers' rate, in times the bottleneck's" offset 0,0.6
+set xlabel "{label}" offset 0,0.6
 """
 
 
@@ -207,8 +223,11 @@ def spread(series, rates, numbers):
     return [(f"{place_of(rate, rates):g}", *(f"{it:.4g}" for it in (mean(of), min(of), max(of)))) for rate, of in told if of]
 
 
-def curve_panel(title, settings, rates, all_series, numbers):
-    panel = Panel(title, rates_axis(rates) + settings)
+RATE = "attackers' rate, in times the bottleneck's"
+
+
+def curve_panel(title, settings, rates, all_series, numbers, label=RATE):
+    panel = Panel(title, rates_axis(rates, label) + settings)
     for number, series in all_series:
         rows = spread(series, rates, numbers)
         panel.add(rows, f"$data using 1:2 with linespoints {style(number)}")
@@ -232,12 +251,48 @@ def shares(folder, floods, picture, columns):
     ]
     panels = [panel for panel in panels if panel.curves]
     draw(picture, panels, [(series.title(), f"with linespoints {style(number)}") for number, series in every], columns)
-    seeds = sorted({len(those) for _, series in every for those in series.rates.values()})
     print(
         "What becomes of the honest packets against the attackers' rate: the share that arrives; the share that arrives"
         " in its own right, as a regular packet, a renewal or a request; the share that arrives without the defence;"
-        f" and the median delay. Points are means over {' or '.join(map(str, seeds))} seeds, bars go from the least to the greatest."
+        f" and the median delay. {points_of(every)}"
     )
+
+
+def points_of(every):
+    """What the points of curves are."""
+    seeds = sorted({len(those) for _, series in every for those in series.rates.values()})
+    if seeds == [1]:
+        return "By one seed."
+    return f"Points are means over {' or '.join(map(str, seeds))} seeds, bars go from the least to the greatest."
+
+
+def transfers(folder, floods, picture, columns):
+    every = list(enumerate(found_in(folder, floods, transfers=True)))
+    rates = sorted({rate for _, series in every for rate in series.rates})
+    percents = 'unset logscale y\nset yrange [0:104]\nset ytics 25\nset ylabel "transfers, %" offset 1.5,0'
+    times = 'set logscale y\nset yrange [0.25:11]\nset ytics (0.3, 1, 3, 10)\nset ylabel "seconds" offset 1.5,0'
+    label, panels = "attackers of 1 Mbit/s each", []
+    for defence, said in ((True, "with the defence"), (False, "without the defence")):
+        those = [pair for pair in every if pair[1].defence == defence]
+        panels.append(curve_panel(f"that finish, {said}", percents, rates, those, lambda it, rate: it.finished(rate), label))
+        panels.append(curve_panel(f"mean time, {said}", times, rates, those, lambda it, rate: it.seconds(rate, mean), label))
+    panels = [panel for panel in panels if panel.curves]
+    draw(picture, panels, [(series.title(), f"with linespoints {style(number)}") for number, series in every], columns)
+    print(
+        "Transfers against the number of attackers: the share that finishes before the user's next one begins, and the"
+        f" mean time of those that finish, with the defence and without it. {points_of(every)}"
+    )
+
+
+def table_of_transfers(folder, floods):
+    every = found_in(folder, floods, transfers=True)
+    print("| Flood | Attackers | Defence | Finish | Mean time | 95 of 100 within |")
+    print("|---|---|---|---|---|---|")
+    for series in every:
+        for rate in sorted(series.rates):
+            times = [series.seconds(rate, of) for of in (mean, lambda those: reports.quantile(those, 95))]
+            fields = [series.said, said_rate(rate), "with" if series.defence else "without", over(series.finished(rate), "{:.1f} %")]
+            print("| " + " | ".join(fields + [over(those, "{:.2f} s") for those in times]) + " |")
 
 
 def table(folder, floods):
@@ -269,7 +324,8 @@ def title_of(made):
 
 
 def seconds_axis(made):
-    return f'unset logscale\nset xrange [0:{(made["flood_until_ns"] + MORE) / SECOND:g}]\nset xtics 1\nset xlabel "seconds" offset 0,0.6\n'
+    until = (made["flood_until_ns"] + MORE) / SECOND
+    return f'unset logscale\nset xrange [0:{until:g}]\nset xtics {max(1, until // 8):g}\nset xlabel "seconds" offset 0,0.6\n'
 
 
 def part_of(event, honest):
@@ -351,18 +407,18 @@ def main():
             refuse("--columns is 1 or 2")
         columns, words = int(words[2]), words[:1] + words[3:]
     what, words = (words[0], words[1:]) if words else ("", [])
-    if what == "table" and words:
-        return table(words[0], words[1:])
-    if what not in ("shares", "classes", "packets") or len(words) < 2:
-        refuse("shares FOLDER [FLOOD..] PICTURE, classes REPORT.. PICTURE, packets REPORT.. PICTURE, table FOLDER [FLOOD..]")
+    if what in ("table", "table-of-transfers") and words:
+        return (table if what == "table" else table_of_transfers)(words[0], words[1:])
+    if what not in ("shares", "transfers", "classes", "packets") or len(words) < 2:
+        refuse("shares or transfers FOLDER [FLOOD..] PICTURE, classes or packets REPORT.. PICTURE, table or table-of-transfers FOLDER [FLOOD..]")
     *those, picture = words
     if os.path.splitext(picture)[1] not in (".svg", ".pdf", ".png"):
         refuse(f"{picture} is no name of a picture: it ends in .svg, .pdf or .png")
     if not os.path.isdir(os.path.dirname(os.path.abspath(picture))):
         refuse(f"there is no folder {os.path.dirname(picture)}")
     gnuplot()
-    if what == "shares":
-        return shares(those[0], those[1:], picture, columns)
+    if what in ("shares", "transfers"):
+        return (shares if what == "shares" else transfers)(those[0], those[1:], picture, columns)
     for report in those:
         if not os.path.isfile(report):
             refuse(f"there is no report {report}")

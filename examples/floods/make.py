@@ -3,7 +3,7 @@
 
     make.py FLOOD RATE FOLDER [--without] [--seed N] [--attackers K] [--colluders K] [--mix KINDS] [--forge WHAT]
             [--forge-every MS] [--topology NAME] [--shared-tag] [--one-tag] [--levels L] [--restart SECONDS]
-            [--same-master] [--set KEY=NUMBER]..
+            [--same-master] [--set KEY=NUMBER].. [--transfers] [--tick MS] [--delay MS]
 
 FLOOD is one of those below, and RATE says how many times the bottleneck's rate the attackers send, all together: 0
 is no flood. The files are FOLDER/NAME.toml, FOLDER/NAME.csv and FOLDER/NAME.json, which says what was made; NAME is
@@ -34,6 +34,12 @@ With --restart all routers restart at that time, each with a new master, or with
 own; there may be several times, joined by commas.
 --topology is dumbbell, parking-lot (three bottlenecks in a row) or tree (nine routers with senders below a root). Each
 --set gives the bottlenecks another number for a key of links, as request_queues=128.
+
+With --transfers the honest senders are ten users who transfer files of 20,000 bytes again and again, four each, over a
+bottleneck of 10 Mbit/s, and RATE is the number of attackers, each of whom sends 1 Mbit/s until the end. A user begins a
+file each ten seconds, sends its segments of 1,000 bytes one after another, and where that stands still sends the next
+one once more each --tick milliseconds (1000). Each link takes --delay milliseconds (2.5). With --without all hosts
+send legacy packets: they ask once at the start, in vain.
 """
 import argparse
 import heapq
@@ -47,28 +53,23 @@ import sys
 HERE = os.path.dirname(os.path.abspath(__file__))
 sys.path.insert(0, os.path.dirname(HERE))
 import topologies  # noqa: E402
+import transfers  # noqa: E402
 
 SECOND = 1_000_000_000
 MILLISECOND = 1_000_000
 
 HONEST = 10
 ATTACKERS = 10
-BOTTLENECK = 2_000  # nanoseconds a byte: 500,000 bytes, 4 million bits, a second
-HORIZON = 8 * SECOND
-SLOTS = 256
 
 HONEST_FROM = SECOND // 2
 HONEST_EVERY = 50 * MILLISECOND
 HONEST_PACKETS = 80
 HONEST_PAYLOAD = 1_000
 
-FLOOD_UNTIL = 5 * SECOND
 FLOOD_PAYLOAD = 1_500
 HEADER = 20  # bytes of a packet's header
-ROWS_MOST = 1_000_000
-ROW_MOST = 64  # no row of a flood has more bytes, and so many of the most rows fit into a trace's 64 MiB
+ROWS_MOST = 1_000_000  # of at most 64 bytes, so that they fit into a trace's 64 MiB
 
-SERVER = "10.3.0.1"
 KINDS = ["legacy", "requests", "authorised"]
 FLOODS = [*KINDS, "mixed", "forged"]
 FORGED = {"notices": 125, "grants": 20, "packets": None}  # milliseconds between two to one sender
@@ -82,10 +83,30 @@ NOTICE = "1c060001"
 GRANT = "1c06000202" + "ffff" + "00f0f0f0f0f0f0f0" * 2
 STRANGE_NONCE = "1206" + "ffffffffffff"
 
-# two levels, with more queues behind a tag than there are senders
-TWO_LEVELS = dict(request_levels=2, request_inner=32)
 # limits of the links of single hosts, past which no flood needs them
 SMALL = dict(request_queues=4, regular_queues=8, request_ring=32, regular_ring=64, legacy_ring=64)
+
+
+class Setting:
+    """What is otherwise where users transfer files: times are in nanoseconds, a bottleneck's in nanoseconds a byte."""
+
+    def __init__(self, bottleneck, until, horizon, near, far, servers, slots, **scarce):
+        self.bottleneck, self.until, self.horizon, self.near, self.far = bottleneck, until, horizon, near, far
+        self.servers, self.slots = [f"10.3.0.{number}" for number in range(1, servers + 1)], slots
+        self.scarce = dict(ns_per_byte=bottleneck, delay_ns=far, legacy_ring=64, **scarce)
+
+    def server_at(self, time):
+        """The address of the server that honest senders send to at that time."""
+        return self.servers[transfers.place_at(time)] if len(self.servers) > 1 else self.servers[0]
+
+
+def setting_of(it):
+    if not it.transfers:
+        return Setting(bottleneck=2_000, until=5 * SECOND, horizon=8 * SECOND, near=5 * MILLISECOND, far=10 * MILLISECOND, servers=1, slots=256)
+    # with the defaults 22 tags that flood leave no room to the requests of others
+    room = dict(request_queues=256, request_bytes=1 << 24)
+    delay = round(it.delay * MILLISECOND)
+    return Setting(bottleneck=800, until=transfers.UNTIL, horizon=transfers.UNTIL, near=delay, far=delay, servers=transfers.FILES, slots=8_192, **room)
 
 
 # ## the network
@@ -96,40 +117,61 @@ def in_turn(routers, number):
     return routers[(number - 1) % len(routers)]
 
 
-def join_host(network, name, router, there={}, **both):
+def join_host(it, network, name, router, there={}, **both):
     """Joins a host by its router: `there` is said of its own link, `both` of both."""
-    network.join(name, router, there=there, **dict(ns_per_byte=80, delay_ns=5 * MILLISECOND, **both))
+    network.join(name, router, there=there, **dict(ns_per_byte=80, delay_ns=it.setting.near, **both))
+
+
+def levels_of(it):
+    """The numbers of two levels, with more queues behind a tag than there are senders behind one."""
+    if it.levels == 1:
+        return {}
+    if it.transfers:
+        return dict(request_levels=2, **(dict(request_queues=8, request_inner=256) if it.one_tag else dict(request_inner=16)))
+    return dict(request_levels=2, request_inner=32)
 
 
 def colluders_of(it):
     return it.colluders if "authorised" in it.kinds else 0
 
 
+def join_honest(it, network, layout):
+    """The servers and the honest senders, with the defence or, where they transfer files, without it."""
+    bare = it.transfers and it.without
+    if bare:
+        network.say("Nobody grants anything, and whoever asked once sends legacy packets.")
+    else:
+        network.say("The server grants 100 units, 102,400 bytes, within 10 seconds to whoever asks.")
+    for number, address in enumerate(it.setting.servers, 1):
+        name = "S" if len(it.setting.servers) == 1 else f"S{number}"
+        network.host(name, address, **(dict(retry_ns=transfers.NEVER) if bare else dict(policy="server", n=100, t=10)))
+        join_host(it, network, name, in_turn(layout.servers, number))
+    if not bare:
+        network.say("An honest sender reckons that one of its packets takes up to 100 milliseconds longer to a router than another.")
+    for number in range(1, HONEST + 1):
+        keys = dict(retry_ns=transfers.NEVER) if bare else dict(policy="client", margin_ns=100 * MILLISECOND)
+        network.host(f"H{number}", f"10.1.0.{number}", **keys)
+        join_host(it, network, f"H{number}", in_turn(layout.senders, number), there=dict(tag=number), **SMALL)
+
+
 def build(it):
     """The network of a flood, and where its hosts and bottlenecks are."""
-    network = topologies.Network(HORIZON)
-    scarce = dict(ns_per_byte=BOTTLENECK, delay_ns=10 * MILLISECOND, legacy_ring=64, **(TWO_LEVELS if it.levels == 2 else {}))
-    scarce.update(it.set)
-    back = dict(ns_per_byte=BOTTLENECK, delay_ns=10 * MILLISECOND)
+    network = topologies.Network(it.setting.horizon)
+    scarce = {**it.setting.scarce, **levels_of(it), **dict(it.set)}
+    back = dict(ns_per_byte=it.setting.bottleneck, delay_ns=it.setting.far)
     wide = dict(ns_per_byte=80, delay_ns=MILLISECOND)
     more = dict(border=True) if it.one_tag else {}
-    layout = topologies.TOPOLOGIES[it.topology](network, SLOTS, scarce, back, wide, **more)
-    network.say("The server grants 100 units, 102,400 bytes, within 10 seconds to whoever asks.")
-    network.host("S", SERVER, policy="server", n=100, t=10)
-    join_host(network, "S", layout.servers[0])
-    network.say("An honest sender reckons that one of its packets takes up to 100 milliseconds longer to a router than another.")
-    for number in range(1, HONEST + 1):
-        network.host(f"H{number}", f"10.1.0.{number}", policy="client", margin_ns=100 * MILLISECOND)
-        join_host(network, f"H{number}", in_turn(layout.senders, number), there=dict(tag=number), **SMALL)
+    layout = topologies.TOPOLOGIES[it.topology](network, it.setting.slots, scarce, back, wide, **more)
+    join_honest(it, network, layout)
     for number in range(1, it.attackers + 1):
         tag = 1 if it.shared_tag and number == 1 else 100 + number
         network.host(f"F{number}", f"10.2.0.{number}", policy="client", retry_ns=1_001 * MILLISECOND)
-        fast = dict(tag=tag, ns_per_byte=BOTTLENECK // 200)
-        join_host(network, f"F{number}", in_turn(layout.attackers, number), there=fast, **SMALL)
+        fast = dict(tag=tag, ns_per_byte=it.setting.bottleneck // 200)
+        join_host(it, network, f"F{number}", in_turn(layout.attackers, number), there=fast, **SMALL)
     network.say("A colluder grants all that it can to whoever asks.")
     for number in range(1, colluders_of(it) + 1):
         network.host(f"C{number}", f"10.3.1.{number}", policy="server", n=1023, t=63, grants=1_000_000)
-        join_host(network, f"C{number}", in_turn(layout.colluders, number), **SMALL)
+        join_host(it, network, f"C{number}", in_turn(layout.colluders, number), **SMALL)
     network.find_routes()
     for at in it.restart:
         network.say(f"At {at / SECOND:g} seconds each router restarts with {'its own' if it.same_master else 'a new'} master.")
@@ -143,13 +185,16 @@ def build(it):
 
 def honest_rows(it, number):
     """The rows of an honest sender: (time, row)."""
-    draw = random.Random(f"{it.seed} honest {number}")
+    if it.transfers:
+        yield from transfers.rows(it, number, it.setting.servers)
+        return
+    draw, [server] = random.Random(f"{it.seed} honest {number}"), it.setting.servers
     time = HONEST_FROM + int(draw.random() * HONEST_EVERY)
     for _ in range(HONEST_PACKETS):
         if it.without:
-            what = f"raw,10.1.0.{number},{SERVER},{HONEST_PAYLOAD},"
+            what = f"raw,10.1.0.{number},{server},{HONEST_PAYLOAD},"
         else:
-            what = f"send,,{SERVER},{HONEST_PAYLOAD},"
+            what = f"send,,{server},{HONEST_PAYLOAD},"
         at = time + int(draw.random() * HONEST_EVERY / 2)
         yield at, f"{at},H{number},{what}"
         time += HONEST_EVERY
@@ -157,11 +202,11 @@ def honest_rows(it, number):
 
 def every_of(it):
     """Nanoseconds between the packets of one attacker."""
-    return (HEADER + FLOOD_PAYLOAD) * BOTTLENECK * it.attackers / it.rate
+    return (HEADER + FLOOD_PAYLOAD) * it.setting.bottleneck * it.attackers / it.load
 
 
 def flood_rows(it, number):
-    """What the rows of an attacker say behind time and node, in turn."""
+    """What the rows of an attacker say behind time and node, in turn, with SERVER for the server's address."""
     kind = it.kinds[(number - 1) % len(it.kinds)]
     own = f"10.2.0.{number}"
     if kind == "authorised":
@@ -171,37 +216,38 @@ def flood_rows(it, number):
         return [f"raw,{own},{target},{FLOOD_PAYLOAD}," for target in targets]
     if it.flood == "forged" and it.forge == "packets" and not it.without:
         victims = [(number + place - 1) % HONEST + 1 for place in range(HONEST)]
-        return [f"raw,10.1.0.{victim},{SERVER},{FLOOD_PAYLOAD},{STRANGE_NONCE}" for victim in victims]
+        return [f"raw,10.1.0.{victim},SERVER,{FLOOD_PAYLOAD},{STRANGE_NONCE}" for victim in victims]
     shim = REQUEST if kind == "requests" and not it.without else ""
-    return [f"raw,{own},{SERVER},{FLOOD_PAYLOAD},{shim}"]
+    return [f"raw,{own},SERVER,{FLOOD_PAYLOAD},{shim}"]
 
 
 def attacker_rows(it, number):
     """The rows of an attacker, who sends its part of so many times the bottleneck's rate."""
-    if it.rate == 0:
+    if it.load == 0:
         return
-    every = every_of(it)
+    every, until = every_of(it), it.setting.until
     draw = random.Random(f"{it.seed} attacker {number}")
     time = draw.random() * every
     for row in itertools.cycle(flood_rows(it, number)):
-        if time >= FLOOD_UNTIL:
+        if time >= until:
             break
         at = int(time + draw.random() * every / 2)
-        yield at, f"{at},F{number},{row}"
+        yield at, f"{at},F{number},{row.replace('SERVER', it.setting.server_at(at))}"
         time += every
 
 
 def forged_rows(it, number):
     """The packets that an attacker forges, under the server's address, to the number-th honest sender."""
-    if it.flood != "forged" or it.forge == "packets":
+    if it.flood != "forged" or it.forge == "packets" or not it.attackers:
         return
     shim = NOTICE if it.forge == "notices" else GRANT
     payload, shim = (len(shim) // 2, "") if it.without else (0, shim)
     every = it.forge_every * MILLISECOND
     draw = random.Random(f"{it.seed} forger {number}")
-    time = HONEST_FROM + draw.random() * every
-    while time < FLOOD_UNTIL:
-        yield int(time), f"{int(time)},F{(number - 1) % it.attackers + 1},raw,{SERVER},10.1.0.{number},{payload},{shim}"
+    time, attacker = HONEST_FROM + draw.random() * every, (number - 1) % it.attackers + 1
+    while time < it.setting.until:
+        at = int(time)
+        yield at, f"{at},F{attacker},raw,{it.setting.server_at(at)},10.1.0.{number},{payload},{shim}"
         time += every
 
 
@@ -210,15 +256,16 @@ def trace(it):
     sources += [attacker_rows(it, number) for number in range(1, it.attackers + 1)]
     sources += [forged_rows(it, number) for number in range(1, HONEST + 1)]
     yield "time,node,kind,src,dst,payload,shim\n"
-    for _, row in heapq.merge(*sources, key=lambda pair: pair[0]):
-        yield row + "\n"
+    for at, row in heapq.merge(*sources, key=lambda pair: pair[0]):
+        if at <= it.setting.horizon:
+            yield row + "\n"
 
 
 def rows_most(it):
-    """No more rows than these come of the words."""
-    flood = math.ceil(FLOOD_UNTIL / every_of(it)) * it.attackers if it.rate else 0
-    forged = math.ceil(FLOOD_UNTIL / (it.forge_every * MILLISECOND)) * HONEST if it.forge_every else 0
-    return HONEST * HONEST_PACKETS + flood + forged
+    """No more rows than these come of the words. A forged one counts as two, since it may be longer than 64 bytes."""
+    flood = math.ceil(it.setting.until / every_of(it)) * it.attackers if it.load else 0
+    forged = math.ceil(it.setting.until / (it.forge_every * MILLISECOND)) * HONEST if it.forge_every else 0
+    return HONEST * (transfers.rows_most(it) if it.transfers else HONEST_PACKETS) + flood + 2 * forged
 
 
 # ## words
@@ -251,6 +298,17 @@ def whole(least, most):
     return read
 
 
+def milliseconds(word):
+    """Milliseconds to the microsecond, up to a second."""
+    try:
+        told = float(word)
+    except ValueError:
+        told = math.nan
+    if not 0.001 <= told <= 1_000 or round(told, 3) != told:
+        raise argparse.ArgumentTypeError(f"{word!r} is no delay: milliseconds from 0.001 to 1000, to the microsecond")
+    return told
+
+
 def kinds(word):
     told = word.split(",")
     if len(told) < 2 or any(kind not in KINDS for kind in told):
@@ -271,8 +329,8 @@ def restarts(word):
         told = [round(float(part) * SECOND) for part in word.split(",")]
     except (ValueError, OverflowError):
         told = []
-    if not told or len(told) > RESTARTS_MOST or not 0 <= told[0] or told[-1] > HORIZON or any(one >= other for one, other in zip(told, told[1:])):
-        raise argparse.ArgumentTypeError(f"{word!r} is no time of restarts: rising seconds up to {HORIZON // SECOND}, at most {RESTARTS_MOST}, joined by commas")
+    if not told or len(told) > RESTARTS_MOST or not 0 <= told[0] or any(one >= other for one, other in zip(told, told[1:])):
+        raise argparse.ArgumentTypeError(f"{word!r} is no time of restarts: rising seconds, at most {RESTARTS_MOST}, joined by commas")
     return told
 
 
@@ -284,7 +342,7 @@ def reader(program):
     words.add_argument("folder")
     words.add_argument("--without", action="store_true")
     words.add_argument("--seed", type=whole(0, 10**9), default=1)
-    words.add_argument("--attackers", type=whole(1, ATTACKERS_MOST), default=ATTACKERS, metavar="K")
+    words.add_argument("--attackers", type=whole(1, ATTACKERS_MOST), metavar="K")
     words.add_argument("--colluders", type=whole(1, COLLUDERS_MOST), metavar="K")
     words.add_argument("--mix", type=kinds)
     words.add_argument("--forge", choices=list(FORGED))
@@ -296,7 +354,24 @@ def reader(program):
     words.add_argument("--restart", type=restarts, default=[], metavar="SECONDS")
     words.add_argument("--same-master", action="store_true")
     words.add_argument("--set", type=setting, action="append", default=[], metavar="KEY=NUMBER")
+    words.add_argument("--transfers", action="store_true")
+    words.add_argument("--tick", type=whole(50, 5_000), metavar="MS")
+    words.add_argument("--delay", type=milliseconds, metavar="MS")
     return words
+
+
+def settle_transfers(words, it):
+    """What the words of transfers mean, and how many attackers there are and what they send."""
+    if (it.tick or it.delay) and not it.transfers:
+        words.error("--tick and --delay are for transfers")
+    if it.transfers and it.attackers:
+        words.error("with --transfers the rate is the number of attackers")
+    if it.transfers and not (it.rate <= ATTACKERS_MOST and it.rate.is_integer()):
+        words.error(f"with --transfers the rate is a number of attackers from 0 to {ATTACKERS_MOST}, and not {it.rate:g}")
+    it.tick, it.delay = it.tick or transfers.TICK, it.delay or transfers.DELAY
+    it.attackers = int(it.rate) if it.transfers else it.attackers or ATTACKERS
+    it.load = it.rate / 10 if it.transfers else it.rate
+    it.setting = setting_of(it)
 
 
 def settle(words, it):
@@ -313,12 +388,15 @@ def settle(words, it):
     if it.forge == "packets" and it.forge_every:
         words.error("--forge-every is for forged notices and grants")
     it.forge_every = it.forge_every or FORGED.get(it.forge)
+    settle_transfers(words, it)
+    if it.restart and it.restart[-1] > it.setting.horizon:
+        words.error(f"a restart past {it.setting.horizon / SECOND:g} seconds is none")
     if it.same_master and not it.restart:
         words.error("--same-master is for restarts")
     if it.one_tag and it.topology != "dumbbell":
         words.error("--one-tag is for a dumbbell")
     if it.rate and rows_most(it) > ROWS_MOST:
-        words.error(f"at rate {it.rate:g} the trace would have more than {ROWS_MOST} rows")
+        words.error(f"at rate {it.rate:g} the trace would have more than {ROWS_MOST} rows or 64 MiB")
     return it
 
 
@@ -332,7 +410,9 @@ def series_of(it):
         name += "-" + "-".join(it.kinds)
     if it.forge:
         name += f"-{it.forge}" + (f"-{it.forge_every}" if it.forge_every != FORGED[it.forge] else "")
-    if it.attackers != ATTACKERS:
+    if it.transfers:
+        name += "-transfers" + (f"-tick-{it.tick}" if it.tick != transfers.TICK else "") + (f"-delay-{it.delay:g}" if it.delay != transfers.DELAY else "")
+    elif it.attackers != ATTACKERS:
         name += f"-{it.attackers}-attacker" + ("s" if it.attackers > 1 else "")
     if it.colluders > 1:
         name += f"-{it.colluders}-colluders"
@@ -352,7 +432,9 @@ def said_of(it):
     """A series in words, without the defence's."""
     names = {"legacy": "legacy packets", "requests": "requests", "authorised": "authorised packets"}
     said = " and ".join(names[kind] for kind in it.kinds) if it.flood != "forged" else f"forged {it.forge}"
-    if it.attackers != ATTACKERS:
+    if it.transfers:
+        said += (f", tick {it.tick} ms" if it.tick != transfers.TICK else "") + (f", delay {it.delay:g} ms" if it.delay != transfers.DELAY else "")
+    elif it.attackers != ATTACKERS:
         said += f", {it.attackers} attacker" + ("s" if it.attackers > 1 else "")
     if "authorised" in it.kinds and it.colluders > 1:
         said += f", {it.colluders} colluders"
@@ -366,7 +448,7 @@ def said_of(it):
 
 def made(it, network, layout):
     """What draw.py and others read of a flood, so that nothing of it is wired to them."""
-    return {
+    told = {
         "series": series_of(it),
         "flood": it.flood,
         "said": said_of(it),
@@ -376,14 +458,18 @@ def made(it, network, layout):
         "topology": it.topology,
         "honest": [f"H{number}" for number in range(1, HONEST + 1)],
         "attackers": [f"F{number}" for number in range(1, it.attackers + 1)],
-        "servers": ["S"],
+        "servers": [name for name in network.hosts if name.startswith("S")],
         "colluders": [name for name in network.hosts if name.startswith("C")],
         "bottlenecks": [{"from": one, "to": other, "ns_per_byte": network.links[one, other]["ns_per_byte"]} for one, other in layout.bottlenecks],
-        "honest_every_ns": HONEST_EVERY,
-        "flood_until_ns": FLOOD_UNTIL,
+        "honest_every_ns": it.tick * MILLISECOND if it.transfers else HONEST_EVERY,
+        "flood_until_ns": it.setting.until,
         "restarts_ns": it.restart,
-        "horizon_ns": HORIZON,
+        "horizon_ns": it.setting.horizon,
     }
+    if it.transfers:
+        begun = {f"H{number}": transfers.begins(it, number) for number in range(1, HONEST + 1)}
+        told["transfers"] = {"bytes": transfers.FILE, "limit_ns": transfers.EVERY, "begin_ns": begun}
+    return told
 
 
 def main():
@@ -393,7 +479,7 @@ def main():
     try:
         os.makedirs(it.folder, exist_ok=True)
         with open(os.path.join(it.folder, name + ".toml"), "w", encoding="utf-8") as file:
-            file.write(f"# {HONEST} honest senders, {it.attackers} attackers and a server: {name}.\n" + network.text())
+            file.write(f"# {HONEST} honest senders, {it.attackers} attackers and {'servers' if it.transfers else 'a server'}: {name}.\n" + network.text())
         with open(os.path.join(it.folder, name + ".csv"), "w", encoding="utf-8") as file:
             file.writelines(trace(it))
         with open(os.path.join(it.folder, name + ".json"), "w", encoding="utf-8") as file:

@@ -4,6 +4,8 @@ import json
 import os
 import sys
 
+import transfers
+
 Event = collections.namedtuple("Event", "time node what id length fields")
 
 CAUSES = ["no-capability", "expired", "bad-hash", "superseded", "over-n", "cache-full", "unknown-nonce", "path-full", "malformed"]
@@ -135,7 +137,10 @@ def quantile(numbers, percent):
 def numbers_of(report, made):
     """What a report comes to for the honest packets: how many were to be sent; how many of those a sender sent as
     legacy by its own choice, and how many a router marked; how many arrived, and as what; and of those that arrived
-    the median delay, and the one that 95 of 100 don't exceed, in nanoseconds."""
+    the median delay, and the one that 95 of 100 don't exceed, in nanoseconds. Where users transfer files, it is what
+    becomes of these."""
+    if "transfers" in made:
+        return transfers.numbers_of(report, made)
     those = honest(packets(report), made)
     arrived = [packet for packet in those if packet.received is not None]
     delays = [packet.received - packet.sent for packet in arrived]
