@@ -11,9 +11,8 @@ use Rattle.tva_outside.proofs.Written.{append_known-append_known}
 use Rattle.tva_base.specs.declared.event.Event.{Event}
 use Rattle.tva_base.specs.declared.event.Totals.{Totals}
 use Rattle.tva_plan.specs.declared.config.Config.{Config}
-use Rattle.tva_plan.specs.Valid.{IsConfig}
 use Rattle.tva_trace.specs.declared.rows.Row.{Row}
-use Rattle.tva_trace.specs.Lines.{HasEvent, LinksJoinNodes, line_of, summary_of}
+use Rattle.tva_trace.specs.Lines.{HasEvent, line_of, summary_of}
 use Rattle.tva_run.specs.Report.{AreEventsTo, IsReport, lines_of, report_of, totals_of}
 use Rattle.tva_run.specs.Windows.{Window, given}
 use Rattle.tva_run.proofs.Names.{events_named}
@@ -26,10 +25,6 @@ use Rattle.tva_run.specs.Shown.{AreLines, HasReport, IsBegun, IsCutShort, all_of
 use Rattle.tva.specs.declared.status.Status as status
 use Rattle.tva.specs.declared.status.Status.TheVariants.{Done, Found as Differs, Usage, ReadFault, WriteFault, TooLarge, BadConfig, BadTrace, EventLimit, OutOfMemory, BadReport}
 use Rattle.tva.proofs.Pieces.{append_known-nil, written_both}
-
--- each link of a configuration that was read joins two nodes
-pub links_join : (config : Config) → IsConfig config → LinksJoinNodes config
-links_join config valid k d below = let l = valid.links k d below in (l.from, l.to)
 
 each-right : {X : Type 0} (P : X → Type 0) (xs ys : List X) → AllByRecursion P (xs ++ ys) → AllByRecursion P ys
 each-right P [] ys h = h

@@ -1,33 +1,16 @@
 // The lines of a report.
-ghost use Rattle.std.specs.Prelude.{◌≡◌, ◌≤◌, ℕ, List, All, OnOk};
+ghost use Rattle.std.specs.Prelude.{◌≡◌, ◌≤◌, ℕ, List, OnOk};
 ghost use Rattle.tva_outside.specs.Faults.{Rose};
-ghost use Rattle.tva_trace.specs.Lines.{HasEvent, LinksJoinNodes, summary_of};
-ghost use Rattle.tva_run.specs.Report.{lines_of};
+ghost use Rattle.tva_trace.specs.Lines.{summary_of};
 ghost use Rattle.tva.specs.Parts.{IsWritten};
 
 use crate::parts::send;
 use crate::status::Status;
 use arrayvec::ArrayString;
 use std::alloc::AllocError;
-use tva_base::{Event, Totals};
+use tva_base::Totals;
 use tva_outside::Sink;
-use tva_plan::Config;
-use tva_trace::{line_text, summary_text};
-
-/// Leaves the lines of the events in `text`, and nothing else.
-pub fn put_lines(config: &Config, events: &[Event], text: &mut Vec<u8>) -> Result<(), AllocError>
-    requires ends { LinksJoinNodes config.now }
-    requires known { All (HasEvent config.now) events.now }
-    ensures { OnOk result (text.new.items ≡ lines_of config.now events.now) }
-{
-    text.clear();
-    let mut line = ArrayString::new();
-    for event in events {
-        line_text(config, event, &mut line);
-        text.extend_from_slice(line.as_bytes())?;
-    }
-    Ok(())
-}
+use tva_trace::summary_text;
 
 /// Writes the lines in `text`, where there was memory to put them there.
 #[tactic(auto, using(crate::proofs::Replays::cut_of_nothing))]

@@ -17,9 +17,9 @@ use Rattle.tva_plan.specs.declared.config.NodePlan.TheVariants.{Router, Host}
 use Rattle.tva_sums.specs.declared.sums.Sums.{Sums}
 use Rattle.tva_sums.specs.Charged.{charges_in}
 use Rattle.tva_sums.specs.Sums.{sums_of}
-use Rattle.tva_node.specs.States.{NodeState, restarts_in, router_number}
+use Rattle.tva_node.specs.States.{KeepsEvents, NodeState, restarts_in, router_number}
 use Rattle.tva_audit.specs.declared.routers.RouterSum.{RouterSum}
-use Rattle.tva_audit.specs.Chunks.{AreParts, TellsFew}
+use Rattle.tva_audit.specs.Chunks.{AreParts, IsSummable}
 use Rattle.tva_audit.specs.Sums.{numbered, sum_told, sums_told}
 
 -- each of the nodes tells few events, where all together do
@@ -29,8 +29,11 @@ few_each most (v ∷ vs) h =
     let sum = sum_by-cons (λ (n : NodeState). length n.events) v vs in
     (omega (arith, sum, h), few_each most vs (omega (arith, sum, h)))
 
-pub each_tells_few : (nodes : List NodeState) → sum_by (λ v. length v.events) nodes ≤ 4000000 → All TellsFew nodes
-each_tells_few nodes h = All-from_recursion TellsFew nodes (few_each 4000000 nodes h)
+pub each_summable : (nodes : List NodeState) → sum_by (λ v. length v.events) nodes ≤ 4000000 → All (λ v. KeepsEvents v.keeps) nodes → All IsSummable nodes
+each_summable nodes few keeps n d l = record {
+  few = All-from_recursion (λ (v : NodeState). length v.events ≤ 4000000) nodes (few_each 4000000 nodes few) n d l;
+  keeps = keeps n d l;
+}
 
 -- one node more
 pub one_told : (nodes : List NodeState) (i : ℕ) (d : NodeState) → i < length nodes

@@ -1,5 +1,5 @@
 -- The lines of events are lines of a report.
-use Rattle.std.proofs.Common.{◌≡◌, ◌<◌, ℕ, ◌+◌, List, [], ◌∷◌, ◌++◌, length, take, get_or, All, None, sym, ap, ap₂, ◌∙◌, subst, append-nil}
+use Rattle.std.proofs.Common.{◌≡◌, ◌<◌, ℕ, ◌+◌, List, [], ◌∷◌, ◌++◌, length, map, take, get_or, All, None, sym, ap, ap₂, ◌∙◌, subst, append-nil}
 use Rattle.std.specs.Prelude.{codes}
 use Rattle.std.proofs.lemmas.Grind.{flat_map-append}
 use Rattle.std.proofs.lemmas.List.{map-append, take_more}
@@ -12,7 +12,10 @@ use Rattle.tva_trace.specs.Lines.{line_of, text_of_event}
 use Rattle.tva_report.specs.Lines.{ended, first_bad, report_lines, text_of}
 use Rattle.tva_report.proofs.LinesBack.{good_made, lines_made}
 use Rattle.tva_run.specs.Report.{lines_of}
-use Rattle.tva_audit.specs.Lines.{texts_of}
+
+-- the texts of the lines that events have in a report, without their line feeds
+abbrev pub texts_of : Config → List Event → List (List ℕ)
+texts_of config told = map (text_of_event config) told
 
 -- a text without a bad line that has these lines
 pub record IsText (lines : List (List ℕ)) (text : List ℕ) : Type 0 where

@@ -1,8 +1,8 @@
 -- An audit, window by window.
 use Rattle.std.proofs.Common.{◌≡◌, ◌≤◌, ◌<◌, ℕ, ◌+◌, ◌-◌, List, [], ◌∷◌, ◌++◌, length, All, None, Result, Ok, Err, sym, ap, ◌∙◌, subst, arith, length-append}
 use Rattle.std.specs.Prelude.{is_err, sum_by, false, OnOk}
-use Rattle.std.specs.List.{AllByRecursion}
-use Rattle.std.proofs.lemmas.List.Elements.{All-append, All-from_recursion, All-map, recursion_from_All}
+use Rattle.std.specs.List.{AllByRecursion, AllZip}
+use Rattle.std.proofs.lemmas.List.Elements.{All-append, All-from_recursion, All-map, AllZip-get_or, recursion_from_All}
 use Rattle.tva_base.specs.Printable.{IsLine}
 use Rattle.tva_base.specs.declared.event.Event.{Event}
 use Rattle.tva_base.specs.declared.event.Totals.{Totals}
@@ -19,7 +19,10 @@ use Rattle.tva_run.specs.Report.{AreEventsTo, lines_of, report_of, totals_of}
 use Rattle.tva_run.specs.Shown.{HasReport}
 use Rattle.tva_run.specs.Windows.{Window}
 use Rattle.tva_run.proofs.Names.{events_named}
-use Rattle.tva_net.specs.Nets.{NetState, StandsFor}
+use Rattle.tva_node.specs.declared.memory.Memory.TheVariants as memory
+use Rattle.tva_node.specs.States.{KeepsEvents, NodeState}
+use Rattle.tva_net.proofs.Lists.{zip_length}
+use Rattle.tva_net.specs.Nets.{GrowsFrom, NetState, StandsFor}
 use Rattle.tva_net.specs.declared.kinds.NetError.{NetError}
 use Rattle.tva_net.specs.declared.kinds.NetError.TheVariants as error
 use Rattle.tva_net.specs.Steps.{GoesOn, HasEnded, Refuses}
@@ -30,9 +33,8 @@ use Rattle.tva_audit.specs.declared.audits.AuditError.{AuditError}
 use Rattle.tva_audit.specs.declared.audits.AuditError.TheVariants.{BadReport, EventLimit, OutOfMemory}
 use Rattle.tva_audit.specs.Audit.{HasSums, IsAudit}
 use Rattle.tva_audit.specs.Deciding.{IsDecided, told_by}
-use Rattle.tva_audit.specs.Lines.{texts_of}
 use Rattle.tva_audit.specs.Sums.{sums_told}
-use Rattle.tva_audit.proofs.Texts.{lines_fit, lines_same, text_of_more, texts_more}
+use Rattle.tva_audit.proofs.Texts.{lines_fit, lines_same, text_of_more, texts_more, texts_of}
 use Rattle.tva_audit.proofs.Told.{AreSites, few_told, sums_of_run}
 
 each-right : {X : Type 0} (P : X → Type 0) (xs ys : List X) → AllByRecursion P (xs ++ ys) → AllByRecursion P ys
@@ -45,6 +47,18 @@ All-right P xs ys h = All-from_recursion P ys (each-right P xs ys (recursion_fro
 on_ok : {E : Type 0} {P : Type 0} (put : Result Unit E) → is_err put ≡ false → OnOk put P → P
 on_ok (Ok x) e h = h
 on_ok (Err error) e h = absurd (cc)
+
+-- ## what nodes keep
+
+pub keeping : (nodes : List NodeState) → All (λ v. v.keeps ≡ memory.Events) nodes → All (λ v. KeepsEvents v.keeps) nodes
+keeping nodes h n d l = subst KeepsEvents (sym (h n d l)) tt
+
+pub still_keeping : (olds news : List NodeState) → AllZip GrowsFrom olds news → All (λ v. KeepsEvents v.keeps) olds → All (λ v. KeepsEvents v.keeps) news
+still_keeping olds news z h n d l =
+    let there : n < length olds = omega (arith, l, zip_length GrowsFrom olds news z) in
+    subst KeepsEvents (sym (AllZip-get_or GrowsFrom olds news n d d z there).keeps) (h n d there)
+
+-- ## lines
 
 -- a buffer has the lines of these events
 pub record HasLines (config : Config) (list : List Event) (bytes : List ℕ) : Type 0 where
@@ -78,6 +92,16 @@ module _ (config : Config) (rows : List Row) (report : List ℕ) where
     pub stands : StandsFor config rows windows told net
     pub lines : All IsLine (texts_of config told)
     pub compares : compared.StandsFor c report (texts_of config told)
+
+  -- nothing was given yet, and nothing is compared
+  pub begun : (c : Compared) (list : List Event) (net : NetState) → list ≡ [] → StandsFor config rows [] [] net → compared.StandsFor c report [] → IsBehind c list net
+  begun c list net none stands compares = record {
+    windows = [];
+    told = [];
+    stands = subst (λ (es : List Event). StandsFor config rows [] es net) (sym none) stands;
+    lines = All-from_recursion IsLine [] tt;
+    compares = compares;
+  }
 
   -- what the network gave is the run's
   events_to : (windows : List Window) (told : List Event) (net : NetState) → StandsFor config rows windows told net

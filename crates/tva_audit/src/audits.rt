@@ -1,10 +1,11 @@
 // The audit of a report.
-ghost use Rattle.std.specs.Prelude.{◌≡◌, ◌≤◌, ◌++◌, [], ◌∷◌, ℕ, List, length, sum_by};
+ghost use Rattle.std.specs.Prelude.{◌≡◌, ◌≤◌, ◌++◌, [], ◌∷◌, ℕ, List, All, length, sum_by};
 ghost use Rattle.tva_base.specs.Printable.{IsLine};
 ghost use Rattle.tva_plan.specs.Valid.{IsConfig};
 ghost use Rattle.tva_trace.specs.Lines.{text_of_totals};
 ghost use Rattle.tva_trace.specs.Valid.{AreTraceRows};
 ghost use Rattle.tva_report.specs.Compared as compared;
+ghost use Rattle.tva_node.specs.States.{KeepsEvents};
 ghost use Rattle.tva_audit.specs.Audit.{IsAudit};
 ghost use Rattle.tva_audit.specs.Deciding.{IsDecided, told_by};
 
@@ -14,7 +15,7 @@ use arrayvec::ArrayString;
 use std::alloc::{AllocError, Global};
 use std::thread::Threads;
 use tva_base::Totals;
-use tva_net::{Net, NetError, Window};
+use tva_net::{Memory, Net, NetError, Window};
 use tva_outside::Gate;
 use tva_plan::Config;
 use tva_report::{Comparison, Finding, first_bad};
@@ -38,7 +39,8 @@ pub enum AuditError {
 }
 
 /// Audits a report. A bad line comes first, then more events than the configuration allows, then the
-/// first difference. The report is compared window by window, beside the run.
+/// first difference. The report is compared window by window, beside the run, whose network keeps its
+/// events for the sums and forgets its packets.
 pub fn audit<R: Threads + Sync, G: Gate>(
     rt: &R,
     alloc: Global,
@@ -54,7 +56,7 @@ pub fn audit<R: Threads + Sync, G: Gate>(
     if let Some(line) = first_bad(report) {
         return Err(AuditError::BadReport(line));
     }
-    let mut net = match Net::build(alloc, config, rows) {
+    let mut net = match Net::build_keeping(alloc, config, rows, Memory::Events) {
         Ok(net) => net,
         Err(_) => return Err(AuditError::OutOfMemory),
     };
@@ -91,6 +93,7 @@ fn decide<R: Threads + Sync>(
     net: Net,
 ) -> Result<Audited, AuditError>
     requires few { sum_by (λ v. length v.events) net.work.nodes ≤ 4000000 }
+    requires keeps { All (λ v. KeepsEvents v.keeps) net.work.nodes }
     ensures last { IsLine (text_of_totals net.totals) }
     ensures decided { (report : List ℕ) (fed : List (List ℕ)) → compared.StandsFor comparison.entry report fed
         → IsDecided (fed ++ text_of_totals net.totals ∷ []) report net.work.nodes result }

@@ -1,5 +1,6 @@
 // The lines of a report, as a network is worked.
 ghost use Rattle.std.specs.Prelude.{◌≡◌, List, All, IfErr, IfOk, OnOk};
+ghost use Rattle.std.specs.List.{AllZip};
 ghost use Rattle.tva_base.specs.Printable.{IsLine};
 ghost use Rattle.tva_base.specs.declared.event.Event.{Event};
 ghost use Rattle.tva_plan.specs.declared.config.Config.{Config};
@@ -8,7 +9,7 @@ ghost use Rattle.tva_trace.specs.declared.rows.Row.{Row};
 ghost use Rattle.tva_trace.specs.Lines.{HasEvent, text_of_event};
 ghost use Rattle.tva_run.specs.Report.{lines_of};
 ghost use Rattle.tva_run.specs.Windows.{Window as Span};
-ghost use Rattle.tva_net.specs.Nets.{StandsFor};
+ghost use Rattle.tva_net.specs.Nets.{GrowsFrom, StandsFor};
 ghost use Rattle.tva_net.specs.Steps.{Gives, Refuses};
 
 use arrayvec::ArrayString;
@@ -55,6 +56,7 @@ pub fn step_and_put<R: Threads + Sync, G: Gate>(
         → StandsFor config rows windows told net.old → Refuses config rows windows told error net.old net.new) }
     ensures lines { OnOk result.1 (text.new.items ≡ lines_of config.now events.now) }
     ensures printable { OnOk result.1 (All (λ e. IsLine (text_of_event config.now e)) events.now) }
+    ensures kept { AllZip GrowsFrom net.old.work.nodes net.new.work.nodes }
 {
     net.step_beside(
         rt,

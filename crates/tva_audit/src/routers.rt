@@ -1,8 +1,8 @@
 // What each router let through.
 ghost use Rattle.std.specs.Prelude.{◌≡◌, ◌<◌, ◌≤◌, ◌*◌, ℕ, List, All, IfOk, length, sum_by, take};
-ghost use Rattle.tva_node.specs.States.{NodeState};
+ghost use Rattle.tva_node.specs.States.{KeepsEvents, NodeState};
 ghost use Rattle.tva_audit.specs.Sums.{numbered, sum_told, sums_told};
-ghost use Rattle.tva_audit.specs.Chunks.{AreParts, TellsFew};
+ghost use Rattle.tva_audit.specs.Chunks.{AreParts, IsSummable};
 
 use std::alloc::{AllocError, Global};
 use std::thread::{Threads, map_chunks};
@@ -25,14 +25,15 @@ pub struct RouterSum {
 // Into how many chunks the nodes are cut, or into fewer.
 const CHUNKS: usize = 8;
 
-/// The sums of the routers among these nodes, in their order. The nodes are worked in chunks, several at
-/// once. The error is want of memory.
+/// The sums of the routers among these nodes, which keep their events, in their order. The nodes are
+/// worked in chunks, several at once. The error is want of memory.
 pub fn sums<R: Threads + Sync>(
     rt: &R,
     alloc: Global,
     nodes: &[Node],
 ) -> Result<Vec<RouterSum>, AllocError>
     requires few { sum_by (λ v. length v.events) nodes.now ≤ 4000000 }
+    requires keeps { All (λ v. KeepsEvents v.keeps) nodes.now }
     ensures { IfOk result (λ sums. sums.items ≡ sums_told nodes.now) }
 {
     sums_by_chunks(rt, alloc, nodes, nodes.len() / CHUNKS + 1)
@@ -45,7 +46,7 @@ fn sums_by_chunks<R: Threads + Sync>(
     nodes: &[Node],
     size: usize,
 ) -> Result<Vec<RouterSum>, AllocError>
-    requires few { All TellsFew nodes.now }
+    requires nodes { All IsSummable nodes.now }
     requires size { 0 < size }
     ensures { IfOk result (λ sums. sums.items ≡ sums_told nodes.now) }
 {
@@ -55,7 +56,7 @@ fn sums_by_chunks<R: Threads + Sync>(
         nodes,
         size,
         &|_, chunk: &[Node]| -> Result<Vec<RouterSum>, AllocError>
-            requires { All TellsFew chunk.now }
+            requires { All IsSummable chunk.now }
             ensures { IfOk result (λ sums. sums.items ≡ sums_told chunk.now) }
         { chunk_sums(alloc, chunk) },
     )?;
@@ -82,7 +83,7 @@ fn joined(
 
 // The sums of the routers in a chunk.
 fn chunk_sums(alloc: Global, nodes: &[Node]) -> Result<Vec<RouterSum>, AllocError>
-    requires few { All TellsFew nodes.now }
+    requires nodes { All IsSummable nodes.now }
     ensures { IfOk result (λ sums. sums.items ≡ sums_told nodes.now) }
 {
     let mut all = Vec::new(alloc);
@@ -97,7 +98,7 @@ fn chunk_sums(alloc: Global, nodes: &[Node]) -> Result<Vec<RouterSum>, AllocErro
 // The sums of a router; a host has none.
 #[tactic(auto, using(crate::proofs::Parts::router_told, crate::proofs::Parts::host_told))]
 fn node_sum(alloc: Global, node: &Node) -> Result<Option<RouterSum>, AllocError>
-    requires few { TellsFew node.now }
+    requires { IsSummable node.now }
     ensures { IfOk result (λ sum. sum ≡ sum_told node.now.site.number node.now.site.plan node.now.events) }
 {
     let Some(number) = node.router() else {

@@ -139,6 +139,7 @@ module _ (config : Config) (rows : List Row) (nodes : List NodeState) (valid : I
     nodes = first_at;
     posted = posted_are ∙ zeros (λ (v : NodeState). length v.sendings) nodes (λ n d l. ap length (first.each n d l).nothing.1);
     shown = shown_are ∙ zeros (λ (v : NodeState). length v.events) nodes (λ n d l. ap length (first.each n d l).nothing.0);
+    gone = λ n d l. (first.each n d l).gone;
     events = nothing_told;
     begins = λ later longer l run. refl;
     held = refl;

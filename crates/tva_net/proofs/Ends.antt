@@ -24,13 +24,17 @@ use Rattle.tva_net.proofs.Windows as spans
 -- ## what is kept
 
 pub grows_same : (v : NodeState) → GrowsFrom v v
-grows_same v = record { events = begins_same v.events; sendings = begins_same v.sendings }
+grows_same v = record { events = begins_same v.events; sendings = begins_same v.sendings; keeps = refl }
 
 grows_more : (u v w : NodeState) → GrowsFrom u v → GrowsFrom v w → GrowsFrom u w
-grows_more u v w a b = record { events = begins_more u.events v.events w.events a.events b.events; sendings = begins_more u.sendings v.sendings w.sendings a.sendings b.sendings }
+grows_more u v w a b = record {
+  events = begins_more u.events v.events w.events a.events b.events;
+  sendings = begins_more u.sendings v.sendings w.sendings a.sendings b.sendings;
+  keeps = b.keeps ∙ a.keeps;
+}
 
 posted_grows : (old new : NodeState) → KeepsWork old new → GrowsFrom old new
-posted_grows old new k = record { events = ([], k.events ∙ sym (append-nil old.events)); sendings = ([], k.sendings ∙ sym (append-nil old.sendings)) }
+posted_grows old new k = record { events = ([], k.events ∙ sym (append-nil old.events)); sendings = ([], k.sendings ∙ sym (append-nil old.sendings)); keeps = k.keeps }
 
 pub told_same : (nodes : List NodeState) → AllZip GrowsFrom nodes nodes
 told_same nodes = zip_same GrowsFrom grows_same nodes
@@ -39,7 +43,7 @@ pub told_more : (a b c : List NodeState) → AllZip GrowsFrom a b → AllZip Gro
 told_more a b c h k = zip_both GrowsFrom GrowsFrom GrowsFrom grows_more a b c h k
 
 pub told_kept : (olds news : List NodeState) → AllZip Keeps olds news → AllZip GrowsFrom olds news
-told_kept olds news h = zip_weaker Keeps GrowsFrom (λ x y k. record { events = k.events; sendings = k.sendings }) olds news h
+told_kept olds news h = zip_weaker Keeps GrowsFrom (λ x y k. record { events = k.events; sendings = k.sendings; keeps = k.keeps }) olds news h
 
 pub told_posted : (olds news : List NodeState) → AllZip KeepsWork olds news → AllZip GrowsFrom olds news
 told_posted olds news h = zip_weaker KeepsWork GrowsFrom posted_grows olds news h
@@ -76,6 +80,12 @@ module _ (w : WorkState) (until : ℕ) (e : EndsWindow w until) where
 
     pub posted_known : AllZip (λ (v : NodeState) (n : ℕ). n ≤ length v.sendings) mids w.posted
     posted_known = spans.posted_known e.config e.rows e.windows e.told w e.works e.start e.first until e.ends mids through kept
+
+    pub shown_held : AllZip (λ (v : NodeState) (n : ℕ). v.gone.events ≤ n) mids w.shown
+    shown_held = spans.shown_held e.config e.rows e.windows e.told w e.works e.start e.first until e.ends mids through kept
+
+    pub posted_held : AllZip (λ (v : NodeState) (n : ℕ). v.gone.sendings ≤ n) mids w.posted
+    posted_held = spans.posted_held e.config e.rows e.windows e.told w e.works e.start e.first until e.ends mids through kept
 
     pub postable : All (IsPostable w.horizon w.links mids) (since (λ v. v.sendings) mids w.posted)
     postable = spans.postable e.config e.rows e.windows e.told w e.works e.start e.first until e.ends mids through kept

@@ -1,9 +1,10 @@
 -- The nodes of a configuration, and that each row can be given to its node.
-use Rattle.std.proofs.Common.{◌≡◌, ℕ, ◌+◌, ◌<◌, Bool, true, false, cond, List, [], ◌∷◌, ◌++◌, length, get_or, map, filter, All, Option, Some, None, refl, sym, subst, ◌∙◌, ap, arith, inl, inr}
+use Rattle.std.proofs.Common.{◌≡◌, ℕ, ◌+◌, ◌<◌, ◌≤◌, Bool, true, false, cond, List, [], ◌∷◌, ◌++◌, length, get_or, map, filter, All, Option, Some, None, refl, sym, subst, ◌∙◌, ap, arith, inl, inr}
 use Rattle.std.specs.Prelude.{◌==◌, slice_get}
 use Rattle.std.specs.Option.{option_map, option_map_or}
 use Rattle.std.proofs.lemmas.Bool.{cases_lt}
 use Rattle.std.proofs.lemmas.List.{get_or_append_left, get_or_push}
+use Rattle.std.proofs.lemmas.List.Elements.{All-append, All-from_recursion}
 use Rattle.std.proofs.lemmas.Option.{slice_get_read}
 use Rattle.tva_base.specs.declared.plan.LinkPlan.{LinkPlan}
 use Rattle.tva_plan.specs.declared.config.Config.{Config}
@@ -21,6 +22,7 @@ use Rattle.tva_trace.specs.Valid.{AreTraceRows, IsRow, IsRowWhat, IsWithinWidths
 use Rattle.tva_log.specs.declared.kinds.Input.{Input}
 use Rattle.tva_log.specs.declared.kinds.Input.TheVariants.{FromTrace}
 use Rattle.tva_log.specs.Sites.{IsSite, Site, site_of}
+use Rattle.tva_node.specs.declared.memory.Memory.{Memory}
 use Rattle.tva_node.specs.States.{FitsRow, NodeState}
 use Rattle.tva_run.specs.Reaching.{links_out, rows_at, site_at}
 use Rattle.tva_run.proofs.Sites.{site_valid}
@@ -110,6 +112,7 @@ with_rows config rs nodes filed first got = record {
         horizon = g.keeps.horizon ∙ v.horizon;
         inbox = g.inbox ∙ ap (λ (is : List Input). is ++ rows_at rs n) v.inbox;
         nothing = (g.keeps.events ∙ v.nothing.0, g.keeps.sendings ∙ v.nothing.1, g.keeps.worked_to ∙ v.nothing.2);
+        gone = g.keeps.gone v.gone;
         stands = g.stands v.stands;
       };
 }
@@ -121,3 +124,27 @@ map_row row true rs = refl
 
 pub row_first : (row : Row) (rs : List Row) (n : ℕ) → rows_at (row ∷ rs) n ≡ mail_at row.node (FromTrace row ∷ []) n ++ rows_at rs n
 row_first row rs n = map_row row (row.node == n) (filter (λ r. r.node == n) rs)
+
+-- ## what memory keeps
+
+pub kept_more : (keeps : Memory) (nodes : List NodeState) (v : NodeState) → v.keeps ≡ keeps → All (λ u. u.keeps ≡ keeps) nodes → All (λ u. u.keeps ≡ keeps) (nodes ++ v ∷ [])
+kept_more keeps nodes v here each = All-append (λ (u : NodeState). u.keeps ≡ keeps) nodes (v ∷ []) each (All-from_recursion (λ (u : NodeState). u.keeps ≡ keeps) (v ∷ []) (here, tt))
+
+pub kept_with_rows : (keeps : Memory) (mail : ℕ → List Input) (nodes filed : List NodeState) → GotMails mail nodes filed → All (λ u. u.keeps ≡ keeps) nodes → All (λ u. u.keeps ≡ keeps) filed
+kept_with_rows keeps mail nodes filed got each n d l =
+    let there : n < length nodes = omega (arith, got.count) in
+    (got.each n d there).keeps.keeps ∙ each n d there
+
+-- ## how many rows
+
+pub row_there : (config : Config) (count : ℕ) (rs : List Row) → count ≡ length config.nodes → AreTraceRows config rs → All (λ row. row.node < count) rs
+row_there config count rs c h k d l = let there = (h.each k d l).node in omega (arith, there, c)
+
+-- a node has no more rows than there are
+pub rows_few : (rs : List Row) (n : ℕ) → length (rows_at rs n) ≤ length rs
+rows_few [] n = omega arith
+rows_few (r ∷ rs) n = row_few (r.node == n) (rows_few rs n)
+  where
+    row_few : (b : Bool) → length (rows_at rs n) ≤ length rs → length (map FromTrace (cond b (r ∷ filter (λ x. x.node == n) rs) (filter (λ x. x.node == n) rs))) ≤ length (r ∷ rs)
+    row_few true e = omega (arith, e)
+    row_few false e = omega (arith, e)

@@ -10,6 +10,7 @@ pub mod Ends
 pub mod Begin
 pub mod Answering
 pub mod Mails
+pub mod Forgotten
 pub mod Orders
 pub mod News
 pub mod Places

@@ -1,17 +1,14 @@
 -- Mail that nodes get, one delivery after another.
-use Rattle.std.proofs.Common.{◌≡◌, ℕ, zero, suc, ◌+◌, ◌-◌, ◌<◌, ◌≤◌, Bool, true, false, cond, List, [], ◌∷◌, ◌++◌, length, get_or, set, drop, map, filter, All, Option, refl, sym, subst, ◌∙◌, ap, ap₂, arith, inl, inr}
-use Rattle.std.specs.Prelude.{◌==◌, ◌&&◌, nat_le, slice_get, slice_range}
+use Rattle.std.proofs.Common.{◌≡◌, ℕ, zero, suc, ◌+◌, ◌<◌, ◌≤◌, Bool, true, false, cond, List, [], ◌∷◌, ◌++◌, length, get_or, set, drop, map, filter, All, Option, refl, sym, subst, ◌∙◌, ap, ap₂, arith, inl, inr}
+use Rattle.std.specs.Prelude.{◌==◌, ◌&&◌, nat_le, slice_get}
 use Rattle.std.specs.Option.{option_map_or}
 use Rattle.std.specs.List.{AllZip}
 use Rattle.std.proofs.lemmas.Bool.{cases_eq, eq-eqb, ne_eqb, lt-leb, le-leb, and_right}
-use Rattle.std.proofs.lemmas.List.{append-nil, append_assoc, length-set, get_or-set_same, get_or-set_other, get_or_default, map-append, drop_all, get_or_append_left, get_or-append-add, length-append, length-drop, get_or-drop}
+use Rattle.std.proofs.lemmas.List.{append-nil, append_assoc, length-set, get_or-set_same, get_or-set_other, get_or_default, map-append, get_or_append_left, get_or-append-add, length-append}
 use Rattle.std.proofs.lemmas.List.Elements.{filter-append, All-weaker}
-use Rattle.std.proofs.lemmas.List.Folds.{drop_split}
 use Rattle.std.proofs.lemmas.Option.{slice_get-get_or}
 use Rattle.tva_base.specs.declared.plan.LinkPlan.{LinkPlan}
-use Rattle.tva_shim.specs.Packets.{PacketData}
 use Rattle.tva_log.specs.declared.kinds.Input.{Input}
-use Rattle.tva_log.specs.declared.kinds.Input.TheVariants.{Arrival}
 use Rattle.tva_log.specs.declared.kinds.Sending.{Sending}
 use Rattle.tva_log.specs.Entries.{input_time}
 use Rattle.tva_log.specs.Sites.{Site}
@@ -20,17 +17,27 @@ use Rattle.tva_run.specs.Reaching.{arrival}
 use Rattle.tva_net.specs.Mail.{CanDeliver, GotMail, GotMails, IsPostable, IsSameBut, KeepsWork, goes_to, mail_at, mail_to}
 use Rattle.tva_net.specs.News.{sent_by}
 use Rattle.tva_net.specs.Places.{picked}
-use Rattle.tva_net.proofs.Lists.{range_one}
 use Rattle.tva_net.proofs.Places.{news_at, picked_last, picked_more}
 
 -- ## what is kept
 
 pub keeps_same : (v : NodeState) → KeepsWork v v
-keeps_same v = record { site = refl; horizon = refl; events = refl; sendings = refl; worked_to = refl }
+keeps_same v = record { site = refl; horizon = refl; events = refl; sendings = refl; worked_to = refl; keeps = refl; gone = λ h. h }
 
 -- the same from the clause of a post
-pub kept_by : (old new : NodeState) → (new.site ≡ old.site) × (new.horizon ≡ old.horizon) × (new.events ≡ old.events) × (new.sendings ≡ old.sendings) × (new.worked_to ≡ old.worked_to) → KeepsWork old new
-kept_by old new h = record { site = h.0; horizon = h.1; events = h.2; sendings = h.3; worked_to = h.4 }
+pub kept_by : (old new : NodeState) → (new.site ≡ old.site) × (new.horizon ≡ old.horizon) × (new.events ≡ old.events) × (new.sendings ≡ old.sendings) × (new.worked_to ≡ old.worked_to) × (new.keeps ≡ old.keeps) × (new.gone.events ≡ old.gone.events) × (new.gone.sendings ≡ old.gone.sendings) → KeepsWork old new
+kept_by old new h = record {
+  site = h.0;
+  horizon = h.1;
+  events = h.2;
+  sendings = h.3;
+  worked_to = h.4;
+  keeps = h.5;
+  gone = λ had. record {
+    events = let few = had.events in let many = ap length h.2 in let gone = h.6 in omega (arith, few, many, gone);
+    sendings = let few = had.sendings in let many = ap length h.3 in let gone = h.7 in omega (arith, few, many, gone);
+  };
+}
 
 pub keeps_more : (u v w : NodeState) → KeepsWork u v → KeepsWork v w → KeepsWork u w
 keeps_more u v w a b = record {
@@ -39,6 +46,8 @@ keeps_more u v w a b = record {
   events = b.events ∙ a.events;
   sendings = b.sendings ∙ a.sendings;
   worked_to = b.worked_to ∙ a.worked_to;
+  keeps = b.keeps ∙ a.keeps;
+  gone = λ had. b.gone (a.gone had);
 }
 
 pub zip_same : {X : Type 0} (R : X → X → Type 0) → ((x : X) → R x x) → (xs : List X) → AllZip R xs xs
@@ -208,9 +217,6 @@ sent_by_still mail (x ∷ xs) ys from g within =
     let there : from < length ys = omega (arith, g.count) in
     sent_by_at ys from x there ∙ ((g.each from x within).keeps.sendings ∙ sym (sent_by_at (x ∷ xs) from x within))
 
-pub left_none : (horizon : ℕ) (links : List LinkPlan) (sent : List Sending) (place n : ℕ) → length sent ≤ place → mail_to horizon links (drop place sent) n ≡ []
-left_none horizon links sent place n l = ap (λ (ss : List Sending). mail_to horizon links ss n) (drop_all place sent l)
-
 -- what the node in a place has
 abbrev pub has_by : {X : Type 0} → (NodeState → List X) → List NodeState → ℕ → List X
 has_by has nodes k = option_map_or has (slice_get nodes k) []
@@ -235,55 +241,32 @@ known_at has (v ∷ vs) (n ∷ ns) (suc k) e z l = known_at has vs ns k e z.1 (o
 
 -- ## steps
 
--- what stands at a place of what a node sent
-pub sent_one : (nodes : List NodeState) (from place : ℕ) (d : NodeState) (sent : List Sending) (s : Sending) → from < length nodes → sent ≡ (get_or nodes from d).sendings → place < length (sent_by nodes from) → s ≡ get_or sent place s
-    → slice_range (sent_by nodes from) place (place + 1) ≡ s ∷ []
-sent_one nodes from place d sent s within same l read =
-    range_one (sent_by nodes from) place s l (read ∙ ap (λ (ss : List Sending). get_or ss place s) (same ∙ sym (sent_by_at nodes from d within)))
-
-pub postable_one : (horizon : ℕ) (links : List LinkPlan) (nodes : List NodeState) (one : List Sending) (s : Sending) → one ≡ s ∷ [] → All (IsPostable horizon links nodes) one → IsPostable horizon links nodes s
-postable_one horizon links nodes one s e h = subst (All (IsPostable horizon links nodes)) e h 0 s (omega arith)
-
-module _ (horizon : ℕ) (links : List LinkPlan) (nodes : List NodeState) (s : Sending) (d : LinkPlan) (link to : ℕ) (packet : PacketData) (l : s.arrive.0 ≤ horizon) (same : link ≡ s.link) (end : to ≡ (get_or links link d).to) (copied : packet ≡ s.packet) where
+module _ (horizon : ℕ) (links : List LinkPlan) (nodes : List NodeState) (s : Sending) (d : LinkPlan) (link to : ℕ) (l : s.arrive.0 ≤ horizon) (same : link ≡ s.link) (end : to ≡ (get_or links link d).to) where
   there : to ≡ (get_or links s.link d).to
   there = end ∙ ap (λ (k : ℕ). (get_or links k d).to) same
 
-  pub delivers_one : IsPostable horizon links nodes s → CanDeliver nodes to (Arrival s.arrive s.link packet)
-  delivers_one h =
-      subst (λ (p : PacketData). CanDeliver nodes to (Arrival s.arrive s.link p)) (sym copied)
-      (subst (λ (k : ℕ). CanDeliver nodes k (arrival s)) (sym there) (h.arrives d l))
+  pub delivers_one : IsPostable horizon links nodes s → CanDeliver nodes to (arrival s)
+  delivers_one h = subst (λ (k : ℕ). CanDeliver nodes k (arrival s)) (sym there) (h.arrives d l)
 
-  pub posted_one : (posted : List NodeState) → s.link < length links → GotMails (mail_at to (Arrival s.arrive s.link packet ∷ [])) nodes posted → GotMails (mail_to horizon links (s ∷ [])) nodes posted
+  pub posted_one : (posted : List NodeState) → s.link < length links → GotMails (mail_at to (arrival s ∷ [])) nodes posted → GotMails (mail_to horizon links (s ∷ [])) nodes posted
   posted_one posted within g =
-      got_agree (mail_at to (Arrival s.arrive s.link packet ∷ [])) (mail_to horizon links (s ∷ [])) nodes posted
-      (λ n. ap (λ (p : PacketData). mail_at to (Arrival s.arrive s.link p ∷ []) n) copied
-      ∙ (ap (λ (k : ℕ). mail_at k (arrival s ∷ []) n) there ∙ mail_of_one horizon links s d n within l)) g
+      got_agree (mail_at to (arrival s ∷ [])) (mail_to horizon links (s ∷ [])) nodes posted
+      (λ n. ap (λ (k : ℕ). mail_at k (arrival s ∷ []) n) there ∙ mail_of_one horizon links s d n within l) g
 
 pub posted_late : (horizon : ℕ) (links : List LinkPlan) (s : Sending) (nodes : List NodeState) → horizon < s.arrive.0 → GotMails (mail_to horizon links (s ∷ [])) nodes nodes
 posted_late horizon links s nodes l = got_none (mail_to horizon links (s ∷ [])) nodes (λ n. mail_of_late horizon links s n l)
 
-all_from : (P : Sending → Type 0) (sent : List Sending) (posted place : ℕ) → posted ≤ place → All P (drop posted sent) → All P (drop place sent)
-all_from P sent posted place l h k d m =
-    let before = length-drop posted sent in
-    let behind = length-drop place sent in
-    let within : (place - posted) + k < length (drop posted sent) = omega (arith, before, behind, l, m) in
-    let there : posted + ((place - posted) + k) ≡ place + k = omega (arith, l) in
-    subst P (get_or-drop posted sent ((place - posted) + k) d ∙ (ap (λ (i : ℕ). get_or sent i d) there ∙ sym (get_or-drop place sent k d))) (h ((place - posted) + k) d within)
+-- packets that can be posted still can when mail came
+pub postables_still : (mail : ℕ → List Input) (horizon : ℕ) (links : List LinkPlan) (xs ys : List NodeState) (sent : List Sending) → GotMails mail xs ys → All (IsPostable horizon links xs) sent → All (IsPostable horizon links ys) sent
+postables_still mail horizon links xs ys sent g h = All-weaker (IsPostable horizon links xs) (IsPostable horizon links ys) (λ s k. still_postable mail horizon links xs ys s g k) sent h
 
--- what was sent by a node can be posted from a place on
-pub postable_at : (horizon : ℕ) (links : List LinkPlan) (nodes now : List NodeState) (mail : ℕ → List Input) (sent : List Sending) (posted place : ℕ) → GotMails mail nodes now → posted ≤ place → All (IsPostable horizon links nodes) (drop posted sent)
-    → All (IsPostable horizon links now) (slice_range sent place (place + 1))
-postable_at horizon links nodes now mail sent posted place g l h =
-    All-weaker (IsPostable horizon links nodes) (IsPostable horizon links now) (λ s k. still_postable mail horizon links nodes now s g k) (slice_range sent place (place + 1))
-    (all_left (IsPostable horizon links nodes) (slice_range sent place (place + 1)) (drop (place + 1) sent)
-    (subst (All (IsPostable horizon links nodes)) (drop_split sent place (place + 1) (omega arith)) (all_from (IsPostable horizon links nodes) sent posted place l h)))
-
-pub going_one : (horizon : ℕ) (links : List LinkPlan) (sent : List Sending) (posted place : ℕ) (nodes now more : List NodeState)
-    → IsGoing (mail_to horizon links (drop posted sent)) (mail_to horizon links (drop place sent)) nodes now → GotMails (mail_to horizon links (slice_range sent place (place + 1))) now more
-    → IsGoing (mail_to horizon links (drop posted sent)) (mail_to horizon links (drop (place + 1) sent)) nodes more
-going_one horizon links sent posted place nodes now more h g =
-    going_more (mail_to horizon links (drop posted sent)) (mail_to horizon links (drop place sent)) (mail_to horizon links (slice_range sent place (place + 1))) (mail_to horizon links (drop (place + 1) sent)) nodes now more h g
-    (λ n. ap (λ (ss : List Sending). mail_to horizon links ss n) (drop_split sent place (place + 1) (omega arith)) ∙ mail-append horizon links (slice_range sent place (place + 1)) (drop (place + 1) sent) n)
+-- one packet more is posted
+pub going_one : (horizon : ℕ) (links : List LinkPlan) (all left rest : List Sending) (s : Sending) (nodes now more : List NodeState) → left ≡ s ∷ rest
+    → IsGoing (mail_to horizon links all) (mail_to horizon links left) nodes now → GotMails (mail_to horizon links (s ∷ [])) now more
+    → IsGoing (mail_to horizon links all) (mail_to horizon links rest) nodes more
+going_one horizon links all left rest s nodes now more e h g =
+    going_more (mail_to horizon links all) (mail_to horizon links left) (mail_to horizon links (s ∷ [])) (mail_to horizon links rest) nodes now more h g
+    (λ n. ap (λ (ss : List Sending). mail_to horizon links ss n) e ∙ mail-append horizon links (s ∷ []) rest n)
 
 pub going_node : (horizon : ℕ) (links : List LinkPlan) (known places : List ℕ) (i from : ℕ) (nodes now more : List NodeState) → i < length places → from ≡ get_or places i from → from < length nodes
     → IsGoing (mail_to horizon links (picked (λ v. v.sendings) nodes known places)) (mail_to horizon links (picked (λ v. v.sendings) nodes known (drop i places))) nodes now

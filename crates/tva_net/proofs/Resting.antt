@@ -27,12 +27,12 @@ comes_early until time xs ys e l c =
 
 module _ (v : NodeState) (log : List Entry) (h : StandsFor v log) (until : ℕ) (within : until ≤ v.horizon + 1) (late : v.worked_to ≤ until)
     (rests : IsQuiet v.site (in_turn v.inbox) log v.worked_to until) where
-  none_early : (o : Option ℕ) → work_time v.turns v.links ≡ o → IsNoneBefore until o
+  none_early : (o : Option ℕ) → work_time v.waiting v.links ≡ o → IsNoneBefore until o
   none_early None e = tt
   none_early (Some t) e = elim (cases_lt t until) [ inl l ↦ absurd (rests t l (work_some v log t h e)) | inr l ↦ l ]
 
   caught_up : StandsFor (record v { worked_to = until }) log
-  caught_up = rests_until v log h until within late (none_early (work_time v.turns v.links) refl)
+  caught_up = rests_until v log h until within late (none_early (work_time v.waiting v.links) refl)
 
   pub log_then : IsNodeLog v.site (in_turn v.inbox) until log
   log_then = caught_up.whole

@@ -26,7 +26,7 @@ use Rattle.tva_log.specs.NodeLog.{IsNodeLog, due, in_turn}
 use Rattle.tva_log.specs.Next.{IsQuiet, IsWorkAt}
 use Rattle.tva_log.specs.Told.{event_of, events, sending_of, sendings}
 use Rattle.tva_log.proofs.Logs.{IsNodeLog-unique}
-use Rattle.tva_node.specs.States.{Keeps, NodeState, Stands, StandsFor}
+use Rattle.tva_node.specs.States.{Gone, Keeps, NodeState, Stands, StandsFor}
 use Rattle.tva_run.specs.Reaching.{Logs, log_at, arrival, arrival_of, arrivals, arrivals_at, links_out, reaches, rows_at, site_at}
 use Rattle.tva_run.specs.Report.{AreEvents, event_node, event_time, events_at}
 use Rattle.tva_run.specs.Run.{HasLog, IsRunTo, logs_before}
@@ -38,7 +38,7 @@ use Rattle.tva_run.proofs.Runs.{log_at-before}
 use Rattle.tva_run.proofs.Sites.{link_out_is, sent_arrives, site_number}
 use Rattle.tva_net.specs.Mail.{CanDeliver, GotMail, GotMails, IsPostable, goes_to, mail_to}
 use Rattle.tva_net.specs.News.{IsFirstTime, since, told_since}
-use Rattle.tva_net.specs.Nets.{IsNodeAt, WorkState, WorksFor}
+use Rattle.tva_net.specs.Nets.{HadGone, IsNodeAt, WorkState, WorksFor}
 use Rattle.tva_net.specs.Work.{IsThrough, if_some}
 use Rattle.tva_net.proofs.Lists.{each_map, map_same, some_same, split_at, zip_from, zip_length}
 use Rattle.tva_net.proofs.Given.{given_more, held_more}
@@ -349,6 +349,42 @@ module _ (config : Config) (rows : List Row) (windows : List Window) (told : Lis
       let whole_length = ap length (sendings_both n d l rest f) ∙ length-append (sendings site (log_at h.logs n)) (sendings site rest) in
       omega (arith, whole_length, posted_at n d l))
 
+  -- ## what memory holds
+
+  mids_gone : All HadGone mids
+  mids_gone n d l =
+      let k : n < length w.nodes = omega (arith, l, mid_count) in
+      let keeps : Keeps (get_or w.nodes n d) (get_or mids n d) = AllZip-get_or Keeps w.nodes mids n d d kept k in
+      let had = h.gone n d k in
+      let more_events : length (get_or w.nodes n d).events ≤ length (get_or mids n d).events =
+      let both = ap length keeps.events.1 ∙ length-append (get_or w.nodes n d).events keeps.events.0 in omega (arith, both) in
+      let more_sendings : length (get_or w.nodes n d).sendings ≤ length (get_or mids n d).sendings =
+      let both = ap length keeps.sendings.1 ∙ length-append (get_or w.nodes n d).sendings keeps.sendings.0 in omega (arith, both) in
+      record {
+        events = subst (λ (g : Gone). g.events ≤ length (get_or mids n d).events) (sym keeps.gone) (let few = had.events in omega (arith, few, more_events));
+        sendings = subst (λ (g : Gone). g.sendings ≤ length (get_or mids n d).sendings) (sym keeps.gone) (let few = had.sendings in omega (arith, few, more_sendings));
+      }
+
+  pub shown_held : AllZip (λ (v : NodeState) (n : ℕ). v.gone.events ≤ n) mids w.shown
+  shown_held = zip_from (λ (v : NodeState) (n : ℕ). v.gone.events ≤ n) mids w.shown 0
+      (mid_count ∙ sym (ap length h.shown ∙ length-map w.nodes (λ (v : NodeState). length v.events)))
+      (λ n d l.
+      let k : n < length w.nodes = omega (arith, l, mid_count) in
+      let keeps : Keeps (get_or w.nodes n d) (get_or mids n d) = AllZip-get_or Keeps w.nodes mids n d d kept k in
+      let few = (h.gone n d k).events in
+      let known = ap (λ (ns : List ℕ). get_or ns n 0) h.shown ∙ get_or-map (λ (v : NodeState). length v.events) w.nodes n d 0 k in
+      subst (λ (g : Gone). g.events ≤ get_or w.shown n 0) (sym keeps.gone) (omega (arith, few, known)))
+
+  pub posted_held : AllZip (λ (v : NodeState) (n : ℕ). v.gone.sendings ≤ n) mids w.posted
+  posted_held = zip_from (λ (v : NodeState) (n : ℕ). v.gone.sendings ≤ n) mids w.posted 0
+      (mid_count ∙ sym (ap length h.posted ∙ length-map w.nodes (λ (v : NodeState). length v.sendings)))
+      (λ n d l.
+      let k : n < length w.nodes = omega (arith, l, mid_count) in
+      let keeps : Keeps (get_or w.nodes n d) (get_or mids n d) = AllZip-get_or Keeps w.nodes mids n d d kept k in
+      let few = (h.gone n d k).sendings in
+      let known = ap (λ (ns : List ℕ). get_or ns n 0) h.posted ∙ get_or-map (λ (v : NodeState). length v.sendings) w.nodes n d 0 k in
+      subst (λ (g : Gone). g.sendings ≤ get_or w.posted n 0) (sym keeps.gone) (omega (arith, few, known)))
+
   pub mids_stand : All Stands mids
   mids_stand n d l = (log_at longer n, (mid_at n d l).stands)
 
@@ -506,6 +542,7 @@ module _ (config : Config) (rows : List Row) (windows : List Window) (told : Lis
       nodes = new_at;
       posted = posts_are ∙ sym (map_same (λ (v : NodeState). length v.sendings) mids news got.count (λ n d l. ap length (got.each n d l).keeps.sendings));
       shown = shows_are ∙ sym (map_same (λ (v : NodeState). length v.events) mids news got.count (λ n d l. ap length (got.each n d l).keeps.events));
+      gone = λ n d l. let k : n < length mids = omega (arith, l, got.count) in (got.each n d k).keeps.gone (mids_gone n d k);
       events = events_on list join;
       begins = windows_on;
       held = held_more told list (given told windows) (given (told ++ list) (windows ++ window ∷ [])) h.held (given_on list join);

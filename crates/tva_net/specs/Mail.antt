@@ -1,6 +1,6 @@
 -- Kit: what nodes are built with, and what is posted to them.
 use Rattle.std.specs.Prelude.{◌≡◌, ℕ, ◌<◌, ◌≤◌, ◌==◌, ◌&&◌, nat_le, false, Bool, List, [], ◌++◌, length, map, filter}
-use Rattle.std.specs.Prelude.{slice_get, slice_index_or, Some, if◌then◌else◌}
+use Rattle.std.specs.Prelude.{slice_get, slice_index, slice_index_or, Some, if◌then◌else◌}
 use Rattle.std.specs.Option.{option_map_or}
 use Rattle.tva_base.specs.declared.plan.LinkPlan.{LinkPlan}
 use Rattle.tva_plan.specs.declared.config.Config.{Config}
@@ -10,6 +10,7 @@ use Rattle.tva_log.specs.declared.kinds.Sending.{Sending}
 use Rattle.tva_log.specs.Entries.{input_time}
 use Rattle.tva_node.specs.States.{NodeState, Fits, Stands}
 use Rattle.tva_run.specs.Reaching.{arrival, rows_at, site_at}
+use Rattle.tva_net.specs.Nets.{HadGone}
 
 -- ## new nodes
 
@@ -19,6 +20,7 @@ pub record IsFirstNode (config : Config) (rows : List Row) (number : ℕ) (v : N
   pub horizon : v.horizon ≡ config.horizon.0
   pub inbox : v.inbox ≡ rows_at rows number
   pub nothing : (v.events ≡ []) × (v.sendings ≡ []) × (v.worked_to ≡ 0)
+  pub gone : HadGone v
   pub stands : Stands v
 
 -- the nodes of a configuration in their order, each such
@@ -26,6 +28,11 @@ pub record AreFirstNodes (config : Config) (rows : List Row) (nodes : List NodeS
   pub count : length nodes ≡ length config.nodes
   pub each : (number : ℕ) (d : NodeState) → number < length nodes
       → IsFirstNode config rows number (slice_index_or nodes number d)
+
+-- so many nodes have so many rows
+pub record AreRowCounts (nodes : ℕ) (rows : List Row) (counts : List ℕ) : Type 0 where
+  pub count : length counts ≡ nodes
+  pub each : (number : ℕ) → number < nodes → slice_index counts number ≡ length (rows_at rows number)
 
 -- ## what nodes get
 
@@ -40,19 +47,37 @@ pub record CanDeliver (nodes : List NodeState) (to : ℕ) (input : Input) : Type
   pub node : to < length nodes
   pub takes : (d : NodeState) → CanTake (slice_index_or nodes to d) input
 
--- what posting leaves of a node, whatever it answers: all but its inbox
+-- what posting leaves of a node, whatever it answers: all but its inbox and what memory holds
 pub record KeepsWork (old new : NodeState) : Type 0 where
   pub site : new.site ≡ old.site
   pub horizon : new.horizon ≡ old.horizon
   pub events : new.events ≡ old.events
   pub sendings : new.sendings ≡ old.sendings
   pub worked_to : new.worked_to ≡ old.worked_to
+  pub keeps : new.keeps ≡ old.keeps
+  pub gone : HadGone old → HadGone new
 
 -- nothing happened to nodes in other places
 abbrev pub IsSameBut : ℕ → List NodeState → List NodeState → Type 0
 IsSameBut place old new =
     (length new ≡ length old)
     × ((other : ℕ) (d : NodeState) → (other ≡ place → ⊥) → slice_index_or new other d ≡ slice_index_or old other d)
+
+-- of each node's sendings memory has lost what it had lost before, and no more
+abbrev pub IsGoneAsBefore : List NodeState → List NodeState → Type 0
+IsGoneAsBefore old new =
+    (n : ℕ) (d : NodeState) → (slice_index_or new n d).gone.sendings ≡ (slice_index_or old n d).gone.sendings
+
+-- but of the node in that place
+abbrev pub IsGoneAsBeforeBut : ℕ → List NodeState → List NodeState → Type 0
+IsGoneAsBeforeBut place old new =
+    (n : ℕ) (d : NodeState) → (n ≡ place → ⊥)
+    → (slice_index_or new n d).gone.sendings ≡ (slice_index_or old n d).gone.sendings
+
+-- a node forgot something, and nothing else happened to it
+pub record Forgot (old new : NodeState) : Type 0 where
+  pub same : new ≡ record old { gone = new.gone }
+  pub gone : HadGone old → HadGone new
 
 -- a node got this mail, and nothing else happened to it
 pub record GotMail (mail : List Input) (old new : NodeState) : Type 0 where

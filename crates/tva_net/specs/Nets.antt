@@ -1,5 +1,5 @@
 -- What a network keeps between two windows, and for which run it stands.
-use Rattle.std.specs.Prelude.{◌≡◌, ℕ, ◌+◌, ◌<◌, ◌≤◌, List, length, map, slice_index_or}
+use Rattle.std.specs.Prelude.{◌≡◌, ℕ, ◌+◌, ◌<◌, ◌≤◌, List, All, length, map, slice_index_or}
 use Rattle.std.specs.Prelude.{Option, Some, None}
 use Rattle.std.specs.List.{flat_map}
 use Rattle.tva_base.specs.declared.event.Event.{Event}
@@ -31,10 +31,11 @@ use Rattle.tva_net.specs.Sums.{AreWithin}
 abbrev pub ByPlace : (ℕ → NodeState → Type 0) → List NodeState → Type 0
 ByPlace P nodes = (place : ℕ) (d : NodeState) → place < length nodes → P place (slice_index_or nodes place d)
 
--- a node's events begin with those that it had, and so does what it sent
+-- a node's events begin with those that it had, and so does what it sent; and it keeps as much of them
 pub record GrowsFrom (old new : NodeState) : Type 0 where
   pub events : states.BeginsWith old.events new.events
   pub sendings : states.BeginsWith old.sendings new.sendings
+  pub keeps : new.keeps ≡ old.keeps
 
 -- the nodes, as many as the configuration's, tell what happened in these logs
 pub record TellOf (config : Config) (logs : Logs) (nodes : List NodeState) : Type 0 where
@@ -73,6 +74,11 @@ pub record IsNodeAt (config : Config) (rows : List Row) (logs : Logs) (until : �
   pub mail : (source : ℕ)
       → from_source input_source source node.inbox ≡ due (config.horizon.0 + 1) (reaches config rows logs place source)
 
+-- of its events and sendings memory has lost no more than there are
+pub record HadGone (node : NodeState) : Type 0 where
+  pub events : node.gone.events ≤ length node.events
+  pub sendings : node.gone.sendings ≤ length node.sendings
+
 -- the nodes and links at work: the horizon in nanoseconds, the links, how long a window is, how much each node's links
 -- sent that was posted and how much it told that was shown, and the time before which nothing is left to be done
 pub record WorkState : Type 0 where
@@ -98,6 +104,7 @@ pub record WorksFor (config : Config) (rows : List Row) (windows : List Window) 
   pub nodes : ByPlace (IsNodeAt config rows logs work.worked_to) work.nodes
   pub posted : work.posted ≡ map (λ node. length node.sendings) work.nodes
   pub shown : work.shown ≡ map (λ node. length node.events) work.nodes
+  pub gone : All HadGone work.nodes
   pub events : AreEvents config logs told
   pub begins : EachBeginsWith config rows windows work.worked_to
   pub held : flat_map (λ events. events) (spans.given told windows) ≡ told

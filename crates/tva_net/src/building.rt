@@ -5,55 +5,61 @@ ghost use Rattle.tva_plan.specs.Valid.{IsConfig};
 ghost use Rattle.tva_trace.specs.Valid.{AreTraceRows};
 ghost use Rattle.tva_log.specs.declared.kinds.Input.TheVariants.{FromTrace};
 ghost use Rattle.tva_run.specs.Reaching.{links_out, rows_at};
-ghost use Rattle.tva_net.specs.Mail.{AreFirstNodes, CanDeliver, GotMails, IsFirstNode, KeepsWork};
+ghost use Rattle.tva_net.specs.Mail.{AreFirstNodes, AreRowCounts, CanDeliver, GotMails, IsFirstNode, KeepsWork};
 
 use crate::posting::deliver;
 use std::alloc::{AllocError, Global};
 use tva_base::LinkPlan;
 use tva_log::Input;
-use tva_node::Node;
+use tva_node::{Memory, Node};
 use tva_plan::Config;
 use tva_trace::Row;
 
 /// The nodes of a configuration in their order, each with its rows of the trace, to which nothing
-/// happened yet. The error is want of memory.
+/// happened yet, and of which memory keeps so much. The error is want of memory.
 pub(crate) fn first_nodes(
     alloc: Global,
     config: &Config,
     rows: Vec<Row>,
+    keeps: Memory,
 ) -> Result<Vec<Node>, AllocError>
     requires config { IsConfig config.now }
     requires rows { AreTraceRows config.now rows.items }
-    ensures { IfOk result (λ nodes. AreFirstNodes config.now rows.items nodes.items) }
+    ensures first { IfOk result (λ nodes. AreFirstNodes config.now rows.items nodes.items) }
+    ensures keeps { IfOk result (λ nodes. All (λ v. v.keeps ≡ keeps) nodes.items) }
 {
-    let mut nodes = nodes_of(alloc, config)?;
-    file_rows(nodes.as_mut_slice(), rows)?;
+    let mut nodes = nodes_of(alloc, config, keeps)?;
+    let each = nodes.as_mut_slice();
+    make_room(alloc, each, rows.as_slice())?;
+    file_rows(each, rows)?;
     Ok(nodes)
 }
 
 // The nodes without their rows.
-fn nodes_of(alloc: Global, config: &Config) -> Result<Vec<Node>, AllocError>
+fn nodes_of(alloc: Global, config: &Config, keeps: Memory) -> Result<Vec<Node>, AllocError>
     requires { IsConfig config.now }
-    ensures { IfOk result (λ nodes. AreFirstNodes config.now [] nodes.items) }
+    ensures first { IfOk result (λ nodes. AreFirstNodes config.now [] nodes.items) }
+    ensures keeps { IfOk result (λ nodes. All (λ v. v.keeps ≡ keeps) nodes.items) }
 {
     let count = config.nodes.len();
     let mut nodes = Vec::with_capacity(alloc, count)?;
     for number in 0..count {
-        nodes.push(node_of(alloc, config, number as u16)?)?;
+        nodes.push(node_of(alloc, config, number as u16, keeps)?)?;
     }
     Ok(nodes)
 }
 
 // The node of that number.
-fn node_of(alloc: Global, config: &Config, number: u16) -> Result<Node, AllocError>
+fn node_of(alloc: Global, config: &Config, number: u16, keeps: Memory) -> Result<Node, AllocError>
     requires config { IsConfig config.now }
     requires node { number < length config.now.nodes }
-    ensures { IfOk result (λ node. IsFirstNode config.now [] number node) }
+    ensures first { IfOk result (λ node. IsFirstNode config.now [] number node) }
+    ensures keeps { IfOk result (λ node. node.keeps ≡ keeps) }
 {
     let links = links_out(alloc, number, config.links.as_slice())?;
     let plans = config.nodes.as_slice();
     let plan = &plans[usize::from(number)];
-    let node = Node::build(alloc, config.horizon, number, plan, links.as_slice())?;
+    let node = Node::build_keeping(alloc, config.horizon, number, plan, links.as_slice(), keeps)?;
     Ok(node)
 }
 
@@ -73,6 +79,32 @@ fn links_out(
         }
     }
     Ok(out)
+}
+
+// Makes room for the rows of each node.
+fn make_room(alloc: Global, nodes: &mut [Node], rows: &[Row]) -> Result<(), AllocError>
+    requires few { length rows.now ≤ 1000000 }
+    requires within { All (λ row. row.node < length nodes.old) rows.now }
+    ensures { nodes.new ≡ nodes.old }
+{
+    let counts = row_counts(alloc, nodes.len(), rows)?;
+    for place in 0..nodes.len() {
+        nodes[place].reserve(counts[place])?;
+    }
+    Ok(())
+}
+
+// How many rows each of so many nodes has.
+fn row_counts(alloc: Global, count: usize, rows: &[Row]) -> Result<Vec<usize>, AllocError>
+    requires few { length rows.now ≤ 1000000 }
+    requires within { All (λ row. row.node < count) rows.now }
+    ensures { IfOk result (λ counts. AreRowCounts count rows.now counts.items) }
+{
+    let mut counts = vec![in alloc; 0; count]?;
+    for row in rows {
+        counts[usize::from(row.node)] += 1;
+    }
+    Ok(counts)
 }
 
 // Gives each row to its node.

@@ -22,6 +22,7 @@ pub(crate) fn gather(
     given: &mut [usize],
 ) -> Result<Vec<Event>, AllocError>
     requires known { AllZip (λ v n. n ≤ length v.events) nodes.now given.old }
+    requires held { AllZip (λ v n. v.gone.events ≤ n) nodes.now given.old }
     requires places { ArePlaces (length nodes.now) places.now }
     requires others { AreKnownElsewhere (λ v. v.events) nodes.now given.old places.now }
     requires stand { All Stands nodes.now }
@@ -42,6 +43,7 @@ fn told_in_order(
     given: &[usize],
 ) -> Result<Vec<Event>, AllocError>
     requires known { AllZip (λ v n. n ≤ length v.events) nodes.now given.now }
+    requires held { AllZip (λ v n. v.gone.events ≤ n) nodes.now given.now }
     requires within { All (λ place. place < length nodes.now) places.now }
     ensures { IfOk result (λ events. IsByTime (picked (λ v. v.events) nodes.now given.now places.now) events.items) }
 {
@@ -58,6 +60,7 @@ fn news_of<'a>(
     given: &[usize],
 ) -> Result<Vec<&'a Event>, AllocError>
     requires known { AllZip (λ v n. n ≤ length v.events) nodes.now given.now }
+    requires held { AllZip (λ v n. v.gone.events ≤ n) nodes.now given.now }
     requires within { All (λ place. place < length nodes.now) places.now }
     ensures { IfOk result (λ news. map (λ event. event.now) news.items ≡ picked (λ v. v.events) nodes.now given.now places.now) }
 {
@@ -70,10 +73,11 @@ fn news_of<'a>(
 
 // Puts behind them what a node told behind its first so many.
 fn push_news<'a>(news: &mut Vec<&'a Event>, node: &'a Node, given: usize) -> Result<(), AllocError>
-    requires { given ≤ length node.now.events }
+    requires held { node.now.gone.events ≤ given }
+    requires known { given ≤ length node.now.events }
     ensures { OnOk result (map (λ event. event.now) news.new.items ≡ map (λ event. event.now) news.old.items ++ drop given node.now.events) }
 {
-    let told = &node.log()[given..];
+    let told = node.log_behind(given);
     for event in told {
         news.push(event)?;
     }
@@ -107,6 +111,6 @@ fn note_given(nodes: &[Node], places: &[usize], given: &mut [usize])
     ensures { given.new ≡ map (λ v. length v.events) nodes.now }
 {
     for place in places {
-        given[*place] = nodes[*place].log().len();
+        given[*place] = nodes[*place].told();
     }
 }

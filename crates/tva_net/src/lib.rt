@@ -2,11 +2,13 @@
 //! over what reaches it. Its contract speaks of one condition on the logs of all nodes, in which no
 //! window occurs: what it gives is the events of each window of the run in which something happens, in
 //! their order; it has ended exactly where nothing more happens up to the horizon; and it refuses
-//! exactly where there are more events than may be.
+//! exactly where there are more events than may be. A network may forget what it has given: it stands
+//! for the same run, and holds in memory what is still to come.
 #![tactic(auto)]
 
 mod building;
 mod due;
+mod forgetting;
 mod gathering;
 mod kinds;
 mod net;
@@ -21,4 +23,4 @@ mod works;
 pub use kinds::{NetError, Window};
 pub use net::Net;
 pub use tva_log::{Input, Sending};
-pub use tva_node::{Node, advance_all};
+pub use tva_node::{Memory, Node, advance_all};

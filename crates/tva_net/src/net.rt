@@ -1,5 +1,5 @@
 // A network.
-ghost use Rattle.std.specs.Prelude.{◌≡◌, List, [], Err, IfErr, IfOk, IfSome, Some};
+ghost use Rattle.std.specs.Prelude.{◌≡◌, List, [], All, Err, IfErr, IfOk, IfSome, Some};
 ghost use Rattle.std.specs.List.{AllZip};
 ghost use Rattle.tva_base.specs.declared.event.Event.{Event};
 ghost use Rattle.tva_plan.specs.declared.config.Config.{Config};
@@ -16,7 +16,7 @@ use std::alloc::{AllocError, Global};
 use std::marker::Model;
 use std::thread::Threads;
 use tva_base::Totals;
-use tva_node::Node;
+use tva_node::{Memory, Node};
 use tva_outside::Gate;
 use tva_plan::Config;
 use tva_trace::Row;
@@ -42,14 +42,31 @@ impl Model for Net {
 
 impl Net {
     /// The network of a configuration with the rows of a trace, both as they are read, in which
-    /// nothing happened yet. The error is want of memory.
+    /// nothing happened yet. It keeps all that happens in it. The error is want of memory.
     pub fn build(alloc: Global, config: &Config, rows: Vec<Row>) -> Result<Net, AllocError>
         requires config { IsConfig config.now }
         requires rows { AreTraceRows config.now rows.items }
-        ensures { IfOk result (λ net. StandsFor config.now rows.items [] [] net) }
+        ensures stands { IfOk result (λ net. StandsFor config.now rows.items [] [] net) }
+        ensures keeps { IfOk result (λ net. All (λ v. v.keeps ≡ Memory.All) net.work.nodes) }
+    {
+        Net::build_keeping(alloc, config, rows, Memory::All)
+    }
+
+    /// The same network, of whose past memory keeps so much: it stands for the same run, and each window
+    /// and sum is the same. Its nodes forget the rest once a window is over.
+    pub fn build_keeping(
+        alloc: Global,
+        config: &Config,
+        rows: Vec<Row>,
+        keeps: Memory,
+    ) -> Result<Net, AllocError>
+        requires config { IsConfig config.now }
+        requires rows { AreTraceRows config.now rows.items }
+        ensures stands { IfOk result (λ net. StandsFor config.now rows.items [] [] net) }
+        ensures keeps { IfOk result (λ net. All (λ v. v.keeps ≡ keeps) net.work.nodes) }
     {
         Ok(Net {
-            parts: Parts::build(alloc, config, rows)?,
+            parts: Parts::build(alloc, config, rows, keeps)?,
         })
     }
 

@@ -11,7 +11,7 @@ use std::alloc::{AllocError, Global};
 use std::thread::Threads;
 use tva_base::Time;
 use tva_index::Lowest;
-use tva_node::{Node, advance_all};
+use tva_node::{Node, work_parts};
 use tva_outside::Gate;
 
 // So many events take about as long on one thread as on four, with the start of these.
@@ -27,12 +27,13 @@ pub(crate) fn pace_after(pace: Option<usize>, events: usize) -> Option<usize> {
 }
 
 /// Works the nodes before a time, in nanoseconds, and gives the places of those to which something
-/// happened in it, and maybe more: in parts at once where there was no window or they held more than
-/// a handful of events, and else one after another, only those that have work.
+/// happened in it, and maybe more: in so many parts at once where there was no window or they held more
+/// than a handful of events, and else one after another, only those that have work.
 pub(crate) fn advance<R: Threads + Sync, G: Gate>(
     rt: &R,
     alloc: Global,
     gate: &G,
+    parts: usize,
     pace: Option<usize>,
     times: &mut Lowest,
     until: Time,
@@ -51,7 +52,7 @@ pub(crate) fn advance<R: Threads + Sync, G: Gate>(
             tell_each(gate, nodes.len());
             work_due(alloc, times, until, nodes)
         }
-        _ => work_all(rt, alloc, gate, times, until, nodes),
+        _ => work_all(rt, alloc, gate, parts, times, until, nodes),
     }
 }
 
@@ -69,6 +70,7 @@ fn work_all<R: Threads + Sync, G: Gate>(
     rt: &R,
     alloc: Global,
     gate: &G,
+    parts: usize,
     times: &mut Lowest,
     until: Time,
     nodes: &mut [Node],
@@ -81,7 +83,7 @@ fn work_all<R: Threads + Sync, G: Gate>(
     ensures noted { OnOk result (AreNoted times.new nodes.new) }
     ensures kept { AllZip Keeps nodes.old nodes.new }
 {
-    advance_all(rt, gate, until, nodes)?;
+    work_parts(rt, gate, until, nodes, parts)?;
     note_all(times, nodes);
     let places = all_places(alloc, nodes.len())?;
     Ok(places)

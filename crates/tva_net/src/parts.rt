@@ -1,5 +1,5 @@
 // What a network keeps, and its answers.
-ghost use Rattle.std.specs.Prelude.{◌≡◌, ◌+◌, ◌<◌, ◌≤◌, ◌++◌, List, [], Err, IfErr, IfOk, IfSome, None, Some, length};
+ghost use Rattle.std.specs.Prelude.{◌≡◌, ◌+◌, ◌<◌, ◌≤◌, ◌++◌, List, [], All, Err, IfErr, IfOk, IfSome, None, Some, length};
 ghost use Rattle.std.specs.List.{AllZip};
 ghost use Rattle.tva_base.specs.declared.event.Event.{Event};
 ghost use Rattle.tva_plan.specs.declared.config.Config.{Config};
@@ -19,6 +19,7 @@ use crate::works::Works;
 use std::alloc::{AllocError, Global};
 use std::thread::Threads;
 use tva_base::{Event, Totals};
+use tva_node::Memory;
 use tva_outside::Gate;
 use tva_plan::Config;
 use tva_trace::Row;
@@ -34,15 +35,21 @@ pub(crate) struct Parts {
 }
 
 impl Parts {
-    /// A network in which nothing happened yet.
-    pub fn build(alloc: Global, config: &Config, rows: Vec<Row>) -> Result<Parts, AllocError>
+    /// A network in which nothing happened yet, of which memory keeps so much.
+    pub fn build(
+        alloc: Global,
+        config: &Config,
+        rows: Vec<Row>,
+        keeps: Memory,
+    ) -> Result<Parts, AllocError>
         requires config { IsConfig config.now }
         requires rows { AreTraceRows config.now rows.items }
         ensures stands { IfOk result (λ parts. StandsFor config.now rows.items [] [] (state_of parts)) }
         ensures times { IfOk result KnowsTimes }
+        ensures keeps { IfOk result (λ parts. All (λ v. v.keeps ≡ keeps) parts.works.nodes.items) }
     {
         Ok(Parts {
-            works: Works::build(alloc, config, rows)?,
+            works: Works::build(alloc, config, rows, keeps)?,
             limit: config.max_events,
             totals: Totals {
                 events: 0,

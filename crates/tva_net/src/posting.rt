@@ -1,23 +1,26 @@
 // What nodes sent is posted to the nodes at the other ends of their links.
-ghost use Rattle.std.specs.Prelude.{◌≡◌, ◌+◌, ◌<◌, ◌≤◌, ◌∷◌, [], All, OnOk, drop, length, map, slice_range};
+ghost use Rattle.std.specs.Prelude.{◌≡◌, ◌<◌, ◌≤◌, ◌∷◌, [], All, OnOk, drop, length, map, slice_index_or};
 ghost use Rattle.std.specs.List.{AllZip};
-ghost use Rattle.tva_net.specs.Mail.{CanDeliver, GotMails, IsPostable, KeepsWork, IsSameBut, mail_at, mail_to};
+ghost use Rattle.tva_node.specs.States.{NodeState};
+ghost use Rattle.tva_net.specs.Mail.{CanDeliver, GotMails, IsGoneAsBefore, IsGoneAsBeforeBut, IsPostable, IsSameBut, KeepsWork, mail_at, mail_to};
 ghost use Rattle.tva_net.specs.News.{sent_by, since};
 ghost use Rattle.tva_net.specs.Places.{AreKnownElsewhere, ArePlaces, picked};
 ghost use Rattle.tva_net.specs.Times.{AreNoted};
 
+use crate::forgetting::forget_each;
 use crate::times::note;
 use std::alloc::AllocError;
 use std::thread::{Threads, join_mut};
 use tva_base::{LinkPlan, Time};
 use tva_index::Lowest;
-use tva_log::Input;
+use tva_log::{Input, Sending};
 use tva_node::Node;
 
 /// Posts what the nodes sent behind their first so many sendings, where it arrives by the horizon,
 /// in nanoseconds: node after node, each in the order of its sendings. Then all of their sendings
-/// are posted, and it is noted when each node has work next. Only nodes in these places sent
-/// anything. The error is want of memory; the count of those that are posted then stays.
+/// are posted, it is noted when each node has work next, and the nodes forget what they need not keep.
+/// Only nodes in these places sent anything. The error is want of memory; the count of those that are
+/// posted then stays.
 pub(crate) fn post_all(
     nodes: &mut [Node],
     times: &mut Lowest,
@@ -28,6 +31,7 @@ pub(crate) fn post_all(
 ) -> Result<(), AllocError>
     requires few { length nodes.old ≤ 1024 }
     requires known { AllZip (λ v n. n ≤ length v.sendings) nodes.old posted.old }
+    requires held { AllZip (λ v n. v.gone.sendings ≤ n) nodes.old posted.old }
     requires places { ArePlaces (length nodes.old) places.now }
     requires others { AreKnownElsewhere (λ v. v.sendings) nodes.old posted.old places.now }
     requires noted { AreNoted times.old nodes.old }
@@ -39,10 +43,12 @@ pub(crate) fn post_all(
 {
     post_each(nodes, times, horizon, links, places, posted)?;
     note_posted(nodes, places, posted);
+    forget_each(nodes, places);
     Ok(())
 }
 
 /// The same, and something else: at once with it where there is much to be posted.
+#[tactic(auto, using(tva_node::proofs::Crosses::node_send))]
 pub(crate) fn post_beside<R: Threads + Sync, F: FnMut() -> A + Send, A: Send>(
     rt: &R,
     nodes: &mut [Node],
@@ -56,6 +62,7 @@ pub(crate) fn post_beside<R: Threads + Sync, F: FnMut() -> A + Send, A: Send>(
 ) -> (Result<(), AllocError>, A)
     requires few { length nodes.old ≤ 1024 }
     requires known { AllZip (λ v n. n ≤ length v.sendings) nodes.old posted.old }
+    requires held { AllZip (λ v n. v.gone.sendings ≤ n) nodes.old posted.old }
     requires places { ArePlaces (length nodes.old) places.now }
     requires others { AreKnownElsewhere (λ v. v.sendings) nodes.old posted.old places.now }
     requires noted { AreNoted times.old nodes.old }
@@ -77,6 +84,7 @@ pub(crate) fn post_beside<R: Threads + Sync, F: FnMut() -> A + Send, A: Send>(
         &mut || -> Result<(), AllocError>
             requires few { length nodes.now ≤ 1024 }
             requires known { AllZip (λ v n. n ≤ length v.sendings) nodes.now posted.now }
+            requires held { AllZip (λ v n. v.gone.sendings ≤ n) nodes.now posted.now }
             requires places { ArePlaces (length nodes.now) places.now }
             requires others { AreKnownElsewhere (λ v. v.sendings) nodes.now posted.now places.now }
             requires noted { AreNoted times.now nodes.now }
@@ -101,7 +109,8 @@ fn post_each(
 ) -> Result<(), AllocError>
     requires few { length nodes.old ≤ 1024 }
     requires known { AllZip (λ v n. n ≤ length v.sendings) nodes.old posted.now }
-    requires within { All (λ place. place < length nodes.old) places.now }
+    requires held { AllZip (λ v n. v.gone.sendings ≤ n) nodes.old posted.now }
+    requires places { ArePlaces (length nodes.old) places.now }
     requires postable { All (IsPostable horizon.0 links.now nodes.old) (picked (λ v. v.sendings) nodes.old posted.now places.now) }
     requires noted { AreNoted times.old nodes.old }
     ensures got { OnOk result (GotMails (mail_to horizon.0 links.now (picked (λ v. v.sendings) nodes.old posted.now places.now)) nodes.old nodes.new) }
@@ -114,7 +123,7 @@ fn post_each(
     Ok(())
 }
 
-// Posts what one node sent behind its first so many.
+// Posts what one node sent behind its first so many: it hands these packets over, and they move.
 fn post_from(
     nodes: &mut [Node],
     times: &mut Lowest,
@@ -126,39 +135,57 @@ fn post_from(
     requires few { length nodes.old ≤ 1024 }
     requires node { from < length nodes.old }
     requires known { posted ≤ length (sent_by nodes.old from) }
+    requires held { (d : NodeState) → (slice_index_or nodes.old from d).gone.sendings ≤ posted }
     requires postable { All (IsPostable horizon.0 links.now nodes.old) (drop posted (sent_by nodes.old from)) }
     requires noted { AreNoted times.old nodes.old }
     ensures got { OnOk result (GotMails (mail_to horizon.0 links.now (drop posted (sent_by nodes.old from))) nodes.old nodes.new) }
     ensures noted { OnOk result (AreNoted times.new nodes.new) }
+    ensures gone { IsGoneAsBeforeBut from nodes.old nodes.new }
     ensures keeps { AllZip KeepsWork nodes.old nodes.new }
 {
-    let count = nodes[from].outbox().len();
-    for place in posted..count {
-        post_one(nodes, times, horizon, links, from, place)?;
+    let sent = nodes[from].hand_over(posted)?;
+    post_sent(nodes, times, horizon, links, sent)
+}
+
+// Posts packets that were sent.
+fn post_sent(
+    nodes: &mut [Node],
+    times: &mut Lowest,
+    horizon: Time,
+    links: &[LinkPlan],
+    sent: Vec<Sending>,
+) -> Result<(), AllocError>
+    requires few { length nodes.old ≤ 1024 }
+    requires postable { All (IsPostable horizon.0 links.now nodes.old) sent.items }
+    requires noted { AreNoted times.old nodes.old }
+    ensures got { OnOk result (GotMails (mail_to horizon.0 links.now sent.items) nodes.old nodes.new) }
+    ensures noted { OnOk result (AreNoted times.new nodes.new) }
+    ensures gone { IsGoneAsBefore nodes.old nodes.new }
+    ensures keeps { AllZip KeepsWork nodes.old nodes.new }
+{
+    for sending in sent {
+        post_one(nodes, times, horizon, links, sending)?;
     }
     Ok(())
 }
 
-// Posts one packet that a node sent, where it arrives by the horizon, and notes when the node there
-// has work next. One that arrives later is never copied.
+// Posts one packet that was sent, where it arrives by the horizon, and notes when the node there has
+// work next. One that arrives later is dropped.
 fn post_one(
     nodes: &mut [Node],
     times: &mut Lowest,
     horizon: Time,
     links: &[LinkPlan],
-    from: usize,
-    place: usize,
+    sending: Sending,
 ) -> Result<(), AllocError>
     requires few { length nodes.old ≤ 1024 }
-    requires node { from < length nodes.old }
-    requires place { place < length (sent_by nodes.old from) }
-    requires postable { All (IsPostable horizon.0 links.now nodes.old) (slice_range (sent_by nodes.old from) place (place + 1)) }
+    requires postable { IsPostable horizon.0 links.now nodes.old sending }
     requires noted { AreNoted times.old nodes.old }
-    ensures got { OnOk result (GotMails (mail_to horizon.0 links.now (slice_range (sent_by nodes.old from) place (place + 1))) nodes.old nodes.new) }
+    ensures got { OnOk result (GotMails (mail_to horizon.0 links.now (sending ∷ [])) nodes.old nodes.new) }
     ensures noted { OnOk result (AreNoted times.new nodes.new) }
+    ensures gone { IsGoneAsBefore nodes.old nodes.new }
     ensures keeps { AllZip KeepsWork nodes.old nodes.new }
 {
-    let sending = &nodes[from].outbox()[place];
     if sending.arrive.0 > horizon.0 {
         return Ok(());
     }
@@ -166,7 +193,7 @@ fn post_one(
     let input = Input::Arrival {
         time: sending.arrive,
         link: sending.link,
-        packet: sending.packet.copied(),
+        packet: sending.packet,
     };
     deliver(nodes, to, input)?;
     note(times, nodes, to);
@@ -178,6 +205,7 @@ pub(crate) fn deliver(nodes: &mut [Node], to: usize, input: Input) -> Result<(),
     requires { CanDeliver nodes.old to input }
     ensures got { OnOk result (GotMails (mail_at to (input ∷ [])) nodes.old nodes.new) }
     ensures others { IsSameBut to nodes.old nodes.new }
+    ensures gone { IsGoneAsBefore nodes.old nodes.new }
     ensures keeps { AllZip KeepsWork nodes.old nodes.new }
 {
     nodes[to].post(input)?;
@@ -192,6 +220,6 @@ fn note_posted(nodes: &[Node], places: &[usize], posted: &mut [usize])
     ensures { posted.new ≡ map (λ v. length v.sendings) nodes.now }
 {
     for place in places {
-        posted[*place] = nodes[*place].outbox().len();
+        posted[*place] = nodes[*place].sent();
     }
 }

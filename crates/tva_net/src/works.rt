@@ -1,5 +1,5 @@
 // The nodes of a network at work.
-ghost use Rattle.std.specs.Prelude.{◌≡◌, ◌+◌, List, [], IfOk, MatchOption, OnOk};
+ghost use Rattle.std.specs.Prelude.{◌≡◌, ◌+◌, List, [], All, IfOk, MatchOption, OnOk};
 ghost use Rattle.std.specs.Option.{option_map};
 ghost use Rattle.std.specs.List.{AllZip};
 ghost use Rattle.tva_plan.specs.Valid.{IsConfig};
@@ -19,15 +19,15 @@ use std::cmp;
 use std::thread::Threads;
 use tva_base::{Event, LinkPlan, Time};
 use tva_index::Lowest;
-use tva_node::Node;
+use tva_node::{Memory, Node, processors};
 use tva_outside::Gate;
 use tva_plan::Config;
 use tva_trace::Row;
 
 /// The horizon, the links, the length of a window in nanoseconds, the nodes, when each of them has
 /// work next, how much of what each one's links sent was posted and how much of what each told was
-/// shown, the time before which nothing is left to be done, and the pace of the windows so far, if
-/// there was one.
+/// shown, the time before which nothing is left to be done, the pace of the windows so far, if there
+/// was one, and into how many parts the nodes are cut where they are worked at once, once that was asked.
 #[derive(Drop)]
 pub(crate) struct Works {
     pub horizon: Time,
@@ -39,17 +39,25 @@ pub(crate) struct Works {
     pub shown: Vec<usize>,
     pub worked_to: u64,
     pub pace: Option<usize>,
+    pub parts: Option<usize>,
 }
 
 impl Works {
-    /// The nodes of a configuration with the rows of a trace, to which nothing happened yet.
-    pub fn build(alloc: Global, config: &Config, rows: Vec<Row>) -> Result<Works, AllocError>
+    /// The nodes of a configuration with the rows of a trace, to which nothing happened yet, and of
+    /// which memory keeps so much.
+    pub fn build(
+        alloc: Global,
+        config: &Config,
+        rows: Vec<Row>,
+        keeps: Memory,
+    ) -> Result<Works, AllocError>
         requires config { IsConfig config.now }
         requires rows { AreTraceRows config.now rows.items }
         ensures works { IfOk result (λ works. WorksFor config.now rows.items [] [] (work_of works)) }
         ensures noted { IfOk result (λ works. AreNoted works.times works.nodes.items) }
+        ensures keeps { IfOk result (λ works. All (λ v. v.keeps ≡ keeps) works.nodes.items) }
     {
-        let nodes = first_nodes(alloc, config, rows)?;
+        let nodes = first_nodes(alloc, config, rows, keeps)?;
         let links = config.links.as_slice().to_vec(alloc)?;
         let count = nodes.len();
         let times = times_of(alloc, nodes.as_slice())?;
@@ -63,6 +71,7 @@ impl Works {
             shown: vec![in alloc; 0; count]?,
             worked_to: 0,
             pace: None,
+            parts: None,
         })
     }
 
@@ -154,10 +163,13 @@ impl Works {
             return (Ok(None), other());
         };
         let until = cmp::min(start.0 + self.span, self.horizon.0 + 1);
+        let parts = parts_of(rt, self.parts);
+        self.parts = Some(parts);
         let (worked, done) = work_nodes(
             rt,
             alloc,
             gate,
+            parts,
             self.pace,
             Time(until),
             self.horizon,
@@ -179,12 +191,22 @@ impl Works {
     }
 }
 
+// Into how many parts the nodes are cut where they are worked at once: as many as there are processors,
+// which is asked where it isn't known.
+fn parts_of<R: Threads>(rt: &R, known: Option<usize>) -> usize {
+    match known {
+        Some(parts) => parts,
+        None => processors(rt),
+    }
+}
+
 // Works the nodes up to the end of a window, gives what they tell, and posts what they sent; and does
 // something else, at once with the posting.
 fn work_nodes<R: Threads + Sync, G: Gate, F: FnMut() -> A + Send, A: Send>(
     rt: &R,
     alloc: Global,
     gate: &G,
+    parts: usize,
     pace: Option<usize>,
     until: Time,
     horizon: Time,
@@ -203,7 +225,7 @@ fn work_nodes<R: Threads + Sync, G: Gate, F: FnMut() -> A + Send, A: Send>(
     ensures kept { AllZip GrowsFrom nodes.old nodes.new }
     ensures other { F.step other.old result.1 other.new }
 {
-    let places = match advance(rt, alloc, gate, pace, times, until, nodes) {
+    let places = match advance(rt, alloc, gate, parts, pace, times, until, nodes) {
         Ok(places) => places,
         Err(error) => return (Err(error), other()),
     };

@@ -10,7 +10,7 @@ use std::thread::Threads;
 use texts::networks;
 use tva_base::{Event, Happened, Totals};
 use tva_config::read_config;
-use tva_net::{Net, NetError, Window};
+use tva_net::{Memory, Net, NetError, Node, Window};
 use tva_outside::{Gate, OpenGate};
 use tva_trace::read_trace;
 
@@ -21,6 +21,16 @@ fn network(alloc: Global, config: &str, trace: &str) -> Result<Net, Fail> {
     };
     let rows = read_trace(alloc, trace.as_bytes(), &config)?;
     let net = Net::build(alloc, &config, rows)?;
+    Ok(net)
+}
+
+// The same, of whose past memory keeps so much.
+fn keeping(alloc: Global, config: &str, trace: &str, keeps: Memory) -> Result<Net, Fail> {
+    let Ok(config) = read_config(alloc, config.as_bytes()) else {
+        return Err(Fail::from("no configuration"));
+    };
+    let rows = read_trace(alloc, trace.as_bytes(), &config)?;
+    let net = Net::build_keeping(alloc, &config, rows, keeps)?;
     Ok(net)
 }
 
@@ -84,6 +94,45 @@ fn windows_have_their_events(rt: HostRuntime) -> Result<(), Fail> {
         let mut net = network(rt.alloc(), config, trace)?;
         let text = told(&rt, rt.alloc(), &OpenGate, &mut net)?;
         assert_eq!(rt; text.as_str(), *wanted, "{name}");
+    }
+    Ok(())
+}
+
+// A network that forgets has the same windows.
+#[test]
+fn windows_are_the_same_where_they_are_forgotten(rt: HostRuntime) -> Result<(), Fail> {
+    for (name, config, trace, wanted) in networks() {
+        for keeps in [Memory::Events, Memory::Nothing] {
+            let mut net = keeping(rt.alloc(), config, trace, keeps)?;
+            let text = told(&rt, rt.alloc(), &OpenGate, &mut net)?;
+            assert_eq!(rt; text.as_str(), *wanted, "{name}");
+        }
+    }
+    Ok(())
+}
+
+// The most events that one of the nodes told, and the most that one of them holds.
+fn most_events(nodes: &[Node]) -> (usize, usize) {
+    let mut told = 0;
+    let mut held = 0;
+    for node in nodes {
+        told = node.told().max(told);
+        held = node.log().len().max(held);
+    }
+    (told, held)
+}
+
+// Nodes told as many events whatever they keep of them.
+#[test]
+fn nodes_keep_what_they_are_to_keep(rt: HostRuntime) -> Result<(), Fail> {
+    let networks = networks();
+    assert!(rt; networks.len() > 1);
+    let (_, config, trace, _) = networks[1];
+    for (keeps, held) in [(Memory::All, 8), (Memory::Events, 8), (Memory::Nothing, 0)] {
+        let mut net = keeping(rt.alloc(), config, trace, keeps)?;
+        told(&rt, rt.alloc(), &OpenGate, &mut net)?;
+        let nodes = net.into_nodes();
+        assert_eq!(rt; most_events(nodes.as_slice()), (8, held));
     }
     Ok(())
 }

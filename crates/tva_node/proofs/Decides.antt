@@ -31,10 +31,10 @@ use Rattle.tva_log.proofs.Ports.{busy_starts_none, free_starts, next_busy, next_
 use Rattle.tva_node.specs.declared.links.Link.{Link}
 use Rattle.tva_node.specs.declared.parts.Parts.{Parts}
 use Rattle.tva_node.specs.declared.role.Role.{Role}
-use Rattle.tva_node.specs.declared.turns.Turn.{Turn}
+use Rattle.tva_node.specs.declared.memory.Memory.{Memory}
 use Rattle.tva_node.specs.Links.{with_next}
 use Rattle.tva_node.specs.Pairs.{link_pair}
-use Rattle.tva_node.specs.States.{NodeState, RoleStands, IsBy, role_plan, site_at, state_of}
+use Rattle.tva_node.specs.States.{Gone, NodeState, RoleStands, IsBy, role_plan, site_at, state_of}
 use Rattle.tva_node.specs.Steps.{StandsAt, Decides, started_by}
 use Rattle.tva_node.specs.Work.{IsRank, AwaitsAt, DecidesAt, IsStartable, all_taken, end_on, start_event, start_sending}
 use Rattle.tva_node.proofs.Finding.{find-at, link_valid}
@@ -113,10 +113,10 @@ module _ (p : Parts) (now place rank : ℕ) (log : List Entry) (d : Link) (ranke
   at_site next role events sendings e h = subst (λ (s : Site). DecidesAt (record v { site = s; links = put next; role = role; events = events; sendings = sendings }) now (place + 1)) (same_site next role e) h
 
   -- it is busy
-  pub busy : (free : ℕ) → free ≡ port.free_after limits ports → now < free → DecidesAt (state (Some free) p.role p.log.items p.outbox.items) now (place + 1)
+  pub busy : (free : ℕ) → free ≡ port.free_after limits ports → now < free → DecidesAt (state (Some free) p.role p.log.all p.outbox.all) now (place + 1)
   busy free e h =
       let late : now < port.free_after limits ports = omega arith in
-      at_site (Some free) p.role p.log.items p.outbox.items refl
+      at_site (Some free) p.role p.log.all p.outbox.all refl
       (rested v now place rank log d ranked st waits within (Some free) p.role
       (starts_is log ∙ busy_starts_none limits ports now late)
       (ap Some e ∙ (sym (next_busy limits ports (now + 1) (omega arith) (omega arith)) ∙ sym (next_is log)))
@@ -129,9 +129,9 @@ module _ (p : Parts) (now place rank : ℕ) (log : List Entry) (d : Link) (ranke
 
   -- it starts nothing
   pub rest : (decides : Decision) (role : Role) → port.free_after limits ports ≤ now → Decides site log here.number now limits decides role → is_start decides ≡ false → role_plan role ≡ role_plan p.role → IsBy now role
-      → DecidesAt (state (next_by now decides) role p.log.items p.outbox.items) now (place + 1)
+      → DecidesAt (state (next_by now decides) role p.log.all p.outbox.all) now (place + 1)
   rest decides role free h none e by =
-      at_site (next_by now decides) role p.log.items p.outbox.items e
+      at_site (next_by now decides) role p.log.all p.outbox.all e
       (rested v now place rank log d ranked st waits within (next_by now decides) role
       (starts_is log ∙ (free_starts limits ports now free ∙ (ap start_of (sym h.0) ∙ no_start_none decides none)))
       (sym (next_rested limits ports now decides valid legal.0 legal.1 free h.0 none) ∙ sym (next_is log))
@@ -142,7 +142,7 @@ module _ (p : Parts) (now place rank : ℕ) (log : List Entry) (d : Link) (ranke
 
   -- it starts a packet
   pub start : (class : Class) (packet : PacketData) (role : Role) → port.free_after limits ports ≤ now → Decides site log here.number now limits (Start class packet) role → role_plan role ≡ role_plan p.role → IsBy now role
-      → DecidesAt (state (Some (end_on here now packet)) role (p.log.items ++ start_event p.number here now class packet ∷ []) (p.outbox.items ++ start_sending here now packet ∷ [])) now (place + 1)
+      → DecidesAt (state (Some (end_on here now packet)) role (p.log.all ++ start_event p.number here now class packet ∷ []) (p.outbox.all ++ start_sending here now packet ∷ [])) now (place + 1)
   start class packet role free h e by =
       let entry = Started now here.number class packet in
       let after = port_logs (log ++ entry ∷ []) here.number in
@@ -151,7 +151,7 @@ module _ (p : Parts) (now place rank : ℕ) (log : List Entry) (d : Link) (ranke
       let rate : 1 ≤ limits.ns_per_byte = valid.ns_per_byte.0 in
       let some : 1 ≤ packet_length packet * limits.ns_per_byte = (let a : 1 * limits.ns_per_byte ≤ packet_length packet * limits.ns_per_byte = mul-le-mul_right limits.ns_per_byte (let b : 1 ≤ packet_length packet = omega arith in b) in omega arith) in
       let later : now < port.free_after limits after = omega (arith, freed) in
-      at_site (Some end) role (p.log.items ++ start_event p.number here now class packet ∷ []) (p.outbox.items ++ start_sending here now packet ∷ []) e
+      at_site (Some end) role (p.log.all ++ start_event p.number here now class packet ∷ []) (p.outbox.all ++ start_sending here now packet ∷ []) e
       (started_one v now place rank log d ranked st waits within class packet (Some end) role (start_event p.number here now class packet) (start_sending here now packet)
       (starts_is log ∙ (free_starts limits ports now free ∙ ap start_of (sym h.0)))
       (starts_is (log ++ entry ∷ []) ∙ busy_starts_none limits after now later)
@@ -185,11 +185,15 @@ pairs_put ls links place a next ea h e = ap (map link_pair) e ∙ pairs_set ls p
 pub count_put : (ls links : List Link) (place : ℕ) (a : Link) (next : Option ℕ) → links ≡ with_next place next ls a → length links ≡ length ls
 count_put ls links place a next e = ap length e ∙ length-set ls place (record (get_or ls place a) { next = next })
 
+-- how much of its lists is gone
+abbrev pub gone_in : Parts → Gone
+gone_in p = record { inputs = p.inbox.gone; events = p.log.gone; sendings = p.outbox.gone }
+
 -- what a node was that is now
-pub from_fields : (q : Parts) (number horizon worked : ℕ) (role : Role) (links : List Link) (inbox : List Input) (turns : List Turn) (es : List Event) (ss : List Sending)
-    → q.number ≡ number → q.horizon ≡ horizon → q.worked_to ≡ worked → q.role ≡ role → q.links ≡ links → q.inbox.items ≡ inbox → q.turns ≡ turns → q.log.items ≡ es → q.outbox.items ≡ ss
-    → record { site = site_of number (role_plan role) (map link_pair links); horizon = horizon; inbox = inbox; events = es; sendings = ss; worked_to = worked; role = role; links = links; turns = turns } ≡ state_of q
-from_fields q number horizon worked role links inbox turns es ss e1 e2 e3 e4 e5 e6 e7 e8 e9 = λ i. record {
+pub from_fields : (q : Parts) (number horizon worked : ℕ) (role : Role) (links : List Link) (inbox : List Input) (waiting : List Input) (keeps : Memory) (gone : Gone) (es : List Event) (ss : List Sending)
+    → q.number ≡ number → q.horizon ≡ horizon → q.worked_to ≡ worked → q.role ≡ role → q.links ≡ links → q.inbox.all ≡ inbox → q.waiting ≡ waiting → q.log.all ≡ es → q.outbox.all ≡ ss → q.keeps ≡ keeps → gone_in q ≡ gone
+    → record { site = site_of number (role_plan role) (map link_pair links); horizon = horizon; inbox = inbox; events = es; sendings = ss; worked_to = worked; keeps = keeps; gone = gone; role = role; links = links; waiting = waiting } ≡ state_of q
+from_fields q number horizon worked role links inbox waiting keeps gone es ss e1 e2 e3 e4 e5 e6 e7 e8 e9 e10 e11 = λ i. record {
   site = site_of (sym e1 i) (role_plan (sym e4 i)) (map link_pair (sym e5 i));
   horizon = sym e2 i;
   inbox = sym e6 i;
@@ -198,7 +202,9 @@ from_fields q number horizon worked role links inbox turns es ss e1 e2 e3 e4 e5 
   worked_to = sym e3 i;
   role = sym e4 i;
   links = sym e5 i;
-  turns = sym e7 i;
+  keeps = sym e10 i;
+  gone = sym e11 i;
+  waiting = sym e7 i;
 }
 
 pub on_both : {T E : Type 0} (A B C : Type 0) (r : Result T E) → (A → B → C) → OnOk r A → OnOk r B → OnOk r C
@@ -238,23 +244,23 @@ module _ (p : Parts) (now place : ℕ) (a : Link) (ea : a ≡ get_or p.links pla
 
   -- the links are those in which it was noted
   pub put_there : (links : List Link) (next : Option ℕ) (role : Role) → links ≡ with_next place next p.links a
-      → DecidesAt (state_at (get_or p.links place a) next role p.log.items p.outbox.items) now (place + 1)
+      → DecidesAt (state_at (get_or p.links place a) next role p.log.all p.outbox.all) now (place + 1)
       → DecidesAt (record (state_of p) { site = site_of p.number (role_plan role) (map link_pair links); links = links; role = role }) now (place + 1)
   put_there links next role e h =
       subst (λ (ls : List Link). DecidesAt (record (state_of p) { site = site_of p.number (role_plan role) (map link_pair ls); links = ls; role = role }) now (place + 1)) (sym e) h
 
   pub read_busy : (free : ℕ) (b : Link) → b ≡ get_or p.links place b → free ≡ port.free_after a.plan.limits (port_logs log' a.number) → now < free
-      → DecidesAt (state_at b (Some free) p.role p.log.items p.outbox.items) now (place + 1)
+      → DecidesAt (state_at b (Some free) p.role p.log.all p.outbox.all) now (place + 1)
   read_busy free b eb e h =
-      moved b (Some free) p.role p.log.items p.outbox.items eb
+      moved b (Some free) p.role p.log.all p.outbox.all eb
       (busy p now place d.0 d.1 a d.2 d.3 d.4 within free (subst (λ (x : Link). free ≡ port.free_after x.plan.limits (port_logs log' x.number)) ea e) h)
 
   pub read_rest : (decides : Decision) (next : Option ℕ) (role : Role) (b : Link) → b ≡ get_or p.links place b → next ≡ next_by now decides → port.free_after a.plan.limits (port_logs log' a.number) ≤ now
       → Decides site' log' a.number now a.plan.limits decides role → is_start decides ≡ false → role_plan role ≡ role_plan p.role → IsBy now role
-      → DecidesAt (state_at b next role p.log.items p.outbox.items) now (place + 1)
+      → DecidesAt (state_at b next role p.log.all p.outbox.all) now (place + 1)
   read_rest decides next role b eb n free h none e by =
-      moved b next role p.log.items p.outbox.items eb
-      (subst (λ (o : Option ℕ). DecidesAt (state_at (get_or p.links place a) o role p.log.items p.outbox.items) now (place + 1)) (sym n)
+      moved b next role p.log.all p.outbox.all eb
+      (subst (λ (o : Option ℕ). DecidesAt (state_at (get_or p.links place a) o role p.log.all p.outbox.all) now (place + 1)) (sym n)
       (rest p now place d.0 d.1 a d.2 d.3 d.4 within decides role
       (subst (λ (x : Link). port.free_after x.plan.limits (port_logs log' x.number) ≤ now) ea free)
       (subst (λ (x : Link). Decides site' log' x.number now x.plan.limits decides role) ea h) none e by))
@@ -262,7 +268,7 @@ module _ (p : Parts) (now place : ℕ) (a : Link) (ea : a ≡ get_or p.links pla
   pub read_start : (class : Class) (packet : PacketData) (role : Role) → port.free_after a.plan.limits (port_logs log' a.number) ≤ now
       → Decides site' log' a.number now a.plan.limits (Start class packet) role → role_plan role ≡ role_plan p.role → IsBy now role
       → DecidesAt (state_at (get_or p.links place a) (Some (end_on (get_or p.links place a) now packet)) role
-      (p.log.items ++ start_event p.number (get_or p.links place a) now class packet ∷ []) (p.outbox.items ++ start_sending (get_or p.links place a) now packet ∷ [])) now (place + 1)
+      (p.log.all ++ start_event p.number (get_or p.links place a) now class packet ∷ []) (p.outbox.all ++ start_sending (get_or p.links place a) now packet ∷ [])) now (place + 1)
   read_start class packet role free h e by =
       start p now place d.0 d.1 a d.2 d.3 d.4 within class packet role
       (subst (λ (x : Link). port.free_after x.plan.limits (port_logs log' x.number) ≤ now) ea free)

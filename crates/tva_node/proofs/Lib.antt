@@ -5,9 +5,11 @@ pub mod Finding
 pub mod Roles
 pub mod Rows
 pub mod Left
+pub mod Slots
 pub mod Waits
 pub mod Works
 pub mod Asked
 pub mod Decides
 pub mod Zips
 pub mod Posts
+pub mod Crosses

@@ -1,6 +1,6 @@
 -- How a node works: what it stands for before, within and after one time.
 use Rattle.std.proofs.Common.{◌≡◌, ℕ, zero, suc, ◌+◌, ◌<◌, ◌≤◌, min, List, [], ◌∷◌, ◌++◌, length, get_or, map, take, drop, set, All, Option, Some, None, false, refl, sym, subst, ◌∙◌, ap, ap₂, arith, inl, inr, ◌⊎◌, append-nil}
-use Rattle.std.specs.Prelude.{◌==◌, Contains, slice_get}
+use Rattle.std.specs.Prelude.{◌==◌, Contains}
 use Rattle.std.specs.Option.{option_map, option_and_then}
 use Rattle.std.specs.List.{AllByRecursion, find, cons_option}
 use Rattle.std.proofs.lemmas.Bool.{cases_lt}
@@ -29,17 +29,15 @@ use Rattle.tva_log.proofs.Ports.{next_again, quiet_starts_none}
 use Rattle.tva_log.proofs.Quiet.{due_same, quiet_log, late_on}
 use Rattle.tva_node.specs.declared.links.Link.{Link}
 use Rattle.tva_node.specs.declared.role.Role.{Role}
-use Rattle.tva_node.specs.declared.turns.Turn.{Turn}
 use Rattle.tva_node.specs.Links.{asked_by, is_asked, least_next, sooner}
 use Rattle.tva_node.specs.Pairs.{link_pair}
 use Rattle.tva_node.specs.AtTime.{IsAt}
-use Rattle.tva_node.specs.Turns.{AreLeft, IsTurnOf}
-use Rattle.tva_node.specs.States.{NodeState, StandsFor, Stands, KnowsNext, Fits, RoleStands, IsBy, role_plan}
+use Rattle.tva_node.specs.States.{AreLeft, NodeState, StandsFor, Stands, KnowsNext, Fits, RoleStands, IsBy, role_plan}
 use Rattle.tva_node.specs.Steps.{StandsAt, Takes}
-use Rattle.tva_node.specs.Work.{IsNoneBefore, turn_next, work_time, is_due, queued_on, Waits, AwaitsAt, TakesAt, IsRank, DecidesAt, all_taken}
+use Rattle.tva_node.specs.Work.{IsNoneBefore, first_time, work_time, is_due, queued_on, Waits, AwaitsAt, TakesAt, IsRank, DecidesAt, all_taken}
 use Rattle.tva_node.proofs.Steps.{begins, takes, rests, starts_one, ends}
 use Rattle.tva_node.proofs.Finding.{find-none, find-some, find-at, link_valid}
-use Rattle.tva_node.proofs.Left.{left_late, left_turns_late, taken_due, turn_late, next_left, none_due, slice_read, slice_within}
+use Rattle.tva_node.proofs.Left.{left_late, next_late, next_left, none_due, taken_due, waiting_each}
 use Rattle.tva_node.proofs.Roles.{by-later, role_legal}
 use Rattle.tva_node.proofs.Waits.{all_wait, asked_all, asked_pairs, not_asked, some_is, unasked_knows, waits_on}
 
@@ -105,22 +103,22 @@ module _ (v : NodeState) (log : List Entry) (h : StandsFor v log) where
   legal = role_legal v.site v.role log v.worked_to h.site h.plan h.role h.past
 
   -- work comes no earlier than what is worked
-  pub work_late : (t : ℕ) → work_time v.turns v.links ≡ Some t → v.worked_to ≤ t
-  work_late t e = elim (either (turn_next v.turns) (least_next v.links) t e) [
-    | inl a ↦ turn_late v.worked_to v.inbox v.turns t h.left a
+  pub work_late : (t : ℕ) → work_time v.waiting v.links ≡ Some t → v.worked_to ≤ t
+  work_late t e = elim (either (first_time v.waiting) (least_next v.links) t e) [
+    | inl a ↦ next_late v.worked_to v.inbox v.waiting t h.left a
     | inr a ↦
         let l = any_link (KnowsNext v.site log v.worked_to) v.links t h.links a in
         late_on v.site log v.worked_to t l.0.number (limits_out v.site l.0.number) (sym l.1.0 ∙ l.1.1)
   ]
 
-  no_input : (end t : ℕ) → IsNoneBefore end (turn_next v.turns) → v.worked_to ≤ t → t < end → Contains (map input_time (in_turn v.inbox)) t → ⊥
+  no_input : (end t : ℕ) → IsNoneBefore end (first_time v.waiting) → v.worked_to ≤ t → t < end → Contains (map input_time (in_turn v.inbox)) t → ⊥
   no_input end t n l k c =
       let P : ℕ → Type 0 = λ u. (u < v.worked_to) ⊎ (end ≤ u) in
       let Q : Input → Type 0 = λ i. P (input_time i) in
       let taken = due v.worked_to (in_turn v.inbox) in
       let early : AllByRecursion Q taken = each-weaker (λ i. input_time i < v.worked_to) Q (λ i a. inl a) taken (each-cut input_time input_source v.worked_to (in_turn v.inbox)) in
-      let late : AllByRecursion Q h.left.0 = each-weaker (λ i. end ≤ input_time i) Q (λ i a. inr a) h.left.0 (left_late v.inbox taken v.turns h.left end n) in
-      let all : AllByRecursion Q (in_turn v.inbox) = subst (AllByRecursion Q) (sym h.left.1) (each-append Q taken h.left.0 early late) in
+      let late : AllByRecursion Q v.waiting = each-weaker (λ i. end ≤ input_time i) Q (λ i a. inr a) v.waiting (left_late v.inbox taken v.waiting h.left end n) in
+      let all : AllByRecursion Q (in_turn v.inbox) = subst (AllByRecursion Q) (sym h.left) (each-append Q taken v.waiting early late) in
       elim (All-contains P (map input_time (in_turn v.inbox)) t (All-map P input_time (in_turn v.inbox) (All-from_recursion Q (in_turn v.inbox) all)) c) [
         | inl a ↦ omega arith
         | inr a ↦ omega arith
@@ -144,18 +142,18 @@ module _ (v : NodeState) (log : List Entry) (h : StandsFor v log) where
           (both xs (All-tail (λ (l : Link). IsNoneBefore end l.next) x xs a) (All-tail (KnowsNext v.site log v.worked_to) x xs b))
 
   -- before the next time nothing is to be done
-  pub quiet : (end : ℕ) → IsNoneBefore end (work_time v.turns v.links) → IsQuiet v.site (in_turn v.inbox) log v.worked_to end
+  pub quiet : (end : ℕ) → IsNoneBefore end (work_time v.waiting v.links) → IsQuiet v.site (in_turn v.inbox) log v.worked_to end
   quiet end n t k w =
-      let parts = none_left end (turn_next v.turns) (least_next v.links) n in
+      let parts = none_left end (first_time v.waiting) (least_next v.links) n in
       elim w.1 [
         | inl c ↦ no_input end t parts.0 w.0 k c
         | inr d ↦ no_decision end t d.0 parts.1 k d.1
       ]
 
-  due_then : (end : ℕ) → v.worked_to ≤ end → IsNoneBefore end (work_time v.turns v.links) → due end (in_turn v.inbox) ≡ due v.worked_to (in_turn v.inbox)
+  due_then : (end : ℕ) → v.worked_to ≤ end → IsNoneBefore end (work_time v.waiting v.links) → due end (in_turn v.inbox) ≡ due v.worked_to (in_turn v.inbox)
   due_then end l n = due_same v.worked_to end (in_turn v.inbox) l (λ t a b c. quiet end n t b (a, inl c))
 
-  log_then : (end : ℕ) → v.worked_to ≤ end → IsNoneBefore end (work_time v.turns v.links) → IsNodeLog v.site (in_turn v.inbox) end log
+  log_then : (end : ℕ) → v.worked_to ≤ end → IsNoneBefore end (work_time v.waiting v.links) → IsNodeLog v.site (in_turn v.inbox) end log
   log_then end l n = quiet_log v.site (in_turn v.inbox) v.worked_to end log l (quiet end n) h.whole
 
   -- up to the next time a link decides next when it did
@@ -173,7 +171,7 @@ module _ (v : NodeState) (log : List Entry) (h : StandsFor v log) where
       (knows end xs l (All-tail (λ (y : Link). IsNoneBefore end y.next) x xs a) (All-tail (KnowsNext v.site log v.worked_to) x xs b))
 
   -- a node goes to a time before which there is nothing to do
-  pub rests_until : (end : ℕ) → end ≤ v.horizon + 1 → v.worked_to ≤ end → IsNoneBefore end (work_time v.turns v.links) → StandsFor (record v { worked_to = end }) log
+  pub rests_until : (end : ℕ) → end ≤ v.horizon + 1 → v.worked_to ≤ end → IsNoneBefore end (work_time v.waiting v.links) → StandsFor (record v { worked_to = end }) log
   rests_until end b l n = record {
     site = h.site;
     plan = h.plan;
@@ -184,18 +182,18 @@ module _ (v : NodeState) (log : List Entry) (h : StandsFor v log) where
     sendings = h.sendings;
     role = h.role;
     past = by-later v.worked_to end v.role l h.past;
-    links = knows end v.links l (no_link end v.links (none_left end (turn_next v.turns) (least_next v.links) n).1) h.links;
+    links = knows end v.links l (no_link end v.links (none_left end (first_time v.waiting) (least_next v.links) n).1) h.links;
     fits = h.fits;
-    left = subst (λ (taken : List Input). AreLeft v.inbox taken v.turns) (sym (due_then end l n)) h.left;
+    left = subst (λ (taken : List Input). AreLeft v.inbox taken v.waiting) (sym (due_then end l n)) h.left;
   }
 
   -- a time begins at which there is work
-  pub begins_at : (now : ℕ) → now ≤ v.horizon → work_time v.turns v.links ≡ Some now → TakesAt v now
+  pub begins_at : (now : ℕ) → now ≤ v.horizon → work_time v.waiting v.links ≡ Some now → TakesAt v now
   begins_at now b w =
-      let n = none_sooner now (work_time v.turns v.links) w in
+      let n = none_sooner now (work_time v.waiting v.links) w in
       let l = work_late now w in
       let taken = due now (in_turn v.inbox) in
-      let left : AreLeft v.inbox taken v.turns = subst (λ (is : List Input). AreLeft v.inbox is v.turns) (sym (due_then now l n)) h.left in (
+      let left : AreLeft v.inbox taken v.waiting = subst (λ (is : List Input). AreLeft v.inbox is v.waiting) (sym (due_then now l n)) h.left in (
         taken,
         log,
         record {
@@ -211,10 +209,10 @@ module _ (v : NodeState) (log : List Entry) (h : StandsFor v log) where
           links = no_rank v.links;
           fits = h.fits;
           early = each-weaker (λ i. input_time i < now) (λ i. input_time i ≤ now) (λ i a. omega arith) taken (each-cut input_time input_source now (in_turn v.inbox));
-          late = left_turns_late v.inbox taken v.turns left now (none_left now (turn_next v.turns) (least_next v.links) n).0;
+          late = left_late v.inbox taken v.waiting left now (none_left now (first_time v.waiting) (least_next v.links) n).0;
           left = left;
         },
-        all_wait v.site log now v.links (knows now v.links l (no_link now v.links (none_left now (turn_next v.turns) (least_next v.links) n).1) h.links),
+        all_wait v.site log now v.links (knows now v.links l (no_link now v.links (none_left now (first_time v.waiting) (least_next v.links) n).1) h.links),
       )
     where
       no_rank : (ls : List Link) → All (λ (x : Link). x.number < 0 → KnowsNext v.site log (now + 1) x) ls
@@ -223,34 +221,18 @@ module _ (v : NodeState) (log : List Entry) (h : StandsFor v log) where
 
 -- ## inputs
 
-same_input : (a b : Input) (o : Option Input) → o ≡ Some a → o ≡ Some b → a ≡ b
-same_input a b o e f = let k : Some a ≡ Some b = sym e ∙ f in cc
-
 module _ (v : NodeState) (now : ℕ) (taken : List Input) (log : List Entry) (st : StandsAt v now 0 taken log) (waits : AwaitsAt v now 0 log) where
-  -- the next turn is that of an input
-  pub input_next : (turn : Turn) (ts : List Turn) → v.turns ≡ turn ∷ ts → (input : Input) × (IsTurnOf v.inbox turn input × AreLeft v.inbox (taken ++ input ∷ []) ts)
-  input_next turn ts e = next_left v.inbox taken turn ts (subst (AreLeft v.inbox taken) e st.left)
-
-  -- which is read there
-  pub read_next : (turn : Turn) (ts : List Turn) (x : Input) → v.turns ≡ turn ∷ ts → turn.time ≡ now → x ≡ get_or v.inbox turn.place x
-      → (input_time x ≡ now) × Fits v.site.plan x × (slice_get v.inbox turn.place ≡ Some x)
-  read_next turn ts x e here read =
-      let next = input_next turn ts e in
-      let same : x ≡ next.0 = read ∙ slice_read v.inbox turn.place next.0 x next.1.0.place in
-      let fit = All-get_or (λ i. (input_time i ≤ v.horizon) × Fits v.site.plan i) v.inbox turn.place x (slice_within v.inbox turn.place next.0 next.1.0.place) st.fits in (
-        ap input_time same ∙ (sym next.1.0.time ∙ here),
-        subst (Fits v.site.plan) (sym read) fit.1,
-        next.1.0.place ∙ ap Some (sym same),
-      )
+  -- the next input is one that the node can take
+  pub next_fits : (input : Input) (rest : List Input) → v.waiting ≡ input ∷ rest → Fits v.site.plan input
+  next_fits input rest e =
+      let each = waiting_each v.inbox taken v.waiting st.left (λ i. (input_time i ≤ v.horizon) × Fits v.site.plan i) st.fits in
+      (subst (AllByRecursion (λ i. (input_time i ≤ v.horizon) × Fits v.site.plan i)) e each).0.1
 
   -- it is taken, and the link on which it queues a packet is asked
-  pub took_one : (turn : Turn) (ts : List Turn) (input : Input) (told : Happened) (role : Role) → v.turns ≡ turn ∷ ts → turn.time ≡ now → slice_get v.inbox turn.place ≡ Some input
+  pub took_one : (input : Input) (rest : List Input) (told : Happened) (role : Role) → v.waiting ≡ input ∷ rest → input_time input ≡ now
       → Takes v.site log input told role → role_plan role ≡ role_plan v.role → IsBy now role
-      → TakesAt (record v { links = map (asked_by (queued_on told) now) v.links; turns = ts; role = role; events = v.events ++ record { time = at_time now; node = v.site.number; happened = told } ∷ [] }) now
-  took_one turn ts input told role e here at t plan by =
-      let next = input_next turn ts e in
-      let same : next.0 ≡ input = same_input next.0 input (slice_get v.inbox turn.place) next.1.0.place at in
-      let time : input_time input ≡ now = ap input_time (sym same) ∙ (sym next.1.0.time ∙ here) in
+      → TakesAt (record v { links = map (asked_by (queued_on told) now) v.links; waiting = rest; role = role; events = v.events ++ record { time = at_time now; node = v.site.number; happened = told } ∷ [] }) now
+  took_one input rest told role e time t plan by =
       let made = t.0 in
       let entry = Took input made in
       let asked = map (asked_by (queued_on told) now) v.links in (
@@ -269,8 +251,8 @@ module _ (v : NodeState) (now : ℕ) (taken : List Input) (log : List Entry) (st
           links = none_yet (log ++ entry ∷ []) asked;
           fits = st.fits;
           early = each-append (λ i. input_time i ≤ now) taken (input ∷ []) st.early (omega arith, tt);
-          late = (subst (AllByRecursion (λ (x : Turn). now ≤ x.time)) e st.late).1;
-          left = subst (λ (i : Input). AreLeft v.inbox (taken ++ i ∷ []) ts) same next.1.1;
+          late = (subst (AllByRecursion (λ (x : Input). now ≤ input_time x)) e st.late).1;
+          left = next_left v.inbox taken input rest (subst (AreLeft v.inbox taken) e st.left);
         },
         asked_all v.site log now input made (queued_on told) v.links (ap queued_on t.2) waits,
       )
@@ -284,10 +266,10 @@ module _ (v : NodeState) (now : ℕ) (taken : List Input) (log : List Entry) (st
   low (l ∷ ls) = All-cons (λ (x : Link). 0 ≤ x.number) l ls (omega arith) (low ls)
 
   -- where none comes any more, all inputs of the time are taken
-  pub all_in : is_due now v.turns ≡ false → DecidesAt v now 0
+  pub all_in : is_due now v.waiting ≡ false → DecidesAt v now 0
   all_in e =
-      let n = none_due now v.turns e st.late in
-      let due_is : due (now + 1) (in_turn v.inbox) ≡ taken = taken_due v.inbox taken v.turns st.left (now + 1) (each-weaker (λ i. input_time i ≤ now) (λ i. input_time i < now + 1) (λ i a. omega arith) taken st.early) n in
+      let n = none_due now v.waiting e st.late in
+      let due_is : due (now + 1) (in_turn v.inbox) ≡ taken = taken_due v.inbox taken v.waiting st.left (now + 1) (each-weaker (λ i. input_time i ≤ now) (λ i. input_time i < now + 1) (λ i a. omega arith) taken st.early) n in
       (0, log, record { before = All-nil (λ (l : Link). l.number < 0); behind = low v.links }, subst (λ (is : List Input). StandsAt v now 0 is log) (sym due_is) st, waits)
 
 -- ## links
@@ -505,7 +487,7 @@ worked_one v now (rank, log, ranked, st, waits) =
 -- ## going on
 
 -- a node goes to a time, or stays where it is
-pub goes_to : (v : NodeState) (end to : ℕ) → Stands v → end ≤ v.horizon + 1 → IsNoneBefore end (work_time v.turns v.links) → ((v.worked_to ≤ end) × (to ≡ end)) ⊎ ((end ≤ v.worked_to) × (to ≡ v.worked_to)) → Stands (record v { worked_to = to })
+pub goes_to : (v : NodeState) (end to : ℕ) → Stands v → end ≤ v.horizon + 1 → IsNoneBefore end (work_time v.waiting v.links) → ((v.worked_to ≤ end) × (to ≡ end)) ⊎ ((end ≤ v.worked_to) × (to ≡ v.worked_to)) → Stands (record v { worked_to = to })
 goes_to v end to (log, h) b n c = elim c [
   | inl a ↦ subst (λ t. Stands (record v { worked_to = t })) (sym a.1) (log, rests_until v log h end b a.0 n)
   | inr a ↦ subst (λ t. Stands (record v { worked_to = t })) (sym a.1) (log, h)

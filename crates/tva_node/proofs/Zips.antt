@@ -31,7 +31,7 @@ begins_more {X = X} xs ys zs (a, e) (b, f) = (a ++ b, f ∙ (ap (λ (es : List X
 
 -- a node that nothing was done to keeps all
 pub keeps_same : (v : NodeState) → Keeps v v
-keeps_same v = record { site = refl; horizon = refl; inbox = refl; events = begins_same v.events; sendings = begins_same v.sendings }
+keeps_same v = record { site = refl; horizon = refl; inbox = refl; events = begins_same v.events; sendings = begins_same v.sendings; keeps = refl; gone = refl }
 
 -- what two calls one after the other leave
 pub keeps_on : (a b c : NodeState) → Keeps a b → Keeps b c → Keeps a c
@@ -41,6 +41,8 @@ keeps_on a b c h k = record {
   inbox = k.inbox ∙ h.inbox;
   events = begins_more a.events b.events c.events h.events k.events;
   sendings = begins_more a.sendings b.sendings c.sendings h.sendings k.sendings;
+  keeps = k.keeps ∙ h.keeps;
+  gone = k.gone ∙ h.gone;
 }
 
 -- ## a list that is gone through

@@ -1,8 +1,9 @@
-pub mod Turns
 pub mod Changes
 pub mod Pairs
 pub mod Links
 pub mod States
+pub mod Keeping
+pub mod Waiting
 pub mod AtTime
 pub mod Making
 pub mod Steps

@@ -1,5 +1,5 @@
 -- What a node keeps, and for which log it stands.
-use Rattle.std.specs.Prelude.{◌≡◌, ℕ, ◌+◌, ◌<◌, ◌≤◌, min, max, List, [], ◌++◌, All, map, take, Option, Some, None}
+use Rattle.std.specs.Prelude.{◌≡◌, ℕ, ◌+◌, ◌<◌, ◌≤◌, min, max, List, [], ◌++◌, All, length, map, take, Option, Some, None}
 use Rattle.std.specs.List.{AllByRecursion}
 use Rattle.tva_base.specs.declared.event.Event.{Event}
 use Rattle.tva_base.specs.declared.packet.Time.{Time}
@@ -30,11 +30,11 @@ use Rattle.tva_node.specs.declared.role.Role.TheVariants as roles
 use Rattle.tva_node.specs.declared.role.Routed.{Routed}
 use Rattle.tva_node.specs.declared.role.Hosted.{Hosted}
 use Rattle.tva_node.specs.declared.links.Link.{Link}
+use Rattle.tva_node.specs.declared.memory.Memory.{Memory}
+use Rattle.tva_node.specs.declared.memory.Memory.TheVariants as memory
 use Rattle.tva_node.specs.declared.parts.Parts.{Parts}
-use Rattle.tva_node.specs.declared.turns.Turn.{Turn}
 use Rattle.tva_node.specs.Pairs.{link_pair}
 use Rattle.tva_node.specs.Changes.{AreByTime, AreMade, move_time, plan_after, restart_time}
-use Rattle.tva_node.specs.Turns.{AreLeft}
 
 -- ## what a node is
 
@@ -107,8 +107,15 @@ Fits plan (Arrival time link packet) = Unit {0}
 
 -- ## a node
 
--- a node: what it is, the horizon in nanoseconds, its inputs, its events and sendings, the time up to which it is
--- worked; and what it keeps besides
+-- how many of a node's first inputs, events and sendings memory holds no more
+pub record Gone : Type 0 where
+  pub inputs : ℕ
+  pub events : ℕ
+  pub sendings : ℕ
+
+-- a node: what it is, the horizon in nanoseconds, all inputs that it was given, all its events and sendings, the time
+-- up to which it is worked; what memory keeps of these lists, and how much of them is gone; and what it keeps besides,
+-- with the inputs that are not taken yet in the order of their taking
 pub record NodeState : Type 0 where
   pub site : Site
   pub horizon : ℕ
@@ -116,9 +123,11 @@ pub record NodeState : Type 0 where
   pub events : List Event
   pub sendings : List Sending
   pub worked_to : ℕ
+  pub keeps : Memory
+  pub gone : Gone
   pub role : Role
   pub links : List Link
-  pub turns : List Turn
+  pub waiting : List Input
 
 abbrev pub site_at : Parts → Site
 site_at p = site_of p.number (role_plan p.role) (map link_pair p.links)
@@ -127,14 +136,51 @@ abbrev pub state_of : Parts → NodeState
 state_of p = record {
   site = site_at p;
   horizon = p.horizon;
-  inbox = p.inbox.items;
-  events = p.log.items;
-  sendings = p.outbox.items;
+  inbox = p.inbox.all;
+  events = p.log.all;
+  sendings = p.outbox.all;
   worked_to = p.worked_to;
+  keeps = p.keeps;
+  gone = record { inputs = p.inbox.gone; events = p.log.gone; sendings = p.outbox.gone };
   role = p.role;
   links = p.links;
-  turns = p.turns;
+  waiting = p.waiting;
 }
+
+-- ## what memory holds
+
+-- memory keeps all events
+abbrev pub KeepsEvents : Memory → Type 0
+KeepsEvents memory.All = Unit {0}
+KeepsEvents memory.Events = Unit {0}
+KeepsEvents memory.Nothing = ⊥
+
+-- memory keeps all lists
+abbrev pub KeepsAll : Memory → Type 0
+KeepsAll memory.All = Unit {0}
+KeepsAll memory.Events = ⊥
+KeepsAll memory.Nothing = ⊥
+
+-- what is gone of a node's lists by what memory keeps of them; of inputs it keeps all or none
+abbrev pub Holds : Memory → NodeState → Type 0
+Holds memory.All v = v.gone ≡ record { inputs = 0; events = 0; sendings = 0 }
+Holds memory.Events v = (v.gone.inputs ≡ length v.inbox) × (v.gone.events ≡ 0)
+Holds memory.Nothing v = v.gone.inputs ≡ length v.inbox
+
+-- what is gone once a node has forgotten what it need not keep
+abbrev pub gone_by : Memory → NodeState → Gone
+gone_by memory.All v = v.gone
+gone_by memory.Events v = record v.gone { sendings = length v.sendings }
+gone_by memory.Nothing v = record v.gone { events = length v.events; sendings = length v.sendings }
+
+abbrev pub gone_after : NodeState → Gone
+gone_after v = gone_by v.keeps v
+
+-- ## for which log it stands
+
+-- of all inputs in their order these are taken, and those wait
+abbrev pub AreLeft : List Input → List Input → List Input → Type 0
+AreLeft inbox taken waiting = in_turn inbox ≡ taken ++ waiting
 
 -- the link knows when it decides next by itself, from that time on
 abbrev pub KnowsNext : Site → List Entry → ℕ → Link → Type 0
@@ -154,7 +200,7 @@ pub record StandsFor (v : NodeState) (log : List Entry) : Type 0 where
   pub past : IsBy v.worked_to v.role
   pub links : All (KnowsNext v.site log v.worked_to) v.links
   pub fits : All (λ i. (input_time i ≤ v.horizon) × Fits v.site.plan i) v.inbox
-  pub left : AreLeft v.inbox (due v.worked_to (in_turn v.inbox)) v.turns
+  pub left : AreLeft v.inbox (due v.worked_to (in_turn v.inbox)) v.waiting
 
 -- it stands for some log, which is the only one
 abbrev pub Stands : NodeState → Type 0
@@ -171,6 +217,8 @@ pub record Keeps (old new : NodeState) : Type 0 where
   pub inbox : new.inbox ≡ old.inbox
   pub events : BeginsWith old.events new.events
   pub sendings : BeginsWith old.sendings new.sendings
+  pub keeps : new.keeps ≡ old.keeps
+  pub gone : new.gone ≡ old.gone
 
 -- a node that was worked up to a time, and no further than the horizon
 pub record IsAdvanced (until : ℕ) (old new : NodeState) : Type 0 where

@@ -27,8 +27,7 @@ use Rattle.tva_node.specs.declared.role.Routed.{Routed}
 use Rattle.tva_node.specs.declared.role.Hosted.{Hosted}
 use Rattle.tva_node.specs.Pairs.{link_pair}
 use Rattle.tva_node.specs.AtTime.{IsAt}
-use Rattle.tva_node.specs.Turns.{AreLeft}
-use Rattle.tva_node.specs.States.{role_plan, StandsAsRouter, StandsAsHost, RoleStands, IsBy}
+use Rattle.tva_node.specs.States.{AreLeft, role_plan, StandsAsRouter, StandsAsHost, RoleStands, IsBy}
 use Rattle.tva_node.specs.States.{Fits, NodeState, KnowsNext}
 
 -- when a link out is free
@@ -91,5 +90,5 @@ pub record StandsAt (v : NodeState) (now rank : ℕ) (taken : List Input) (log :
   pub links : All (λ l. l.number < rank → KnowsNext v.site log (now + 1) l) v.links
   pub fits : All (λ i. (input_time i ≤ v.horizon) × Fits v.site.plan i) v.inbox
   pub early : AllByRecursion (λ i. input_time i ≤ now) taken
-  pub late : AllByRecursion (λ t. now ≤ t.time) v.turns
-  pub left : AreLeft v.inbox taken v.turns
+  pub late : AllByRecursion (λ i. now ≤ input_time i) v.waiting
+  pub left : AreLeft v.inbox taken v.waiting

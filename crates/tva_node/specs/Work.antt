@@ -12,11 +12,10 @@ use Rattle.tva_shim.specs.Packets.{PacketData, packet_length}
 use Rattle.tva_log.specs.declared.kinds.Sending.{Sending}
 use Rattle.tva_log.specs.Told.{at_time}
 use Rattle.tva_log.specs.declared.kinds.Input.{Input}
-use Rattle.tva_log.specs.Entries.{Entry}
+use Rattle.tva_log.specs.Entries.{Entry, input_time}
 use Rattle.tva_log.specs.Sites.{Site}
 use Rattle.tva_log.specs.NodeLog.{in_turn, due}
 use Rattle.tva_node.specs.declared.links.Link.{Link}
-use Rattle.tva_node.specs.declared.turns.Turn.{Turn}
 use Rattle.tva_node.specs.Links.{least_next, sooner}
 use Rattle.tva_node.specs.States.{NodeState, KnowsNext}
 use Rattle.tva_node.specs.Steps.{StandsAt}
@@ -24,22 +23,22 @@ use Rattle.tva_node.specs.Steps.{StandsAt}
 -- ## the next time
 
 -- the time of the next input that is not taken
-abbrev pub turn_next : List Turn → Option ℕ
-turn_next [] = None
-turn_next (turn ∷ turns) = Some turn.time
+abbrev pub first_time : List Input → Option ℕ
+first_time [] = None
+first_time (input ∷ inputs) = Some (input_time input)
 
 -- the next time at which there is work
-abbrev pub work_time : List Turn → List Link → Option ℕ
-work_time turns links = sooner (turn_next turns) (least_next links)
+abbrev pub work_time : List Input → List Link → Option ℕ
+work_time waiting links = sooner (first_time waiting) (least_next links)
 
 -- none is before that time
 abbrev pub IsNoneBefore : ℕ → Option ℕ → Type 0
 IsNoneBefore end next = IfSome next (λ time. end ≤ time)
 
 -- the next input comes at that time
-abbrev pub is_due : ℕ → List Turn → Bool
+abbrev pub is_due : ℕ → List Input → Bool
 is_due now [] = false
-is_due now (turn ∷ turns) = turn.time == now
+is_due now (input ∷ inputs) = input_time input == now
 
 -- ## which link is asked
 

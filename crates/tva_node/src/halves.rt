@@ -26,8 +26,8 @@ pub fn advance_all<R: Threads + Sync, G: Gate>(
     work_parts(rt, gate, until, nodes, processors(rt))
 }
 
-// As many parts as there are processors, and two at least.
-fn processors<R: Threads>(rt: &R) -> usize {
+/// As many parts as there are processors, and two at least.
+pub fn processors<R: Threads>(rt: &R) -> usize {
     match available_parallelism(rt) {
         Ok(count) => count.get().max(2),
         Err(_) => 2,
@@ -36,7 +36,7 @@ fn processors<R: Threads>(rt: &R) -> usize {
 
 /// The same in at most so many parts at once, of about the same load each. All threads are started from
 /// this one, so that none waits for another to start it.
-#[tactic(auto, using(crate::proofs::Zips::all_zip_halves))]
+#[tactic(auto, using(crate::proofs::Zips::all_zip_halves, crate::proofs::Crosses::node_send))]
 pub fn work_parts<R: Threads + Sync, G: Gate>(
     rt: &R,
     gate: &G,

@@ -11,11 +11,14 @@
 
 mod changes;
 mod halves;
+mod keeping;
 mod links;
+mod memory;
 mod node;
 mod parts;
 mod role;
-mod turns;
+mod waiting;
 
-pub use halves::{advance_all, advance_each};
+pub use halves::{advance_all, advance_each, processors, work_parts};
+pub use memory::Memory;
 pub use node::{Node, node_crosses};

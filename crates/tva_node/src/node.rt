@@ -1,20 +1,23 @@
 // A node of a network.
-ghost use Rattle.std.specs.Prelude.{◌≡◌, ◌≤◌, ◌+◌, ◌∷◌, [], ◌++◌, map, min, max, List, IfOk, OnErr, OnOk};
+ghost use Rattle.std.specs.Prelude.{◌≡◌, ◌≤◌, ◌+◌, ◌∷◌, [], ◌++◌, drop, length, map, min, max, List, IfOk, OnErr, OnOk};
 ghost use Rattle.tva_base.specs.Plan.{AreRising};
-ghost use Rattle.tva_log.specs.Entries.{Entry, input_source, input_time};
+ghost use Rattle.tva_log.specs.Entries.{Entry, input_time};
 ghost use Rattle.tva_log.specs.NodeLog.{in_turn};
 ghost use Rattle.tva_log.specs.Sites.{IsSite, site_of};
-ghost use Rattle.tva_node.specs.States.{Fits, IsBy, IsFirstWork, Keeps, RoleStands, Stands, StandsFor, restarts_in, role_plan, router_in};
+ghost use Rattle.tva_node.specs.declared.memory.Memory.TheVariants as memory;
+ghost use Rattle.tva_node.specs.States.{Fits, IsBy, IsFirstWork, Keeps, KeepsAll, KeepsEvents, RoleStands, Stands, StandsFor, gone_after, restarts_in, role_plan, router_in};
 
 use crate::changes::Changes;
 use crate::links::Links;
+use crate::memory::Memory;
 use crate::parts::Parts;
 use crate::role::{Hosted, Role, Routed};
-use crate::turns::{Turn, Turns};
+use crate::waiting::Waiting;
 use std::alloc::{AllocError, Global};
 use std::marker::Model;
 use tva_base::{Event, LinkPlan, Time};
 use tva_log::{Input, Sending};
+use tva_past::Kept;
 use tva_plan::NodePlan;
 use tva_port::Port;
 use tva_router::Router;
@@ -23,25 +26,27 @@ use tva_transfer::Courier;
 // An event at a router costs about as much as so many at a host.
 const ROUTER_EVENT: u64 = 3;
 
-/// A node: a router, or a host with the port of its link. It keeps each input that it was given, what
-/// happened there, and what its links sent. Contracts see these with the time up to which the node is
-/// worked, and speak of the log for which they stand.
+/// A node: a router, or a host with the port of its link. Contracts see each input that it was given, all
+/// that happened there and all that its links sent, with the time up to which the node is worked, and speak
+/// of the log for which they stand. How much of these lists memory holds is said beside.
 #[derive(Drop)]
 pub struct Node {
     parts: Parts,
 }
 
 impl Model for Node {
-    ghost use Rattle.tva_node.specs.States.{NodeState, state_of};
+    ghost use Rattle.tva_node.specs.States.{Holds, NodeState, state_of};
 
     ghost Value = { NodeState };
 
     ghost view = { λ n. state_of n.parts };
+
+    ghost invariant = { λ n. Holds n.parts.keeps (state_of n.parts) };
 }
 
 impl Node {
-    /// A node by its number, its plan and its links out, to which nothing happened yet. The horizon is
-    /// in nanoseconds. The error is want of memory.
+    /// A node by its number, its plan and its links out, to which nothing happened yet, and of which memory
+    /// keeps all. The horizon is in nanoseconds. The error is want of memory.
     pub fn build(
         alloc: Global,
         horizon: Time,
@@ -55,6 +60,30 @@ impl Node {
         ensures horizon { IfOk result (λ node. node.horizon ≡ horizon.0) }
         ensures empty { IfOk result (λ node. (node.inbox ≡ []) × (node.events ≡ []) × (node.sendings ≡ [])) }
         ensures worked { IfOk result (λ node. node.worked_to ≡ 0) }
+        ensures keeps { IfOk result (λ node. node.keeps ≡ memory.All) }
+        ensures gone { IfOk result (λ node. node.gone ≡ record { inputs = 0; events = 0; sendings = 0 }) }
+        ensures stands { IfOk result Stands }
+    {
+        Node::build_keeping(alloc, horizon, number, plan, links, Memory::All)
+    }
+
+    /// The same, where memory keeps this of its past.
+    pub fn build_keeping(
+        alloc: Global,
+        horizon: Time,
+        number: u16,
+        plan: &NodePlan,
+        links: &[(u16, LinkPlan)],
+        keeps: Memory,
+    ) -> Result<Node, AllocError>
+        requires horizon { horizon.0 ≤ 1000000000000000 }
+        requires site { IsSite (site_of number plan.now links.now) }
+        ensures site { IfOk result (λ node. node.site ≡ site_of number plan.now links.now) }
+        ensures horizon { IfOk result (λ node. node.horizon ≡ horizon.0) }
+        ensures empty { IfOk result (λ node. (node.inbox ≡ []) × (node.events ≡ []) × (node.sendings ≡ [])) }
+        ensures worked { IfOk result (λ node. node.worked_to ≡ 0) }
+        ensures keeps { IfOk result (λ node. node.keeps ≡ keeps) }
+        ensures gone { IfOk result (λ node. node.gone ≡ record { inputs = 0; events = 0; sendings = 0 }) }
         ensures stands { IfOk result Stands }
     {
         let role = role_of(alloc, number, plan, links)?;
@@ -65,13 +94,21 @@ impl Node {
                 alloc,
                 role,
                 links: Links::of(alloc, links)?,
-                inbox: Vec::new(alloc),
-                turns: Turns::new(alloc),
-                log: Vec::new(alloc),
-                outbox: Vec::new(alloc),
+                inbox: Kept::new(alloc),
+                waiting: Waiting::new(alloc),
+                log: Kept::new(alloc),
+                outbox: Kept::new(alloc),
                 worked_to: 0,
+                keeps,
             },
         })
+    }
+
+    /// Makes room for so many more inputs. The error is want of memory; nothing changes.
+    pub fn reserve(&mut self, count: usize) -> Result<(), AllocError>
+        ensures { self.new ≡ self.old }
+    {
+        self.parts.waiting.reserve(count)
     }
 
     /// The number of the node.
@@ -91,11 +128,28 @@ impl Node {
         }
     }
 
-    /// What happened at the node.
+    /// What memory holds of what happened at the node.
     pub fn log(&self) -> &[Event]
-        ensures { result.now ≡ self.now.events }
+        ensures held { result.now ≡ drop self.now.gone.events self.now.events }
+        ensures whole { KeepsEvents self.now.keeps → result.now ≡ self.now.events }
     {
         self.parts.log.as_slice()
+    }
+
+    /// How many events happened at the node.
+    pub fn told(&self) -> usize
+        ensures { result ≡ length self.now.events }
+    {
+        self.parts.log.count()
+    }
+
+    /// What happened at the node behind the first so many events.
+    pub fn log_behind(&self, place: usize) -> &[Event]
+        requires gone { self.now.gone.events ≤ place }
+        requires within { place ≤ length self.now.events }
+        ensures { result.now ≡ drop place self.now.events }
+    {
+        self.parts.log.behind(place)
     }
 
     /// What it may cost to work the node for a while, beside others: what happened at it so far, in events
@@ -105,23 +159,54 @@ impl Node {
             Role::Router(_) => ROUTER_EVENT,
             Role::Host(_) => 1,
         };
-        (self.parts.log.len() as u64)
+        (self.parts.log.count() as u64)
             .saturating_mul(each)
             .saturating_add(1)
     }
 
-    /// What its links sent.
+    /// What memory holds of what its links sent.
     pub fn outbox(&self) -> &[Sending]
-        ensures { result.now ≡ self.now.sendings }
+        ensures held { result.now ≡ drop self.now.gone.sendings self.now.sendings }
+        ensures whole { KeepsAll self.now.keeps → result.now ≡ self.now.sendings }
     {
         self.parts.outbox.as_slice()
     }
 
-    /// All inputs that it was given so far.
+    /// How many packets its links sent.
+    pub fn sent(&self) -> usize
+        ensures { result ≡ length self.now.sendings }
+    {
+        self.parts.outbox.count()
+    }
+
+    /// Hands out what its links sent behind the first so many packets: where memory keeps all, copies, and
+    /// else the packets themselves, and then all that was sent is gone. The error is want of memory.
+    pub fn hand_over(&mut self, place: usize) -> Result<Vec<Sending>, AllocError>
+        requires gone { self.old.gone.sendings ≤ place }
+        requires within { place ≤ length self.old.sendings }
+        ensures sent { IfOk result (λ list. list.items ≡ drop place self.old.sendings) }
+        ensures stands { (log : List Entry) → StandsFor self.old log → StandsFor self.new log }
+        ensures same { self.new ≡ record self.old { gone = self.new.gone } }
+        ensures gone { (self.new.gone.inputs ≡ self.old.gone.inputs) × (self.new.gone.events ≡ self.old.gone.events)
+            × (self.new.gone.sendings ≤ length self.new.sendings) }
+    {
+        self.parts.hand_over(place)
+    }
+
+    /// What memory holds of the inputs that it was given.
     pub fn inbox(&self) -> &[Input]
-        ensures { result.now ≡ self.now.inbox }
+        ensures held { result.now ≡ drop self.now.gone.inputs self.now.inbox }
+        ensures whole { KeepsAll self.now.keeps → result.now ≡ self.now.inbox }
     {
         self.parts.inbox.as_slice()
+    }
+
+    /// Forgets what memory need not keep: nothing, its sendings, or its events too.
+    pub fn forget(&mut self)
+        ensures stands { (log : List Entry) → StandsFor self.old log → StandsFor self.new log }
+        ensures same { self.new ≡ record self.old { gone = gone_after self.old } }
+    {
+        self.parts.forget();
     }
 
     /// The restarts of a router's plan, each with its time, in nanoseconds, and the master that the router
@@ -159,13 +244,11 @@ impl Node {
         ensures err { OnErr result (self.new ≡ self.old) }
         ensures same { (self.new.site ≡ self.old.site) × (self.new.horizon ≡ self.old.horizon)
             × (self.new.events ≡ self.old.events) × (self.new.sendings ≡ self.old.sendings)
-            × (self.new.worked_to ≡ self.old.worked_to) }
+            × (self.new.worked_to ≡ self.old.worked_to) × (self.new.keeps ≡ self.old.keeps)
+            × (self.new.gone.events ≡ self.old.gone.events) × (self.new.gone.sendings ≡ self.old.gone.sendings) }
     {
-        let turn = turn_of(&input, self.parts.inbox.len());
-        self.parts.inbox.reserve(1)?;
-        self.parts.turns.put(turn)?;
-        self.parts.inbox.push(input)?;
-        Ok(())
+        let parts = &mut self.parts;
+        parts.waiting.put(input, &mut parts.inbox, parts.keeps)
     }
 
     /// Works all that comes before a time, in nanoseconds, and up to the horizon: its inputs in their
@@ -177,24 +260,6 @@ impl Node {
         ensures keeps { Keeps self.old self.new }
     {
         self.parts.advance(until.0)
-    }
-}
-
-// The turn of an input in that place.
-fn turn_of(input: &Input, place: usize) -> Turn
-    ensures { result ≡ record { time = input_time input.now; source = input_source input.now; place = place } }
-{
-    match input {
-        Input::FromTrace(row) => Turn {
-            time: row.time.0,
-            source: 0,
-            place,
-        },
-        Input::Arrival { time, link, .. } => Turn {
-            time: time.0,
-            source: u32::from(*link) + 1,
-            place,
-        },
     }
 }
 

@@ -3,33 +3,36 @@ ghost use Rattle.std.specs.Prelude.{◌≡◌, ◌≤◌, ◌<◌, ◌+◌, ◌�
 ghost use Rattle.tva_node.specs.declared.links.Link.{Link};
 ghost use Rattle.tva_node.specs.Links.{sooner, with_next};
 ghost use Rattle.tva_node.specs.States.{BeginsWith, Keeps, Stands, state_of};
-ghost use Rattle.tva_node.specs.Work.{DecidesAt, IsNoneBefore, IsStartable, TakesAt, end_on, is_due, link_of, queued_on, start_event, start_sending, turn_next, work_time};
+ghost use Rattle.tva_node.specs.Work.{DecidesAt, IsNoneBefore, IsStartable, TakesAt, end_on, is_due, link_of, queued_on, start_event, start_sending, work_time};
 
 use crate::links::Links;
+use crate::memory::Memory;
 use crate::role::Role;
-use crate::turns::Turns;
+use crate::waiting::Waiting;
 use std::alloc::{AllocError, Global};
 use std::cmp;
 use tva_base::{Class, Event, Happened, LinkPlan, Outcome, Time};
 use tva_log::{Input, Sending};
+use tva_past::Kept;
 use tva_port::Decision;
 use tva_shim::{Packet, length};
 
-/// A node's number, the horizon and the time up to which it is worked, in nanoseconds; its links out by
-/// their numbers, the turns of its inputs that are not taken yet, its events and its sendings; all its
-/// inputs, its memory, and what it is. What each window looks at stands in front.
+/// A node's inputs, its sendings and its events; its inputs that are not taken yet, and its links out by
+/// their numbers; the time up to which it is worked and the horizon, in nanoseconds; its number, what it
+/// is, what memory keeps of the lists, and its allocator. What each window looks at stands in front.
 #[derive(Drop)]
 pub(crate) struct Parts {
-    pub number: u16,
-    pub horizon: u64,
-    pub worked_to: u64,
+    pub inbox: Kept<Input>,
+    pub outbox: Kept<Sending>,
+    pub log: Kept<Event>,
+    pub waiting: Waiting,
     pub links: Links,
-    pub turns: Turns,
-    pub log: Vec<Event>,
-    pub outbox: Vec<Sending>,
-    pub inbox: Vec<Input>,
-    pub alloc: Global,
+    pub worked_to: u64,
+    pub horizon: u64,
+    pub number: u16,
     pub role: Role,
+    pub keeps: Memory,
+    pub alloc: Global,
 }
 
 impl Parts {
@@ -50,15 +53,15 @@ impl Parts {
 
     // The next time at which there is work.
     fn work_time(&self) -> Option<u64>
-        ensures { result ≡ work_time self.now.turns self.now.links }
+        ensures { result ≡ work_time self.now.waiting self.now.links }
     {
-        sooner(self.turn_time(), self.links.first())
+        sooner(self.waiting.first_time(), self.links.first())
     }
 
     /// The next time at which there is work, where it is no later than the horizon.
     pub fn work_within(&self) -> Option<u64>
-        ensures some { IfSome result (λ now. (work_time self.now.turns self.now.links ≡ Some now) × (now ≤ self.now.horizon)) }
-        ensures none { result ≡ None → IsNoneBefore (self.now.horizon + 1) (work_time self.now.turns self.now.links) }
+        ensures some { IfSome result (λ now. (work_time self.now.waiting self.now.links ≡ Some now) × (now ≤ self.now.horizon)) }
+        ensures none { result ≡ None → IsNoneBefore (self.now.horizon + 1) (work_time self.now.waiting self.now.links) }
     {
         match self.work_time() {
             Some(now) if now <= self.horizon => Some(now),
@@ -68,8 +71,8 @@ impl Parts {
 
     // The next time at which there is work, where it is before the end.
     fn work_before(&self, end: u64) -> Option<u64>
-        ensures some { IfSome result (λ now. (work_time self.now.turns self.now.links ≡ Some now) × (now < end)) }
-        ensures none { result ≡ None → IsNoneBefore end (work_time self.now.turns self.now.links) }
+        ensures some { IfSome result (λ now. (work_time self.now.waiting self.now.links ≡ Some now) × (now < end)) }
+        ensures none { result ≡ None → IsNoneBefore end (work_time self.now.waiting self.now.links) }
     {
         match self.work_time() {
             Some(now) if now < end => Some(now),
@@ -77,20 +80,11 @@ impl Parts {
         }
     }
 
-    fn turn_time(&self) -> Option<u64>
-        ensures { result ≡ turn_next self.now.turns }
-    {
-        match self.turns.next() {
-            Some(turn) => Some(turn.time),
-            None => None,
-        }
-    }
-
     // Goes to a time before which there is nothing to do.
     fn rest_until(&mut self, end: u64)
         requires stands { Stands (state_of self.old) }
         requires end { end ≤ self.old.horizon + 1 }
-        requires none { IsNoneBefore end (work_time self.old.turns self.old.links) }
+        requires none { IsNoneBefore end (work_time self.old.waiting self.old.links) }
         ensures stands { Stands (state_of self.new) }
         ensures upto { self.new.worked_to ≡ max self.old.worked_to end }
         ensures keeps { Keeps (state_of self.old) (state_of self.new) }
@@ -102,7 +96,7 @@ impl Parts {
     fn work_at(&mut self, now: u64) -> Result<(), AllocError>
         requires stands { Stands (state_of self.old) }
         requires horizon { now ≤ self.old.horizon }
-        requires next { work_time self.old.turns self.old.links ≡ Some now }
+        requires next { work_time self.old.waiting self.old.links ≡ Some now }
         ensures stands { OnOk result (Stands (state_of self.new)) }
         ensures upto { OnOk result (self.new.worked_to ≡ now + 1) }
         ensures on { OnOk result (self.old.worked_to < self.new.worked_to) }
@@ -136,10 +130,10 @@ impl Parts {
     }
 
     fn is_due(&self, now: u64) -> bool
-        ensures { result ≡ is_due now self.now.turns }
+        ensures { result ≡ is_due now self.now.waiting }
     {
-        match self.turns.next() {
-            Some(turn) => turn.time == now,
+        match self.waiting.first_time() {
+            Some(time) => time == now,
             None => false,
         }
     }
@@ -147,17 +141,15 @@ impl Parts {
     // Takes the next input, which comes at that time. A link on which it queues a packet is asked then.
     fn take_one(&mut self, now: u64) -> Result<(), AllocError>
         requires stands { TakesAt (state_of self.old) now }
-        requires next { is_due now self.old.turns ≡ true }
+        requires next { is_due now self.old.waiting ≡ true }
         ensures stands { OnOk result (TakesAt (state_of self.new) now) }
-        ensures fewer { length self.new.turns < length self.old.turns }
+        ensures fewer { length self.new.waiting < length self.old.waiting }
         ensures keeps { Keeps (state_of self.old) (state_of self.new) }
     {
-        let Some(turn) = self.turns.take() else {
+        let Some(input) = self.waiting.take() else {
             return Ok(());
         };
-        let happened = self
-            .role
-            .take(self.alloc, self.number, &self.inbox[turn.place])?;
+        let happened = self.role.take(self.alloc, self.number, input)?;
         let queued = queued_on(&happened);
         self.log.push(Event {
             time: Time(now),
@@ -223,14 +215,16 @@ impl Parts {
         requires fits { (d : Link) → IsStartable now (get_or self.old.links place d) }
         ensures links { (d : Link) → self.new.links
             ≡ with_next place (Some (end_on (get_or self.old.links place d) now packet)) self.old.links d }
-        ensures log { (d : Link) → OnOk result (self.new.log.items
-            ≡ self.old.log.items ++ start_event self.old.number (get_or self.old.links place d) now class packet ∷ []) }
-        ensures outbox { (d : Link) → OnOk result (self.new.outbox.items
-            ≡ self.old.outbox.items ++ start_sending (get_or self.old.links place d) now packet ∷ []) }
-        ensures more { BeginsWith self.old.log.items self.new.log.items }
-        ensures sent { BeginsWith self.old.outbox.items self.new.outbox.items }
-        ensures same { (self.new.role ≡ self.old.role) × (self.new.inbox ≡ self.old.inbox) × (self.new.turns ≡ self.old.turns)
+        ensures log { (d : Link) → OnOk result (self.new.log.all
+            ≡ self.old.log.all ++ start_event self.old.number (get_or self.old.links place d) now class packet ∷ []) }
+        ensures outbox { (d : Link) → OnOk result (self.new.outbox.all
+            ≡ self.old.outbox.all ++ start_sending (get_or self.old.links place d) now packet ∷ []) }
+        ensures more { BeginsWith self.old.log.all self.new.log.all }
+        ensures sent { BeginsWith self.old.outbox.all self.new.outbox.all }
+        ensures same { (self.new.role ≡ self.old.role) × (self.new.inbox ≡ self.old.inbox) × (self.new.waiting ≡ self.old.waiting)
             × (self.new.number ≡ self.old.number) × (self.new.horizon ≡ self.old.horizon) × (self.new.worked_to ≡ self.old.worked_to) }
+        ensures held { (self.new.keeps ≡ self.old.keeps) × (self.new.log.gone ≡ self.old.log.gone)
+            × (self.new.outbox.gone ≡ self.old.outbox.gone) }
     {
         let link = self.links.at(place);
         let bytes = length(&packet);

@@ -63,20 +63,15 @@ pub enum Role {
 
 impl Role {
     /// Takes an input at its time, and tells what happened.
-    pub fn take(
-        &mut self,
-        alloc: Global,
-        number: u16,
-        input: &Input,
-    ) -> Result<Happened, AllocError>
-        requires time { IsBy (input_time input.now) self.old }
-        requires horizon { input_time input.now ≤ 1000000000000000 }
-        requires fits { Fits (role_plan self.old) input.now }
+    pub fn take(&mut self, alloc: Global, number: u16, input: Input) -> Result<Happened, AllocError>
+        requires time { IsBy (input_time input) self.old }
+        requires horizon { input_time input ≤ 1000000000000000 }
+        requires fits { Fits (role_plan self.old) input }
         ensures took { (site : Site) (log : List Entry) → IsSite site → site.number ≡ number
             → site.plan ≡ role_plan self.old → RoleStands site self.old log
-            → IfOk result (λ told. Takes site log input.now told self.new) }
+            → IfOk result (λ told. Takes site log input told self.new) }
         ensures plan { role_plan self.new ≡ role_plan self.old }
-        ensures last { IfOk result (λ told. IsBy (input_time input.now) self.new) }
+        ensures last { IfOk result (λ told. IsBy (input_time input) self.new) }
     {
         match self {
             Role::Router(routed) => Ok(routed.take(number, input)),
@@ -121,32 +116,32 @@ impl Role {
 }
 
 impl Routed {
-    fn take(&mut self, number: u16, input: &Input) -> Happened
-        requires time { IsRoutedBy (input_time input.now) self.old }
-        requires horizon { input_time input.now ≤ 1000000000000000 }
-        requires fits { Fits (plans.Router self.old.router.built) input.now }
+    fn take(&mut self, number: u16, input: Input) -> Happened
+        requires time { IsRoutedBy (input_time input) self.old }
+        requires horizon { input_time input ≤ 1000000000000000 }
+        requires fits { Fits (plans.Router self.old.router.built) input }
         ensures took { (log : List Entry) → StandsAsRouter self.old log
-            → RouterTook number self.old.router.built log input.now result self.new }
+            → RouterTook number self.old.router.built log input result self.new }
         ensures plan { self.new.router.built ≡ self.old.router.built }
-        ensures last { IsRoutedBy (input_time input.now) self.new }
+        ensures last { IsRoutedBy (input_time input) self.new }
     {
         match input {
             Input::FromTrace(row) => {
                 self.change(row.time);
-                let packet = self.packet_of(number, &row.what);
+                let packet = self.packet_of(number, row.what);
                 self.arrive(row.time, None, packet)
             }
             Input::Arrival { time, link, packet } => {
-                self.change(*time);
-                self.arrive(*time, Some(*link), packet.copied())
+                self.change(time);
+                self.arrive(time, Some(link), packet)
             }
         }
     }
 
     // The next packet from the trace.
-    fn packet_of(&mut self, number: u16, what: &RowWhat) -> Packet
-        requires { FitsRow (plans.Router self.old.router.built) what.now }
-        ensures packet { packet_of_row (record { node = number; ordinal = self.old.next }) what.now ≡ Some result }
+    fn packet_of(&mut self, number: u16, what: RowWhat) -> Packet
+        requires { FitsRow (plans.Router self.old.router.built) what }
+        ensures packet { packet_of_row (record { node = number; ordinal = self.old.next }) what ≡ Some result }
         ensures next { self.new.next ≡ min (self.old.next + 1) 18446744073709551615 }
         ensures router { (self.new.router ≡ self.old.router) × (self.new.changes ≡ self.old.changes) }
     {
@@ -160,7 +155,7 @@ impl Routed {
                 flow,
                 payload,
                 carried,
-            } => Packet::made(id, *flow, *payload, carried.copied()),
+            } => Packet::made(id, flow, payload, carried),
             RowWhat::Send { .. } | RowWhat::File { .. } | RowWhat::Tick { .. } => unreachable!(),
         }
     }
@@ -191,38 +186,36 @@ impl Routed {
 }
 
 impl Hosted {
-    fn take(&mut self, alloc: Global, input: &Input) -> Result<Happened, AllocError>
-        requires host { self.old.courier.host.last ≤ input_time input.now }
-        requires port { self.old.port.last ≤ input_time input.now }
-        requires horizon { input_time input.now ≤ 1000000000000000 }
-        requires fits { Fits (plans.Host self.old.courier.host.plan) input.now }
+    fn take(&mut self, alloc: Global, input: Input) -> Result<Happened, AllocError>
+        requires host { self.old.courier.host.last ≤ input_time input }
+        requires port { self.old.port.last ≤ input_time input }
+        requires horizon { input_time input ≤ 1000000000000000 }
+        requires fits { Fits (plans.Host self.old.courier.host.plan) input }
         ensures took { (site : Site) (log : List Entry) → StandsAsHost site self.old log
-            → IfOk result (λ told. HostTook site self.old.courier.host.plan log input.now told self.new) }
+            → IfOk result (λ told. HostTook site self.old.courier.host.plan log input told self.new) }
         ensures plan { self.new.courier.host.plan ≡ self.old.courier.host.plan }
-        ensures last { IfOk result (λ told. (self.new.courier.host.last ≤ input_time input.now)
-            × (self.new.port.last ≤ input_time input.now)) }
+        ensures last { IfOk result (λ told. (self.new.courier.host.last ≤ input_time input)
+            × (self.new.port.last ≤ input_time input)) }
     {
         match input {
             Input::FromTrace(row) => self.take_row(alloc, row),
-            Input::Arrival { time, link, packet } => {
-                self.receive(alloc, *time, *link, packet.copied())
-            }
+            Input::Arrival { time, link, packet } => self.receive(alloc, time, link, packet),
         }
     }
 
     // Makes the packet of a row, or takes it from there, and offers it to the link. For a tick there may be
     // nothing to send.
-    fn take_row(&mut self, alloc: Global, row: &Row) -> Result<Happened, AllocError>
-        requires host { self.old.courier.host.last ≤ row.now.time.0 }
-        requires port { self.old.port.last ≤ row.now.time.0 }
-        requires horizon { row.now.time.0 ≤ 1000000000000000 }
-        requires fits { FitsRow (plans.Host self.old.courier.host.plan) row.now.what }
+    fn take_row(&mut self, alloc: Global, row: Row) -> Result<Happened, AllocError>
+        requires host { self.old.courier.host.last ≤ row.time.0 }
+        requires port { self.old.port.last ≤ row.time.0 }
+        requires horizon { row.time.0 ≤ 1000000000000000 }
+        requires fits { FitsRow (plans.Host self.old.courier.host.plan) row.what }
         ensures took { (site : Site) (log : List Entry) → StandsAsHost site self.old log
-            → IfOk result (λ told. HostTook site self.old.courier.host.plan log (inputs.FromTrace row.now) told self.new) }
+            → IfOk result (λ told. HostTook site self.old.courier.host.plan log (inputs.FromTrace row) told self.new) }
         ensures plan { self.new.courier.host.plan ≡ self.old.courier.host.plan }
-        ensures last { IfOk result (λ told. (self.new.courier.host.last ≤ row.now.time.0) × (self.new.port.last ≤ row.now.time.0)) }
+        ensures last { IfOk result (λ told. (self.new.courier.host.last ≤ row.time.0) × (self.new.port.last ≤ row.time.0)) }
     {
-        let Some(Made { packet, shape }) = self.make(alloc, row.time, &row.what)? else {
+        let Some(Made { packet, shape }) = self.make(alloc, row.time, row.what)? else {
             return Ok(Happened::Ticked);
         };
         let id = packet.id;
@@ -271,16 +264,16 @@ impl Hosted {
     }
 
     // The packet of a row; there may be none for a tick.
-    fn make(&mut self, alloc: Global, now: Time, what: &RowWhat) -> Result<Option<Made>, AllocError>
+    fn make(&mut self, alloc: Global, now: Time, what: RowWhat) -> Result<Option<Made>, AllocError>
         requires time { self.old.courier.host.last ≤ now.0 }
-        requires fits { FitsRow (plans.Host self.old.courier.host.plan) what.now }
+        requires fits { FitsRow (plans.Host self.old.courier.host.plan) what }
         ensures made { (calls : List Call) (acts : List Act) → CourierStandsFor self.old.courier calls acts → IfOk result (λ made. made
             ≡ made_for self.old.courier.host.node self.old.courier.host.plan (history_of self.old.courier.host.plan calls)
-            (known self.old.courier.host acts) now.0 what.now) }
+            (known self.old.courier.host acts) now.0 what) }
         ensures stands { (calls : List Call) (acts : List Act) → CourierStandsFor self.old.courier calls acts
             → IfOk result (λ made. CourierStandsFor self.new.courier
-            (calls ++ cons_option (option_map (λ m. call_of_row now.0 what.now m.packet) made) [])
-            (acts ++ cons_option (act_of_row what.now) [])) }
+            (calls ++ cons_option (option_map (λ m. call_of_row now.0 what m.packet) made) [])
+            (acts ++ cons_option (act_of_row what) [])) }
         ensures same { (self.new.courier.host.node ≡ self.old.courier.host.node)
             × (self.new.courier.host.plan ≡ self.old.courier.host.plan) }
         ensures rest { (self.new.uplink ≡ self.old.uplink) × (self.new.port ≡ self.old.port) }
@@ -288,20 +281,20 @@ impl Hosted {
     {
         match what {
             RowWhat::Send { dst, payload } => {
-                Ok(Some(self.courier.intend(alloc, now, *dst, *payload)?))
+                Ok(Some(self.courier.intend(alloc, now, dst, payload)?))
             }
             RowWhat::Inject {
                 flow,
                 payload,
                 carried,
             } => Ok(Some(Made {
-                packet: self.courier.inject(*flow, *payload, carried.copied()),
+                packet: self.courier.inject(flow, payload, carried),
                 shape: ShapeKind::Trace,
             })),
             RowWhat::File { dst, size, segment } => {
-                Ok(Some(self.courier.file(alloc, now, *dst, *size, *segment)?))
+                Ok(Some(self.courier.file(alloc, now, dst, size, segment)?))
             }
-            RowWhat::Tick { dst } => self.courier.tick(alloc, now, *dst),
+            RowWhat::Tick { dst } => self.courier.tick(alloc, now, dst),
         }
     }
 

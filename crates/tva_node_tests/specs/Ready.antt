@@ -1,5 +1,5 @@
 -- Kit: nodes that are given their inputs.
-use Rattle.std.specs.Prelude.{◌≡◌, ℕ, List, [], ◌∷◌, All, Contains, map}
+use Rattle.std.specs.Prelude.{◌≡◌, ◌≤◌, ℕ, List, [], ◌∷◌, All, Contains, length, map}
 use Rattle.tva_base.specs.declared.addresses.Prefix.{Prefix}
 use Rattle.tva_base.specs.declared.packet.Time.{Time}
 use Rattle.tva_base.specs.Plan.{AreRising}
@@ -8,10 +8,16 @@ use Rattle.tva_plan.specs.declared.config.NodePlan.{NodePlan}
 use Rattle.tva_plan.specs.declared.config.NodePlan.TheVariants.{Router, Host}
 use Rattle.tva_node.specs.States.{NodeState}
 
--- not worked yet, with a horizon of ten seconds
+-- not worked yet, with a horizon of ten seconds, and nothing of it is gone
 pub record IsReady (v : NodeState) : Type 0 where
   pub horizon : v.horizon ≡ 10000000000
   pub worked : v.worked_to ≡ 0
+  pub events : v.gone.events ≡ 0
+  pub sendings : v.gone.sendings ≡ 0
+
+-- of its events and sendings no more is gone than there were
+abbrev pub IsHeld : NodeState → Type 0
+IsHeld v = (v.gone.events ≤ length v.events) × (v.gone.sendings ≤ length v.sendings)
 
 abbrev pub IsHost : NodePlan → Type 0
 IsHost (Router plan) = ⊥

@@ -3,6 +3,7 @@ mod changes;
 mod edges;
 mod files;
 mod halves;
+mod keeping;
 mod makers;
 mod notice;
 mod playing;
@@ -12,19 +13,26 @@ mod walk;
 use changes::{CHANGED, play_changes};
 use edges::EDGES;
 use files::FILED;
+use keeping::play_beside;
 use notice::NOTICES;
 use playing::play;
 use renewal::RENEWALS;
 use std::test::Fail;
-use walk::WALK;
+use tva_node::Memory;
+use walk::{CLIENT, SERVER, WALK};
 
-/// The router and the hosts of the worked runs have their logs, each by itself.
+/// The router and the hosts of the worked runs have their logs, each by itself; and hosts whose memory
+/// forgets tell and send what those do whose memory keeps all.
 #[test]
 fn nodes_of_worked_runs(rt: HostRuntime) -> Result<(), Fail> {
     for cases in [&WALK, &RENEWALS, &NOTICES] {
         for case in cases {
             play(&rt, rt.alloc(), case)?;
         }
+    }
+    for keeps in [Memory::Events, Memory::Nothing] {
+        play_beside(&rt, rt.alloc(), &CLIENT, &WALK[0], keeps)?;
+        play_beside(&rt, rt.alloc(), &SERVER, &WALK[1], keeps)?;
     }
     Ok(())
 }

@@ -12,7 +12,7 @@ use tva_base::{
     PolicyPlan, Prefix, Rights, Route, RouterPlan, Time, Upper,
 };
 use tva_log::Input;
-use tva_node::Node;
+use tva_node::{Memory, Node};
 use tva_plan::NodePlan;
 use tva_shim::{Carried, Packet, decode, upper_size};
 use tva_trace::{Row, RowWhat};
@@ -120,13 +120,14 @@ fn link(from: u16, to: u16) -> LinkPlan
     }
 }
 
-// A host of that number with its one link to R1.
+// A host of that number with its one link to R1, of whose past memory keeps that.
 pub fn host(
     alloc: Global,
     number: u16,
     address: Address,
     kind: PolicyKind,
     uplink: u16,
+    keeps: Memory,
 ) -> Result<Node, AllocError>
     ensures ready { IfOk result IsReady }
     ensures host { IfOk result (λ node. IsHost node.site.plan) }
@@ -148,7 +149,8 @@ pub fn host(
         },
         uplink,
     });
-    Node::build(alloc, HORIZON, number, &plan, &[(uplink, link(number, 0))])
+    let links = [(uplink, link(number, 0))];
+    Node::build_keeping(alloc, HORIZON, number, &plan, &links, keeps)
 }
 
 // The network of 256 addresses that begins with that one.

@@ -10,7 +10,7 @@ use tva_base::{
     Address, BackKind, Cause, Class, DataLine, Event, Fate, Flow, Grant, Happened, Outcome,
     PacketId, PolicyKind, ReplyLine, ShapeKind, Time, Upper, WhatKind,
 };
-use tva_node::Node;
+use tva_node::{Memory, Node};
 
 /// A host: its number, address, policy and link out.
 pub struct HostAt {
@@ -89,7 +89,14 @@ fn play_router<R: Abort>(rt: &R, alloc: Global, case: &Case) -> Result<(), Alloc
 }
 
 fn play_host<R: Abort>(rt: &R, alloc: Global, at: &HostAt, case: &Case) -> Result<(), AllocError> {
-    let mut node = host(alloc, at.number, at.address, at.kind, at.uplink)?;
+    let mut node = host(
+        alloc,
+        at.number,
+        at.address,
+        at.kind,
+        at.uplink,
+        Memory::All,
+    )?;
     play_node(rt, &mut node, true, case)
 }
 
@@ -111,11 +118,17 @@ pub fn play_node<R: Abort>(
 }
 
 // Gives a node all that comes to it.
-fn give<R: Abort>(rt: &R, node: &mut Node, sends: bool, parts: &[Part]) -> Result<(), AllocError>
+pub fn give<R: Abort>(
+    rt: &R,
+    node: &mut Node,
+    sends: bool,
+    parts: &[Part],
+) -> Result<(), AllocError>
     requires ready { IsReady node.old }
     requires host { sends ≡ true → IsHost node.old.site.plan }
     requires stands { Stands node.old }
-    ensures { OnOk result (Stands node.new) }
+    ensures ready { OnOk result (IsReady node.new) }
+    ensures stands { OnOk result (Stands node.new) }
 {
     for part in parts {
         give_rows(rt, node, sends, part.rows)?;

@@ -1,9 +1,15 @@
-use Rattle.std.proofs.Common.{◌≡◌, List, ◌∙◌, subst}
+use Rattle.std.proofs.Common.{rules, ◌≡◌, List, ◌∙◌, subst}
 use Rattle.std.specs.Prelude.{IfOk, slice_index_or}
 use Rattle.tva_node.specs.States.{NodeState}
 use Rattle.tva_audit.specs.Sums.{sums_told}
 use Rattle.tva_audit.proofs.Parts.{joined_told}
+use denote.Param.Send.{sendable}
+use Rattle.std.proofs.Crossing.{crosses}
+use Rattle.tva_node.proofs.Crosses.{node_sync}
 use Rattle.tva_audit.proofs.routers.sums_by_chunks.Goals as goal
+
+pub map_chunks-requires-sync-T : goal.map_chunks-requires-sync-T
+map_chunks-requires-sync-T g c κs within = first_of (search (sendable, node_sync), search (sendable, node_sync, rules), search (sendable, crosses, node_sync) depth 40 fits 2000)
 
 pub returns : goal.returns
 returns g c =

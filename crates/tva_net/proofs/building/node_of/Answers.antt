@@ -1,11 +1,11 @@
-use Rattle.std.proofs.Common.{◌≡◌, List, get_or, ◌∙◌, ap}
+use Rattle.std.proofs.Common.{◌≡◌, List, get_or, ◌∙◌, ap, arith}
 use Rattle.tva_plan.specs.declared.config.NodePlan.{NodePlan}
 use Rattle.tva_run.specs.Reaching.{links_out}
 use Rattle.tva_net.proofs.Firsts.{site_fits, site_there}
 use Rattle.tva_net.proofs.building.node_of.Goals as goal
 
-pub build-requires-clause-site : goal.build-requires-clause-site
-build-requires-clause-site c =
+pub build_keeping-requires-clause-site : goal.build_keeping-requires-clause-site
+build_keeping-requires-clause-site c =
     let n = c.args.number in
     let config = c.args.config.now in
     let p = c.index-plans-from.result in
@@ -14,8 +14,8 @@ build-requires-clause-site c =
     let out : c.as_slice-2.result.now ≡ links_out n config.links = c.as_slice-2.ensures.value ∙ (c.in_ok-links.ensures ∙ ap (links_out n) c.as_slice.ensures) in
     site_fits config n p c.as_slice-2.result.now c.requires.config c.requires.node is out
 
-pub returns : goal.returns
-returns c =
+pub returns-clause-first : goal.returns-clause-first
+returns-clause-first c =
     let n = c.args.number in
     let config = c.args.config.now in
     let p = c.index-plans-from.result in
@@ -28,5 +28,6 @@ returns c =
       horizon = e.horizon;
       inbox = e.empty.0;
       nothing = (e.empty.1, e.empty.2, e.worked);
+      gone = record { events = let none = ap (λ g. g.events) e.gone in omega (arith, none); sendings = let none = ap (λ g. g.sendings) e.gone in omega (arith, none) };
       stands = e.stands;
     }

@@ -11,8 +11,15 @@ bounds-given-place c =
     let within = c.requires.within c.loop-place.place-index 0 c.loop-place-test.true in
     omega (arith, same, within)
 
-pub push_news-requires : goal.push_news-requires
-push_news-requires c =
+pub push_news-requires-clause-held : goal.push_news-requires-clause-held
+push_news-requires-clause-held c =
+    let place = get_or c.args.places.now c.loop-place.place-index 0 in
+    subst (λ (v : NodeState). v.gone.events ≤ get_or c.args.given.now place 0) (sym c.index-nodes-place.is)
+    (zip_at (λ v n. v.gone.events ≤ n) c.args.nodes.now c.args.given.now place c.index-nodes-place.result 0 c.requires.held
+    (c.requires.within c.loop-place.place-index 0 c.loop-place-test.true))
+
+pub push_news-requires-clause-known : goal.push_news-requires-clause-known
+push_news-requires-clause-known c =
     let place = get_or c.args.places.now c.loop-place.place-index 0 in
     subst (λ (v : NodeState). get_or c.args.given.now place 0 ≤ length v.events) (sym c.index-nodes-place.is)
     (zip_at (λ v n. n ≤ length v.events) c.args.nodes.now c.args.given.now place c.index-nodes-place.result 0 c.requires.known

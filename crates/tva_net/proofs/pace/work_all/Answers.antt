@@ -5,11 +5,11 @@ use Rattle.tva_net.proofs.Lists.{zip_length}
 use Rattle.tva_net.proofs.pace.work_all.Goals as goal
 
 pub note_all-requires-clause-few : goal.note_all-requires-clause-few
-note_all-requires-clause-few g c = let n = zip_length Keeps c.args.nodes.now c.advance_all.new.nodes c.in_ok-advance_all.ensures.kept in omega (arith, n, c.requires.few)
+note_all-requires-clause-few g c = let n = zip_length Keeps c.args.nodes.now c.work_parts.new.nodes c.in_ok-work_parts.ensures.kept in omega (arith, n, c.requires.few)
 
 pub note_all-requires-clause-count : goal.note_all-requires-clause-count
-note_all-requires-clause-count g c = c.requires.noted.count ∙ sym (zip_length Keeps c.args.nodes.now c.advance_all.new.nodes c.in_ok-advance_all.ensures.kept)
+note_all-requires-clause-count g c = c.requires.noted.count ∙ sym (zip_length Keeps c.args.nodes.now c.work_parts.new.nodes c.in_ok-work_parts.ensures.kept)
 
 pub returns-clause-through : goal.returns-clause-through
 returns-clause-through g c =
-    all_advanced c.args.until.0 c.args.nodes.now c.advance_all.new.nodes c.in_ok-places.places.items c.requires.reach c.in_ok-advance_all.ensures.ok c.in_ok-advance_all.ensures.kept c.in_ok-places.ensures
+    all_advanced c.args.until.0 c.args.nodes.now c.work_parts.new.nodes c.in_ok-places.places.items c.requires.reach c.in_ok-work_parts.ensures.ok c.in_ok-work_parts.ensures.kept c.in_ok-places.ensures

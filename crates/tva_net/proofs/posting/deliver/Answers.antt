@@ -2,6 +2,7 @@ use Rattle.std.proofs.Common.{◌∷◌, [], get_or, subst}
 use Rattle.std.proofs.lemmas.List.{get_or_default}
 use Rattle.tva_node.specs.States.{NodeState}
 use Rattle.tva_net.specs.Mail.{GotMail, KeepsWork}
+use Rattle.tva_net.proofs.Forgotten.{gone_at}
 use Rattle.tva_net.proofs.Mails.{got_at, kept_by, keeps_same, same_but, zip_set}
 use Rattle.tva_net.proofs.posting.deliver.Goals as goal
 
@@ -39,3 +40,9 @@ returns-in_err-post-clause-others c = same_but c.args.to c.args.nodes.now c.post
 
 pub returns-clause-others : goal.returns-clause-others
 returns-clause-others c = same_but c.args.to c.args.nodes.now c.post.new.self
+
+pub returns-in_err-post-clause-gone : goal.returns-in_err-post-clause-gone
+returns-in_err-post-clause-gone c = gone_at c.args.to c.args.nodes.now c.index-nodes-to.result c.post.new.self c.requires.node c.in_err-post.ensures.same.7
+
+pub returns-clause-gone : goal.returns-clause-gone
+returns-clause-gone c = gone_at c.args.to c.args.nodes.now c.index-nodes-to.result c.post.new.self c.requires.node c.in_ok-post.ensures.same.7

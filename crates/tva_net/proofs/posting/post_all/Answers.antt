@@ -2,13 +2,12 @@ use Rattle.std.proofs.Common.{◌<◌, ◌≤◌, ℕ, List, All, length, sym, s
 use Rattle.std.proofs.lemmas.List.Elements.{All-from_recursion}
 use Rattle.tva_log.specs.declared.kinds.Sending.{Sending}
 use Rattle.tva_net.specs.Mail.{GotMails, IsPostable, mail_to}
-use Rattle.tva_net.proofs.Mails.{sent_counts}
+use Rattle.tva_net.specs.News.{since}
+use Rattle.tva_net.proofs.Forgotten.{forgot_keeps, got_then_forgot, noted_forgot}
+use Rattle.tva_net.proofs.Mails.{all_keep, sent_counts}
 use Rattle.tva_net.proofs.News.{zip_length}
 use Rattle.tva_net.proofs.Places.{since_picked}
 use Rattle.tva_net.proofs.posting.post_all.Goals as goal
-
-pub post_each-requires-clause-within : goal.post_each-requires-clause-within
-post_each-requires-clause-within c = All-from_recursion (λ place. place < length c.args.nodes.now) c.args.places.now c.requires.places.within
 
 pub post_each-requires-clause-postable : goal.post_each-requires-clause-postable
 post_each-requires-clause-postable c =
@@ -32,13 +31,28 @@ note_posted-requires-clause-others c = λ place d l k.
     let there : place < length c.args.nodes.now = omega (arith, l, got.count) in
     c.requires.others place d there k ∙ ap length (sym (got.each place d there).keeps.sendings)
 
+pub forget_each-requires : goal.forget_each-requires
+forget_each-requires c =
+    subst (λ (n : ℕ). All (λ place. place < n) c.args.places.now) (sym c.in_ok-post_each.ensures.got.count)
+    (All-from_recursion (λ place. place < length c.args.nodes.now) c.args.places.now c.requires.places.within)
+
 pub returns-clause-got : goal.returns-clause-got
 returns-clause-got c =
-    subst (λ (ss : List Sending). GotMails (mail_to c.args.horizon.0 c.args.links.now ss) c.args.nodes.now c.post_each.new.nodes)
+    got_then_forgot (mail_to c.args.horizon.0 c.args.links.now (since (λ v. v.sendings) c.args.nodes.now c.args.posted.now)) c.args.nodes.now c.post_each.new.nodes c.forget_each.new.nodes
+    (subst (λ (ss : List Sending). GotMails (mail_to c.args.horizon.0 c.args.links.now ss) c.args.nodes.now c.post_each.new.nodes)
     (sym (since_picked (λ v. v.sendings) c.args.nodes.now c.args.posted.now c.args.places.now
     (zip_length (λ v n. n ≤ length v.sendings) c.args.nodes.now c.args.posted.now c.requires.known) c.requires.places c.requires.others))
-    c.in_ok-post_each.ensures.got
+    c.in_ok-post_each.ensures.got)
+    c.forget_each.ensures
 
 pub returns-clause-posted : goal.returns-clause-posted
 returns-clause-posted c =
     c.note_posted.ensures ∙ sent_counts c.args.nodes.now c.post_each.new.nodes c.in_ok-post_each.ensures.keeps
+
+pub returns-clause-noted : goal.returns-clause-noted
+returns-clause-noted c = noted_forgot c.post_each.new.times c.post_each.new.nodes c.forget_each.new.nodes c.forget_each.ensures c.in_ok-post_each.ensures.noted
+
+pub returns-clause-keeps : goal.returns-clause-keeps
+returns-clause-keeps c =
+    all_keep c.args.nodes.now c.post_each.new.nodes c.forget_each.new.nodes c.in_ok-post_each.ensures.keeps
+    (forgot_keeps c.post_each.new.nodes c.forget_each.new.nodes c.forget_each.ensures)

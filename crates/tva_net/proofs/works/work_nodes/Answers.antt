@@ -1,6 +1,6 @@
 use Rattle.std.proofs.Common.{ℕ, List, length, subst, sym}
 use Rattle.tva_net.specs.Places.{AreKnownElsewhere, ArePlaces}
-use Rattle.tva_net.proofs.Ends.{all_stand, few, mids_few, mids_numbered, mids_stand, postable, posted_elsewhere, posted_known, reach, shown_elsewhere, shown_known, told_kept, told_more, told_posted}
+use Rattle.tva_net.proofs.Ends.{all_stand, few, mids_few, mids_numbered, mids_stand, postable, posted_elsewhere, posted_held, posted_known, reach, shown_elsewhere, shown_held, shown_known, told_kept, told_more, told_posted}
 use Rattle.tva_net.proofs.works.work_nodes.Goals as goal
 
 pub advance-requires-clause-few : goal.advance-requires-clause-few
@@ -14,6 +14,9 @@ advance-requires-clause-reach g c κs within = reach _ c.args.until.0 c.requires
 
 pub gather-requires-clause-known : goal.gather-requires-clause-known
 gather-requires-clause-known g c = shown_known _ c.args.until.0 c.requires.works.2 c.advance.new.nodes c.in-Ok.ensures.through.each c.in-Ok.ensures.kept
+
+pub gather-requires-clause-held : goal.gather-requires-clause-held
+gather-requires-clause-held g c = shown_held _ c.args.until.0 c.requires.works.2 c.advance.new.nodes c.in-Ok.ensures.through.each c.in-Ok.ensures.kept
 
 pub gather-requires-clause-places : goal.gather-requires-clause-places
 gather-requires-clause-places g c =
@@ -35,6 +38,9 @@ post_beside-result-requires-clause-few g c κs within = mids_few _ c.args.until.
 
 pub post_beside-result-requires-clause-known : goal.post_beside-result-requires-clause-known
 post_beside-result-requires-clause-known g c κs within = posted_known _ c.args.until.0 c.requires.works.2 c.advance.new.nodes c.in-Ok.ensures.through.each c.in-Ok.ensures.kept
+
+pub post_beside-result-requires-clause-held : goal.post_beside-result-requires-clause-held
+post_beside-result-requires-clause-held g c κs within = posted_held _ c.args.until.0 c.requires.works.2 c.advance.new.nodes c.in-Ok.ensures.through.each c.in-Ok.ensures.kept
 
 pub post_beside-result-requires-clause-places : goal.post_beside-result-requires-clause-places
 post_beside-result-requires-clause-places g c κs within =

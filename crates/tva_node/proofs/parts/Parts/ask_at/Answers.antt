@@ -4,7 +4,7 @@ use Rattle.tva_port.specs.declared.decision.Decision.TheVariants.{WaitUntil, Idl
 use Rattle.tva_node.specs.Pairs.{link_pair}
 use Rattle.tva_node.specs.States.{NodeState, role_plan, site_at, state_of}
 use Rattle.tva_node.specs.Work.{DecidesAt, end_on, start_event, start_sending}
-use Rattle.tva_node.proofs.Decides.{count_put, from_fields, here_is, on_both, pairs_put, pairs_set, put_there, read_busy, read_fits, read_out, read_rest, read_start}
+use Rattle.tva_node.proofs.Decides.{count_put, from_fields, gone_in, here_is, on_both, pairs_put, pairs_set, put_there, read_busy, read_fits, read_out, read_rest, read_start}
 use Rattle.tva_node.proofs.parts.Parts.ask_at.Goals as goal
 
 pub free_at-free-requires : goal.free_at-free-requires
@@ -38,8 +38,10 @@ returns-then-free-now-clause-keeps c =
       site = λ i. record { number = p.number; plan = role_plan p.role; links = pairs_put p.links c.put.new.self c.args.place a (Some c.free_at-free.result.0) c.at-number.ensures c.requires.within (c.put.ensures a) i };
       horizon = refl;
       inbox = refl;
-      events = ([], sym (append-nil p.log.items));
-      sendings = ([], sym (append-nil p.outbox.items));
+      events = ([], sym (append-nil p.log.all));
+      sendings = ([], sym (append-nil p.outbox.all));
+      keeps = refl;
+      gone = refl;
     }
 
 pub decide-requires-clause-out : goal.decide-requires-clause-out
@@ -60,16 +62,17 @@ returns-in-Start-clause-stands c =
     let here = get_or p.links c.args.place a in
     let q = c.note_start.new.self in
     let same = c.note_start.ensures.same in
+    let held = c.note_start.ensures.held in
     let out = read_out p c.args.now c.args.place a c.at-number.ensures c.requires.within c.requires.stands in
     let free = c.free_at-free.ensures.free (site_at p) c.requires.stands.1 a.plan.limits st.site st.plan out st.role in
     let decided = c.in-Start.ensures.decides (site_at p) c.requires.stands.1 a.plan.limits st.site st.plan out st.role in
-    let events = p.log.items ++ start_event p.number here c.args.now c.in-Start.class c.in-Start.packet ∷ [] in
-    let sendings = p.outbox.items ++ start_sending here c.args.now c.in-Start.packet ∷ [] in
+    let events = p.log.all ++ start_event p.number here c.args.now c.in-Start.class c.in-Start.packet ∷ [] in
+    let sendings = p.outbox.all ++ start_sending here c.args.now c.in-Start.packet ∷ [] in
     let stands = read_start p c.args.now c.args.place a c.at-number.ensures c.requires.within c.requires.stands c.in-Start.class c.in-Start.packet c.decide.new.self
     (omega (arith, free, c.if-free-now.false)) decided c.in-Start.ensures.plan c.in-Start.ensures.last in
-    on_both (q.log.items ≡ events) (q.outbox.items ≡ sendings) (DecidesAt (state_of q) c.args.now (c.args.place + 1)) c.note_start.result
+    on_both (q.log.all ≡ events) (q.outbox.all ≡ sendings) (DecidesAt (state_of q) c.args.now (c.args.place + 1)) c.note_start.result
     (λ told sent. subst (λ (v : NodeState). DecidesAt v c.args.now (c.args.place + 1))
-    (from_fields q p.number p.horizon p.worked_to c.decide.new.self _ p.inbox.items p.turns events sendings same.3 same.4 same.5 same.0 (c.note_start.ensures.links a) (ap (λ v. v.items) same.1) same.2 told sent) stands)
+    (from_fields q p.number p.horizon p.worked_to c.decide.new.self _ p.inbox.all p.waiting p.keeps (gone_in p) events sendings same.3 same.4 same.5 same.0 (c.note_start.ensures.links a) (ap (λ v. v.all) same.1) same.2 told sent held.0 (λ i. record { inputs = (same.1 i).gone; events = held.1 i; sendings = held.2 i })) stands)
     (c.note_start.ensures.log a) (c.note_start.ensures.outbox a)
 
 pub returns-in-Start-clause-count : goal.returns-in-Start-clause-count
@@ -84,6 +87,7 @@ returns-in-Start-clause-keeps c =
     let a = c.at-number.result in
     let here = get_or p.links c.args.place a in
     let same = c.note_start.ensures.same in
+    let held = c.note_start.ensures.held in
     let e = get_or_default p.links c.args.place a here c.requires.within in
     record {
       site = λ i. record {
@@ -92,9 +96,11 @@ returns-in-Start-clause-keeps c =
         links = (ap (map link_pair) (c.note_start.ensures.links a) ∙ pairs_set p.links c.args.place a here (Some (end_on here c.args.now c.in-Start.packet)) c.at-number.ensures e c.requires.within) i;
       };
       horizon = same.4;
-      inbox = ap (λ v. v.items) same.1;
+      inbox = ap (λ v. v.all) same.1;
       events = c.note_start.ensures.more;
       sendings = c.note_start.ensures.sent;
+      keeps = held.0;
+      gone = λ i. record { inputs = (same.1 i).gone; events = held.1 i; sendings = held.2 i };
     }
 
 pub returns-in-WaitUntil-clause-stands : goal.returns-in-WaitUntil-clause-stands
@@ -121,8 +127,10 @@ returns-in-WaitUntil-clause-keeps c =
       site = λ i. record { number = p.number; plan = c.in-WaitUntil.ensures.plan i; links = pairs_put p.links c.put-in-WaitUntil.new.self c.args.place a (Some c.in-WaitUntil.time.0) c.at-number.ensures c.requires.within (c.put-in-WaitUntil.ensures a) i };
       horizon = refl;
       inbox = refl;
-      events = ([], sym (append-nil p.log.items));
-      sendings = ([], sym (append-nil p.outbox.items));
+      events = ([], sym (append-nil p.log.all));
+      sendings = ([], sym (append-nil p.outbox.all));
+      keeps = refl;
+      gone = refl;
     }
 
 pub returns-in-Idle-clause-stands : goal.returns-in-Idle-clause-stands
@@ -149,6 +157,8 @@ returns-in-Idle-clause-keeps c =
       site = λ i. record { number = p.number; plan = c.in-Idle.ensures.plan i; links = pairs_put p.links c.put-in-Idle.new.self c.args.place a None c.at-number.ensures c.requires.within (c.put-in-Idle.ensures a) i };
       horizon = refl;
       inbox = refl;
-      events = ([], sym (append-nil p.log.items));
-      sendings = ([], sym (append-nil p.outbox.items));
+      events = ([], sym (append-nil p.log.all));
+      sendings = ([], sym (append-nil p.outbox.all));
+      keeps = refl;
+      gone = refl;
     }

@@ -2,9 +2,8 @@ use Rattle.std.proofs.Common.{◌≡◌, ◌∷◌, [], ◌++◌, Option, sym, s
 use Rattle.std.specs.List.{cons_option}
 use Rattle.std.specs.Option.{option_map}
 use Rattle.std.specs.Prelude.{IfOk}
-use Rattle.tva_shim.specs.declared.packets.Carried.{Carried}
 use Rattle.tva_host.specs.declared.made.Made.{Made}
-use Rattle.tva_host.specs.Calls.{Call, Injected, history_of}
+use Rattle.tva_host.specs.Calls.{Call, history_of}
 use Rattle.tva_transfer.specs.Files.{Filed, Ticked, first_segment, segment_due}
 use Rattle.tva_transfer.specs.Stands.{StandsFor, call_with, known, sent_with}
 use Rattle.tva_trace.specs.declared.rows.RowWhat.{RowWhat}
@@ -24,9 +23,8 @@ returns-in_ok-intend-in-Send-clause-stands c = λ calls acts h.
 pub returns-in-Inject-clause-stands : goal.returns-in-Inject-clause-stands
 returns-in-Inject-clause-stands c = λ calls acts h.
     let new = c.inject.new.self in
-    let copied = subst (λ (x : Carried). StandsFor new (calls ++ Injected c.in-Inject.flow c.in-Inject.payload x ∷ []) acts) c.copied.ensures (c.inject.ensures.stands calls acts h) in
     subst (λ (w : RowWhat). StandsFor new (calls ++ call_of_row c.args.now.0 w c.inject.result ∷ []) (acts ++ cons_option (act_of_row w) [])) (sym c.in-Inject.is)
-    (subst (StandsFor new _) (sym (append-nil acts)) copied)
+    (subst (StandsFor new _) (sym (append-nil acts)) (c.inject.ensures.stands calls acts h))
 
 pub returns-in_ok-file-in-File-clause-stands : goal.returns-in_ok-file-in-File-clause-stands
 returns-in_ok-file-in-File-clause-stands c = λ calls acts h.

@@ -16,7 +16,7 @@ use Rattle.tva_node.proofs.role.Hosted.take_row.Goals as goal
 pub returns-in_default-clause-took : goal.returns-in_default-clause-took
 returns-in_default-clause-took c = λ site log st.
     let h = c.args.self.now in
-    let row = c.args.row.now in
+    let row = c.args.row in
     let new = c.make.new.self in
     let make = c.in_ok-packet.ensures in
     let logs = port_logs log h.uplink in
@@ -33,7 +33,7 @@ returns-in_default-clause-took c = λ site log st.
 pub returns-clause-took : goal.returns-clause-took
 returns-clause-took c = λ site log st.
     let h = c.args.self.now in
-    let row = c.args.row.now in
+    let row = c.args.row in
     let new = c.queue-outcome.new.self in
     let made = c.in-Some.field-0 in
     let make = c.in_ok-packet.ensures in

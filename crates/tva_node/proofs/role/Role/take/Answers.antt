@@ -11,6 +11,6 @@ pub returns-in-Host-clause-took : goal.returns-in-Host-clause-took
 returns-in-Host-clause-took c = λ site log s n e st.
     let h = c.in-Host.hosted in
     let new = c.take-in-Host.new.self in
-    if_ok (λ (told : Happened). HostTook site h.courier.host.plan log c.args.input.now told new) (λ (told : Happened). Takes site log c.args.input.now told (roles.Host new)) c.take-in-Host.result
-    (λ told t. host_takes site c.args.self.now h new log c.args.input.now told e c.in-Host.is t)
+    if_ok (λ (told : Happened). HostTook site h.courier.host.plan log c.args.input told new) (λ (told : Happened). Takes site log c.args.input told (roles.Host new)) c.take-in-Host.result
+    (λ told t. host_takes site c.args.self.now h new log c.args.input told e c.in-Host.is t)
     (c.take-in-Host.ensures.took site log (subst (λ (r : Role). RoleStands site r log) c.in-Host.is st))

@@ -1,6 +1,5 @@
 use Rattle.std.proofs.Common.{◌≡◌, ◌∙◌, Some, None, refl, sym, subst, ap}
 use Rattle.std.specs.Option.{option_map}
-use Rattle.tva_shim.specs.Packets.{PacketData}
 use Rattle.tva_router.specs.Boots.{charges_of_boot}
 use Rattle.tva_router.specs.Stands.{RouterData, StandsFor}
 use Rattle.tva_log.specs.declared.kinds.Input.{Input}
@@ -47,11 +46,9 @@ returns-in-Arrival-clause-took c = λ log st.
     let g = charges_of_boot r.router.built r.changes.boot (charges log) in
     let new = c.arrive-in-Arrival.new.self in
     let told = c.arrive-in-Arrival.result in
-    let copy = c.copied.result in
     subst (λ (i : Input). RouterTook c.args.number plan log i told new) (sym c.in-Arrival.is)
-    (subst (λ (p : PacketData). RouterTook c.args.number plan log (Arrival time link p) told new) c.copied.ensures
-    (router_takes r r new c.args.number plan log (Arrival time link copy) (Some link) copy told c.change-in-Arrival.ensures.done h goes.same.0 refl refl refl
+    (router_takes r r new c.args.number plan log (Arrival time link packet) (Some link) packet told c.change-in-Arrival.ensures.done h goes.same.0 refl refl refl
     (c.arrive-in-Arrival.ensures.told g (port_logs log) h.router)
     (c.arrive-in-Arrival.ensures.stands g (port_logs log) h.router)
     c.arrive-in-Arrival.ensures.plan.1 c.arrive-in-Arrival.ensures.same.1
-    (c.arrive-in-Arrival.ensures.same.0 ∙ ordinal_arrival log time link copy (arrived plan log time.0 (Some link) copy) r.next h.next)))
+    (c.arrive-in-Arrival.ensures.same.0 ∙ ordinal_arrival log time link packet (arrived plan log time.0 (Some link) packet) r.next h.next))

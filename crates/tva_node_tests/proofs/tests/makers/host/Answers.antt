@@ -3,8 +3,8 @@ use Rattle.std.proofs.lemmas.List.Elements.{All-nil, All-cons}
 use Rattle.tva_log.specs.Sites.{IsLinkOut}
 use Rattle.tva_node_tests.proofs.tests.makers.host.Goals as goal
 
-pub build-requires-clause-site : goal.build-requires-clause-site
-build-requires-clause-site c =
+pub build_keeping-requires-clause-site : goal.build_keeping-requires-clause-site
+build_keeping-requires-clause-site c =
     let link = c.link.ensures in
     record {
       number = omega (arith, c.ranges.number.fits);

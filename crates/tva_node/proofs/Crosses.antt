@@ -1,0 +1,21 @@
+-- A node may be moved to another thread and shared with it.
+use Rattle.std.proofs.Crossing.{crosses}
+use denote.Param.Send.{IsSend, IsSync, sendable}
+use Rattle.tva_base.proofs.event.Event.TheSendSync as Event
+use Rattle.tva_log.proofs.kinds.Input.TheSendSync as Input
+use Rattle.tva_log.proofs.kinds.Sending.TheSendSync as Sending
+use Rattle.tva_node.proofs.links.Links.TheSendSync as Links
+use Rattle.tva_node.proofs.memory.Memory.TheSendSync as Memory
+use Rattle.tva_node.proofs.role.Role.TheSendSync as Role
+use Rattle.tva_node.proofs.waiting.Waiting.TheSendSync as Waiting
+use Rattle.tva_node.specs.contracts.node.Node as Node
+
+ruleset held_send = (Event.the_send, Event.the_field_send, Input.the_send, Input.the_field_send, Sending.the_send, Sending.the_field_send, Links.the_send, Memory.the_send, Memory.the_field_send, Role.the_send, Role.the_field_send, Waiting.the_send)
+
+ruleset held_sync = (Event.the_sync, Event.the_field_sync, Input.the_sync, Input.the_field_sync, Sending.the_sync, Sending.the_field_sync, Links.the_sync, Memory.the_sync, Memory.the_field_sync, Role.the_sync, Role.the_field_sync, Waiting.the_sync)
+
+pub node_send : IsSend Node.the_row
+node_send = search (sendable, crosses, held_send) depth 60 fits 4000
+
+pub node_sync : IsSync Node.the_row
+node_sync = search (sendable, crosses, held_sync) depth 60 fits 4000

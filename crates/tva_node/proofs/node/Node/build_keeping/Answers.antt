@@ -1,0 +1,34 @@
+use Rattle.std.proofs.Common.{[], map, sym, subst, ◌∙◌, ap}
+use Rattle.tva_plan.specs.declared.config.NodePlan.{NodePlan}
+use Rattle.tva_log.specs.Sites.{IsSite, site_of}
+use Rattle.tva_node.specs.Pairs.{link_pair}
+use Rattle.tva_node.specs.States.{RoleStands, Stands, role_plan}
+use Rattle.tva_node.proofs.Posts.{built, pairs_first}
+use Rattle.tva_node.proofs.node.Node.build_keeping.Goals as goal
+
+pub returns-clause-site : goal.returns-clause-site
+returns-clause-site c =
+    let links = ap (map link_pair) c.in_ok-of.ensures ∙ pairs_first c.args.links.now in
+    λ i. record { number = c.args.number; plan = c.in_ok-role.ensures.plan i; links = links i }
+
+pub returns-clause-stands : goal.returns-clause-stands
+returns-clause-stands c =
+    let role = c.in_ok-role.role in
+    let links = c.args.links.now in
+    let ls = c.in_ok-of.field-0 in
+    let site = subst (λ (p : NodePlan). IsSite (site_of c.args.number p links)) (sym c.in_ok-role.ensures.plan) c.requires.site in
+    let stands = subst (λ (p : NodePlan). RoleStands (site_of c.args.number p links) role []) (sym c.in_ok-role.ensures.plan) c.in_ok-role.ensures.stands in
+    let first = built c.args.number c.args.horizon.0 c.args.keeps role links ls c.requires.horizon c.in_ok-of.ensures site stands c.in_ok-role.ensures.last in
+    subst Stands (λ i. record {
+      site = site_of c.args.number (role_plan role) (map link_pair ls);
+      horizon = c.args.horizon.0;
+      inbox = (sym c.new.ensures i).all;
+      events = (sym c.new-3.ensures i).all;
+      sendings = (sym c.new-4.ensures i).all;
+      worked_to = 0;
+      keeps = c.args.keeps;
+      gone = record { inputs = (sym c.new.ensures i).gone; events = (sym c.new-3.ensures i).gone; sendings = (sym c.new-4.ensures i).gone };
+      role = role;
+      links = ls;
+      waiting = sym c.new-2.ensures i;
+    }) first
