@@ -1,4 +1,4 @@
--- Which status a command may answer, with what it has written.
+-- Product: which status a command may answer, with what it has written.
 use Rattle.std.specs.Prelude.{◌≡◌, ◌⊎◌, ℕ, List, IfSome, Some}
 use Rattle.std.specs.declared.option.Option.{Option}
 use Rattle.std.specs.Io.KnownBytes.{append_known}

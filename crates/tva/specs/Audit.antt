@@ -1,4 +1,4 @@
--- The text of an audit: a line for each router, and how many lines the report has.
+-- Product: the text of an audit: a line for each router, and how many lines the report has.
 use Rattle.std.specs.Prelude.{ℕ, List, [], ◌∷◌, ◌++◌, Option, Some, None, codes, decimal}
 use Rattle.std.specs.List.{flat_map, join_with_byte}
 use Rattle.tva_base.specs.declared.packet.Grant.{Grant}

@@ -1,4 +1,4 @@
--- The line of the command `check`.
+-- Product: the line of the command `check`.
 use Rattle.std.specs.Prelude.{ℕ, List, ◌++◌, codes, decimal}
 use Rattle.tva_plan.specs.declared.config.Config.{Config}
 use Rattle.tva_plan.specs.Counts.{node_count, link_count, route_count, slot_count}

@@ -1,4 +1,4 @@
--- What words ask for.
+-- Product: what words ask for.
 use Rattle.std.specs.Prelude.{ℕ, List, [], ◌∷◌, map, length, nat_le, String, string_bytes, codes}
 use Rattle.std.specs.Prelude.{if◌then◌else◌, None, Some}
 use Rattle.std.specs.declared.option.Option.{Option}

@@ -1,4 +1,4 @@
--- What a command comes to, where the shelf tells what it holds.
+-- Product: what a command comes to, where the shelf tells what it holds.
 use Rattle.std.specs.Prelude.{◌≡◌, ℕ, ◌+◌, List, ◌++◌, length, nat_lt, if◌then◌else◌}
 use Rattle.std.specs.Prelude.{Result, Ok, Err, None, Some, codes}
 use Rattle.std.specs.declared.option.Option.{Option}

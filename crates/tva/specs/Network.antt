@@ -1,4 +1,4 @@
--- What holds of every run that a replay or an audit can have, whatever it answers.
+-- Product: what holds of every run that a replay or an audit can have, whatever it answers.
 use Rattle.std.specs.Prelude.{◌≡◌, ℕ, List, All, Some}
 use Rattle.tva_plan.specs.declared.config.Config.{Config}
 use Rattle.tva_trace.specs.declared.rows.Row.{Row}

@@ -1,4 +1,4 @@
--- What the parts of a command answer.
+-- Product: what the parts of a command answer: what is found, how a text is written, how a replay and an audit end.
 use Rattle.std.specs.Prelude.{◌≡◌, ◌⊎◌, ℕ, List, length, take, IfSome, None, Some, Ok, Err}
 use Rattle.std.specs.declared.option.Option.{Option}
 use Rattle.std.specs.Io.KnownBytes.{append_known}

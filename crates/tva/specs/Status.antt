@@ -1,4 +1,4 @@
--- The number and the text of each status.
+-- Crate: the number and the text of each status.
 use Rattle.std.specs.Prelude.{ℕ, List, [], ◌∷◌, ◌++◌, codes, decimal}
 use Rattle.std.specs.List.{join_with_byte}
 use Rattle.tva_config_entries.specs.declared.faults.ConfigFault.{ConfigFault}

@@ -1,4 +1,4 @@
--- What words come to, and what may then be said of a run.
+-- Product: what words come to, and what may then be said of a run.
 use Rattle.std.specs.Prelude.{◌≡◌, ◌⊎◌, ℕ, List, option_and_then, None, Some}
 use Rattle.std.specs.declared.option.Option.{Option}
 use Rattle.tva_outside.specs.Held.{Held}

@@ -1,4 +1,4 @@
--- What an audit answers: whether a report is the one that a configuration and a trace have.
+-- Product: what an audit answers: whether a report is the one that a configuration and a trace have.
 use Rattle.std.specs.Prelude.{◌≡◌, ℕ, List, Some, None, Result, Ok, Err}
 use Rattle.tva_plan.specs.declared.config.Config.{Config}
 use Rattle.tva_trace.specs.declared.rows.Row.{Row}

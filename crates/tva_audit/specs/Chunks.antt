@@ -1,4 +1,4 @@
--- Kit: nodes in chunks.
+-- Kit: nodes in chunks whose routers are summed at once, for the contracts of the functions that do so.
 use Rattle.std.specs.Prelude.{◌≡◌, ℕ, ◌<◌, ◌≤◌, List, length, slice_index_or, Result, IfOk}
 use Rattle.std.specs.Fork.{slice_chunk}
 use Rattle.std.specs.declared.alloc.AllocError.{AllocError}

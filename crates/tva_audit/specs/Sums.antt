@@ -1,4 +1,4 @@
--- What each router let through, in a run and as nodes tell it.
+-- Product: what each router let through, in a run and as nodes tell it.
 use Rattle.std.specs.Prelude.{ℕ, ◌<◌, List, map, Option, Some, None, IfSome}
 use Rattle.std.specs.List.{filter_map}
 use Rattle.tva_base.specs.declared.event.Event.{Event}

@@ -1,4 +1,4 @@
--- The texts of addresses and prefixes.
+-- Product: the texts of addresses and prefixes.
 use Rattle.std.specs.Prelude.{◌≡◌, ◌≤◌, ℕ, ◌+◌, ◌-◌, ◌*◌, ◌/◌, ◌^◌, ◌==◌, Bool, List, ◌∷◌, ◌++◌, take, drop, position}
 use Rattle.std.specs.Prelude.{Some}
 use Rattle.std.specs.declared.option.Option.{Option}

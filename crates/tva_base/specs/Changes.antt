@@ -1,4 +1,4 @@
--- The restarts of a router and the changes of its routes: what is in force at a time.
+-- Product: the restarts of a router and the changes of its routes: what is in force at a time.
 use Rattle.std.specs.Prelude.{ℕ, ◌==◌, ◌&&◌, nat_le, Bool, List, [], ◌∷◌, map, filter, count_by}
 use Rattle.tva_base.specs.declared.addresses.Prefix.{Prefix}
 use Rattle.tva_base.specs.declared.packet.Time.{Time}

@@ -1,4 +1,4 @@
--- Times and the clocks of routers.
+-- Product: a router's second: its time plus its clock's offset, in whole seconds.
 use Rattle.std.specs.Prelude.{ℕ, ◌+◌, ◌/◌}
 
 -- the router second at a time, for a clock that is so far ahead

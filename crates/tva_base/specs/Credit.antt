@@ -1,4 +1,4 @@
--- How much time a packet's bytes add to the life of its flow.
+-- Product: how much time a packet's bytes add to the life of its flow.
 use Rattle.std.specs.Prelude.{ℕ, ◌*◌}
 use Rattle.std.specs.Int.{div_ceil}
 use Rattle.tva_base.specs.declared.packet.Rights.{Rights}

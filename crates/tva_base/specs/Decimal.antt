@@ -1,4 +1,4 @@
--- Numbers in decimal digits.
+-- Product: what a text of decimal digits is as a number.
 use Rattle.std.specs.Prelude.{ℕ, ◌+◌, ◌-◌, ◌*◌, ◌^◌, ◌==◌, nat_le, ◌&&◌, if◌then◌else◌, Bool, false, List, [], ◌∷◌}
 use Rattle.std.specs.Prelude.{length, Some, None}
 use Rattle.std.specs.declared.option.Option.{Option}

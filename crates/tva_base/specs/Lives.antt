@@ -1,4 +1,4 @@
--- A greatest value over what is left of a list: how long credits that follow one another last.
+-- Product: a greatest value over what is left of a list: how long credits that follow one another last.
 use Rattle.std.specs.Prelude.{ℕ, ◌+◌, max, List, [], ◌∷◌, sum_by}
 
 -- over the members of a list, oldest first, the greatest of a member's time plus the credits of

@@ -1,4 +1,4 @@
--- Steps that may give nothing, one after another.
+-- Product: steps that may give nothing, one after another.
 use Rattle.std.specs.Prelude.{Option, Some, None}
 
 -- a step after another, and nothing where the first gives nothing

@@ -1,4 +1,5 @@
--- How addresses' pairs, rights and grants are ordered: by their first field, and where it is the same by the next.
+-- Crate: how addresses' pairs, rights and grants are ordered: by their first field, and where it is the same by the
+-- next.
 use Rattle.std.specs.Ordering.{nat_cmp, ordering_then}
 use Rattle.std.specs.declared.cmp.Ordering.{Ordering}
 use Rattle.tva_base.specs.declared.packet.Flow.{Flow}

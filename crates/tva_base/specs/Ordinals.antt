@@ -1,4 +1,4 @@
--- The ordinals by which a node numbers its packets.
+-- Product: the ordinals by which a node numbers its packets.
 use Rattle.std.specs.Prelude.{ℕ, ◌+◌, min}
 
 -- the ordinal of the packet behind so many: one more, as far as 64 bits go

@@ -1,4 +1,4 @@
--- Which plans and limits are valid.
+-- Product: which plans and limits are valid.
 use Rattle.std.specs.Prelude.{◌≡◌, ◌<◌, ◌≤◌, ℕ, ◌+◌, ◌-◌, ◌^◌, ◌%◌, List, [], ◌∷◌, All, Contains, map, Some}
 use Rattle.tva_base.specs.declared.addresses.Prefix.{Prefix}
 use Rattle.tva_base.specs.declared.limits.DrrLimits.{DrrLimits}

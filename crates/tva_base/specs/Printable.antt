@@ -1,4 +1,4 @@
--- Which bytes the lines of a report have.
+-- Product: which bytes the lines of a report have.
 use Rattle.std.specs.Prelude.{ℕ, ◌≤◌, List, length}
 use Rattle.std.specs.List.{All}
 

@@ -1,4 +1,4 @@
--- The versions of shims, and the rights that the shims of each can carry. Version 1 has 10 bits for the
+-- Product: the versions of shims, and the rights that the shims of each can carry. Version 1 has 10 bits for the
 -- units and 6 for the seconds, in 2 bytes; version 2 has 20 and 7, in 4 bytes.
 use Rattle.std.specs.Prelude.{ℕ, ◌≤◌, ◌+◌, ◌*◌, ◌==◌, nat_le, ◌&&◌, Bool, if◌then◌else◌}
 use Rattle.tva_base.specs.declared.packet.Rights.{Rights}

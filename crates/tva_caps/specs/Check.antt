@@ -1,4 +1,4 @@
--- When a router takes a shown capability, and for which grant.
+-- Product: when a router takes a shown capability, and for which grant.
 use Rattle.std.specs.Prelude.{◌<◌, ◌≤◌, ℕ, ◌+◌, ◌-◌, List, nat_lt, nat_le, ◌==◌, if◌then◌else◌}
 use Rattle.tva_base.specs.declared.packet.Flow.{Flow}
 use Rattle.tva_base.specs.declared.packet.Grant.{Grant}

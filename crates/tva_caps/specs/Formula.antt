@@ -1,5 +1,5 @@
--- How a router makes secrets, pre-capabilities and capabilities. A number in what is hashed stands
--- as so many bytes, the highest first, and the digest is SHA-256's (FIPS 180-4).
+-- Product: how a router makes secrets, pre-capabilities and capabilities. A number in what is hashed stands as so
+-- many bytes, the highest first, and the digest is SHA-256's (FIPS 180-4).
 use Rattle.std.specs.Prelude.{ℕ, ◌+◌, ◌-◌, ◌/◌, ◌%◌, ◌^◌, List, [], ◌∷◌, ◌++◌, take, if◌then◌else◌}
 use Rattle.byteorder.specs.Endian.{big_bytes, big_number}
 use Rattle.sha2.specs.Sha256.{sha256}

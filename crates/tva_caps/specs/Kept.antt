@@ -1,4 +1,4 @@
--- What a minter keeps beside what contracts see of it.
+-- Crate: what a minter keeps beside what contracts see of it: the secrets of its epoch and of the one before.
 use Rattle.std.specs.Prelude.{◌≡◌, ◌≤◌, ℕ, ◌-◌, List}
 use Rattle.tva_base.specs.Clock.{router_second}
 use Rattle.tva_caps.specs.Formula.{epoch_of, secret_of}

@@ -1,4 +1,4 @@
--- What a minter is: its master, its clock's offset and its last time.
+-- Crate: what a minter is: its master, its clock's offset and its last time.
 use Rattle.std.specs.Prelude.{ℕ, ◌≤◌, List}
 use Rattle.tva_base.specs.Clock.{router_second}
 

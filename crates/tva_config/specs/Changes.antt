@@ -1,4 +1,4 @@
--- What restarts and changes of routes must be to the routers, the links, the routes and one another.
+-- Product: what restarts and changes of routes must be to the routers, the links, the routes and one another.
 use Rattle.std.specs.Prelude.{ℕ, ◌==◌, ◌&&◌, nat_le, not, Bool, List, [], length, Ok, Option, codes}
 use Rattle.std.specs.List.{list_any}
 use Rattle.tva_base.specs.declared.addresses.Prefix.{Prefix}

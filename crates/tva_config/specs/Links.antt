@@ -1,4 +1,4 @@
--- What links must be to the nodes and to one another.
+-- Product: what links must be to the nodes and to one another.
 use Rattle.std.specs.Prelude.{ℕ, ◌+◌, ◌==◌, ◌&&◌, Bool, List, [], ◌∷◌, length, nat_lt}
 use Rattle.std.specs.Prelude.{Ok, Option, Some, None, codes}
 use Rattle.std.specs.List.{list_any, position_from}

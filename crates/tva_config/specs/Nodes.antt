@@ -1,4 +1,4 @@
--- What the nodes must be to one another: names, addresses, times, and the sum of slots.
+-- Product: what the nodes must be to one another: names, addresses, times, and the sum of slots.
 use Rattle.std.specs.Prelude.{ℕ, ◌+◌, ◌-◌, ◌==◌, List, [], ◌++◌, map, length, nat_lt, sum_by}
 use Rattle.std.specs.Prelude.{if◌then◌else◌, Ok, Option, codes}
 use Rattle.std.specs.List.{list_any, position_from}

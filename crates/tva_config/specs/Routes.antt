@@ -1,4 +1,4 @@
--- What routes must be to the nodes, the links and one another.
+-- Product: what routes must be to the nodes, the links and one another.
 use Rattle.std.specs.Prelude.{ℕ, ◌==◌, ◌&&◌, Bool, List, [], length, nat_lt, if◌then◌else◌}
 use Rattle.std.specs.Prelude.{option_and_then, Ok, Option, Some, None, codes}
 use Rattle.std.specs.List.{list_any}

@@ -1,4 +1,4 @@
--- The keys of each table, in the order of their faults: a key, its kind, and its default.
+-- Product: the keys of each table, in the order of their faults: a key, its kind, and its default.
 use Rattle.std.specs.Prelude.{ℕ, ◌==◌, if◌then◌else◌, List, [], ◌∷◌, Option, Some, None, Ok, codes}
 use Rattle.toml.specs.Data.{Members}
 use Rattle.tva_base.specs.declared.limits.DrrLimits.{DrrLimits}

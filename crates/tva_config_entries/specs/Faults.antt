@@ -1,4 +1,4 @@
--- Steps that give a value or the first fault.
+-- Product: steps that give a value, or the first fault in a configuration.
 use Rattle.std.specs.Prelude.{◌≡◌, ◌⊎◌, ℕ, List, [], ◌∷◌, ◌++◌, Bool, if◌then◌else◌, Option, Some, None, Result, Ok}
 use Rattle.std.specs.Prelude.{Err}
 use Rattle.tva_config_entries.specs.declared.faults.ConfigTable as tables

@@ -1,4 +1,4 @@
--- Keys: which are listed, and what stands at one.
+-- Product: keys: which are listed, and what stands at one.
 use Rattle.std.specs.Prelude.{ℕ, ◌&&◌, List, Bool, true, not, Ok, Err, Option, Some, None, codes}
 use Rattle.std.specs.List.{list_any}
 use Rattle.std.specs.Str.{bytes_eq}

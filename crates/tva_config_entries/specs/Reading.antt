@@ -1,4 +1,4 @@
--- What stands in a text, or its first fault.
+-- Product: what stands in a text, or its first fault.
 use Rattle.std.specs.Prelude.{ℕ, ◌+◌, List, length, if◌then◌else◌}
 use Rattle.std.specs.Prelude.{Err, Option, Some, None, codes}
 use Rattle.std.specs.Str.{is_utf8}

@@ -1,4 +1,4 @@
--- The top level and the tables, entry by entry.
+-- Product: the top level and the tables, entry by entry.
 use Rattle.std.specs.Prelude.{ℕ, List, [], ◌∷◌, length, nat_lt, Ok, codes}
 use Rattle.toml.specs.Data.{Members}
 use Rattle.tva_config_entries.specs.declared.faults.ConfigTable as tables

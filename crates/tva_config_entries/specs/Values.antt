@@ -1,5 +1,5 @@
--- The kinds of values of keys: what a value of the document is read as, or nothing where it isn't of
--- the kind.
+-- Product: the kinds of values of keys: what a value of the document is read as, or nothing where it isn't of the
+-- kind.
 use Rattle.std.specs.Prelude.{ℕ, ◌+◌, ◌*◌, ◌&&◌, pos, negsuc, ℤ, nat_le, if◌then◌else◌}
 use Rattle.std.specs.Prelude.{List, [], ◌∷◌, length, fold, codes, Result, Ok, Err, Option, Some, None, option_and_then}
 use Rattle.std.specs.Option.{option_map}

@@ -1,4 +1,4 @@
--- The names of tables and rules in the text of a fault.
+-- Crate: the names of tables and rules in the text of a fault.
 use Rattle.std.specs.Prelude.{ℕ, List, codes}
 use Rattle.tva_config_entries.specs.declared.faults.ConfigTable as tables
 use Rattle.tva_config_entries.specs.declared.faults.ConfigTable.TheVariants as table

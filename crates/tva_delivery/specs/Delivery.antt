@@ -1,4 +1,4 @@
--- What every run keeps of files, by the logs of its nodes.
+-- Product: what every run keeps of files, by the logs of its nodes.
 use Rattle.std.specs.Prelude.{◌≡◌, ℕ, ◌+◌, ◌≤◌, ◌==◌, ◌&&◌, if◌then◌else◌, List, Contains, slice_get, sum_by}
 use Rattle.std.specs.Prelude.{Option, Some, None}
 use Rattle.std.specs.Option.{option_and_then}

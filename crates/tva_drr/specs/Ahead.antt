@@ -1,5 +1,5 @@
--- A measure of the bytes that may still go, up to what a key has yet to send. It falls at each take by
--- what is taken, and no offer changes it.
+-- Crate: a measure of the bytes that may still go, up to what a key has yet to send. It falls at each take by what
+-- is taken, and no offer changes it.
 use Rattle.std.specs.Prelude.{◌≡◌, ℕ, zero, suc, ◌+◌, ◌-◌, ◌*◌, ◌≤◌, ◌==◌, if◌then◌else◌, List, [], ◌∷◌, MatchBool}
 use Rattle.std.specs.Int.{div_ceil}
 use Rattle.tva_base.specs.declared.limits.DrrLimits.{DrrLimits}

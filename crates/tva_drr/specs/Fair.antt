@@ -1,4 +1,4 @@
--- What is true of all fair queues, at every moment.
+-- Product: what is true of all fair queues, at every moment.
 use Rattle.std.specs.Prelude.{◌≡◌, ℕ, ◌+◌, ◌<◌, ◌≤◌, false, List, [], ◌∷◌, length}
 use Rattle.tva_base.specs.declared.limits.DrrLimits.{DrrLimits}
 use Rattle.tva_base.specs.Plan.{AreDrrLimits}

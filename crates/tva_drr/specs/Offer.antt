@@ -1,4 +1,4 @@
--- An offer of an item with a key.
+-- Product: an offer of an item with a key.
 use Rattle.std.specs.Prelude.{ℕ, ◌+◌, ◌==◌, nat_lt, nat_le, Bool, not, ◌&&◌, ◌||◌, if◌then◌else◌, List, [], ◌∷◌, ◌++◌}
 use Rattle.std.specs.Prelude.{length}
 use Rattle.tva_drr.specs.declared.offered.Offered.{Offered}

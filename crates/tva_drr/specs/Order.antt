@@ -1,5 +1,5 @@
--- What offers and takes do to each key's items: none is lost or doubled, and a key's items go in
--- the order in which they came.
+-- Crate: what offers and takes do to each key's items: none is lost or doubled, and a key's items go in the order
+-- in which they came.
 use Rattle.std.specs.Prelude.{◌≡◌, ◌≢◌, ℕ, List, [], ◌∷◌, ◌++◌}
 use Rattle.tva_drr.specs.Queues.{Queue, Fair, items_of}
 

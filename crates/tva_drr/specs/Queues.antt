@@ -1,4 +1,4 @@
--- Fair queues as one list in ring order.
+-- Product: fair queues as one list in ring order.
 use Rattle.std.specs.Prelude.{ℕ, ◌==◌, Bool, true, false, if◌then◌else◌, List, [], ◌∷◌, sum_by, Option, Some, None}
 use Rattle.tva_base.specs.declared.limits.DrrLimits.{DrrLimits}
 

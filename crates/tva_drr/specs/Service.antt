@@ -1,4 +1,4 @@
--- How fair queues serve a key, whatever is offered to them.
+-- Product: how fair queues serve a key, whatever is offered to them.
 use Rattle.std.specs.Prelude.{◌≡◌, ℕ, zero, suc, ◌+◌, ◌-◌, ◌*◌, ◌≤◌, ◌==◌, Bool, true, false, if◌then◌else◌, List, []}
 use Rattle.std.specs.Prelude.{◌∷◌}
 use Rattle.std.specs.Int.{div_ceil}

@@ -1,4 +1,4 @@
--- A take of the front's first item.
+-- Product: a take of the front's first item.
 use Rattle.std.specs.Prelude.{ℕ, ◌+◌, ◌-◌, nat_lt, if◌then◌else◌, List, [], ◌∷◌, ◌++◌}
 use Rattle.tva_drr.specs.Queues.{Queue, Fair, queue, fair}
 

@@ -1,4 +1,4 @@
--- What no flow cache lets a grant exceed.
+-- Product: what no flow cache lets a grant exceed.
 use Rattle.std.specs.Prelude.{ℕ, ◌+◌, ◌*◌, ◌<◌, ◌≤◌, List, All}
 use Rattle.tva_base.specs.declared.packet.Grant.{Grant}
 use Rattle.tva_base.specs.Clock.{router_second}

@@ -1,5 +1,5 @@
--- The charges of a router, and what they say of a flow: whether it lives, its run, its holder
--- and the bytes that are used.
+-- Product: the charges of a router, and what they say of a flow: whether it lives, its run, its holder and the
+-- bytes that are used.
 use Rattle.std.specs.Prelude.{ℕ, ◌==◌, nat_lt, Bool, true, false, not, ◌&&◌, ◌||◌, if◌then◌else◌, List, [], ◌∷◌, ◌++◌}
 use Rattle.std.specs.Prelude.{filter, sum_by, count_by, Option, Some, None}
 use Rattle.tva_base.specs.declared.packet.Flow.{Flow}

@@ -1,4 +1,4 @@
--- What a flow cache keeps, and for which charges it stands.
+-- Product: what a flow cache keeps, and for which charges it stands.
 use Rattle.std.specs.Prelude.{◌≡◌, ℕ, ◌≤◌, false, if◌then◌else◌, List, [], ◌∷◌, ◌++◌, length, Option, Some, None, All}
 use Rattle.std.specs.Prelude.{MatchBool}
 use Rattle.tva_base.specs.declared.packet.Flow.{Flow}

@@ -1,4 +1,4 @@
--- The verdict on a packet, over all charges of its router so far.
+-- Product: the verdict on a packet, over all charges of its router so far.
 use Rattle.std.specs.Prelude.{◌≡◌, ◌⊎◌, ℕ, ◌+◌, ◌*◌, ◌==◌, nat_lt, nat_le, Bool, true, false, not, ◌&&◌, ◌||◌}
 use Rattle.std.specs.Prelude.{if◌then◌else◌, List, [], ◌∷◌, Option, Some, None}
 use Rattle.tva_base.specs.declared.packet.Flow.{Flow}

@@ -1,4 +1,4 @@
--- What a row is drawn from: four words of a generator, and what each part of a row is by them.
+-- Product: what a row is drawn from: four words of a generator, and what each part of a row is by them.
 use Rattle.std.specs.Prelude.{ℕ, ◌+◌, ◌/◌, ◌%◌, ◌==◌, Bool, min}
 use Rattle.rand_pcg.specs.Lcg.{Lcg}
 use Rattle.rand_pcg.specs.Pcg.{pcg32}

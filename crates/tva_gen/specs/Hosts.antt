@@ -1,4 +1,4 @@
--- The hosts of a plan, and the text of an address.
+-- Product: the hosts of a plan, and the text of an address.
 use Rattle.std.specs.Prelude.{ℕ, ◌/◌, ◌%◌, ◌^◌, List, [], ◌∷◌, decimal}
 use Rattle.std.specs.List.{join_with_byte}
 use Rattle.tva_base.specs.declared.addresses.Address.{Address}

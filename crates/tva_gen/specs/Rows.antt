@@ -1,4 +1,4 @@
--- The rows of a generated trace.
+-- Product: the rows of a generated trace.
 use Rattle.std.specs.Prelude.{ℕ, zero, suc, if◌then◌else◌, List, [], ◌∷◌, ◌++◌, length}
 use Rattle.std.specs.Prelude.{Option, Some, None, codes, decimal, slice_get}
 use Rattle.std.specs.List.{join_with_byte}

@@ -1,6 +1,6 @@
--- How two-level queues serve the items under two keys, whatever is offered to them: a measure of the bytes
--- that may still go, up to what the keys have yet to send. It falls at each take by what is taken, and no
--- offer changes it.
+-- Product: how two-level queues serve the items under two keys, whatever is offered to them: a measure of the bytes
+-- that may still go, up to what the keys have yet to send. It falls at each take by what is taken, and no offer
+-- changes it.
 use Rattle.std.specs.Prelude.{◌≡◌, ℕ, zero, suc, ◌+◌, ◌≤◌, ◌==◌, Bool, false, ◌&&◌, if◌then◌else◌, List, [], ◌∷◌}
 use Rattle.tva_base.specs.declared.limits.DrrLimits.{DrrLimits}
 use Rattle.tva_drr.specs.Queues.{Queue, queue}

@@ -1,4 +1,4 @@
--- Two-level fair queues as one list in ring order: behind each outer key stand fair queues by inner keys.
+-- Product: two-level fair queues as one list in ring order: behind each outer key stand fair queues by inner keys.
 use Rattle.std.specs.Prelude.{ℕ, ◌==◌, Bool, true, false, if◌then◌else◌, List, [], ◌∷◌, sum_by, Option, None}
 use Rattle.tva_base.specs.declared.limits.DrrLimits.{DrrLimits}
 use Rattle.tva_drr.specs.Queues.{Fair, fair, items_of, all_bytes, head}

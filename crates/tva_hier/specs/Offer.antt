@@ -1,4 +1,4 @@
--- An offer of an item with an outer and an inner key.
+-- Product: an offer of an item with an outer and an inner key.
 use Rattle.std.specs.Prelude.{ℕ, ◌+◌, ◌==◌, nat_lt, nat_le, Bool, not, ◌&&◌, ◌||◌, if◌then◌else◌, List, [], ◌∷◌, length}
 use Rattle.tva_base.specs.declared.limits.DrrLimits.{DrrLimits}
 use Rattle.tva_drr.specs.declared.offered.Offered.{Offered}

@@ -1,4 +1,4 @@
--- What offers and takes do to the items under each two keys: none is lost or doubled, and the items under
+-- Crate: what offers and takes do to the items under each two keys: none is lost or doubled, and the items under
 -- two keys go in the order in which they came.
 use Rattle.std.specs.Prelude.{◌≡◌, ◌≢◌, ℕ, List, [], ◌∷◌, ◌++◌}
 use Rattle.tva_drr.specs.Order.{IsFront}

@@ -1,4 +1,4 @@
--- A take of the front's next item.
+-- Product: a take of the front's next item.
 use Rattle.std.specs.Prelude.{ℕ, ◌+◌, ◌-◌, nat_lt, if◌then◌else◌, List, [], ◌∷◌, ◌++◌}
 use Rattle.tva_drr.specs.Queues.{Queue}
 use Rattle.tva_drr.specs.Take.{take_leaves}

@@ -1,4 +1,4 @@
--- The calls on a host, and the history that they make.
+-- Product: the calls on a host, and the history that they make.
 use Rattle.std.specs.Prelude.{ℕ, ◌≤◌, List, [], ◌∷◌}
 use Rattle.tva_base.specs.declared.addresses.Address.{Address}
 use Rattle.tva_base.specs.declared.packet.Flow.{Flow}

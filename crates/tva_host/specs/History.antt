@@ -1,4 +1,4 @@
--- What a host did and met.
+-- Product: what a host did and met.
 use Rattle.std.specs.Prelude.{ℕ, ◌+◌, ◌%◌, ◌^◌, List, [], ◌∷◌, ◌++◌}
 use Rattle.tva_base.specs.declared.addresses.Address.{Address}
 use Rattle.tva_base.specs.declared.plan.HostPlan.{HostPlan}

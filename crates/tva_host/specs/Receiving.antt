@@ -1,4 +1,4 @@
--- What a host makes of the packets that it receives.
+-- Product: what a host makes of the packets that it receives.
 use Rattle.std.specs.Prelude.{ℕ, ◌+◌, ◌==◌, Bool, true, false, ◌&&◌, if◌then◌else◌, List, [], ◌∷◌, ◌++◌, length, map}
 use Rattle.std.specs.Prelude.{is_some, Option, Some, None}
 use Rattle.tva_base.specs.declared.addresses.Address.{Address}

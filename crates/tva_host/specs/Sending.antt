@@ -1,4 +1,4 @@
--- The packets that a host makes.
+-- Product: the packets that a host makes.
 use Rattle.std.specs.Prelude.{ℕ, Bool, true, false, if◌then◌else◌, []}
 use Rattle.tva_base.specs.declared.addresses.Address.{Address}
 use Rattle.tva_base.specs.declared.packet.Flow.{Flow}

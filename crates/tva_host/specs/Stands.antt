@@ -1,4 +1,4 @@
--- What a host keeps, and for which calls it stands.
+-- Crate: what a host keeps, and for which calls it stands.
 use Rattle.std.specs.Prelude.{◌≡◌, ◌≤◌, ℕ, List}
 use Rattle.tva_base.specs.declared.plan.HostPlan.{HostPlan}
 use Rattle.tva_base.specs.Ordinals.{ordinal_behind}

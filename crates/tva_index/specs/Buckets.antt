@@ -1,4 +1,4 @@
--- Places in buckets, and the last place of a bucket.
+-- Crate: places in buckets, and the last place of a bucket.
 use Rattle.std.specs.Prelude.{◌≡◌, ℕ, ◌<◌, ◌≤◌, List, slice_index_or, Option, Some, None}
 
 -- how many buckets there are, and the bucket of each place that is in one

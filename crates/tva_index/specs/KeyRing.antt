@@ -1,4 +1,4 @@
--- Keys in the order of a ring, and the place of each.
+-- Crate: keys in the order of a ring, and the place of each.
 use Rattle.std.specs.Prelude.{ℕ, suc, ◌==◌, if◌then◌else◌, List, [], ◌∷◌, Option, Some, None}
 use Rattle.std.specs.Option.{option_map}
 

@@ -1,4 +1,4 @@
--- The place of a least number.
+-- Crate: the place of a least number.
 use Rattle.std.specs.Prelude.{◌≡◌, ℕ, ◌<◌, ◌≤◌, List, length, slice_index, Option, Some, None}
 
 abbrev pub IsLeastPlace : List ℕ → Option ℕ → Type 0

@@ -1,6 +1,6 @@
--- Lists that join what comes from several sources: by time, and at one time by source. One definition serves a node's
--- inputs, whose first source is the trace and whose others are its links, and the lines of a report, whose sources are
--- the nodes.
+-- Product: lists that join what comes from several sources: by time, and at one time by source. One definition
+-- serves a node's inputs, whose first source is the trace and whose others are its links, and the lines of a
+-- report, whose sources are the nodes.
 use Rattle.std.specs.Prelude.{◌≡◌, ℕ, ◌<◌, ◌≤◌, Bool, ◌&&◌, ◌||◌, ◌==◌, nat_lt, cond, ◌⊎◌, List, [], ◌∷◌, filter}
 use Rattle.std.specs.List.{AllByRecursion}
 

@@ -1,4 +1,4 @@
--- What a node makes of an input, over what stands before it in its log.
+-- Product: what a node makes of an input, over what stands before it in its log.
 use Rattle.std.specs.Prelude.{ℕ, List, Option, Some, None}
 use Rattle.std.specs.Option.{option_map}
 use Rattle.tva_base.specs.declared.packet.PacketId.{PacketId}

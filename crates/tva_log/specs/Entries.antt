@@ -1,4 +1,4 @@
--- What happens at a node.
+-- Product: an entry of a node's log: an input that it took, with what became of it, or a start on a link.
 use Rattle.std.specs.Prelude.{ℕ, suc, Option}
 use Rattle.tva_base.specs.declared.packet.Class.{Class}
 use Rattle.tva_base.specs.declared.packet.Fate.{Fate}

@@ -1,4 +1,4 @@
--- The log of a node by what it takes and by what its links have.
+-- Crate: the log of a node by what it takes and by what its links have.
 use Rattle.std.specs.Prelude.{◌≡◌, ℕ, ◌<◌, ◌≤◌, List, [], ◌∷◌, ◌++◌, All, Some}
 use Rattle.std.specs.List.{AllByRecursion}
 use Rattle.tva_base.specs.declared.limits.LinkLimits.{LinkLimits}

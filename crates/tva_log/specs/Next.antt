@@ -1,4 +1,4 @@
--- When there is work at a node again.
+-- Product: when there is work at a node again.
 use Rattle.std.specs.Prelude.{◌≡◌, ℕ, ◌<◌, ◌≤◌, ◌⊎◌, nat_le, nat_lt, ◌&&◌, if◌then◌else◌}
 use Rattle.std.specs.Prelude.{List, Option, Some, None, Contains, map}
 use Rattle.std.specs.Option.{option_and_then}

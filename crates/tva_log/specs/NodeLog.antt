@@ -1,4 +1,4 @@
--- The log of a node: all that happens there, as a condition on the whole list.
+-- Product: the log of a node: all that happens there, as a condition on the whole list.
 use Rattle.std.specs.Prelude.{◌≡◌, ℕ, suc, ◌<◌, nat_le, if◌then◌else◌, List, [], ◌∷◌, ◌++◌, Option, Some, None}
 use Rattle.std.specs.Option.{option_and_then}
 use Rattle.std.specs.List.{AllByRecursion}

@@ -1,4 +1,4 @@
--- What the parts of a node met: each is a projection of the node's log.
+-- Product: what the parts of a node met: each is a projection of the node's log.
 use Rattle.std.specs.Prelude.{ℕ, ◌==◌, Bool, true, false, if◌then◌else◌, List, count_by, Option, Some, None}
 use Rattle.std.specs.Option.{option_map, option_and_then}
 use Rattle.std.specs.List.{filter_map}

@@ -1,4 +1,4 @@
--- What a node is, by the plan of its network.
+-- Product: what a node is by the plan of its network: its number, its plan, and the links out of it.
 use Rattle.std.specs.Prelude.{◌≡◌, ℕ, ◌≤◌, ◌<◌, ◌==◌, List, [], ◌∷◌, All, map, Option}
 use Rattle.std.specs.Option.{option_map}
 use Rattle.std.specs.List.{find}

@@ -1,4 +1,4 @@
--- What is told of a node's log: the events of a report, and what its links send.
+-- Product: what is told of a node's log: the events of a report, and what its links send.
 use Rattle.std.specs.Prelude.{ℕ, ◌+◌, ◌*◌, List, map, Option, Some, None}
 use Rattle.std.specs.Option.{option_map, option_map_or, option_and_then}
 use Rattle.std.specs.List.{filter_map}

@@ -1,4 +1,4 @@
--- What a network keeps between two windows, and for which run it stands.
+-- Crate: what a network keeps between two windows, and for which run it stands.
 use Rattle.std.specs.Prelude.{◌≡◌, ℕ, ◌+◌, ◌<◌, ◌≤◌, List, All, length, map, slice_index_or}
 use Rattle.std.specs.Prelude.{Option, Some, None}
 use Rattle.std.specs.List.{flat_map}

@@ -1,4 +1,4 @@
--- What a call of a network answers, and what it leaves.
+-- Crate: what a call of a network answers, and what it leaves.
 use Rattle.std.specs.Prelude.{◌≡◌, ◌<◌, List, ◌∷◌, [], ◌++◌, length}
 use Rattle.tva_base.specs.declared.event.Event.{Event}
 use Rattle.tva_plan.specs.declared.config.Config.{Config}

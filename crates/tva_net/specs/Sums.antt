@@ -1,4 +1,4 @@
--- Sums that are kept while events are told.
+-- Crate: sums that are kept while events are told.
 use Rattle.std.specs.Prelude.{◌+◌, ◌*◌, ◌≤◌, if◌then◌else◌}
 use Rattle.tva_base.specs.declared.event.Happened.{Happened}
 use Rattle.tva_base.specs.declared.event.Totals.{Totals}

@@ -1,4 +1,4 @@
--- Which of the changes of a router's plan are made.
+-- Crate: which of the changes of a router's plan are made.
 use Rattle.std.specs.Prelude.{◌≡◌, ℕ, ◌≤◌, List, All, Contains, map, take, length}
 use Rattle.std.specs.List.{AllByRecursion}
 use Rattle.tva_base.specs.declared.addresses.Prefix.{Prefix}

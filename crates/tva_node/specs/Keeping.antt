@@ -1,5 +1,5 @@
 -- Kit: what memory keeps of a node's past, by its parts.
-use Rattle.std.specs.Prelude.{◌≡◌, ℕ, length}
+use Rattle.std.specs.Prelude.{◌≡◌, length}
 use Rattle.tva_log.specs.declared.kinds.Input.{Input}
 use Rattle.tva_past.specs.Kept.{KeptList}
 use Rattle.tva_node.specs.declared.memory.Memory.{Memory}

@@ -1,4 +1,4 @@
--- A link out of a node, as it stands among the links of its site.
+-- Crate: a link out of a node, as it stands among the links of its site.
 use Rattle.std.specs.Prelude.{ℕ}
 use Rattle.tva_base.specs.declared.plan.LinkPlan.{LinkPlan}
 use Rattle.tva_node.specs.declared.links.Link.{Link}

@@ -1,4 +1,4 @@
--- What a node keeps, and for which log it stands.
+-- Crate: what a node keeps, and for which log it stands.
 use Rattle.std.specs.Prelude.{◌≡◌, ℕ, ◌+◌, ◌<◌, ◌≤◌, min, max, List, [], ◌++◌, All, length, map, take, Option, Some, None}
 use Rattle.std.specs.List.{AllByRecursion}
 use Rattle.tva_base.specs.declared.event.Event.{Event}

@@ -1,4 +1,4 @@
--- Calls that are numbered from 1, some of which are to fail.
+-- Crate: calls that are numbered from 1, some of which are to fail.
 use Rattle.std.specs.Prelude.{◌==◌, ℕ, Bool, List}
 use Rattle.std.specs.List.{list_any}
 

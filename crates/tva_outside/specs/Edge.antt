@@ -1,4 +1,4 @@
--- The counts of faults of files and of standard output.
+-- Crate: the counts of faults of files and of standard output.
 use Rattle.std.specs.Prelude.{ℕ}
 use Rattle.tva_outside.specs.Faults.{one_more}
 use Rattle.tva_outside.specs.declared.shelf.Loaded as loaded

@@ -1,4 +1,4 @@
--- A count of faults never falls, and stands still at 2^64-1.
+-- Product: what it is that a count of faults rose; it never falls, and stands still at 2^64-1.
 use Rattle.std.specs.Prelude.{ℕ, ◌+◌, ◌-◌, ◌^◌, ◌≤◌, min}
 
 -- one more, up to the end of a u64

@@ -1,4 +1,4 @@
--- Named files.
+-- Product: what a shelf holds: bytes under names.
 use Rattle.std.specs.Prelude.{ℕ, List}
 use Rattle.std.specs.declared.option.Option.{Option}
 use Rattle.std.specs.Ordering.{nat_cmp}

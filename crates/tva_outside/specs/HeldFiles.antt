@@ -1,4 +1,4 @@
--- A map of files as what is held under each name.
+-- Crate: a map of files as what is held under each name.
 use Rattle.std.specs.Prelude.{◌≡◌, ℕ, ◌+◌, ◌<◌, ◌≤◌, List, [], ◌∷◌, length, IsSomeAnd, None, Some}
 use Rattle.std.specs.Prelude.{String, Vec, string_bytes}
 use Rattle.std.specs.declared.alloc.Global.{Global}

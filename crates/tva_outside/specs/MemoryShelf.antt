@@ -1,4 +1,4 @@
--- What a shelf in memory answers, exactly.
+-- Crate: what a shelf in memory answers, exactly.
 use Rattle.std.specs.Prelude.{if◌then◌else◌, ◌≡◌, ◌⊎◌, ℕ, Bool, true, false, List, None}
 use Rattle.tva_outside.specs.Calls.{is_due}
 use Rattle.tva_outside.specs.Faults.{one_more}

@@ -1,4 +1,4 @@
--- What a sink in memory answers, exactly.
+-- Crate: what a sink in memory answers, exactly.
 use Rattle.std.specs.Prelude.{◌≡◌, ℕ, min, Bool, true, false, List, ◌++◌, length, take}
 use Rattle.tva_outside.specs.Calls.{is_due}
 use Rattle.tva_outside.specs.Faults.{one_more}

@@ -1,4 +1,4 @@
--- What a load may answer.
+-- Product: what a load may answer.
 use Rattle.std.specs.Prelude.{◌≡◌, ◌⊎◌, ℕ, ◌+◌, ◌<◌, ◌≤◌, List, length, IfSome, IsSomeAnd, None, Some}
 use Rattle.std.specs.declared.option.Option.{Option}
 use Rattle.tva_outside.specs.declared.shelf.Loaded.{Loaded}

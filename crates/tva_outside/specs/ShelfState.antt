@@ -1,4 +1,4 @@
--- What there is to know of a shelf in memory.
+-- Crate: what there is to know of a shelf in memory.
 use Rattle.std.specs.Prelude.{ℕ, List, refl}
 use Rattle.std.specs.Coded.{Coded, code_by, coded×, coded_ℕ, coded_list}
 use Rattle.std.specs.FinMap.{code}

@@ -1,4 +1,4 @@
--- What a write may answer, and what it appends.
+-- Product: what a write may answer, and what it appends.
 use Rattle.std.specs.Prelude.{◌≡◌, ℕ, ◌<◌, ◌≤◌, List, [], length, take}
 use Rattle.tva_outside.specs.declared.sink.Wrote as wrote
 use Rattle.tva_outside.specs.declared.sink.Wrote.TheVariants as wrote_as

@@ -1,4 +1,4 @@
--- What there is to know of a sink in memory.
+-- Crate: what there is to know of a sink in memory.
 use Rattle.std.specs.Prelude.{ℕ, List}
 
 -- what was written, how many bytes a write takes at most, the numbers of the writes that are to fail, how

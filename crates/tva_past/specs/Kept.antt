@@ -1,4 +1,4 @@
--- A list, and how many of its elements memory holds no more.
+-- Crate: a list, and how many of its elements memory holds no more.
 use Rattle.std.specs.Prelude.{ℕ, List, [], ◌++◌, drop, length}
 
 -- all that was put into a list, and how many of the first of these it has forgotten

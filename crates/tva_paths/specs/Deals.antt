@@ -1,4 +1,5 @@
--- What happened at a host with one of its peers, and what came to a router of one flow, as their logs tell it.
+-- Product: what happened at a host with one of its peers, and what came to a router of one flow, as their logs tell
+-- it.
 use Rattle.std.specs.Prelude.{ℕ, ◌==◌, not, ◌&&◌, if◌then◌else◌, List, [], ◌∷◌, ◌++◌, Option, Some, None}
 use Rattle.std.specs.List.{filter_map, flat_map}
 use Rattle.tva_base.specs.declared.addresses.Address.{Address}

@@ -1,4 +1,5 @@
--- When the path of a host's packets to a peer is steady at a router up to one of them, by the logs of host and router.
+-- Product: when the path of a host's packets to a peer is steady at a router up to one of them, by the logs of host
+-- and router.
 use Rattle.std.specs.Prelude.{◌≡◌, ℕ, ◌+◌, ◌<◌, ◌≤◌, ◌==◌, Bool, true, false, ◌&&◌, if◌then◌else◌, List, [], ◌∷◌, ◌++◌}
 use Rattle.std.specs.Prelude.{filter, map, slice_get, is_some, Option, Some, None, IfSome, IsSomeAnd}
 use Rattle.std.specs.Option.{option_or, option_map, option_and_then}

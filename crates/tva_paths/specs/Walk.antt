@@ -1,6 +1,6 @@
--- A worked walk: the network of `examples/walk.toml` with a horizon of ten seconds, and its trace with two more rows. Its
--- logs up to the time at which a renewal comes to the router: a request, the grant that answers it, a list, a packet
--- without a shim that another node sends as if it were the host's, a nonce alone, and the renewal.
+-- Crate: a worked walk: the network of `examples/walk.toml` with a horizon of ten seconds, and its trace with two
+-- more rows. Its logs up to the time at which a renewal comes to the router: a request, the grant that answers it,
+-- a list, a packet without a shim that another node sends as if it were the host's, a nonce alone, and the renewal.
 use Rattle.std.specs.Prelude.{◌≡◌, ℕ, false, List, [], ◌∷◌, ◌++◌, Option, Some, None}
 use Rattle.tva_base.specs.declared.addresses.Address.{Address}
 use Rattle.tva_base.specs.declared.event.BackKind.TheVariants as became

@@ -1,4 +1,4 @@
--- The worked walk over a restart of its router.
+-- Crate: the worked walk over a restart of its router.
 use Rattle.std.specs.Prelude.{List, [], ◌∷◌, ◌++◌, take, Some, None}
 use Rattle.std.specs.List.{repeat}
 use Rattle.tva_base.specs.declared.packet.Class.TheVariants.{Regular, Legacy}

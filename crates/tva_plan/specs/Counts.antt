@@ -1,4 +1,4 @@
--- What a configuration is said to hold.
+-- Product: what a configuration is said to hold.
 use Rattle.std.specs.Prelude.{ℕ, List, [], ◌∷◌, Bool, true, false, ◌||◌, length, sum_by}
 use Rattle.std.specs.List.{list_any}
 use Rattle.tva_plan.specs.declared.config.Config.{Config}

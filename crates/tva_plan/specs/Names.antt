@@ -1,4 +1,4 @@
--- The names of nodes, of which bytes they are, which node has a name, and which are hosts.
+-- Product: the names of nodes, of which bytes they are, which node has a name, and which are hosts.
 use Rattle.std.specs.Prelude.{ℕ, ◌==◌, ◌&&◌, ◌||◌, nat_le, List, Option, Bool, true, false, slice_get}
 use Rattle.std.specs.Option.{option_map_or}
 use Rattle.std.specs.List.{position_from}

@@ -1,4 +1,4 @@
--- Which nodes a map of names stands for.
+-- Crate: which nodes a map of names stands for.
 use Rattle.std.specs.Prelude.{◌≡◌, ℕ, List}
 use Rattle.std.specs.HashMap.{HashMap, get_by}
 use Rattle.std.specs.Str.{bytes_eq}

@@ -1,4 +1,4 @@
--- What every configuration keeps that a network can be built from.
+-- Crate: what every configuration keeps that a network can be built from.
 use Rattle.std.specs.Prelude.{◌≡◌, ◌<◌, ◌≤◌, ◌+◌, ℕ, List, [], ◌∷◌, All, true, length, map}
 use Rattle.std.specs.List.{list_all}
 use Rattle.tva_base.specs.declared.addresses.Address.{Address}

@@ -1,4 +1,4 @@
--- What links give the nodes at their ends, and what their queues hold.
+-- Product: what links give the nodes at their ends, and what their queues hold.
 use Rattle.std.specs.Prelude.{ℕ, ◌+◌, ◌*◌, ◌==◌, List, [], ◌∷◌, sum_by, if◌then◌else◌, Option, Some, None}
 use Rattle.std.specs.List.{cons_option}
 use Rattle.tva_base.specs.declared.limits.LinkLimits.{LinkLimits}

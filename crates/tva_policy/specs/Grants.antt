@@ -1,4 +1,4 @@
--- Whom a host grants, over what it did before.
+-- Product: whom a host grants, over what it did before.
 use Rattle.std.specs.Prelude.{ℕ, Bool, true, false, not, ◌&&◌, ◌==◌, nat_lt, if◌then◌else◌, List, count_by, Option}
 use Rattle.std.specs.Prelude.{Some, None}
 use Rattle.std.specs.List.{list_any}

@@ -1,4 +1,4 @@
--- What a policy keeps, and for which plan and history it stands.
+-- Crate: what a policy keeps, and for which plan and history it stands.
 use Rattle.std.specs.Prelude.{◌≡◌, ℕ, Bool, not, ◌&&◌, ◌==◌, List, unwrap_or}
 use Rattle.std.specs.List.{list_any}
 use Rattle.std.specs.Map.{lookup}

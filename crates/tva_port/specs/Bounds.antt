@@ -1,4 +1,4 @@
--- How soon a packet that is queued starts, and how evenly queues are served, whatever others send.
+-- Product: how soon a packet that is queued starts, and how evenly queues are served, whatever others send.
 use Rattle.std.specs.Prelude.{◌≡◌, ◌≢◌, ℕ, zero, suc, ◌+◌, ◌-◌, ◌*◌, ◌<◌, ◌≤◌, Bool, true, false, ◌&&◌, if◌then◌else◌}
 use Rattle.std.specs.Prelude.{List, [], ◌∷◌, ◌++◌, length, Option, Some, None}
 use Rattle.std.specs.Int.{div_ceil}

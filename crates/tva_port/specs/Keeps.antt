@@ -1,4 +1,4 @@
--- What every legal log keeps: the rate of requests, the times of starts, and the limits of what waits.
+-- Product: what every legal log keeps: the rate of requests, the times of starts, and the limits of what waits.
 use Rattle.std.specs.Prelude.{◌≡◌, ℕ, ◌+◌, ◌-◌, ◌<◌, ◌≤◌, nat_le, Bool, ◌&&◌, List, [], ◌∷◌, ◌++◌, filter, length, All}
 use Rattle.std.specs.Prelude.{Option, Some, None}
 use Rattle.std.specs.List.{filter_map}

@@ -1,5 +1,5 @@
--- The requests that wait for a link: in fair queues by their keys, or on a link with two levels in two-level queues, by
--- their keys and within a key by the tag before it.
+-- Product: the requests that wait for a link: in fair queues by their keys, or on a link with two levels in
+-- two-level queues, by their keys and within a key by the tag before it.
 use Rattle.std.specs.Prelude.{◌≡◌, ℕ, Bool, List, [], Option, Some, None}
 use Rattle.tva_base.specs.declared.limits.DrrLimits.{DrrLimits}
 use Rattle.tva_base.specs.declared.limits.LinkLimits.{LinkLimits}

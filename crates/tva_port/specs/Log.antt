@@ -1,4 +1,4 @@
--- The log of a link's port: which packets were queued there and which started, oldest first.
+-- Product: the log of a link's port: which packets were queued there and which started, oldest first.
 use Rattle.std.specs.Prelude.{ℕ, ◌+◌, ◌*◌, ◌≤◌, nat_lt, List, [], ◌∷◌, filter, All, Option, Some, None}
 use Rattle.std.specs.List.{filter_map}
 use Rattle.tva_base.specs.declared.limits.LinkLimits.{LinkLimits}

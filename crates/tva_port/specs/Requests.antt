@@ -1,5 +1,5 @@
--- The rate limit of requests on a link: what each start of a request costs, and what the starts so
--- far leave to pay. Times, costs, debts and credits are in nanoseconds.
+-- Product: the rate limit of requests on a link: what each start of a request costs, and what the starts so far
+-- leave to pay. Times, costs, debts and credits are in nanoseconds.
 use Rattle.std.specs.Prelude.{ℕ, ◌-◌, ◌*◌, max, List, [], ◌∷◌, sum_by}
 use Rattle.tva_base.specs.declared.limits.LinkLimits.{LinkLimits}
 

@@ -1,4 +1,4 @@
--- What a port keeps, and for which logs it stands.
+-- Crate: what a port keeps, and for which logs it stands.
 use Rattle.std.specs.Prelude.{◌≡◌, ℕ, List}
 use Rattle.tva_base.specs.declared.limits.LinkLimits.{LinkLimits}
 use Rattle.tva_port.specs.Log.{Entry, NoneLater, free_after}

@@ -1,4 +1,4 @@
--- What waits at a port after a log, by the offers and takes of its queues.
+-- Product: what waits at a port after a log, by the offers and takes of its queues.
 use Rattle.std.specs.Prelude.{◌≡◌, ℕ, ◌+◌, nat_lt, Bool, true, false, ◌||◌, if◌then◌else◌, List, [], ◌∷◌, drop, length}
 use Rattle.std.specs.Prelude.{count_by, Option, Some, None}
 use Rattle.std.specs.List.{filter_map}

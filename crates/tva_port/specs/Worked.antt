@@ -1,5 +1,5 @@
--- Two worked logs of a link's port, worked out apart from this code: in one regular packets wait in three queues, in
--- the other requests wait in four queues of a link with two levels.
+-- Crate: two worked logs of a link's port, worked out apart from this code: in one regular packets wait in three
+-- queues, in the other requests wait in four queues of a link with two levels.
 use Rattle.std.specs.Prelude.{ℕ, false, List, [], ◌∷◌, length, sum_by, Option, Some, None}
 use Rattle.tva_base.specs.declared.limits.DrrLimits.{DrrLimits}
 use Rattle.tva_base.specs.declared.limits.LinkLimits.{LinkLimits}

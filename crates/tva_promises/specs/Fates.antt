@@ -1,4 +1,4 @@
--- Why a router refuses what an arrival claims, and which arrivals no row refuses.
+-- Product: why a router refuses what an arrival claims, and which arrivals no row refuses.
 use Rattle.std.specs.Prelude.{◌≡◌, ◌↔◌, ℕ, ◌+◌, ◌*◌, ◌<◌, ◌≤◌, nat_le, ◌==◌, ◌||◌, true, false}
 use Rattle.std.specs.Prelude.{if◌then◌else◌, List, length}
 use Rattle.std.specs.Prelude.{slice_get, is_some, Option, Some, None, Ok, Err}

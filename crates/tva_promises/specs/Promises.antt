@@ -1,4 +1,4 @@
--- What the log of every node keeps, at each of its places.
+-- Product: what the log of every node keeps, at each of its places.
 use Rattle.std.specs.Prelude.{◌≡◌, ℕ, ◌<◌, ◌≤◌, List, [], ◌∷◌, ◌++◌, Some}
 use Rattle.tva_base.specs.declared.limits.LinkLimits.{LinkLimits}
 use Rattle.tva_base.specs.declared.plan.RouterPlan.{RouterPlan}

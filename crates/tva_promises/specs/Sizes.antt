@@ -1,4 +1,4 @@
--- What is within the sizes of a network.
+-- Crate: what is within the sizes of a network: payloads, shims, files, and what reaches a node.
 use Rattle.std.specs.Prelude.{◌≤◌}
 use Rattle.tva_shim.specs.Packets.{IsCarried, CarriesFew, IsSizedPacket}
 use Rattle.tva_trace.specs.declared.rows.RowWhat.{RowWhat}

@@ -1,4 +1,4 @@
--- What a cursor over a text has ahead of it, and how far a report has been compared.
+-- Crate: what a cursor over a text has ahead of it, and how far a report has been compared.
 use Rattle.std.specs.Prelude.{◌≡◌, ℕ, ◌+◌, ◌≤◌, cond, List, [], ◌∷◌, ◌++◌, length}
 use Rattle.std.specs.List.{list_any}
 use Rattle.tva_report.specs.declared.pieces.Piece.{Piece}

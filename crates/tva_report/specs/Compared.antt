@@ -1,4 +1,4 @@
--- How far a report has been compared, and for which report and which lines that stands.
+-- Crate: how far a report has been compared, and for which report and which lines that stands.
 use Rattle.std.specs.Prelude.{◌≡◌, ℕ, ◌≤◌, true, List, ◌++◌, length, All, Option}
 use Rattle.std.specs.List.{list_all}
 use Rattle.std.specs.Option.{option_or}

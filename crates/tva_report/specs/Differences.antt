@@ -1,4 +1,4 @@
--- The first line in which a report differs from what was expected.
+-- Product: the first line in which a report differs from what was expected.
 use Rattle.std.specs.Prelude.{◌≡◌, ◌≢◌, ℕ, ◌+◌, ◌-◌, ◌≤◌, cond, List, [], ◌∷◌, take, slice_get, Option, Some, None, unwrap_or}
 use Rattle.std.specs.Str.{bytes_eq}
 use Rattle.tva_report.specs.declared.differences.Finding.{Finding}

@@ -1,5 +1,5 @@
--- The lines of a report: a text is cut behind each of its line feeds. A piece is a line with the line feed that ends
--- it.
+-- Product: the lines of a report: a text is cut behind each of its line feeds. A piece is a line with the line feed
+-- that ends it.
 use Rattle.std.specs.Prelude.{ℕ, ◌==◌, ◌&&◌, nat_le, not, cond, Bool, List, [], ◌∷◌, ◌++◌, length, map, Option}
 use Rattle.std.specs.List.{before_first, flat_map, list_all, list_any, onto_first, position_from}
 

@@ -1,4 +1,4 @@
--- The charges of a router's boots. A restart ends a boot with all that was granted in it.
+-- Product: the charges of a router's boots. A restart ends a boot with all that was granted in it.
 use Rattle.std.specs.Prelude.{ℕ, ◌==◌, List, filter}
 use Rattle.tva_base.specs.declared.plan.RouterPlan.{RouterPlan}
 use Rattle.tva_base.specs.Changes.{boot_at}

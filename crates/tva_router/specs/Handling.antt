@@ -1,4 +1,4 @@
--- What becomes of a packet that arrives at a router.
+-- Product: what becomes of a packet that arrives at a router.
 use Rattle.std.specs.Prelude.{ℕ, ◌+◌, ◌==◌, nat_le, if◌then◌else◌, List, [], ◌∷◌, Option, Some, None}
 use Rattle.std.specs.List.{find}
 use Rattle.tva_base.specs.declared.addresses.Address.{Address}

@@ -1,4 +1,4 @@
--- What a router makes of a packet before it looks for a link.
+-- Product: what a router makes of a packet before it looks for a link.
 use Rattle.std.specs.Prelude.{ℕ, ◌==◌, if◌then◌else◌, List, length, slice_get, Option, Some, None, Result, Ok, Err}
 use Rattle.std.specs.List.{find}
 use Rattle.tva_base.specs.Clock.{router_second}

@@ -1,4 +1,4 @@
--- The key by which a router's cache finds its flows.
+-- Crate: the key by which a router's cache finds its flows.
 use Rattle.std.specs.Prelude.{ℕ, List, ◌++◌, take, drop, codes}
 use Rattle.byteorder.specs.Endian.{big_number}
 use Rattle.sha2.specs.Sha256.{sha256}

@@ -1,4 +1,4 @@
--- Which packets have the mark, and which causes call for it.
+-- Product: which packets have the mark, and which causes call for it.
 use Rattle.std.specs.Prelude.{Bool, true, false, Option, Some, None}
 use Rattle.tva_base.specs.declared.packet.Cause.{Cause}
 use Rattle.tva_base.specs.declared.packet.Cause.TheVariants as cause

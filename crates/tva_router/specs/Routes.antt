@@ -1,4 +1,4 @@
--- Which link leads to a destination.
+-- Product: which link leads to a destination.
 use Rattle.std.specs.Prelude.{◌≡◌, ◌≤◌, ℕ, ◌==◌, ◌&&◌, max, Bool, true, if◌then◌else◌, List, map, filter, Option, All}
 use Rattle.std.specs.Prelude.{Contains}
 use Rattle.std.specs.Option.{option_map}

@@ -1,4 +1,4 @@
--- What a router keeps, and for which charges and logs it stands.
+-- Crate: what a router keeps, and for which charges and logs it stands.
 use Rattle.std.specs.Prelude.{◌≡◌, ◌≤◌, ℕ, ◌==◌, if◌then◌else◌, List, [], ◌∷◌, ◌++◌, All}
 use Rattle.tva_base.specs.declared.limits.LinkLimits.{LinkLimits}
 use Rattle.tva_base.specs.declared.plan.RouterPlan.{RouterPlan}

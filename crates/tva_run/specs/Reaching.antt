@@ -1,4 +1,4 @@
--- The nodes of a network, and what reaches each.
+-- Product: the nodes of a network, and what reaches each.
 use Rattle.std.specs.Prelude.{ℕ, zero, suc, ◌+◌, ◌*◌, ◌==◌, if◌then◌else◌, List, [], map, filter}
 use Rattle.std.specs.Prelude.{slice_get, slice_index_or, Option, Some, None}
 use Rattle.std.specs.Option.{option_map, option_map_or}

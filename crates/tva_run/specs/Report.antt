@@ -1,4 +1,4 @@
--- The report of a run: the lines of its events, and the total line.
+-- Product: the report of a run: the lines of its events, and the total line.
 use Rattle.std.specs.Prelude.{◌≡◌, ℕ, ◌+◌, Bool, true, false, List, [], ◌++◌, length, count_by, sum_by, is_some}
 use Rattle.std.specs.Prelude.{Option, Some, None}
 use Rattle.std.specs.Option.{option_map_or}

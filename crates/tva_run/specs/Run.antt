@@ -1,4 +1,4 @@
--- The run of a network, as one condition on the logs of all its nodes.
+-- Product: the run of a network, as one condition on the logs of all its nodes.
 use Rattle.std.specs.Prelude.{◌≡◌, ℕ, ◌+◌, ◌≤◌, List, length, map, Some}
 use Rattle.tva_plan.specs.declared.config.Config.{Config}
 use Rattle.tva_trace.specs.declared.rows.Row.{Row}

@@ -1,4 +1,5 @@
--- What is shown of a run that may have so many events: its report, or what comes before it passes that number.
+-- Product: what is shown of a run that may have so many events: its report, or what comes before it passes that
+-- number.
 use Rattle.std.specs.Prelude.{◌≡◌, ℕ, ◌+◌, ◌<◌, ◌≤◌, ◌⊎◌, List, [], ◌∷◌, ◌++◌, length}
 use Rattle.std.specs.List.{flat_map}
 use Rattle.tva_base.specs.declared.event.Event.{Event}

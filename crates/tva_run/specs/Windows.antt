@@ -1,4 +1,4 @@
--- The windows of a run: the spans of time in which the nodes are worked independently.
+-- Product: the windows of a run: the spans of time in which the nodes are worked independently.
 use Rattle.std.specs.Prelude.{◌≡◌, ℕ, ◌+◌, ◌<◌, ◌≤◌, min, nat_le, nat_lt, ◌&&◌}
 use Rattle.std.specs.Prelude.{List, [], ◌∷◌, map, filter, length, Some}
 use Rattle.tva_base.specs.declared.event.Event.{Event}

@@ -1,4 +1,4 @@
--- What a sender keeps, and for which history it stands.
+-- Product: what a sender keeps, and for which history it stands.
 use Rattle.std.specs.Prelude.{◌≡◌, ℕ, Bool, nat_eq, ◌==◌, if◌then◌else◌, not, List, [], ◌∷◌}
 use Rattle.std.specs.Prelude.{Option, Some, None, is_some}
 use Rattle.std.specs.Map.{lookup}

@@ -1,4 +1,4 @@
--- What happened with one peer: the asks, and the grants that were taken.
+-- Product: what happened with one peer: the asks, and the grants that were taken.
 use Rattle.std.specs.Prelude.{ℕ, Bool, true, false, not, nat_lt, ◌==◌, ◌&&◌, ◌||◌, if◌then◌else◌, List, [], ◌∷◌, ◌++◌}
 use Rattle.std.specs.Prelude.{sum_by, count_by}
 use Rattle.std.specs.Prelude.{Option, Some, None, unwrap_or}

@@ -1,4 +1,4 @@
--- The shape of the next packet.
+-- Product: the shape of the next packet.
 use Rattle.std.specs.Prelude.{ℕ, Bool, true, ◌+◌, ◌-◌, ◌*◌, nat_lt, nat_le, ◌&&◌, ◌||◌, if◌then◌else◌}
 use Rattle.std.specs.Prelude.{List, length, Option, Some, None, unwrap_or}
 use Rattle.tva_sender.specs.declared.shape.Held.{Held}

@@ -1,4 +1,4 @@
--- What a shim of a version can carry.
+-- Crate: what a shim of a version can carry.
 use Rattle.std.specs.Prelude.{ℕ, ◌^◌, ◌<◌, List, [], ◌∷◌}
 use Rattle.tva_base.specs.declared.addresses.Address.{Address}
 use Rattle.tva_base.specs.Versions.{AreRights}

@@ -1,4 +1,4 @@
--- What a request's tags say, and the changes that a router makes to a shim.
+-- Product: what a request's tags say, and the changes that a router makes to a shim.
 use Rattle.std.specs.Prelude.{ℕ, ◌+◌, ◌<◌, true, List, [], ◌∷◌, ◌++◌, length, map, filter, nat_lt, slice_set}
 use Rattle.tva_shim.specs.declared.entries.Entry.{Entry}
 use Rattle.tva_shim.specs.declared.kinds.Shown.{Shown}

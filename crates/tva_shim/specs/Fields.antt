@@ -1,4 +1,4 @@
--- The packet that the fields of the program's packet tell.
+-- Product: the packet that the fields of the program's packet tell.
 use Rattle.tva_shim.specs.declared.packets.Packet.TheInside.{Inside}
 use Rattle.tva_shim.specs.Packets.{PacketData, packet_with}
 

@@ -1,4 +1,4 @@
--- The layout of a shim, by cases. Each number stands with its highest byte first. The versions differ in
+-- Product: the layout of a shim, by cases. Each number stands with its highest byte first. The versions differ in
 -- the bytes of rights alone.
 use Rattle.std.specs.Prelude.{◌≢◌, ℕ, ◌+◌, ◌*◌, Bool, List, [], ◌∷◌, ◌++◌, length, flat_map, if◌then◌else◌}
 use Rattle.byteorder.specs.Endian.{big_bytes}

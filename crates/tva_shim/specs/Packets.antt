@@ -1,4 +1,4 @@
--- What a packet is, and which packets there are.
+-- Product: what a packet is, and which packets there are.
 use Rattle.std.specs.Prelude.{◌≡◌, ℕ, ◌+◌, ◌^◌, ◌<◌, ◌≤◌, length, if◌then◌else◌}
 use Rattle.tva_base.specs.declared.packet.PacketId.{PacketId}
 use Rattle.tva_base.specs.declared.packet.Flow.{Flow}

@@ -1,4 +1,4 @@
--- What a shim is, and which shims there are.
+-- Product: what a shim is, and which shims there are.
 use Rattle.std.specs.Prelude.{ℕ, ◌^◌, ◌<◌, ◌≤◌, Bool, List, [], length}
 use Rattle.tva_base.specs.Versions.{AreRights, IsVersion}
 use Rattle.tva_shim.specs.declared.entries.Entry.{Entry}

@@ -1,4 +1,4 @@
--- What a packet shows to the nodes that it passes.
+-- Product: what a packet shows to the nodes that it passes.
 use Rattle.std.specs.Prelude.{ℕ, List, []}
 use Rattle.tva_base.specs.declared.packet.Class.{Class}
 use Rattle.tva_base.specs.declared.packet.Class.TheVariants as classes

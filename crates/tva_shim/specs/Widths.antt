@@ -1,4 +1,4 @@
--- Which entries and capabilities have room in a shim.
+-- Product: which entries and capabilities have room in a shim.
 use Rattle.std.specs.Prelude.{ℕ, ◌^◌, ◌<◌, ◌≤◌, List, length, All}
 use Rattle.tva_shim.specs.declared.entries.Entry.{Entry}
 

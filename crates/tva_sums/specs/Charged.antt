@@ -1,4 +1,4 @@
--- What the events of a router say of the packets that it authorised, and in which boot each came.
+-- Product: what the events of a router say of the packets that it authorised, and in which boot each came.
 use Rattle.std.specs.Prelude.{ℕ, ◌==◌, List, count_by, filter, Option, None}
 use Rattle.std.specs.List.{filter_map}
 use Rattle.std.specs.Option.{option_map}

@@ -1,4 +1,4 @@
--- Keys, each once, in the order in which they come first, and sums by them.
+-- Product: keys, each once, in the order in which they come first, and sums by them.
 use Rattle.std.specs.Prelude.{ℕ, Bool, not, List, [], ◌∷◌, filter, map}
 
 abbrev pub firsts : {K : Type 0} → (K → K → Bool) → List K → List K

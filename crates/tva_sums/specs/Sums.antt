@@ -1,4 +1,4 @@
--- What a router let through, over its charges.
+-- Product: what a router let through, over its charges.
 use Rattle.std.specs.Prelude.{ℕ, ◌*◌, ◌==◌, nat_lt, Bool, ◌&&◌, if◌then◌else◌, List, [], ◌∷◌, length, map, sum_by, Option, Some, None}
 use Rattle.std.specs.Option.{option_map}
 use Rattle.tva_base.specs.declared.packet.Grant.{Grant}

@@ -1,4 +1,4 @@
--- Which pair is the worst: each before it has a lesser part of its limit, and none behind it has a greater.
+-- Crate: which pair is the worst: each before it has a lesser part of its limit, and none behind it has a greater.
 use Rattle.std.specs.Prelude.{◌≡◌, ℕ, true, false, List, ◌∷◌, ◌++◌, All}
 use Rattle.tva_sums.specs.declared.pairs.Pair.{Pair}
 use Rattle.tva_sums.specs.Sums.{is_worse}

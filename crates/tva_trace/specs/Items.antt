@@ -1,4 +1,4 @@
--- What the last field of a row says, by the row's kind.
+-- Product: what the last field of a row says, by the row's kind.
 use Rattle.std.specs.Prelude.{ℕ, ◌/◌, ◌==◌, nat_le, if◌then◌else◌, false, List, [], ◌∷◌, length, Result, Ok, Err}
 use Rattle.std.specs.Prelude.{Option, Some, None}
 use Rattle.std.specs.Option.{option_map}

@@ -1,4 +1,4 @@
--- The lines of a report: each a text of words, joined by blanks, that a line feed ends.
+-- Product: the lines of a report: each a text of words, joined by blanks, that a line feed ends.
 use Rattle.std.specs.Prelude.{◌<◌, ◌^◌, ℕ, List, [], ◌∷◌, ◌++◌, length, All, Option, Some, None, codes, decimal}
 use Rattle.std.specs.Prelude.{slice_get}
 use Rattle.std.specs.Option.{option_map_or}

@@ -1,4 +1,4 @@
--- The masters of routers, by their names.
+-- Product: the masters of routers, by their names.
 use Rattle.std.specs.Prelude.{List, ℕ, Option, Some, None, slice_get}
 use Rattle.std.specs.Option.{option_and_then}
 use Rattle.tva_plan.specs.Names.{node_named}

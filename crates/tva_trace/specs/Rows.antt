@@ -1,4 +1,4 @@
--- The rows of a trace, or the first rule that its first bad record breaks.
+-- Product: the rows of a trace, or the first rule that its first bad record breaks.
 use Rattle.std.specs.Prelude.{ℕ, ◌+◌, ◌==◌, ◌&&◌, nat_le, nat_lt, if◌then◌else◌, Bool, List, [], ◌∷◌, length, count_by}
 use Rattle.std.specs.Prelude.{Result, Ok, Err, Option, Some, None, unwrap_or, codes, ◌++◌}
 use Rattle.std.specs.Option.{option_and_then, ok_or}

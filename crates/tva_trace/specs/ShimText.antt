@@ -1,4 +1,4 @@
--- The text of a shim: words joined by blanks.
+-- Product: the text of a shim: words joined by blanks.
 use Rattle.std.specs.Prelude.{◌≡◌, ◌⊎◌, ℕ, Bool, if◌then◌else◌, List, [], ◌∷◌, ◌++◌, map, flat_map, codes, decimal}
 use Rattle.std.specs.List.{join_with_byte}
 use Rattle.byteorder.specs.Endian.{big_bytes}

@@ -1,4 +1,4 @@
--- What every row keeps that was read under a configuration.
+-- Crate: what every row keeps that was read under a configuration.
 use Rattle.std.specs.Prelude.{◌≡◌, ◌≤◌, ◌<◌, ◌==◌, ◌&&◌, ℕ, Bool, true, false, List, [], ◌∷◌, length, count_by, All}
 use Rattle.tva_shim.specs.Shims.{IsShim}
 use Rattle.tva_shim.specs.declared.packets.Carried.{Carried}

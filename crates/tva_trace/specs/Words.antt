@@ -1,4 +1,4 @@
--- The words of a report, and those of the rules of a trace.
+-- Product: the words of a report, and those of the rules of a trace.
 use Rattle.std.specs.Prelude.{ℕ, List, codes}
 use Rattle.tva_base.specs.declared.packet.Class as class
 use Rattle.tva_base.specs.declared.packet.Class.TheVariants.{Request, Regular, Legacy}

@@ -1,4 +1,4 @@
--- Several couriers, each at a host of its own: what passes between them.
+-- Product: several couriers, each at a host of its own: what passes between them.
 use Rattle.std.specs.Prelude.{◌≡◌, ◌≢◌, ℕ, ◌+◌, ◌≤◌, ◌==◌, true, if◌then◌else◌, List, [], ◌∷◌, ◌++◌, map, filter}
 use Rattle.std.specs.Prelude.{Option, Some, None}
 use Rattle.std.specs.Option.{option_map, IsSomeAnd}

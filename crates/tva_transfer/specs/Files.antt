@@ -1,4 +1,4 @@
--- File transfers: what a host knows of them, what it sends, and what it makes of what comes in.
+-- Product: file transfers: what a host knows of them, what it sends, and what it makes of what comes in.
 use Rattle.std.specs.Prelude.{ℕ, ◌==◌, ◌-◌, ◌%◌, min, nat_lt, Bool, ◌&&◌, if◌then◌else◌, List, [], ◌∷◌, ◌++◌}
 use Rattle.std.specs.Prelude.{length, slice_get, slice_set, filter, position, sum_by, fold, Option, Some, None}
 use Rattle.std.specs.Option.{option_map, option_map_or, option_and_then}

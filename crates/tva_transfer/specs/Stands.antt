@@ -1,4 +1,4 @@
--- What a courier keeps, and for which calls on its host and acts it stands.
+-- Crate: what a courier keeps, and for which calls on its host and acts it stands.
 use Rattle.std.specs.Prelude.{◌≡◌, ℕ, ◌==◌, ◌&&◌, List, unwrap_or}
 use Rattle.std.specs.Map.{lookup}
 use Rattle.tva_base.specs.declared.addresses.Address.{Address}

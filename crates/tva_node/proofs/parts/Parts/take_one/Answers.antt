@@ -2,7 +2,6 @@ use Rattle.std.proofs.Common.{◌≡◌, ℕ, ◌∷◌, [], ◌++◌, List, map
 use Rattle.tva_base.specs.declared.plan.LinkPlan.{LinkPlan}
 use Rattle.tva_base.specs.Plan.{links_of}
 use Rattle.tva_log.specs.declared.kinds.Input.{Input}
-use Rattle.tva_log.specs.Entries.{input_time}
 use Rattle.tva_log.specs.Sites.{AreRising, site_of}
 use Rattle.tva_node.specs.Links.{asked_by}
 use Rattle.tva_node.specs.Pairs.{link_pair}
