@@ -8,3 +8,6 @@ mod kept;
 mod past;
 
 pub use kept::Kept;
+
+#[cfg(test)]
+mod tests;
