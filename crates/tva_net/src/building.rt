@@ -1,5 +1,5 @@
 // The nodes of a configuration, with their rows.
-ghost use Rattle.std.specs.Prelude.{◌≡◌, ◌<◌, ◌≤◌, [], All, IfOk, OnOk, length};
+ghost use Rattle.std.specs.Prelude.{◌≡◌, ◌<◌, ◌≤◌, [], ◌∷◌, All, IfOk, IfSome, MatchOption, OnOk, length, reverse as reversed};
 ghost use Rattle.std.specs.List.{AllZip};
 ghost use Rattle.tva_plan.specs.Valid.{IsConfig};
 ghost use Rattle.tva_trace.specs.Valid.{AreTraceRows};
@@ -107,15 +107,41 @@ fn row_counts(alloc: Global, count: usize, rows: &[Row]) -> Result<Vec<usize>, A
     Ok(counts)
 }
 
-// Gives each row to its node.
+// So many rows are filed before the memory that they took is given back.
+const GIVEN_BACK: usize = 4_096;
+
+// Gives each row to its node. Rows leave their list from its end, where their memory can be given back as they
+// go: else all of them would be held twice.
 fn file_rows(nodes: &mut [Node], rows: Vec<Row>) -> Result<(), AllocError>
     requires { All (λ row. CanDeliver nodes.old row.node (FromTrace row)) rows.items }
     ensures got { OnOk result (GotMails (rows_at rows.items) nodes.old nodes.new) }
     ensures keeps { AllZip KeepsWork nodes.old nodes.new }
 {
-    for row in rows {
+    let mut left = turned(rows);
+    while let Some(row) = take_first(&mut left) {
         let node = usize::from(row.node);
         deliver(nodes, node, Input::FromTrace(row))?;
     }
     Ok(())
+}
+
+// Rows from the last to the first.
+fn turned(rows: Vec<Row>) -> Vec<Row>
+    ensures { reversed result.items ≡ rows.items }
+{
+    let mut left = rows;
+    left.reverse();
+    left
+}
+
+// Takes the first of rows that stand from the last to the first, and gives back the memory of many that left.
+fn take_first(left: &mut Vec<Row>) -> Option<Row>
+    ensures first { MatchOption result (left.old.items ≡ []) (λ row. reversed left.old.items ≡ row ∷ reversed left.new.items) }
+    ensures fewer { IfSome result (λ row. length left.new.items < length left.old.items) }
+{
+    let row = left.pop()?;
+    if left.len() % GIVEN_BACK == 0 {
+        left.shrink_to_fit();
+    }
+    Some(row)
 }
