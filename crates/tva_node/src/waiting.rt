@@ -14,6 +14,9 @@ use std::mem;
 use tva_log::Input;
 use tva_past::Kept;
 
+// So many places are worth giving back.
+const MANY: usize = 4_096;
+
 /// When an input comes, in nanoseconds, its source (0 for the trace, else one more than the link's
 /// number), and the place at which it is held.
 #[derive(Clone, Copy, Debug, PartialEq, Eq)]
@@ -109,8 +112,17 @@ impl Waiting {
         }
     }
 
-    /// Takes the next one.
+    /// Takes the next one. Where none is left, the memory of many places is given back.
     pub fn take(&mut self) -> Option<Input>
+        ensures { MatchOption result ((self.old ≡ []) × (self.new ≡ [])) (λ input. self.old ≡ input ∷ self.new) }
+    {
+        let input = self.take_held();
+        self.give_back();
+        input
+    }
+
+    // Takes the next one from its place, which is free then.
+    fn take_held(&mut self) -> Option<Input>
         ensures { MatchOption result ((self.old ≡ []) × (self.new ≡ [])) (λ input. self.old ≡ input ∷ self.new) }
     {
         let turn = self.turns.pop_front()?;
@@ -119,6 +131,17 @@ impl Waiting {
         match slot {
             Slot::Held(input) => Some(input),
             Slot::Free(_) => unreachable!(),
+        }
+    }
+
+    // Gives back the memory of many places, where nothing waits.
+    fn give_back(&mut self)
+        ensures { self.new ≡ self.old }
+    {
+        if self.turns.is_empty() && self.slots.len() > MANY {
+            self.free = None;
+            self.slots.clear();
+            self.slots.shrink_to_fit();
         }
     }
 }

@@ -5,7 +5,7 @@ use Rattle.tva_node.specs.declared.waiting.Slot.TheVariants.{Free}
 use Rattle.tva_node.specs.declared.waiting.Turn.{Turn}
 use Rattle.tva_node.specs.Waiting.{AreWaiting, at_place, in_slot, inputs_in}
 use Rattle.tva_node.proofs.Slots.{inputs_take, place_within, waiting_take}
-use Rattle.tva_node.proofs.waiting.Waiting.take.Goals as goal
+use Rattle.tva_node.proofs.waiting.Waiting.take_held.Goals as goal
 
 pub invariant_of-self-2 : goal.invariant_of-self-2
 invariant_of-self-2 c =
