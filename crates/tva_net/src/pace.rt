@@ -1,5 +1,5 @@
 // How the nodes are worked in a window: in parts at once, or one after another where little happens.
-ghost use Rattle.std.specs.Prelude.{◌≡◌, ◌≤◌, All, IfOk, OnOk, length};
+ghost use Rattle.std.specs.Prelude.{◌≤◌, All, IfOk, OnOk, length};
 ghost use Rattle.std.specs.List.{AllByRecursion, AllZip};
 ghost use Rattle.tva_node.specs.States.{Keeps, Stands};
 ghost use Rattle.tva_net.specs.Times.{AreNoted};

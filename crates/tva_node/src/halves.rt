@@ -1,5 +1,5 @@
 // All nodes, worked in parts at once, or one after another.
-ghost use Rattle.std.specs.Prelude.{◌≡◌, ◌<◌, ◌≤◌, OnOk, length};
+ghost use Rattle.std.specs.Prelude.{◌<◌, OnOk, length};
 ghost use Rattle.std.specs.List.{AllByRecursion, AllZip};
 ghost use Rattle.std.specs.Thread.{IsSync};
 ghost use Rattle.tva_node.specs.States.{IsAdvanced, Keeps, Stands};
