@@ -60,6 +60,8 @@ AreRising (n ∷ ns) = All (λ m. n < m) ns × AreRising ns
 pub record IsRouterPlan (p : RouterPlan) : Type 0 where
   pub clock_offset : p.clock_offset ≤ 1000000000000000
   pub slots : p.slots ≤ 1000000
+  pub edge_tag : p.edge_tag < 2 ^ 16
+  pub tags : All (λ i. i.1 < 2 ^ 16) p.incoming
   pub incoming : AreDistinct (links_of p.incoming)
   pub outgoing : AreDistinct (links_of p.outgoing)
   pub limits : All (λ o. AreLinkLimits o.1) p.outgoing

@@ -1,5 +1,5 @@
 -- What is made in a second shows that second's stamp, so its age is the seconds since then.
-use Rattle.std.proofs.Common.{◌≡◌, ℕ, zero, suc, ◌+◌, ◌-◌, ◌*◌, ◌/◌, ◌%◌, ◌<◌, List, [], ◌∷◌, take, ap, ◌∙◌, arith}
+use Rattle.std.proofs.Common.{◌≡◌, ℕ, zero, suc, ◌+◌, ◌-◌, ◌*◌, ◌/◌, ◌%◌, ◌^◌, ◌<◌, List, [], ◌∷◌, take, ap, ◌∙◌, arith}
 use Rattle.std.proofs.Math.Nat.{mod-lt}
 use Rattle.byteorder.specs.Endian.{big_from, big_number}
 use Rattle.byteorder.specs.Numbers.{big_from-lt}
@@ -30,6 +30,11 @@ pub stamp_of-stamped : (s : ℕ) (message : List ℕ) → s < 256 → stamp_of (
 unfolding stamped
 stamp_of-stamped s message h = top_of s (take 7 (sha256 message)) h (AreBytes-take 7 _ (AreBytes-digest message))
 
+-- it has 8 bytes
+stamped-lt : (s : ℕ) (message : List ℕ) → s < 256 → stamped s message < 2 ^ 64
+unfolding stamped
+stamped-lt s message h = big_from-lt 0 8 (s ∷ take 7 (sha256 message)) (AreBytes-cons s _ h (AreBytes-take 7 _ (AreBytes-digest message)))
+
 pub stamp_at-lt : (second : ℕ) → stamp_at second < 256
 stamp_at-lt second = mod-lt second (omega arith)
 
@@ -41,6 +46,20 @@ stamp_of-under secret flow second = stamp_of-stamped (stamp_at second) _ (stamp_
 pub stamp_of-precap : (master : List ℕ) (flow : Flow) (second : ℕ) → stamp_of (precap_of master flow second) ≡ stamp_at second
 unfolding precap_of
 stamp_of-precap master flow second = stamp_of-under _ flow second
+
+under-lt : (secret : List ℕ) (flow : Flow) (second : ℕ) → precap_under secret flow second < 2 ^ 64
+unfolding precap_under
+under-lt secret flow second = stamped-lt (stamp_at second) _ (stamp_at-lt second)
+
+-- a pre-capability has 64 bits
+pub precap_of-lt : (master : List ℕ) (flow : Flow) (second : ℕ) → precap_of master flow second < 2 ^ 64
+unfolding precap_of
+precap_of-lt master flow second = under-lt _ flow second
+
+-- so has the capability of one
+pub capability_of-lt : (precap : ℕ) (rights : Rights) → precap < 2 ^ 64 → capability_of precap rights < 2 ^ 64
+unfolding capability_of
+capability_of-lt precap rights h = stamped-lt (stamp_of precap) _ (omega arith)
 
 -- a capability shows the stamp of its pre-capability
 pub stamp_of-capability : (precap : ℕ) (rights : Rights) → stamp_of precap < 256 → stamp_of (capability_of precap rights) ≡ stamp_of precap

@@ -1,5 +1,5 @@
 -- A configuration that all steps accept is valid.
-use Rattle.std.proofs.Common.{◌≡◌, ◌≤◌, ◌==◌, ℕ, ◌+◌, suc, Bool, true, false, cond, nat_lt, List, [], ◌∷◌, ◌++◌, length, map, sum_by, Ok, Some, None, All, refl, ap, sym, ◌∙◌, subst, arith, length-append}
+use Rattle.std.proofs.Common.{◌≡◌, ◌<◌, ◌≤◌, ◌==◌, ℕ, ◌+◌, ◌^◌, suc, Bool, true, false, cond, nat_lt, List, [], ◌∷◌, ◌++◌, length, map, sum_by, Ok, Some, None, All, refl, ap, sym, ◌∙◌, subst, arith, length-append}
 use Rattle.std.specs.List.{cons_option, filter_map}
 use Rattle.std.proofs.lemmas.Bool.{ltb-false}
 use Rattle.std.proofs.lemmas.Bool.Decides.{nat_tests}
@@ -33,12 +33,13 @@ use Rattle.tva_config.proofs.PlanValid.{AreOwned, router_valid, host_valid}
 -- ---- the routers' part
 
 routers_valid : (count : ℕ) (links : List LinkPlan) (owned : Owned) (k : ℕ) (rs : List RouterEntry)
-    → All IsRouterEntry rs → All (IsLinkPlan count) links → AreOwned links owned → All IsNodePlan (router_plans links owned k rs)
-routers_valid count links owned k [] entries known all = All-nil IsNodePlan
-routers_valid count links owned k (r ∷ rs) entries known all =
+    → All IsRouterEntry rs → All (IsLinkPlan count) links → All (λ l. l.tag < 2 ^ 16) links → AreOwned links owned
+    → All IsNodePlan (router_plans links owned k rs)
+routers_valid count links owned k [] entries known tags all = All-nil IsNodePlan
+routers_valid count links owned k (r ∷ rs) entries known tags all =
     all_cons IsNodePlan (node.Router (router_plan links owned k r)) (router_plans links owned (k + 1) rs)
-    (router_valid count links owned k r (entries 0 r (omega arith)) known all)
-    (routers_valid count links owned (k + 1) rs (λ j d within. entries (suc j) d (omega arith)) known all)
+    (router_valid count links owned k r (entries 0 r (omega arith)) known tags all)
+    (routers_valid count links owned (k + 1) rs (λ j d within. entries (suc j) d (omega arith)) known tags all)
 
 routers_long : (links : List LinkPlan) (owned : Owned) (k : ℕ) (rs : List RouterEntry) → length (router_plans links owned k rs) ≡ length rs
 routers_long links owned k [] = refl
@@ -224,7 +225,7 @@ config_valid horizon max_events rs hs les links us owned passed =
       few_routes = let most = passed.few_routes in omega (arith, sum_routes, most_routes, most);
       few_slots = omega (arith, slots, most_slots);
       few_places = few_places links passed.rings;
-      nodes = All-append IsNodePlan made hosted (routers_valid (length (node_names rs hs)) links owned 0 rs passed.routers kept.each passed.owns) (hosts_valid hs us passed.hosts passed.late);
+      nodes = All-append IsNodePlan made hosted (routers_valid (length (node_names rs hs)) links owned 0 rs passed.routers kept.each kept.tags passed.owns) (hosts_valid hs us passed.hosts passed.late);
       routers_first = routers_before links owned 0 rs hosted (hosts_last hs us);
       links = rw long kept.each;
       names = rw (map-append name_at made hosted, routers_named links owned 0 rs, hosts_named hs us passed.as_many) passed.names;

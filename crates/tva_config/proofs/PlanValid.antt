@@ -1,5 +1,5 @@
 -- Plans that were made of valid entries, links and routes are valid.
-use Rattle.std.proofs.Common.{◌≡◌, ◌≤◌, ◌==◌, ℕ, ◌+◌, ◌&&◌, ◌||◌, zero, suc, Bool, true, false, cond, List, [], ◌∷◌, map, filter, Option, Some, None, All, Contains, refl, ap, sym, ◌∙◌, subst, arith}
+use Rattle.std.proofs.Common.{◌≡◌, ◌<◌, ◌≤◌, ◌==◌, ℕ, ◌+◌, ◌^◌, ◌&&◌, ◌||◌, zero, suc, Bool, true, false, cond, List, [], ◌∷◌, map, filter, Option, Some, None, All, Contains, refl, ap, sym, ◌∙◌, subst, arith}
 use Rattle.std.specs.List.{cons_option, filter_map, list_any}
 use Rattle.std.proofs.lemmas.Bool.{and_parts, eqb-true}
 use Rattle.std.proofs.lemmas.List.Elements.{All-nil}
@@ -78,6 +78,19 @@ limits_from n count k (l ∷ ls) known =
 outgoing_limits : (n count : ℕ) (links : List LinkPlan) → All (IsLinkPlan count) links → All (λ o. AreLinkLimits o.1) (outgoing_of n links)
 unfolding outgoing_of
 outgoing_limits n count links known = limits_from n count 0 links known
+
+tags_at : (k : ℕ) (l : LinkPlan) (b : Bool) (rest : List (ℕ × ℕ)) → l.tag < 2 ^ 16 → All (λ i. i.1 < 2 ^ 16) rest → All (λ i. i.1 < 2 ^ 16) (cons_option (cond b (Some (k, l.tag)) None) rest)
+tags_at k l true rest here more = all_cons (λ (i : ℕ × ℕ). i.1 < 2 ^ 16) (k, l.tag) rest here more
+tags_at k l false rest here more = more
+
+tags_from : (n k : ℕ) (links : List LinkPlan) → All (λ l. l.tag < 2 ^ 16) links → All (λ i. i.1 < 2 ^ 16) (picked (tagged_to n) k links)
+tags_from n k [] known = All-nil _
+tags_from n k (l ∷ ls) known =
+    tags_at k l (l.to == n) (picked (tagged_to n) (k + 1) ls) (known 0 l (omega arith)) (tags_from n (k + 1) ls (λ j d within. known (suc j) d (omega arith)))
+
+incoming_tags : (n : ℕ) (links : List LinkPlan) → All (λ l. l.tag < 2 ^ 16) links → All (λ i. i.1 < 2 ^ 16) (incoming_of n links)
+unfolding incoming_of
+incoming_tags n links known = tags_from n 0 links known
 
 owned_at : (P : Route → Type 0) (n : ℕ) (o : OwnedRoute) (b : Bool) (rest : List Route) → (b ≡ true → P o.route) → All P rest → All P (cons_option (cond b (Some o.route) None) rest)
 owned_at P n o true rest here more = all_cons P o.route rest (here refl) more
@@ -230,13 +243,15 @@ pub record AreOwned (links : List LinkPlan) (owned : Owned) : Type 0 where
 
 -- the plan of a router is valid
 pub router_valid : (count : ℕ) (links : List LinkPlan) (all : Owned) (n : ℕ) (r : RouterEntry)
-    → IsRouterEntry r → All (IsLinkPlan count) links → AreOwned links all → IsRouterPlan (router_plan links all n r)
+    → IsRouterEntry r → All (IsLinkPlan count) links → All (λ l. l.tag < 2 ^ 16) links → AreOwned links all → IsRouterPlan (router_plan links all n r)
 unfolding router_plan
-router_valid count links all n r entry known owned =
+router_valid count links all n r entry known tags owned =
     let moved = moved_all links all.routes n all.reroutes owned.reroutes in
     record {
       clock_offset = entry.clock_offset;
       slots = entry.slots;
+      edge_tag = entry.edge_tag;
+      tags = incoming_tags n links tags;
       incoming = incoming_distinct n links;
       outgoing = outgoing_distinct n links;
       limits = outgoing_limits n count links known;

@@ -1,5 +1,5 @@
 -- What the steps over links show of the links that they accept.
-use Rattle.std.proofs.Common.{◌≡◌, ◌<◌, ◌==◌, ℕ, ◌+◌, Bool, true, false, ◌&&◌, cond, List, [], ◌∷◌, ◌++◌, length, map, Ok, Some, All, refl, ap, sym, ◌∙◌, subst, arith}
+use Rattle.std.proofs.Common.{◌≡◌, ◌<◌, ◌==◌, ℕ, ◌+◌, ◌^◌, Bool, true, false, ◌&&◌, cond, List, [], ◌∷◌, ◌++◌, length, map, Ok, Some, All, refl, ap, sym, ◌∙◌, subst, arith}
 use Rattle.std.specs.List.{list_any, position_from}
 use Rattle.std.specs.Str.{bytes_eq}
 use Rattle.std.proofs.lemmas.Bool.{eq-eqb}
@@ -36,9 +36,10 @@ position_within test k (x ∷ xs) n is =
 pub node_within : (names : List (List ℕ)) (name : List ℕ) (n : ℕ) → node_of names name ≡ Some n → n < length names
 node_within names name n is = let below : n < 0 + length names = position_within (bytes_eq name) 0 names n is in omega arith
 
--- the links so far are between two of so many nodes, and no two have the same ends
+-- the links so far are between two of so many nodes, each tag has 16 bits, and no two have the same ends
 pub record AreLinks (count : ℕ) (links : List LinkPlan) : Type 0 where
   pub each : All (IsLinkPlan count) links
+  pub tags : All (λ l. l.tag < 2 ^ 16) links
   pub pairs : AreDistinct (map ends_of links)
 
 joins_itself : (from to : ℕ) → ((from == from) && (to == to)) ≡ true
@@ -67,6 +68,7 @@ link_more names done x y entry links made =
     distinct_push (map ends_of done) (from, to) links.pairs (not_in (λ e. (e.0 == from) && (e.1 == to)) (from, to) (map ends_of done) absent (joins_itself from to)) in
     let all : AreLinks (length names) (done ++ plan ∷ []) = record {
       each = all_push (IsLinkPlan (length names)) done plan links.each valid;
+      tags = all_push (λ (l : LinkPlan). l.tag < 2 ^ 16) done plan links.tags entry.tag;
       pairs = rw (map-append ends_of done (plan ∷ [])) distinct;
     } in
     subst (λ z. AreLinks (length names) (done ++ z ∷ [])) is all
@@ -74,7 +76,7 @@ link_more names done x y entry links made =
 pub links_keep : (names : List (List ℕ)) (entries : List LinkEntry) (links : List LinkPlan) → All IsLinkEntry entries → links_of (node_of names) entries ≡ Ok links → AreLinks (length names) links
 unfolding links_of
 links_keep names entries links known gave =
-    in_turn_keeps_of IsLinkEntry (AreLinks (length names)) (link_step (node_of names)) (link_more names) [] entries links known (record { each = All-nil (IsLinkPlan (length names)); pairs = tt }) gave
+    in_turn_keeps_of IsLinkEntry (AreLinks (length names)) (link_step (node_of names)) (link_more names) [] entries links known (record { each = All-nil (IsLinkPlan (length names)); tags = All-nil (λ (l : LinkPlan). l.tag < 2 ^ 16); pairs = tt }) gave
 
 -- each uplink is the one link of its node
 abbrev pub AreUplinks : List LinkPlan → ℕ → List ℕ → Type 0

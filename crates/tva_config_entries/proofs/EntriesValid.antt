@@ -47,6 +47,9 @@ at_least n false x y p q = q
 one_below : 1 < 2 ^ 48
 one_below = omega arith
 
+tag_within : (n : ℕ) → IsWithin 0 65535 n → n < 2 ^ 16
+tag_within n (least, most) = omega arith
+
 bytes_within : (n : ℕ) → IsWithin 2048 1073741824 n → (2048 ≤ n) × (n ≤ 2 ^ 30)
 bytes_within n (least, most) = (least, omega arith)
 
@@ -65,6 +68,7 @@ router_valid p ms r gave =
       name = required_valid IsName value.name p ms (codes "name") name name_valid k1;
       slots = (number_needed 0 1000000 p ms (codes "slots") slots k3).1;
       clock_offset = (number_or 0 1000000000000000 0 p ms (codes "clock_offset_ns") offset refl k4).1;
+      edge_tag = tag_within tag (number_or 0 65535 0 p ms (codes "edge_tag") tag refl k5);
     } in
     subst IsRouterEntry same valid))))))
 
@@ -220,6 +224,7 @@ link_valid p ms l gave =
     let same : made ≡ l = gave_one made l g7 in
     let valid : IsLinkEntry made = record {
       delay = number_needed 1 1000000000000 p ms (codes "delay_ns") delay k4;
+      tag = tag_within tag (number_or 0 65535 0 p ms (codes "tag") tag refl k5);
       limits = limits_valid p ns ms limits (number_needed 1 1000000 p ms (codes "ns_per_byte") ns k3) k6;
     } in
     subst IsLinkEntry same valid)))))))

@@ -15,6 +15,7 @@ pub record IsRouterEntry (r : RouterEntry) : Type 0 where
   pub name : IsName r.name
   pub slots : r.slots ≤ 1000000
   pub clock_offset : r.clock_offset ≤ 1000000000000000
+  pub edge_tag : r.edge_tag < 2 ^ 16
 
 pub record IsHostEntry (h : HostEntry) : Type 0 where
   pub name : IsName h.name
@@ -26,6 +27,7 @@ pub record IsHostEntry (h : HostEntry) : Type 0 where
 
 pub record IsLinkEntry (l : LinkEntry) : Type 0 where
   pub delay : (1 ≤ l.delay) × (l.delay ≤ 1000000000000)
+  pub tag : l.tag < 2 ^ 16
   pub limits : AreLinkLimits l.limits
 
 abbrev pub IsRouteEntry : RouteEntry → Type 0

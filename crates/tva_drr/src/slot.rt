@@ -4,6 +4,7 @@ ghost use Rattle.tva_drr.specs.Queues.{queue, bytes_in, first};
 ghost use Rattle.tva_drr.specs.Slots.{slot};
 
 use crate::measured::Measured;
+use crate::ring::take_first;
 use circular_buffer::HeapCircularBuffer;
 use std::alloc::{AllocError, Global};
 use std::marker::Model;
@@ -106,7 +107,7 @@ impl<T: Measured> Slot<T> {
             (self.old.queue.deficit - T.measure x) (drop 1 self.old.queue.items)) self.old.room) }
         ensures none { IfNone result (self.new ≡ self.old) }
     {
-        let item = self.ring.pop_front()?;
+        let item = take_first(&mut self.ring)?;
         let length = item.length();
         self.bytes -= length;
         self.deficit -= length;

@@ -11,7 +11,7 @@ ghost use Rattle.tva_index.specs.KeyRing.{ring};
 use crate::measured::Measured;
 use crate::slot::Slot;
 use std::collections::VecDeque;
-use tva_index::KeyRing;
+use tva_index::{KeyRing, take_front};
 
 /// The queue that now stands at the front gets the quantum.
 fn refill_slot<T: Measured>(waiting: &mut VecDeque<Slot<T>>, quantum: u32)
@@ -51,7 +51,7 @@ fn leave<T: Measured>(waiting: &mut VecDeque<Slot<T>>, spare: &mut Vec<Slot<T>>)
     ensures same { (deque_capacity waiting.new ≡ deque_capacity waiting.old)
         × (vec_capacity spare.new ≡ vec_capacity spare.old) }
 {
-    if let Some(slot) = waiting.pop_front() {
+    if let Some(slot) = take_front(waiting) {
         spare.push_reserved(slot);
     }
 }

@@ -12,7 +12,7 @@ ghost use Rattle.tva_index.specs.KeyRing.{ring};
 use crate::group_slot::GroupSlot;
 use std::collections::VecDeque;
 use tva_drr::Measured;
-use tva_index::KeyRing;
+use tva_index::{KeyRing, take_front};
 
 /// The group that now stands at the front gets the quantum.
 fn refill_front<T: Measured>(waiting: &mut VecDeque<GroupSlot<T>>, quantum: u32)
@@ -56,7 +56,7 @@ fn leave<T: Measured>(waiting: &mut VecDeque<GroupSlot<T>>, spare: &mut Vec<Grou
     ensures same { (deque_capacity waiting.new ≡ deque_capacity waiting.old)
         × (vec_capacity spare.new ≡ vec_capacity spare.old) }
 {
-    if let Some(slot) = waiting.pop_front() {
+    if let Some(slot) = take_front(waiting) {
         spare.push_reserved(slot);
     }
 }

@@ -1,4 +1,4 @@
-mod Standing
+pub mod Standing
 mod Making
 mod Hearing
 pub mod Calls

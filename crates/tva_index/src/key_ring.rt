@@ -3,6 +3,7 @@ ghost use Rattle.std.specs.Prelude.{◌≡◌, ◌^◌, ◌<◌, ◌≤◌, None
 ghost use Rattle.tva_index.specs.KeyRing.{ring, place_in};
 
 use crate::bits::{KeyTree, number_of, put, renumber, rooted, take_key};
+use crate::fronts::take_front;
 use std::alloc::{AllocError, Global};
 use std::collections::VecDeque;
 use std::marker::Model;
@@ -76,7 +77,7 @@ impl KeyRing {
     pub fn leave(&mut self)
         ensures { self.new ≡ ring self.old.places (drop 1 self.old.keys) }
     {
-        if let Some(key) = self.order.pop_front() {
+        if let Some(key) = take_front(&mut self.order) {
             take_key(&mut self.tree, key);
             self.first = self.first.wrapping_add(1);
         }

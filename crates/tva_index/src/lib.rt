@@ -6,6 +6,7 @@
 
 mod bits;
 mod buckets;
+mod fronts;
 mod key_ring;
 mod links;
 mod lowest;
@@ -14,5 +15,6 @@ mod tests;
 mod tree;
 
 pub use buckets::Buckets;
+pub use fronts::take_front;
 pub use key_ring::KeyRing;
 pub use lowest::Lowest;

@@ -18,7 +18,8 @@ use Rattle.tva_shim.specs.Packets.{IsCarried}
 use Rattle.tva_trace.specs.declared.rows.Row.{Row}
 use Rattle.tva_trace.specs.declared.rows.RowWhat.{RowWhat}
 use Rattle.tva_trace.specs.declared.rows.RowWhat.TheVariants as rows
-use Rattle.tva_trace.specs.Valid.{AreTraceRows, IsRow, IsRowWhat, IsWithinWidths}
+use Rattle.tva_trace.specs.Valid.{AreTraceRows, IsRow, IsRowWhat}
+use Rattle.tva_shim.proofs.Lengths.{carried_fits}
 use Rattle.tva_log.specs.declared.kinds.Input.{Input}
 use Rattle.tva_log.specs.declared.kinds.Input.TheVariants.{FromTrace}
 use Rattle.tva_log.specs.Sites.{IsSite, Site, site_of}
@@ -56,11 +57,6 @@ firsts_more config nodes i v c first each n d l =
     ]
 
 -- ## rows
-
-carried_fits : (carries : Carried) → IsWithinWidths carries → IsCarried carries
-carried_fits carried.Nothing h = tt
-carried_fits (carried.Shim shim) h = tt
-carried_fits (carried.Malformed bytes) h = h
 
 row_fits : (p : NodePlan) (w : RowWhat) (b : Bool) → is_host_plan p ≡ b → IsRowWhat b w → FitsRow p w
 row_fits (plans.Router p) (rows.Send dst payload) b e h = absurd (let no : false ≡ true = e ∙ h.0 in cc)

@@ -1,5 +1,5 @@
 -- The plan of the worked router is valid.
-use Rattle.std.proofs.Common.{◌≡◌, ℕ, zero, suc, ◌<◌, List, [], ◌∷◌, length, get_or, refl, sym, ap, subst, arith}
+use Rattle.std.proofs.Common.{◌≡◌, ℕ, zero, suc, ◌^◌, ◌<◌, List, [], ◌∷◌, length, get_or, refl, sym, ap, subst, arith}
 use Rattle.std.specs.Prelude.{All, Contains, map}
 use Rattle.std.proofs.lemmas.List.Elements.{All-nil, All-cons}
 use Rattle.tva_base.specs.Plan.{IsRouterPlan, AreLinkLimits, AreDistinct, IsPrefix, links_of}
@@ -39,10 +39,12 @@ outs k m = (1, k) ∷ (2, m) ∷ []
 other : (a b : ℕ) → (a ≡ b → ⊥) → (to a 1).prefix ≡ (to b 2).prefix → ⊥
 other a b apart e = apart (ap (λ (z : Prefix). z.address.0) e)
 
-pub plan_is : (r : RouterPlan) (k m : LinkLimits) → r.clock_offset ≡ 0 → r.slots ≡ 8 → AreLinkLimits k → AreLinkLimits m → r.incoming ≡ (0, 1) ∷ (3, 2) ∷ [] → r.outgoing ≡ outs k m → r.routes ≡ ways → AreChanges r.restarts r.reroutes → IsRouterPlan r
-plan_is r k m offset slots kk mm incoming outgoing routes changes = record {
+pub plan_is : (r : RouterPlan) (k m : LinkLimits) → r.clock_offset ≡ 0 → r.slots ≡ 8 → r.edge_tag ≡ 0 → AreLinkLimits k → AreLinkLimits m → r.incoming ≡ (0, 1) ∷ (3, 2) ∷ [] → r.outgoing ≡ outs k m → r.routes ≡ ways → AreChanges r.restarts r.reroutes → IsRouterPlan r
+plan_is r k m offset slots edge kk mm incoming outgoing routes changes = record {
   clock_offset = omega (arith, offset);
   slots = omega (arith, slots);
+  edge_tag = omega (arith, edge);
+  tags = subst (λ (z : List (ℕ × ℕ)). All (λ i. i.1 < 2 ^ 16) z) (sym incoming) (two_all (λ (i : ℕ × ℕ). i.1 < 2 ^ 16) (0, 1) (3, 2) (omega arith) (omega arith));
   incoming = subst (λ (z : List (ℕ × ℕ)). AreDistinct (links_of z)) (sym incoming) (two_apart 0 3 (λ e. omega (arith, e)));
   outgoing = subst (λ (z : List (ℕ × LinkLimits)). AreDistinct (links_of z)) (sym outgoing) (two_apart 1 2 (λ e. omega (arith, e)));
   limits = subst (λ (z : List (ℕ × LinkLimits)). All (λ o. AreLinkLimits o.1) z) (sym outgoing) (two_all (λ (o : ℕ × LinkLimits). AreLinkLimits o.1) (1, k) (2, m) kk mm);

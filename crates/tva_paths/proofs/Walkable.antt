@@ -1,5 +1,5 @@
 -- The worked walk's configuration is valid, and so are its rows.
-use Rattle.std.proofs.Common.{◌≡◌, ◌<◌, ℕ, zero, suc, ◌&&◌, true, false, List, [], ◌∷◌, length, map, Contains, slice_index_or, refl, ap, arith}
+use Rattle.std.proofs.Common.{◌≡◌, ◌<◌, ◌^◌, ℕ, zero, suc, ◌&&◌, true, false, List, [], ◌∷◌, length, map, Contains, slice_index_or, refl, ap, arith}
 use Rattle.std.specs.Prelude.{◌==◌}
 use Rattle.std.specs.List.{AllByRecursion}
 use Rattle.std.proofs.lemmas.Bool.{and_right}
@@ -75,6 +75,8 @@ router_fine : IsRouterPlan walk_router
 router_fine = record {
   clock_offset = omega arith;
   slots = omega arith;
+  edge_tag = omega arith;
+  tags = All-from_recursion (λ (i : ℕ × ℕ). i.1 < 2 ^ 16) walk_router.incoming (omega arith, (omega arith, tt));
   incoming = (absent (3 ∷ []) 0 (λ e. omega (arith, e), tt), (absent [] 3 tt, tt));
   outgoing = (absent (2 ∷ []) 1 (λ e. omega (arith, e), tt), (absent [] 2 tt, tt));
   limits = All-from_recursion (λ (o : ℕ × LinkLimits). AreLinkLimits o.1) walk_router.outgoing (limits_fine, (limits_fine, tt));

@@ -8,7 +8,7 @@ use crate::held::HeldPacket;
 use circular_buffer::HeapCircularBuffer;
 use std::alloc::{AllocError, Global};
 use std::marker::Model;
-use tva_drr::{Measured, Offered};
+use tva_drr::{Measured, Offered, take_first};
 use tva_shim::{Packet, length};
 
 /// Packets in the order in which they came, at most so many and of at most so many bytes in all.
@@ -79,7 +79,7 @@ impl LegacyList {
         ensures value { result ≡ first self.old.packets }
         ensures left { self.new ≡ legacy_data self.old.places self.old.most (drop 1 self.old.packets) }
     {
-        let held = self.ring.pop_front()?;
+        let held = take_first(&mut self.ring)?;
         self.bytes -= held.length();
         Some(held.into_packet())
     }

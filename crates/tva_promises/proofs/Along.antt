@@ -11,6 +11,7 @@ use Rattle.tva_base.specs.declared.packet.Grant.{Grant}
 use Rattle.tva_base.specs.declared.plan.RouterPlan.{RouterPlan}
 use Rattle.tva_base.specs.declared.plan.HostPlan.{HostPlan}
 use Rattle.tva_base.specs.Changes.{boot_at}
+use Rattle.tva_base.specs.Plan.{IsHostPlan}
 use Rattle.tva_shim.specs.Packets.{PacketData}
 use Rattle.tva_flow.specs.Charges.{Charge}
 use Rattle.tva_flow.specs.Stands.{NoneLater, AreNext}
@@ -37,20 +38,20 @@ use Rattle.tva_joins.specs.Joins.{IsInOrder}
 use Rattle.tva_joins.proofs.Joins.{each-append, each-weaker, each-filter, times_from}
 use Rattle.tva_promises.specs.Sizes.{IsSizedInput, IsSizedEntry}
 use Rattle.tva_promises.proofs.Transfers.{IsSizedTaken, files_sized, input_taken}
-use Rattle.tva_promises.proofs.Made.{AreFew, IsSizedCall, call_few}
+use Rattle.tva_promises.proofs.Made.{AreMet, IsSizedCall, call_met}
 use Rattle.tva_promises.proofs.Waits.{AreSized, none_waits, waits_sized, start_sized}
 use Rattle.tva_promises.proofs.Links.{IsGood, number_is, start_follows, started_good, logs_more, legal_more, logs_past}
-use Rattle.tva_promises.proofs.Entries.{HasFew, IsNextCharge, took_good, took_charge}
+use Rattle.tva_promises.proofs.Entries.{HasMet, IsNextCharge, host_valid, took_good, took_charge}
 
 -- a log whose links' logs are legal and hold what is within the sizes, whose charges of each boot a cache can have and
--- are timely, whose host took no grant with too many capabilities, and whose rows are within the sizes
+-- are timely, whose host met what a shim could carry, and whose rows are within the sizes
 pub record IsSound (site : Site) (log : List Entry) : Type 0 where
   pub legal : (link : ℕ) (l : LinkLimits) → limits_out site link ≡ Some (link, l) → IsLegal l (port_logs log link)
   pub waits : (link : ℕ) (l : LinkLimits) → limits_out site link ≡ Some (link, l) → AreSized (waiting_after l (port_logs log link))
   pub sizes : AllByRecursion IsSizedEntry log
   pub grants : (plan : RouterPlan) → site.plan ≡ plans.Router plan → (boot : ℕ)
       → AreNext plan.slots plan.clock_offset [] (charges_of_boot plan boot (charges log)) × AreTimely plan.clock_offset (charges_of_boot plan boot (charges log))
-  pub few : HasFew site log
+  pub met : HasMet site log
   pub taken : AllByRecursion IsSizedTaken log
 
 -- what an entry is after those before it
@@ -113,9 +114,9 @@ charged_option plan boot now h (Some c) a t k =
 calls_more : (log : List Entry) (e : Entry) → calls (log ++ e ∷ []) ≡ calls log ++ cons_option (call_of e) []
 calls_more log e = filter_map-append call_of log (e ∷ [])
 
-few_option : (plan : HostPlan) (cs : List Call) (o : Option Call) → AreFew (history_of plan cs).contacts → IfSome o IsSizedCall → AreFew (history_of plan (cs ++ cons_option o [])).contacts
-few_option plan cs None k s = subst (λ (z : List Call). AreFew (history_of plan z).contacts) (sym (append-nil cs)) k
-few_option plan cs (Some c) k s = subst (λ (h : History). AreFew h.contacts) (sym (history_of-push plan cs c)) (call_few plan (history_of plan cs) c s k)
+met_option : (plan : HostPlan) (cs : List Call) (o : Option Call) → IsHostPlan plan → AreMet plan.version (history_of plan cs).contacts → IfSome o IsSizedCall → AreMet plan.version (history_of plan (cs ++ cons_option o [])).contacts
+met_option plan cs None v k s = subst (λ (z : List Call). AreMet plan.version (history_of plan z).contacts) (sym (append-nil cs)) k
+met_option plan cs (Some c) v k s = subst (λ (h : History). AreMet plan.version h.contacts) (sym (history_of-push plan cs c)) (call_met plan (history_of plan cs) c v s k)
 
 row_call : (now : ℕ) (what : RowWhat) (packet : PacketData) → IsSizedCall (call_of_row now what packet)
 row_call now (Send dst payload) packet = tt
@@ -148,7 +149,7 @@ module _ (site : Site) (valid : IsSite site) where
 
   module _ (before : List Entry) (s : IsSound site before) where
     entry_good : (e : Entry) (link : ℕ) (l : LinkLimits) → limits_out site link ≡ Some (link, l) → AllByRecursion (λ x. entry_time x ≤ entry_time e) before → IsMade site before e → IfSome (port_entry link e) (IsGood l (port_logs before link))
-    entry_good (Took input made) link l out past m = took_good site link l before input made valid out (logs_past link (input_time input) before past) s.few (λ plan. files_sized plan before s.taken) m.1 m.0
+    entry_good (Took input made) link l out past m = took_good site link l before input made valid out (logs_past link (input_time input) before past) s.met (λ plan. files_sized plan before s.taken) m.1 m.0
     entry_good (Started time on class p) link l out past m = started_good site link on l before time class p out (logs_past link time before past) m
 
     entry_sized : (e : Entry) → AllByRecursion (λ x. entry_time x ≤ entry_time e) before → IsMade site before e → IsSizedEntry e
@@ -187,7 +188,9 @@ module _ (site : Site) (valid : IsSite site) where
       grants = λ plan is boot.
           subst (λ (z : List Charge). AreCharged plan z) (sym (charges_more plan boot before e))
           (charged_option plan boot (entry_time e) (charges before) (charge_of e) (s.grants plan is boot) (charge_time e) (entry_charge e plan is past time m));
-      few = λ plan is. subst (λ (z : List Call). AreFew (history_of plan z).contacts) (sym (calls_more before e)) (few_option plan (calls before) (call_of e) (s.few plan is) (entry_call e m));
+      met = λ plan is.
+          subst (λ (z : List Call). AreMet plan.version (history_of plan z).contacts) (sym (calls_more before e))
+          (met_option plan (calls before) (call_of e) (host_valid site plan valid is) (s.met plan is) (entry_call e m));
       taken = each-append IsSizedTaken before (e ∷ []) s.taken (entry_taken e m, tt);
     }
 
@@ -199,7 +202,7 @@ module _ (site : Site) (valid : IsSite site) where
     waits = λ link l out. none_waits l;
     sizes = tt;
     grants = λ plan is boot. (tt, All-nil (λ (c : Charge). IsWithinSeconds plan.clock_offset c.time c.grant));
-    few = λ plan is. tt;
+    met = λ plan is. record { showable = tt; caps = tt };
     taken = tt;
   }
 

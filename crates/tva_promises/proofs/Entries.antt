@@ -9,13 +9,16 @@ use Rattle.tva_base.specs.declared.packet.Outcome.{Outcome}
 use Rattle.tva_base.specs.declared.plan.RouterPlan.{RouterPlan}
 use Rattle.tva_base.specs.declared.plan.HostPlan.{HostPlan}
 use Rattle.tva_base.specs.Changes.{in_force}
+use Rattle.tva_base.specs.Plan.{IsRouterPlan, IsHostPlan}
 use Rattle.tva_shim.specs.Packets.{PacketData, IsSizedPacket, class_by_shim, made_packet}
+use Rattle.tva_shim.proofs.Lengths.{carried_fits}
 use Rattle.tva_flow.specs.Charges.{Charge}
 use Rattle.tva_flow.specs.Stands.{NoneLater, IsNext, AreNext}
 use Rattle.tva_flow.specs.Budget.{IsWithinSeconds, AreTimely}
 use Rattle.tva_port.specs.Log as port
 use Rattle.tva_router.specs.Handling.{Logs, Handled, handle, arrival, way_to}
 use Rattle.tva_router.specs.Boots.{charges_at}
+use Rattle.tva_router.proofs.InForce.{force_valid}
 use Rattle.tva_host.specs.declared.made.Made.{Made}
 use Rattle.tva_host.specs.Calls.{history_of}
 use Rattle.tva_host.specs.Receiving.{receipt_of}
@@ -34,7 +37,7 @@ use Rattle.tva_promises.specs.Sizes.{IsSizedWhat, IsSizedInput}
 use Rattle.tva_promises.specs.Promises.{IsHandled}
 use Rattle.tva_promises.proofs.Packets.{sized_length, onward_sized}
 use Rattle.tva_promises.proofs.Transfers.{AreSizedFiles, answered_upper}
-use Rattle.tva_promises.proofs.Made.{AreFew, IsSizedMade, made_sized, receipt_sized}
+use Rattle.tva_promises.proofs.Made.{AreMet, IsSizedMade, made_sized, receipt_sized}
 use Rattle.tva_promises.proofs.Charging.{IsReady, charge_next}
 use Rattle.tva_promises.proofs.Fates.{at_limit, on_way, is_fate}
 use Rattle.tva_promises.proofs.Links.{IsGood, link_way, router_way, queued_good}
@@ -60,7 +63,7 @@ came_row number plan before now (Inject flow payload carried) made e =
     record {
       from = None;
       packet = p;
-      sized = λ s. record { packet = record { hops = omega arith; payload = s.0; carried = s.1; upper = tt; fills = tt }; few = s.2 };
+      sized = λ s. record { packet = record { hops = omega arith; payload = s.0; carried = carried_fits carried s.1; upper = tt; fills = tt }; widths = s.1 };
       is = same_some (arrived plan before now None p) made e;
     }
 
@@ -76,6 +79,13 @@ came number plan before (Arrival time link packet) made e = record {
 abbrev IsGoodAt : LinkLimits → List Entry → ℕ → ℕ → Content → Type 0
 IsGoodAt l before link now made = IfSome (content_at link now made) (IsGood l (port_logs before link))
 
+-- the plan of a router that there may be, and that of a host
+router_valid : (site : Site) (plan : RouterPlan) → IsSite site → site.plan ≡ plans.Router plan → IsRouterPlan plan
+router_valid site plan valid e = let planned : IsPlanned (plans.Router plan) site.links = subst (λ (p : NodePlan). IsPlanned p site.links) e valid.planned in planned.0
+
+pub host_valid : (site : Site) (plan : HostPlan) → IsSite site → site.plan ≡ plans.Host plan → IsHostPlan plan
+host_valid site plan valid e = let planned : IsPlanned (plans.Host plan) site.links = subst (λ (p : NodePlan). IsPlanned p site.links) e valid.planned in planned.0
+
 arrived_good : (site : Site) (plan : RouterPlan) (link : ℕ) (l : LinkLimits) (before : List Entry) (now : ℕ) (from : Option ℕ) (p : PacketData) → IsSite site → site.plan ≡ plans.Router plan → limits_out site link ≡ Some (link, l)
     → port.NoneLater now (port_logs before link) → IsSizedPacket p → IsGoodAt l before link now (arrived plan before now from p)
 unfolding arrived
@@ -87,7 +97,7 @@ arrived_good site plan link l before now from p valid e out past s =
     elim (cases_lt p.hops 32) [
       | inl below ↦
           subst good (sym (on_way q h (port_logs before) now from p below))
-          (queued_good site link l (port_logs before) now is.fate.class is.onward (way_to q p.flow.dst) out (router_way site plan now p.flow.dst valid e) past (onward_sized q h (port_logs before) now from p s))
+          (queued_good site link l (port_logs before) now is.fate.class is.onward (way_to q p.flow.dst) out (router_way site plan now p.flow.dst valid e) past (onward_sized q h (port_logs before) now from p (force_valid plan now (router_valid site plan valid e)) s))
       | inr limit ↦ subst good (sym (at_limit q h (port_logs before) now from p limit).2) tt
     ]
 
@@ -113,37 +123,37 @@ row_good : (site : Site) (plan : HostPlan) (link : ℕ) (l : LinkLimits) (before
 row_good site plan link l before now None out past s = tt
 row_good site plan link l before now (Some m) out past s = sent_good site plan link l before now m.packet out past s
 
-host_good : (site : Site) (plan : HostPlan) (link : ℕ) (l : LinkLimits) (before : List Entry) (input : Input) → limits_out site link ≡ Some (link, l) → port.NoneLater (input_time input) (port_logs before link) → AreFew (history_of plan (calls before)).contacts
+host_good : (site : Site) (plan : HostPlan) (link : ℕ) (l : LinkLimits) (before : List Entry) (input : Input) → limits_out site link ≡ Some (link, l) → port.NoneLater (input_time input) (port_logs before link) → IsHostPlan plan → AreMet plan.version (history_of plan (calls before)).contacts
     → AreSizedFiles (files plan before) → IsSizedInput input → IsGoodAt l before link (input_time input) (hosted site plan before input)
-host_good site plan link l before (FromTrace row) out past few known s =
+host_good site plan link l before (FromTrace row) out past v met known s =
     let h = history_of plan (calls before) in
-    row_good site plan link l before row.time.0 (made_for site.number plan h (files plan before) row.time.0 row.what) out past (made_sized site.number plan h (files plan before) row.time.0 row.what s few known)
-host_good site plan link l before (Arrival time from packet) out past few known s =
+    row_good site plan link l before row.time.0 (made_for site.number plan h (files plan before) row.time.0 row.what) out past (made_sized site.number plan h (files plan before) row.time.0 row.what s v met known)
+host_good site plan link l before (Arrival time from packet) out past v met known s =
     let h = history_of plan (calls before) in
     let above = answered plan.address (files plan before) packet in
     reply_good site plan link l before time.0 (receipt_of site.number plan h time.0 packet above).reply out past
-    (receipt_sized site.number plan h time.0 packet above few s (answered_upper plan.address (files plan before) packet known))
+    (receipt_sized site.number plan h time.0 packet above v met s (answered_upper plan.address (files plan before) packet known))
 
 -- ## at a node
 
 -- what is known of a host's history
-abbrev pub HasFew : Site → List Entry → Type 0
-HasFew site before = (plan : HostPlan) → site.plan ≡ plans.Host plan → AreFew (history_of plan (calls before)).contacts
+abbrev pub HasMet : Site → List Entry → Type 0
+HasMet site before = (plan : HostPlan) → site.plan ≡ plans.Host plan → AreMet plan.version (history_of plan (calls before)).contacts
 
 -- and of its files
 abbrev pub HasSizedFiles : List Entry → Type 0
 HasSizedFiles before = (plan : HostPlan) → AreSizedFiles (files plan before)
 
 took_by : (site : Site) (plan : NodePlan) (link : ℕ) (l : LinkLimits) (before : List Entry) (input : Input) (made : Content) → IsSite site → site.plan ≡ plan → limits_out site link ≡ Some (link, l)
-    → port.NoneLater (input_time input) (port_logs before link) → HasFew site before → HasSizedFiles before → IsSizedInput input → content_by site plan before input ≡ Some made → IsGoodAt l before link (input_time input) made
-took_by site (plans.Router plan) link l before input made valid e out past few known s c = router_good site plan link l before input made valid e out past s c
-took_by site (plans.Host plan) link l before input made valid e out past few known s c =
-    subst (IsGoodAt l before link (input_time input)) (same_some (hosted site plan before input) made c) (host_good site plan link l before input out past (few plan e) (known plan) s)
+    → port.NoneLater (input_time input) (port_logs before link) → HasMet site before → HasSizedFiles before → IsSizedInput input → content_by site plan before input ≡ Some made → IsGoodAt l before link (input_time input) made
+took_by site (plans.Router plan) link l before input made valid e out past met known s c = router_good site plan link l before input made valid e out past s c
+took_by site (plans.Host plan) link l before input made valid e out past met known s c =
+    subst (IsGoodAt l before link (input_time input)) (same_some (hosted site plan before input) made c) (host_good site plan link l before input out past (host_valid site plan valid e) (met plan e) (known plan) s)
 
 -- what goes to a link has its place there
 pub took_good : (site : Site) (link : ℕ) (l : LinkLimits) (before : List Entry) (input : Input) (made : Content) → IsSite site → limits_out site link ≡ Some (link, l)
-    → port.NoneLater (input_time input) (port_logs before link) → HasFew site before → HasSizedFiles before → IsSizedInput input → content site before input ≡ Some made → IsGoodAt l before link (input_time input) made
-took_good site link l before input made valid out past few known s c = took_by site site.plan link l before input made valid refl out past few known s c
+    → port.NoneLater (input_time input) (port_logs before link) → HasMet site before → HasSizedFiles before → IsSizedInput input → content site before input ≡ Some made → IsGoodAt l before link (input_time input) made
+took_good site link l before input made valid out past met known s c = took_by site site.plan link l before input made valid refl out past met known s c
 
 -- ## charges
 

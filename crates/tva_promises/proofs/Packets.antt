@@ -1,8 +1,14 @@
 -- What a router makes of a packet stays within the sizes of a network.
-use Rattle.std.proofs.Common.{◌≡◌, ℕ, ◌+◌, ◌≤◌, ◌<◌, true, false, cond, eqb, leb, List, [], ◌∷◌, length, slice_set, Option, None, Ok, Err, refl, arith, length-append, length-set}
+use Rattle.std.proofs.Common.{◌≡◌, ℕ, ◌+◌, ◌^◌, ◌≤◌, ◌<◌, ◌==◌, Bool, true, false, cond, eqb, leb, List, [], ◌∷◌, ◌++◌, length, slice_get, slice_set, Option, Some, None, Ok, Err, All, refl, sym, subst, arith, length-append, length-set}
+use Rattle.std.specs.List.{find}
+use Rattle.std.specs.Option.{IfSome}
 use Rattle.std.proofs.lemmas.Bool.Decides.{nat_tests}
+use Rattle.std.proofs.lemmas.List.Elements.{All-head, All-nil, All-push, All-set, All-tail}
+use Rattle.std.proofs.lemmas.Option.{slice_get_within}
+use Rattle.tva_base.specs.Plan.{IsRouterPlan}
 use Rattle.tva_base.specs.declared.packet.Class.TheVariants as class
 use Rattle.tva_base.specs.declared.packet.Cause.TheVariants as cause
+use Rattle.tva_base.specs.declared.packet.Grant.{Grant}
 use Rattle.tva_base.specs.declared.plan.RouterPlan.{RouterPlan}
 use Rattle.tva_shim.specs.declared.entries.Entry as entries
 use Rattle.tva_shim.specs.declared.kinds.Shown.{Shown}
@@ -10,18 +16,16 @@ use Rattle.tva_shim.specs.declared.kinds.Kind.{Kind}
 use Rattle.tva_shim.specs.declared.kinds.Kind.TheVariants as kinds
 use Rattle.tva_shim.specs.declared.packets.Carried.{Carried}
 use Rattle.tva_shim.specs.declared.packets.Carried.TheVariants as carried
-use Rattle.tva_shim.specs.Shims.{ShimData, entries_of, caps_of}
-use Rattle.tva_shim.specs.Changes.{on_shown, with_entry, with_next_pointer, with_fresh, with_mark}
-use Rattle.tva_shim.specs.Packets.{PacketData, IsCarried, HasFew, CarriesFew, IsSizedPacket, packet_length}
-use Rattle.tva_shim.proofs.Lengths.{packet_within}
+use Rattle.tva_shim.specs.Widths.{IsEntry, IsCap, AreEntries, AreCaps}
+use Rattle.tva_shim.specs.Shims.{ShimData, IsShown, IsKind, IsShim, entries_of, caps_of}
+use Rattle.tva_shim.specs.Changes.{PointsAtOne, on_shown, with_entry, with_next_pointer, with_fresh, with_mark}
+use Rattle.tva_shim.specs.Packets.{PacketData, IsWithinWidths, IsSizedPacket, packet_length}
+use Rattle.tva_shim.proofs.Lengths.{carried_fits, packet_within}
+use Rattle.tva_caps.proofs.Stamps.{precap_of-lt}
 use Rattle.tva_flow.specs.Charges.{Charge}
 use Rattle.tva_router.specs.declared.judged.Arrival.{Arrival}
-use Rattle.tva_router.specs.Judging.{Answer, tag_of, fresh_for, answer_to_shown, answer_to_nonce, judged, marked, judged_by, judged_request, judged_kind, judged_shim, judge}
+use Rattle.tva_router.specs.Judging.{Answer, tag_or_zero, tag_of, second_of, fresh_for, answer_to_cap, answer_to_shown, answer_to_nonce, judged, marked, judged_by, judged_request, judged_kind, judged_shim, judge}
 use Rattle.tva_router.specs.Handling.{Logs, arrival, stopped, forwarded, handle}
-
--- what a packet carries is within the sizes of a network
-abbrev pub IsSized : Carried → Type 0
-IsSized c = IsCarried c × CarriesFew c
 
 -- a packet has 20 to 2,048 bytes
 pub sized_length : (p : PacketData) → IsSizedPacket p → (20 ≤ packet_length p) × (packet_length p ≤ 2048)
@@ -29,83 +33,149 @@ sized_length p s = (omega arith, omega (arith, packet_within p s))
 
 -- ## shims
 
-mark_few : (s : ShimData) → HasFew s → HasFew (with_mark s)
-mark_few s h = record { entries = h.entries; caps = h.caps; granted = h.granted }
+mark_fits : (s : ShimData) → IsShim s → IsShim (with_mark s)
+mark_fits s h = record { version = h.version; protocol = h.protocol; kind = h.kind; entries = h.entries; caps = h.caps; back = h.back; granted = h.granted }
 
-on_shown_few : (change : Shown → Shown) (kind : Kind) → ((x : Shown) → length (change x).caps ≡ length x.caps) → length (entries_of kind) ≤ 16 → length (caps_of kind) ≤ 16
-    → (length (entries_of (on_shown change kind)) ≤ 16) × (length (caps_of (on_shown change kind)) ≤ 16)
-on_shown_few change (kinds.Request entries) same e c = (e, c)
-on_shown_few change (kinds.List shown) same e c = (e, omega (arith, same shown))
-on_shown_few change (kinds.Nonce nonce) same e c = (e, c)
-on_shown_few change (kinds.Renewal shown) same e c = (e, omega (arith, same shown))
+-- a kind has the widths of a version
+record FitsVersion (version : ℕ) (kind : Kind) : Type 0 where
+  shows : IsKind version kind
+  entries : AreEntries (entries_of kind)
+  caps : AreCaps (caps_of kind)
 
-next_few : (s : ShimData) → HasFew s → HasFew (with_next_pointer s)
-next_few s h =
-    let k = on_shown_few (λ (x : Shown). record x { pointer = x.pointer + 1 }) s.kind (λ x. refl) h.entries h.caps in
-    record { entries = k.0; caps = k.1; granted = h.granted }
+own_kind : (s : ShimData) → IsShim s → FitsVersion s.version s.kind
+own_kind s h = record { shows = h.kind; entries = h.entries; caps = h.caps }
 
-fresh_few : (precap : ℕ) (s : ShimData) → HasFew s → HasFew (with_fresh precap s)
-fresh_few precap s h =
-    let k = on_shown_few (λ (x : Shown). record x { caps = slice_set x.caps x.pointer precap }) s.kind (λ x. length-set x.caps x.pointer precap) h.entries h.caps in
-    record { entries = k.0; caps = k.1; granted = h.granted }
+-- a shim with another kind that has its widths
+kind_fits : (s : ShimData) (kind : Kind) → IsShim s → FitsVersion s.version kind → IsShim (record s { kind = kind })
+kind_fits s kind h k = record { version = h.version; protocol = h.protocol; kind = k.shows; entries = k.entries; caps = k.caps; back = h.back; granted = h.granted }
+
+shown_next : (version : ℕ) (x : Shown) → x.pointer < length x.caps → IsShown version x → IsShown version (record x { pointer = x.pointer + 1 })
+shown_next version x at k = record { nonce = k.nonce; pointer = omega (arith, at); rights = k.rights }
+
+kind_next : (version : ℕ) (kind : Kind) → PointsAtOne kind → FitsVersion version kind → FitsVersion version (on_shown (λ (x : Shown). record x { pointer = x.pointer + 1 }) kind)
+kind_next version (kinds.Request entries) at k = absurd at
+kind_next version (kinds.List shown) at k = record { shows = shown_next version shown at k.shows; entries = k.entries; caps = k.caps }
+kind_next version (kinds.Nonce nonce) at k = absurd at
+kind_next version (kinds.Renewal shown) at k = record { shows = shown_next version shown at k.shows; entries = k.entries; caps = k.caps }
+
+next_fits : (s : ShimData) → PointsAtOne s.kind → IsShim s → IsShim (with_next_pointer s)
+next_fits s at h = kind_fits s (on_shown (λ (x : Shown). record x { pointer = x.pointer + 1 }) s.kind) h (kind_next s.version s.kind at (own_kind s h))
+
+caps_set : (caps : List ℕ) (i precap : ℕ) → precap < 2 ^ 64 → AreCaps caps → AreCaps (slice_set caps i precap)
+caps_set caps i precap p k = record { few = omega (arith, length-set caps i precap, k.few); each = All-set IsCap caps i precap p k.each }
+
+shown_fresh : (version precap : ℕ) (x : Shown) → IsShown version x → IsShown version (record x { caps = slice_set x.caps x.pointer precap })
+shown_fresh version precap x k = record { nonce = k.nonce; pointer = omega (arith, length-set x.caps x.pointer precap, k.pointer); rights = k.rights }
+
+kind_fresh : (version precap : ℕ) (kind : Kind) → precap < 2 ^ 64 → FitsVersion version kind → FitsVersion version (on_shown (λ (x : Shown). record x { caps = slice_set x.caps x.pointer precap }) kind)
+kind_fresh version precap (kinds.Request entries) p k = k
+kind_fresh version precap (kinds.List shown) p k =
+    record { shows = shown_fresh version precap shown k.shows; entries = k.entries; caps = caps_set shown.caps shown.pointer precap p k.caps }
+kind_fresh version precap (kinds.Nonce nonce) p k = k
+kind_fresh version precap (kinds.Renewal shown) p k =
+    record { shows = shown_fresh version precap shown k.shows; entries = k.entries; caps = caps_set shown.caps shown.pointer precap p k.caps }
+
+fresh_fits : (precap : ℕ) (s : ShimData) → precap < 2 ^ 64 → IsShim s → IsShim (with_fresh precap s)
+fresh_fits precap s p h =
+    kind_fits s (on_shown (λ (x : Shown). record x { caps = slice_set x.caps x.pointer precap }) s.kind) h (kind_fresh s.version precap s.kind p (own_kind s h))
+
+-- with another capability in its place, the pointer is at one as before
+fresh_points : (precap : ℕ) (kind : Kind) → PointsAtOne kind → PointsAtOne (on_shown (λ (x : Shown). record x { caps = slice_set x.caps x.pointer precap }) kind)
+fresh_points precap (kinds.Request entries) at = at
+fresh_points precap (kinds.List shown) at = omega (arith, length-set shown.caps shown.pointer precap, at)
+fresh_points precap (kinds.Nonce nonce) at = at
+fresh_points precap (kinds.Renewal shown) at = omega (arith, length-set shown.caps shown.pointer precap, at)
 
 has_room : (n : ℕ) → n ≤ 16 → eqb n 16 ≡ false → n < 16
 has_room n l e = grind (arith, nat_tests)
 
-entry_few : (entry : entries.Entry) (s : ShimData) → HasFew s → eqb (length (entries_of s.kind)) 16 ≡ false → HasFew (with_entry entry s)
-entry_few entry s h e = record {
-  entries = omega (arith, length-append (entries_of s.kind) (entry ∷ []), has_room (length (entries_of s.kind)) h.entries e);
-  caps = omega arith;
-  granted = h.granted;
-}
+entry_fits : (entry : entries.Entry) (s : ShimData) → IsEntry entry → IsShim s → eqb (length (entries_of s.kind)) 16 ≡ false → IsShim (with_entry entry s)
+entry_fits entry s is h e = kind_fits s (kinds.Request (entries_of s.kind ++ entry ∷ [])) h (record {
+  shows = tt;
+  entries = record {
+    few = omega (arith, length-append (entries_of s.kind) (entry ∷ []), has_room (length (entries_of s.kind)) h.entries.few e);
+    each = All-push IsEntry (entries_of s.kind) entry h.entries.each is;
+  };
+  caps = record { few = omega arith; each = All-nil IsCap };
+})
 
 -- ## judgements
 
-by_answer : (shim changed : ShimData) (a : Answer) → HasFew shim → HasFew changed → IsSized (judged_by shim changed a).carried
-by_answer shim changed (Ok grant) h k = (tt, k)
-by_answer shim changed (Err c) h k = (tt, mark_few shim h)
+tag_in : (o : Option (ℕ × ℕ)) → IfSome o (λ i. i.1 < 2 ^ 16) → tag_or_zero o < 2 ^ 16
+tag_in None k = omega arith
+tag_in (Some i) k = k
 
-by_request : (plan : RouterPlan) (a : Arrival) (shim : ShimData) → HasFew shim → IsSized (judged_request plan a shim).carried
-by_request plan a shim h =
+found_all : {X : Type 0} (P : X → Type 0) (test : X → Bool) (xs : List X) → All P xs → IfSome (find test xs) P
+found_all P test [] a = tt
+found_all P test (x ∷ xs) a =
+    elim (test x) as (λ b. IfSome (cond b (Some x) (find test xs)) P) [ true ↦ All-head P x xs a | false ↦ found_all P test xs (All-tail P x xs a) ]
+
+tag_fits : (plan : RouterPlan) (from : Option ℕ) → IsRouterPlan plan → tag_of plan from < 2 ^ 16
+tag_fits plan None v = v.edge_tag
+tag_fits plan (Some link) v = tag_in (find (λ pair. pair.0 == link) plan.incoming) (found_all (λ (i : ℕ × ℕ). i.1 < 2 ^ 16) (λ pair. pair.0 == link) plan.incoming v.tags)
+
+fresh_few : (plan : RouterPlan) (a : Arrival) → fresh_for plan a < 2 ^ 64
+fresh_few plan a = precap_of-lt plan.master a.flow (second_of plan a)
+
+by_answer : (shim changed : ShimData) (a : Answer) → IsShim shim → ((g : Grant) → a ≡ Ok g → IsShim changed) → IsWithinWidths (judged_by shim changed a).carried
+by_answer shim changed (Ok grant) h k = k grant refl
+by_answer shim changed (Err c) h k = mark_fits shim h
+
+by_request : (plan : RouterPlan) (a : Arrival) (shim : ShimData) → IsRouterPlan plan → IsShim shim → IsWithinWidths (judged_request plan a shim).carried
+by_request plan a shim v h =
     let entry : entries.Entry = record { tag = tag_of plan a.from; precap = fresh_for plan a } in
+    let is : IsEntry entry = record { tag = tag_fits plan a.from v; precap = fresh_few plan a } in
     (elim (eqb (length (entries_of shim.kind)) 16) as (λ b. eqb (length (entries_of shim.kind)) 16 ≡ b
-    → IsSized (cond b (marked shim cause.PathFull) (judged class.Request None None (carried.Shim (with_entry entry shim)))).carried) [
-      | true ↦ λ e. (tt, mark_few shim h)
-      | false ↦ λ e. (tt, entry_few entry shim h e)
+    → IsWithinWidths (cond b (marked shim cause.PathFull) (judged class.Request None None (carried.Shim (with_entry entry shim)))).carried) [
+      | true ↦ λ e. mark_fits shim h
+      | false ↦ λ e. entry_fits entry shim is h e
     ]) refl
 
-by_kind : (plan : RouterPlan) (h : List Charge) (a : Arrival) (shim : ShimData) (kind : Kind) → HasFew shim → IsSized (judged_kind plan h a shim kind).carried
-by_kind plan h a shim (kinds.Request entries) f = by_request plan a shim f
-by_kind plan h a shim (kinds.List shown) f = by_answer shim (with_next_pointer shim) (answer_to_shown plan h a shown) f (next_few shim f)
-by_kind plan h a shim (kinds.Nonce nonce) f = by_answer shim shim (answer_to_nonce plan h a nonce) f f
-by_kind plan h a shim (kinds.Renewal shown) f =
-    by_answer shim (with_next_pointer (with_fresh (fresh_for plan a) shim)) (answer_to_shown plan h a shown) f
-    (next_few (with_fresh (fresh_for plan a) shim) (fresh_few (fresh_for plan a) shim f))
+-- where what is shown is taken, the pointer is at a capability
+cap_there : (plan : RouterPlan) (h : List Charge) (a : Arrival) (shown : Shown) (o : Option ℕ) (g : Grant) → slice_get shown.caps shown.pointer ≡ o → answer_to_cap plan h a shown.rights o ≡ Ok g
+    → shown.pointer < length shown.caps
+cap_there plan h a shown None g s e = absurd (cc)
+cap_there plan h a shown (Some cap) g s e = slice_get_within shown.caps shown.pointer cap s
 
-by_shim : (plan : RouterPlan) (h : List Charge) (a : Arrival) (shim : ShimData) → HasFew shim → IsSized (judged_shim plan h a shim).carried
+points_at : (plan : RouterPlan) (h : List Charge) (a : Arrival) (shown : Shown) (g : Grant) → answer_to_shown plan h a shown ≡ Ok g → shown.pointer < length shown.caps
+unfolding answer_to_shown
+points_at plan h a shown g e = cap_there plan h a shown (slice_get shown.caps shown.pointer) g refl e
+
+by_kind : (plan : RouterPlan) (h : List Charge) (a : Arrival) (shim : ShimData) (kind : Kind) → IsRouterPlan plan → IsShim shim → shim.kind ≡ kind → IsWithinWidths (judged_kind plan h a shim kind).carried
+by_kind plan h a shim (kinds.Request entries) v f e = by_request plan a shim v f
+by_kind plan h a shim (kinds.List shown) v f e =
+    by_answer shim (with_next_pointer shim) (answer_to_shown plan h a shown) f (λ g t. next_fits shim (subst PointsAtOne (sym e) (points_at plan h a shown g t)) f)
+by_kind plan h a shim (kinds.Nonce nonce) v f e = by_answer shim shim (answer_to_nonce plan h a nonce) f (λ g t. f)
+by_kind plan h a shim (kinds.Renewal shown) v f e =
+    by_answer shim (with_next_pointer (with_fresh (fresh_for plan a) shim)) (answer_to_shown plan h a shown) f
+    (λ g t.
+    next_fits (with_fresh (fresh_for plan a) shim) (fresh_points (fresh_for plan a) shim.kind (subst PointsAtOne (sym e) (points_at plan h a shown g t)))
+    (fresh_fits (fresh_for plan a) shim (fresh_few plan a) f))
+
+by_shim : (plan : RouterPlan) (h : List Charge) (a : Arrival) (shim : ShimData) → IsRouterPlan plan → IsShim shim → IsWithinWidths (judged_shim plan h a shim).carried
 unfolding judged_shim
-by_shim plan h a shim f =
-    elim shim.demoted as (λ b. IsSized (cond b (judged class.Legacy None None (carried.Shim shim)) (judged_kind plan h a shim shim.kind)).carried) [
-      | true ↦ (tt, f)
-      | false ↦ by_kind plan h a shim shim.kind f
+by_shim plan h a shim v f =
+    elim shim.demoted as (λ b. IsWithinWidths (cond b (judged class.Legacy None None (carried.Shim shim)) (judged_kind plan h a shim shim.kind)).carried) [
+      | true ↦ f
+      | false ↦ by_kind plan h a shim shim.kind v f refl
     ]
 
-judge_sized : (plan : RouterPlan) (h : List Charge) (a : Arrival) (c : Carried) → IsSized c → IsSized (judge plan h a c).carried
-judge_sized plan h a carried.Nothing s = s
-judge_sized plan h a (carried.Malformed size) s = s
-judge_sized plan h a (carried.Shim shim) s = by_shim plan h a shim s.1
+judge_fits : (plan : RouterPlan) (h : List Charge) (a : Arrival) (c : Carried) → IsRouterPlan plan → IsWithinWidths c → IsWithinWidths (judge plan h a c).carried
+judge_fits plan h a carried.Nothing v s = s
+judge_fits plan h a (carried.Malformed size) v s = s
+judge_fits plan h a (carried.Shim shim) v s = by_shim plan h a shim v s
 
 -- ## the packet as it goes on
 
 one_further : (n : ℕ) → leb 32 n ≡ false → n + 1 ≤ 32
 one_further n e = grind (arith, nat_tests)
 
-pub onward_sized : (plan : RouterPlan) (h : List Charge) (logs : Logs) (now : ℕ) (from : Option ℕ) (p : PacketData) → IsSizedPacket p → IsSizedPacket (handle plan h logs now from p).onward
+pub onward_sized : (plan : RouterPlan) (h : List Charge) (logs : Logs) (now : ℕ) (from : Option ℕ) (p : PacketData) → IsRouterPlan plan → IsSizedPacket p → IsSizedPacket (handle plan h logs now from p).onward
 unfolding handle
-onward_sized plan h logs now from p s =
+onward_sized plan h logs now from p v s =
     let j = judge plan h (arrival now from p) p.carried in
-    let k : IsSized j.carried = judge_sized plan h (arrival now from p) p.carried (s.packet.carried, s.few) in
+    let k : IsWithinWidths j.carried = judge_fits plan h (arrival now from p) p.carried v s.widths in
     (elim (leb 32 p.hops) as (λ b. leb 32 p.hops ≡ b → IsSizedPacket (cond b (stopped p) (forwarded plan logs now p j)).onward) [
       | true ↦ λ e. s
-      | false ↦ λ e. record { packet = record { hops = one_further p.hops e; payload = s.packet.payload; carried = k.0; upper = s.packet.upper; fills = s.packet.fills }; few = k.1 }
+      | false ↦ λ e. record { packet = record { hops = one_further p.hops e; payload = s.packet.payload; carried = carried_fits j.carried k; upper = s.packet.upper; fills = s.packet.fills }; widths = k }
     ]) refl

@@ -1,12 +1,8 @@
 -- The rows that a text stands for are within the sizes of a network.
-use Rattle.std.proofs.Common.{◌≡◌, ℕ, ◌+◌, ◌≤◌, Bool, true, false, cond, List, [], ◌∷◌, ◌++◌, length, Option, Some, None, Result, Ok, Err, refl, sym, ap, subst, arith}
+use Rattle.std.proofs.Common.{◌≡◌, ℕ, ◌+◌, ◌≤◌, Bool, true, false, cond, List, [], ◌∷◌, ◌++◌, length, Option, Some, None, Result, Ok, Err, refl, sym, ap, subst}
 use Rattle.std.specs.List.{AllByRecursion, AllZip}
 use Rattle.tva_base.specs.Addresses.{address_of}
 use Rattle.tva_base.specs.Decimal.{decimal_of}
-use Rattle.tva_shim.specs.Packets.{IsCarried, CarriesFew}
-use Rattle.tva_shim.specs.declared.packets.Carried.{Carried}
-use Rattle.tva_shim.specs.declared.packets.Carried.TheVariants as carried
-use Rattle.tva_shim.proofs.Lengths.{has_few}
 use Rattle.tva_plan.specs.declared.config.Config.{Config}
 use Rattle.tva_plan.specs.declared.config.NodePlan.{NodePlan}
 use Rattle.tva_plan.specs.Names.{node_named}
@@ -18,16 +14,16 @@ use Rattle.tva_trace.specs.declared.rows.TraceFault.{TraceFault}
 use Rattle.tva_trace.specs.declared.rows.TraceRule as rules
 use Rattle.tva_trace.specs.declared.rows.TraceRule.TheVariants as rule
 use Rattle.tva_trace.specs.declared.said.SaidRow.{SaidRow}
-use Rattle.tva_trace.specs.declared.said.SaidShim.{SaidShim}
-use Rattle.tva_trace.specs.declared.said.SaidShim.TheVariants.{Bytes, Built}
 use Rattle.tva_trace.specs.declared.said.SaidWhat.{SaidWhat}
 use Rattle.tva_trace.specs.declared.said.SaidWhat.TheVariants as say
 use Rattle.tva_trace.specs.Items.{shim_of}
 use Rattle.tva_trace.specs.Rows.{Judged, ◌>>=◌, behind, demand, fault_at, field, filed_by, filing_of, flow_from, hold, injection_of, is_empty, is_header, kind_at, positive, records_in, row_of, rows_from, rows_under, sending_of, then_rows, ticking_of, times, what_of}
 use Rattle.std.specs.Prelude.{nat_le, nat_lt, ◌==◌}
-use Rattle.tva_trace.specs.Meaning.{AreRows, CarriedBy, Means, MeansWhat}
+use Rattle.tva_trace.specs.Meaning.{AreRows, Means, MeansWhat}
+use Rattle.tva_trace.specs.Valid.{IsSaidShim}
+use Rattle.tva_trace.proofs.Reading.{carried-fits}
 use Rattle.tva_promises.specs.Sizes.{IsSizedWhat}
-use Rattle.tva_promises.proofs.SaidShims.{IsSizedShim, decimal_fits, shim_sized}
+use Rattle.tva_promises.proofs.SaidShims.{decimal_fits, shim_fits}
 
 -- ## steps that gave something
 
@@ -56,7 +52,7 @@ held r false u gave = absurd (cc)
 -- what is said is within the sizes
 abbrev IsSizedSaid : SaidWhat → Type 0
 IsSizedSaid (say.Send dst payload) = payload ≤ 1600
-IsSizedSaid (say.Inject flow payload shim) = (payload ≤ 1600) × IsSizedShim shim
+IsSizedSaid (say.Inject flow payload shim) = (payload ≤ 1600) × IsSaidShim shim
 IsSizedSaid (say.File dst size segment) = (size ≤ 100000000) × (segment ≤ 1500)
 IsSizedSaid (say.Tick dst) = Unit {0}
 
@@ -81,8 +77,8 @@ injection_sized plans k fields w gave =
     when_held IsSizedSaid (demand rule.Shim (shim_of plans k (flow_from src dst) (field fields 6))) _ w g3 (λ shim k4 g4.
     let made : SaidWhat = say.Inject (flow_from src dst) payload shim in
     let fits = decimal_fits (field fields 5) 1600 payload (demanded rule.Payload (decimal_of (field fields 5) 1600) payload k3) in
-    let few = shim_sized plans k (flow_from src dst) (field fields 6) shim (demanded rule.Shim (shim_of plans k (flow_from src dst) (field fields 6)) shim k4) in
-    let sized : IsSizedSaid made = (fits, few) in
+    let within = shim_fits plans k (flow_from src dst) (field fields 6) shim (demanded rule.Shim (shim_of plans k (flow_from src dst) (field fields 6)) shim k4) in
+    let sized : IsSizedSaid made = (fits, within) in
     subst IsSizedSaid (ok_one made w g4) sized))))
 
 positive_by : (b : Bool) (n m : ℕ) → cond b (Some n) None ≡ Some m → Some n ≡ Some m
@@ -187,18 +183,11 @@ under_said config (fields ∷ records) said gave =
 
 -- ## what is said is meant
 
-carried_meant : (shim : SaidShim) (c : Carried) → IsSizedShim shim → CarriedBy shim c → IsCarried c × CarriesFew c
-carried_meant (Bytes bytes) carried.Nothing s m = (tt, tt)
-carried_meant (Bytes bytes) (carried.Shim shim) s m = (tt, has_few shim m.0)
-carried_meant (Bytes bytes) (carried.Malformed count) s m =
-    (let long : count ≡ length bytes = m.2 in let short : length bytes ≤ 400 = s in omega (arith, long, short), tt)
-carried_meant (Built shim) c s m = subst (λ (x : Carried). IsCarried x × CarriesFew x) (sym m) (tt, s)
-
 what_meant : (said : SaidWhat) (w : RowWhat) → IsSizedSaid said → MeansWhat said w → IsSizedWhat w
 what_meant (say.Send dst payload) w s m = subst IsSizedWhat (sym m) s
 what_meant (say.File dst size segment) w s m = subst IsSizedWhat (sym m) s
 what_meant (say.Tick dst) w s m = subst IsSizedWhat (sym m) s
-what_meant (say.Inject flow payload shim) w s m = let k = carried_meant shim m.0 s.1 m.1 in subst IsSizedWhat (sym m.2) (s.0, k.0, k.1)
+what_meant (say.Inject flow payload shim) w s m = subst IsSizedWhat (sym m.2) (s.0, carried-fits shim m.0 s.1 m.1)
 
 -- a row within the sizes
 abbrev pub IsSizedRow : Row → Type 0

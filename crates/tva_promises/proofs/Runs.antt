@@ -10,10 +10,7 @@ use Rattle.std.proofs.lemmas.List.Elements.{All-head, All-tail}
 use Rattle.std.proofs.lemmas.Option.{slice_get_cases}
 use Rattle.tva_base.specs.declared.plan.HostPlan.{HostPlan}
 use Rattle.tva_base.specs.declared.plan.LinkPlan.{LinkPlan}
-use Rattle.tva_shim.specs.Packets.{IsCarried, CarriesFew, packet_length}
-use Rattle.tva_shim.specs.declared.packets.Carried.{Carried}
-use Rattle.tva_shim.specs.declared.packets.Carried.TheVariants as carried
-use Rattle.tva_shim.proofs.Lengths.{has_few}
+use Rattle.tva_shim.specs.Packets.{packet_length}
 use Rattle.tva_plan.specs.declared.config.Config.{Config}
 use Rattle.tva_plan.specs.declared.config.NodePlan.{NodePlan}
 use Rattle.tva_plan.specs.Names.{is_host}
@@ -22,7 +19,7 @@ use Rattle.tva_trace.specs.declared.rows.Row.{Row}
 use Rattle.tva_trace.specs.declared.rows.RowWhat.{RowWhat}
 use Rattle.tva_trace.specs.declared.rows.RowWhat.TheVariants.{Send, Inject, File, Tick}
 use Rattle.tva_trace.specs.Meaning.{AreRows}
-use Rattle.tva_trace.specs.Valid.{IsWithinWidths, IsRowWhat, IsRow, AreTraceRows}
+use Rattle.tva_trace.specs.Valid.{IsRowWhat, IsRow, AreTraceRows}
 use Rattle.tva_joins.specs.Joins.{from_source, cut}
 use Rattle.tva_joins.proofs.Joins.{each-filter, filter-true, cut-zero, cut-cut}
 use Rattle.tva_log.specs.declared.kinds.Input.{Input}
@@ -45,14 +42,9 @@ use Rattle.tva_promises.proofs.ReadRows.{IsSizedRow, rows_sized}
 
 -- ## rows
 
-carried_sized : (c : Carried) → IsWithinWidths c → IsCarried c × CarriesFew c
-carried_sized carried.Nothing w = (tt, tt)
-carried_sized (carried.Shim shim) w = (tt, has_few shim w)
-carried_sized (carried.Malformed size) w = (w, tt)
-
 what_sized : (at_host : Bool) (what : RowWhat) → IsRowWhat at_host what → IsSizedWhat what
 what_sized at_host (Send dst payload) w = w.1
-what_sized at_host (Inject flow payload c) w = let k = carried_sized c w.1 in (w.0, k.0, k.1)
+what_sized at_host (Inject flow payload c) w = w
 what_sized at_host (File dst size segment) w = (w.1.most, w.1.few)
 what_sized at_host (Tick dst) w = tt
 

@@ -1,8 +1,11 @@
--- What the last field of a row says is within the sizes of a network.
-use Rattle.std.proofs.Common.{◌≡◌, ℕ, ◌/◌, ◌≤◌, Bool, true, false, ◌&&◌, nat_le, cond, List, [], ◌∷◌, length, Option, Some, None, Result, Ok, Err, refl, ap, sym, ◌∙◌, subst, arith}
+-- What the last field of a row says is a shim within its widths, or few bytes.
+use Rattle.std.proofs.Common.{◌≡◌, ℕ, ◌/◌, ◌^◌, ◌<◌, ◌≤◌, Bool, true, false, ◌&&◌, nat_le, cond, List, [], ◌∷◌, length, Option, Some, None, Result, Ok, Err, All, refl, ap, sym, ◌∙◌, subst, arith}
 use Rattle.std.specs.Option.{option_map}
 use Rattle.std.proofs.lemmas.Bool.{and_parts, leb-true}
-use Rattle.hex.specs.Hex.{decode_sized}
+use Rattle.std.proofs.lemmas.List.Elements.{All-cons, All-nil}
+use Rattle.byteorder.specs.Endian.{big_number}
+use Rattle.byteorder.specs.Numbers.{big_from-lt}
+use Rattle.hex.specs.Hex.{IsBytes, decode_sized}
 use Rattle.hex.specs.declared.error.FromHexError.{FromHexError}
 use Rattle.hex.proofs.HexLemmas.{decode_of-ok, decode_sized-ok, decode_sized-twice}
 use Rattle.tva_base.specs.declared.packet.Flow.{Flow}
@@ -10,16 +13,22 @@ use Rattle.tva_base.specs.declared.packet.Rights.{Rights}
 use Rattle.tva_base.specs.Addresses.{parted}
 use Rattle.tva_base.specs.Decimal.{decimal_of, is_decimal, number_in}
 use Rattle.tva_base.specs.Options.{◌>>=◌}
-use Rattle.tva_base.specs.Versions.{version_for}
+use Rattle.tva_base.specs.Versions.{AreSomeRights, IsVersion, carries, seconds_max, units_max, version_for}
+use Rattle.tva_base.proofs.Widths.{least_rights}
 use Rattle.tva_shim.specs.declared.kinds.Shown.{Shown}
 use Rattle.tva_shim.specs.declared.kinds.Kind.TheVariants as shims
-use Rattle.tva_shim.specs.Packets.{HasFew}
+use Rattle.tva_shim.specs.Widths.{IsEntry, IsCap, AreEntries, AreCaps}
+use Rattle.tva_shim.specs.Shims.{IsShown, IsShim}
+use Rattle.tva_caps.specs.Formula.{capability_of, precap_of}
+use Rattle.tva_caps.proofs.Stamps.{capability_of-lt, precap_of-lt}
 use Rattle.tva_plan.specs.declared.config.NodePlan.{NodePlan}
 use Rattle.tva_trace.specs.declared.rows.RowKind as kinds
 use Rattle.tva_trace.specs.declared.rows.RowKind.TheVariants as kind
 use Rattle.tva_trace.specs.declared.said.SaidShim.{SaidShim}
 use Rattle.tva_trace.specs.declared.said.SaidShim.TheVariants.{Bytes, Built}
-use Rattle.tva_trace.specs.Items.{caps_of, decoded, each_of, few, hex_bytes_of, hex_number_of, item_of, items_in, plain_shim, raw_of, rights_of, shim_of, shown_from, shown_of}
+use Rattle.tva_trace.specs.Items.{caps_of, decoded, each_of, few, hex_bytes_of, hex_number_of, item_in, item_of, items_in, minted_of, plain_shim, raw_of, rights_from, rights_of, shim_of, shown_from, shown_of}
+use Rattle.tva_trace.specs.Names.{master_named}
+use Rattle.tva_trace.specs.Valid.{IsSaidShim}
 
 -- ## steps that gave something
 
@@ -56,16 +65,22 @@ decoded_is : (r : Result (List ℕ) FromHexError) (bytes : List ℕ) → decoded
 decoded_is (Ok xs) bytes gave = let same : xs ≡ bytes = some_one xs bytes gave in ap Ok same
 decoded_is (Err e) bytes gave = absurd (cc)
 
-bytes_long : (count : ℕ) (text bytes : List ℕ) → hex_bytes_of count text ≡ Some bytes → length bytes ≡ count
-bytes_long count text bytes gave =
+bytes_are : (count : ℕ) (text bytes : List ℕ) → hex_bytes_of count text ≡ Some bytes → (length bytes ≡ count) × IsBytes bytes
+bytes_are count text bytes gave =
     let is : decode_sized text count ≡ Ok bytes = decoded_is (decode_sized text count) bytes gave in
     let twice = decode_sized-ok text count bytes is in
     let whole = decode_of-ok text bytes (sym (decode_sized-twice text count twice) ∙ is) in
-    omega (arith, twice, whole.2)
+    (omega (arith, twice, whole.2), whole.3)
+
+-- a number in so many bytes
+number_short : (count : ℕ) (text : List ℕ) (n : ℕ) → hex_number_of count text ≡ Some n → n < 256 ^ count
+number_short count text n gave =
+    when_mapped (λ (m : ℕ). m < 256 ^ count) (big_number count) (hex_bytes_of count text) n gave
+    (λ bytes k. big_from-lt 0 count bytes (bytes_are count text bytes k).1)
 
 raw_at : (b : Bool) (text bytes : List ℕ) → (b ≡ true → length text ≤ 800)
     → cond b (hex_bytes_of (length text / 2) text) None ≡ Some bytes → length bytes ≤ 400
-raw_at true text bytes short gave = omega (arith, bytes_long (length text / 2) text bytes gave, short refl)
+raw_at true text bytes short gave = omega (arith, (bytes_are (length text / 2) text bytes gave).0, short refl)
 raw_at false text bytes short gave = absurd (cc)
 
 raw_few : (text bytes : List ℕ) → raw_of text ≡ Some bytes → length bytes ≤ 400
@@ -93,56 +108,133 @@ each_long plans flow rights (item ∷ items) caps gave =
     let longer : length (cap ∷ more) ≡ length (item ∷ items) = omega (arith, shorter) in
     subst Q (some_one (cap ∷ more) caps g2) longer))
 
-caps_few : (plans : List NodePlan) (flow : Flow) (rights : Rights) (text caps : List ℕ) → caps_of plans flow rights text ≡ Some caps
-    → length caps ≤ 16
-unfolding caps_of
-caps_few plans flow rights text caps gave =
-    when_some (λ (xs : List ℕ). length xs ≤ 16) (few (items_in text)) _ caps gave
-    (λ items k g. omega (arith, few_items (items_in text) items k, each_long plans flow rights items caps g))
+minted_fits : (plans : List NodePlan) (flow : Flow) (rights : Rights) (parts : List ℕ × List ℕ) (cap : ℕ) → minted_of plans flow rights parts ≡ Some cap → IsCap cap
+unfolding minted_of
+minted_fits plans flow rights parts cap gave =
+    when_some IsCap (master_named plans parts.0) _ cap gave (λ master k1 g1.
+    when_some IsCap (decimal_of parts.1 2000000) _ cap g1 (λ second k2 g2.
+    let made : ℕ = capability_of (precap_of master flow second) rights in
+    subst IsCap (some_one made cap g2) (capability_of-lt (precap_of master flow second) rights (precap_of-lt master flow second))))
 
-shown_few : (plans : List NodePlan) (flow : Flow) (text : List ℕ) (s : Shown) → shown_of plans flow text ≡ Some s → length s.caps ≤ 16
+item_in_fits : (plans : List NodePlan) (flow : Flow) (rights : Rights) (text : List ℕ) (parts : Option (List ℕ × List ℕ)) (cap : ℕ) → item_in plans flow rights text parts ≡ Some cap → IsCap cap
+item_in_fits plans flow rights text None cap gave = number_short 8 text cap gave
+item_in_fits plans flow rights text (Some parts) cap gave = minted_fits plans flow rights parts cap gave
+
+item_fits : (plans : List NodePlan) (flow : Flow) (rights : Rights) (text : List ℕ) (cap : ℕ) → item_of plans flow rights text ≡ Some cap → IsCap cap
+unfolding item_of
+item_fits plans flow rights text cap gave = item_in_fits plans flow rights text (parted 64 text) cap gave
+
+each_fits : (plans : List NodePlan) (flow : Flow) (rights : Rights) (items : List (List ℕ)) (caps : List ℕ)
+    → each_of plans flow rights items ≡ Some caps → All IsCap caps
+each_fits plans flow rights [] caps gave = subst (All IsCap) (some_one [] caps gave) (All-nil IsCap)
+each_fits plans flow rights (item ∷ items) caps gave =
+    when_some (All IsCap) (item_of plans flow rights item) _ caps gave (λ cap k1 g1.
+    when_some (All IsCap) (each_of plans flow rights items) _ caps g1 (λ more k2 g2.
+    let all : All IsCap (cap ∷ more) = All-cons IsCap cap more (item_fits plans flow rights item cap k1) (each_fits plans flow rights items more k2) in
+    subst (All IsCap) (some_one (cap ∷ more) caps g2) all))
+
+caps_fit : (plans : List NodePlan) (flow : Flow) (rights : Rights) (text caps : List ℕ) → caps_of plans flow rights text ≡ Some caps → AreCaps caps
+unfolding caps_of
+caps_fit plans flow rights text caps gave =
+    when_some AreCaps (few (items_in text)) _ caps gave
+    (λ items k g. record { few = omega (arith, few_items (items_in text) items k, each_long plans flow rights items caps g); each = each_fits plans flow rights items caps g })
+
+-- ## rights
+
+rights_fit : (units seconds : List ℕ) (rights : Rights) → rights_of units seconds ≡ Some rights → AreSomeRights rights
+unfolding rights_of
+rights_fit units seconds rights gave =
+    when_some AreSomeRights (decimal_of units (units_max 2)) _ rights gave (λ n k1 g1.
+    when_some AreSomeRights (decimal_of seconds (seconds_max 2)) _ rights g1 (λ t k2 g2.
+    let made : Rights = rights_from n t in
+    let some : AreSomeRights made = record { units = decimal_fits units (units_max 2) n k1; seconds = decimal_fits seconds (seconds_max 2) t k2 } in
+    subst AreSomeRights (some_one made rights g2) some))
+
+-- what is shown has the widths of version 2
+record AreShown (s : Shown) : Type 0 where
+  shows : IsShown 2 s
+  caps : AreCaps s.caps
+
+shown_fits : (plans : List NodePlan) (flow : Flow) (text : List ℕ) (s : Shown) → shown_of plans flow text ≡ Some s → AreShown s
 unfolding shown_of
-shown_few plans flow text s gave =
-    let Q : Shown → Type 0 = λ x. length x.caps ≤ 16 in
-    when_some Q (parted 47 text) _ s gave (λ first k1 g1.
-    when_some Q (parted 47 first.1) _ s g1 (λ second k2 g2.
-    when_some Q (parted 47 second.1) _ s g2 (λ third k3 g3.
-    when_some Q (parted 47 third.1) _ s g3 (λ fourth k4 g4.
-    when_some Q (hex_number_of 6 first.0) _ s g4 (λ nonce k5 g5.
-    when_some Q (rights_of second.0 third.0) _ s g5 (λ rights k6 g6.
-    when_some Q (caps_of plans flow rights fourth.1) _ s g6 (λ caps k7 g7.
-    when_some Q (decimal_of fourth.0 (length caps)) _ s g7 (λ pointer k8 g8.
+shown_fits plans flow text s gave =
+    when_some AreShown (parted 47 text) _ s gave (λ first k1 g1.
+    when_some AreShown (parted 47 first.1) _ s g1 (λ second k2 g2.
+    when_some AreShown (parted 47 second.1) _ s g2 (λ third k3 g3.
+    when_some AreShown (parted 47 third.1) _ s g3 (λ fourth k4 g4.
+    when_some AreShown (hex_number_of 6 first.0) _ s g4 (λ nonce k5 g5.
+    when_some AreShown (rights_of second.0 third.0) _ s g5 (λ rights k6 g6.
+    when_some AreShown (caps_of plans flow rights fourth.1) _ s g6 (λ caps k7 g7.
+    when_some AreShown (decimal_of fourth.0 (length caps)) _ s g7 (λ pointer k8 g8.
     let made : Shown = shown_from nonce pointer rights caps in
-    subst Q (some_one made s g8) (caps_few plans flow rights fourth.1 caps k7)))))))))
+    let shows : IsShown 2 made = record {
+      nonce = number_short 6 first.0 nonce k5;
+      pointer = decimal_fits fourth.0 (length caps) pointer k8;
+      rights = rights_fit second.0 third.0 rights k6;
+    } in
+    let are : AreShown made = record { shows = shows; caps = caps_fit plans flow rights fourth.1 caps k7 } in
+    subst AreShown (some_one made s g8) are))))))))
 
 -- ## shims
 
--- a raw shim has at most 400 bytes, and one that is built few of each
-abbrev pub IsSizedShim : SaidShim → Type 0
-IsSizedShim (Bytes bytes) = length bytes ≤ 400
-IsSizedShim (Built shim) = HasFew shim
+least_version : (r : Rights) → IsVersion (version_for r)
+least_version r = elim (carries 1 r) as (λ b. IsVersion (cond b 1 2)) [ true ↦ record { from = omega arith; to = omega arith } | false ↦ record { from = omega arith; to = omega arith } ]
 
-list_few : (version : ℕ) (s : Shown) → length s.caps ≤ 16 → HasFew (plain_shim version (shims.List s))
-list_few version s short = record { entries = omega arith; caps = short; granted = omega arith }
+-- the least version for the rights can carry what is shown
+least_shown : (s : Shown) → AreShown s → IsShown (version_for s.rights) s
+least_shown s k = record { nonce = k.shows.nonce; pointer = k.shows.pointer; rights = least_rights s.rights k.shows.rights }
 
-renewal_few : (version : ℕ) (s : Shown) → length s.caps ≤ 16 → HasFew (plain_shim version (shims.Renewal s))
-renewal_few version s short = record { entries = omega arith; caps = short; granted = omega arith }
+no_entries : AreEntries []
+no_entries = record { few = omega arith; each = All-nil IsEntry }
 
-nonce_few : (nonce : ℕ) → HasFew (plain_shim 1 (shims.Nonce nonce))
-nonce_few nonce = record { entries = omega arith; caps = omega arith; granted = omega arith }
+no_caps : AreCaps []
+no_caps = record { few = omega arith; each = All-nil IsCap }
 
-pub shim_sized : (plans : List NodePlan) (k : kinds.RowKind) (flow : Flow) (text : List ℕ) (s : SaidShim)
-    → shim_of plans k flow text ≡ Some s → IsSizedShim s
+list_fits : (s : Shown) → AreShown s → IsShim (plain_shim (version_for s.rights) (shims.List s))
+list_fits s k = record {
+  version = least_version s.rights;
+  protocol = omega arith;
+  kind = least_shown s k;
+  entries = no_entries;
+  caps = k.caps;
+  back = tt;
+  granted = no_caps;
+}
+
+renewal_fits : (s : Shown) → AreShown s → IsShim (plain_shim (version_for s.rights) (shims.Renewal s))
+renewal_fits s k = record {
+  version = least_version s.rights;
+  protocol = omega arith;
+  kind = least_shown s k;
+  entries = no_entries;
+  caps = k.caps;
+  back = tt;
+  granted = no_caps;
+}
+
+nonce_fits : (nonce : ℕ) → nonce < 2 ^ 48 → IsShim (plain_shim 1 (shims.Nonce nonce))
+nonce_fits nonce short = record {
+  version = record { from = omega arith; to = omega arith };
+  protocol = omega arith;
+  kind = short;
+  entries = no_entries;
+  caps = no_caps;
+  back = tt;
+  granted = no_caps;
+}
+
+pub shim_fits : (plans : List NodePlan) (k : kinds.RowKind) (flow : Flow) (text : List ℕ) (s : SaidShim)
+    → shim_of plans k flow text ≡ Some s → IsSaidShim s
 unfolding shim_of
-shim_sized plans kind.Send flow text s gave = absurd (cc)
-shim_sized plans kind.File flow text s gave = absurd (cc)
-shim_sized plans kind.Tick flow text s gave = absurd (cc)
-shim_sized plans kind.Raw flow text s gave = when_mapped IsSizedShim Bytes (raw_of text) s gave (λ bytes k. raw_few text bytes k)
-shim_sized plans kind.List flow text s gave =
-    when_mapped IsSizedShim (λ shown. Built (plain_shim (version_for shown.rights) (shims.List shown))) (shown_of plans flow text) s gave
-    (λ shown k. list_few (version_for shown.rights) shown (shown_few plans flow text shown k))
-shim_sized plans kind.Renew flow text s gave =
-    when_mapped IsSizedShim (λ shown. Built (plain_shim (version_for shown.rights) (shims.Renewal shown))) (shown_of plans flow text) s gave
-    (λ shown k. renewal_few (version_for shown.rights) shown (shown_few plans flow text shown k))
-shim_sized plans kind.Nonce flow text s gave =
-    when_mapped IsSizedShim (λ nonce. Built (plain_shim 1 (shims.Nonce nonce))) (hex_number_of 6 text) s gave (λ nonce k. nonce_few nonce)
+shim_fits plans kind.Send flow text s gave = absurd (cc)
+shim_fits plans kind.File flow text s gave = absurd (cc)
+shim_fits plans kind.Tick flow text s gave = absurd (cc)
+shim_fits plans kind.Raw flow text s gave = when_mapped IsSaidShim Bytes (raw_of text) s gave (λ bytes k. raw_few text bytes k)
+shim_fits plans kind.List flow text s gave =
+    when_mapped IsSaidShim (λ shown. Built (plain_shim (version_for shown.rights) (shims.List shown))) (shown_of plans flow text) s gave
+    (λ shown k. list_fits shown (shown_fits plans flow text shown k))
+shim_fits plans kind.Renew flow text s gave =
+    when_mapped IsSaidShim (λ shown. Built (plain_shim (version_for shown.rights) (shims.Renewal shown))) (shown_of plans flow text) s gave
+    (λ shown k. renewal_fits shown (shown_fits plans flow text shown k))
+shim_fits plans kind.Nonce flow text s gave =
+    when_mapped IsSaidShim (λ nonce. Built (plain_shim 1 (shims.Nonce nonce))) (hex_number_of 6 text) s gave (λ nonce k. nonce_fits nonce (number_short 6 text nonce k))

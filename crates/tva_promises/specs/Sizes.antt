@@ -1,17 +1,16 @@
 -- Crate: what is within the sizes of a network: payloads, shims, files, and what reaches a node.
 use Rattle.std.specs.Prelude.{◌≤◌}
-use Rattle.tva_shim.specs.Packets.{IsCarried, CarriesFew, IsSizedPacket}
+use Rattle.tva_shim.specs.Packets.{IsWithinWidths, IsSizedPacket}
 use Rattle.tva_trace.specs.declared.rows.RowWhat.{RowWhat}
 use Rattle.tva_trace.specs.declared.rows.RowWhat.TheVariants.{Send, Inject, File, Tick}
 use Rattle.tva_log.specs.declared.kinds.Input.{Input}
 use Rattle.tva_log.specs.declared.kinds.Input.TheVariants.{FromTrace, Arrival}
 use Rattle.tva_log.specs.Entries.{Entry, Took, Started}
 
--- a payload has at most 1,600 bytes, what a packet carries is within the sizes of a network, a file has at most
--- 100,000,000 bytes, and a segment at most 1,500
+-- a payload has at most 1,600 bytes, a shim its widths, a file at most 100,000,000 bytes, and a segment at most 1,500
 abbrev pub IsSizedWhat : RowWhat → Type 0
 IsSizedWhat (Send dst payload) = payload ≤ 1600
-IsSizedWhat (Inject flow payload carried) = (payload ≤ 1600) × IsCarried carried × CarriesFew carried
+IsSizedWhat (Inject flow payload carried) = (payload ≤ 1600) × IsWithinWidths carried
 IsSizedWhat (File dst size segment) = (size ≤ 100000000) × (segment ≤ 1500)
 IsSizedWhat (Tick dst) = Unit {0}
 

@@ -43,6 +43,8 @@ pub changed_valid : (plan : RouterPlan) (master : List ℕ) (routes : List Route
 changed_valid plan master routes k same links prefixes = record {
   clock_offset = k.clock_offset;
   slots = k.slots;
+  edge_tag = k.edge_tag;
+  tags = k.tags;
   incoming = k.incoming;
   outgoing = k.outgoing;
   limits = k.limits;

@@ -8,7 +8,7 @@ use Rattle.tva_shim.specs.declared.packets.Carried.{Carried}
 use Rattle.tva_shim.specs.declared.packets.Carried.TheVariants as carried
 use Rattle.tva_shim.specs.Shims.{ShimData, IsShim, entries_of, caps_of, granted_caps}
 use Rattle.tva_shim.specs.Layout.{layout, kind_size, return_size}
-use Rattle.tva_shim.specs.Packets.{PacketData, IsCarried, HasFew, CarriesFew, IsSizedPacket, carried_bytes, packet_length}
+use Rattle.tva_shim.specs.Packets.{PacketData, IsCarried, IsWithinWidths, IsSizedPacket, carried_bytes, packet_length}
 use Rattle.tva_base.proofs.Widths.{size_few}
 use Rattle.tva_shim.proofs.Sizes.{length-layout}
 
@@ -23,19 +23,21 @@ return_within version backs.Nothing few = omega arith
 return_within version backs.Notice few = omega arith
 return_within version (backs.Grant rights caps) few = omega (arith, size_few version)
 
--- a shim within its widths has few of each
-pub has_few : (s : ShimData) → IsShim s → HasFew s
-has_few s is = record { entries = is.entries.few; caps = is.caps.few; granted = is.granted.few }
-
 -- the longest shim is a request of version 2 with 16 entries and a grant of 16 capabilities
-pub shim_within : (s : ShimData) → HasFew s → length (layout s) ≤ 297
-shim_within s has = omega (arith, length-layout s, kind_within s.version s.kind has.entries has.caps, return_within s.version s.back has.granted)
+pub shim_within : (s : ShimData) → IsShim s → length (layout s) ≤ 297
+shim_within s is = omega (arith, length-layout s, kind_within s.version s.kind is.entries.few is.caps.few, return_within s.version s.back is.granted.few)
 
-carried_within : (c : Carried) → IsCarried c → CarriesFew c → carried_bytes c ≤ 400
-carried_within carried.Nothing is few = omega arith
-carried_within (carried.Shim shim) is few = omega (arith, shim_within shim few)
-carried_within (carried.Malformed bytes) is few = is
+carried_within : (c : Carried) → IsWithinWidths c → carried_bytes c ≤ 400
+carried_within carried.Nothing is = omega arith
+carried_within (carried.Shim shim) is = omega (arith, shim_within shim is)
+carried_within (carried.Malformed bytes) is = is
+
+-- what has its widths, a packet can carry
+pub carried_fits : (c : Carried) → IsWithinWidths c → IsCarried c
+carried_fits carried.Nothing is = tt
+carried_fits (carried.Shim shim) is = tt
+carried_fits (carried.Malformed bytes) is = is
 
 -- the longest packet has a malformed shim of 400 bytes and a payload of 1,600
 pub packet_within : (p : PacketData) → IsSizedPacket p → packet_length p ≤ 2020
-packet_within p is = omega (arith, carried_within p.carried is.packet.carried is.few, is.packet.payload)
+packet_within p is = omega (arith, carried_within p.carried is.widths, is.packet.payload)

@@ -10,7 +10,7 @@ use Rattle.tva_shim.specs.declared.kinds.Kind.{Kind}
 use Rattle.tva_shim.specs.declared.kinds.Kind.TheVariants as kinds
 use Rattle.tva_shim.specs.declared.packets.Carried.{Carried}
 use Rattle.tva_shim.specs.declared.packets.Carried.TheVariants as carried
-use Rattle.tva_shim.specs.Shims.{ShimData, entries_of, caps_of, granted_caps}
+use Rattle.tva_shim.specs.Shims.{IsShim}
 use Rattle.tva_shim.specs.Layout.{layout, shim_size}
 
 -- a packet as contracts see it
@@ -69,22 +69,17 @@ pub record IsPacket (p : PacketData) : Type 0 where
   pub upper : IsUpper p.upper
   pub fills : Fills p.upper p.payload
 
--- a shim has at most 16 of each: entries, capabilities that it shows, and capabilities that it grants
-pub record HasFew (s : ShimData) : Type 0 where
-  pub entries : length (entries_of s.kind) ≤ 16
-  pub caps : length (caps_of s.kind) ≤ 16
-  pub granted : length (granted_caps s.back) ≤ 16
+-- a shim has its widths, and a malformed one at most 400 bytes
+abbrev pub IsWithinWidths : Carried → Type 0
+IsWithinWidths carried.Nothing = Unit {0}
+IsWithinWidths (carried.Shim shim) = IsShim shim
+IsWithinWidths (carried.Malformed bytes) = bytes ≤ 400
 
-abbrev pub CarriesFew : Carried → Type 0
-CarriesFew carried.Nothing = Unit {0}
-CarriesFew (carried.Shim shim) = HasFew shim
-CarriesFew (carried.Malformed bytes) = Unit {0}
-
--- A packet within the sizes of a network, its shim too. Each packet of the program is one, and its length
--- is bounded by that alone.
+-- A packet within the sizes of a network, whose shim has its widths. Each packet of the program is one, and its
+-- length is bounded by that alone.
 pub record IsSizedPacket (p : PacketData) : Type 0 where
   pub packet : IsPacket p
-  pub few : CarriesFew p.carried
+  pub widths : IsWithinWidths p.carried
 
 -- the bytes between a packet's header and its payload
 abbrev pub carried_bytes : Carried → ℕ

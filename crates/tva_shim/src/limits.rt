@@ -1,9 +1,9 @@
 // The sizes within which packets stay. Definitions write them out, so that each stands where it is read.
 ghost use Rattle.std.specs.Prelude.{◌≡◌, ◌≤◌, length};
 ghost use Rattle.tva_shim.specs.declared.limits.TheConstants.{HOPS_MAX, MALFORMED_MAX, PAYLOAD_MAX};
-ghost use Rattle.tva_shim.specs.Shims.{ShimData};
+ghost use Rattle.tva_shim.specs.Shims.{ShimData, IsShim};
 ghost use Rattle.tva_shim.specs.Layout.{layout};
-ghost use Rattle.tva_shim.specs.Packets.{PacketData, HasFew, IsSizedPacket, packet_length};
+ghost use Rattle.tva_shim.specs.Packets.{PacketData, IsSizedPacket, packet_length};
 
 /// The greatest length of a payload, in bytes.
 pub const PAYLOAD_MAX: u16 = 1600;
@@ -26,5 +26,5 @@ pub fn limits_hold()
 #[tactic(auto, using(crate::proofs::Lengths::shim_within, crate::proofs::Lengths::packet_within))]
 pub fn packets_are_short()
     ensures packet { (p : PacketData) → IsSizedPacket p → packet_length p ≤ 2020 }
-    ensures shim { (s : ShimData) → HasFew s → length (layout s) ≤ 297 }
+    ensures shim { (s : ShimData) → IsShim s → length (layout s) ≤ 297 }
 {}

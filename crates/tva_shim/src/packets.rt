@@ -1,6 +1,6 @@
 // Packets, their lengths and their classes.
 ghost use Rattle.std.specs.Prelude.{◌≡◌, ◌≤◌, ◌+◌};
-ghost use Rattle.tva_shim.specs.Packets.{IsCarried, CarriesFew, IsSizedPacket, class_by_shim, packet_length, carried_bytes, carried_size, made_packet, made_with, packet_data, IsUpper, Fills, upper_size};
+ghost use Rattle.tva_shim.specs.Packets.{IsCarried, IsWithinWidths, IsSizedPacket, class_by_shim, packet_length, carried_bytes, carried_size, made_packet, made_with, packet_data, IsUpper, Fills, upper_size};
 
 use crate::kinds::Kind;
 use crate::shims::{Shim, shim_bytes_of};
@@ -153,7 +153,7 @@ fn carried_bytes_of(carried: &Carried) -> u32
     ensures layout { result ≡ carried_bytes carried.now }
     ensures counted { result ≡ carried_size carried.now }
     ensures short { IsCarried carried.now → result ≤ 400 }
-    ensures few { CarriesFew carried.now }
+    ensures widths { IsCarried carried.now → IsWithinWidths carried.now }
 {
     match carried {
         Carried::Nothing => 0,

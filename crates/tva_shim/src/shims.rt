@@ -2,7 +2,6 @@
 ghost use Rattle.std.specs.Prelude.{◌≡◌, if◌then◌else◌, nat_lt, ◌≤◌, ◌↔◌, length, IsErr, OnOk, OnErr};
 ghost use Rattle.tva_base.specs.Versions.{IsVersion};
 ghost use Rattle.tva_shim.specs.Widths.{AreEntries, AreCaps};
-ghost use Rattle.tva_shim.specs.Packets.{HasFew};
 ghost use Rattle.tva_shim.specs.Shims.{IsShim, IsKind, IsReturn, entries_of, caps_of, granted_caps};
 ghost use Rattle.tva_shim.specs.Layout.{layout, shim_size, kind_size, return_size};
 ghost use Rattle.tva_shim.specs.Changes.{IsRequest, PointsAtOne, last_tag, tag_before, with_entry, with_next_pointer, with_fresh, with_mark};
@@ -182,8 +181,10 @@ pub(crate) fn shim_bytes_of(shim: &Shim) -> u32
     ensures layout { result ≡ length (layout shim.now) }
     ensures counted { result ≡ shim_size shim.now }
     ensures short { result ≤ 297 }
-    ensures few { HasFew shim.now }
+    ensures widths { IsShim shim.now }
 {
+    // the one number whose width is its type's alone
+    prove!(shim.protocol <= 255);
     kind_bytes_of(shim.version, &shim.kind) + return_bytes_of(shim.version, &shim.back)
 }
 

@@ -33,7 +33,8 @@ use Rattle.tva_trace.specs.declared.said.SaidShim.TheVariants.{Bytes, Built}
 use Rattle.tva_trace.specs.declared.said.SaidWhat.{SaidWhat}
 use Rattle.tva_trace.specs.declared.said.SaidWhat.TheVariants as say
 use Rattle.tva_plan.specs.Names.{is_host}
-use Rattle.tva_trace.specs.Valid.{AreTraceRows, IsWithinWidths, IsRow, IsRowWhat, IsSaid, IsSaidShim, IsSaidWhat, NeverFall, files_at}
+use Rattle.tva_shim.specs.Packets.{IsWithinWidths}
+use Rattle.tva_trace.specs.Valid.{AreTraceRows, IsRow, IsRowWhat, IsSaid, IsSaidShim, IsSaidWhat, NeverFall, files_at}
 use Rattle.tva_trace.proofs.FileCounts.{counts_more, counts_same, files_more, finds_room, room_left}
 use Rattle.tva_trace.proofs.RecordsLeft.{left_of, left-none, left-read}
 
@@ -224,7 +225,7 @@ ends_at-push last [] row = refl
 ends_at-push last (r ∷ rs) row = ends_at-push r.time.0 rs row
 
 -- what is said within the limits is a row within them
-carried-fits : (shim : SaidShim) (c : Carried) → IsSaidShim shim → CarriedBy shim c → IsWithinWidths c
+pub carried-fits : (shim : SaidShim) (c : Carried) → IsSaidShim shim → CarriedBy shim c → IsWithinWidths c
 carried-fits (Bytes bytes) carried.Nothing h m = tt
 carried-fits (Bytes bytes) (carried.Shim shim) h m = m.0
 carried-fits (Bytes bytes) (carried.Malformed count) h m = omega (arith, m.2)

@@ -1,8 +1,7 @@
 -- Crate: what every row keeps that was read under a configuration.
 use Rattle.std.specs.Prelude.{◌≡◌, ◌≤◌, ◌<◌, ◌==◌, ◌&&◌, ℕ, Bool, true, false, List, [], ◌∷◌, length, count_by, All}
 use Rattle.tva_shim.specs.Shims.{IsShim}
-use Rattle.tva_shim.specs.declared.packets.Carried.{Carried}
-use Rattle.tva_shim.specs.declared.packets.Carried.TheVariants as carried
+use Rattle.tva_shim.specs.Packets.{IsWithinWidths}
 use Rattle.tva_plan.specs.declared.config.Config.{Config}
 use Rattle.tva_trace.specs.declared.rows.Row.{Row}
 use Rattle.tva_trace.specs.declared.rows.RowWhat as whats
@@ -16,12 +15,6 @@ use Rattle.tva_trace.specs.declared.said.SaidWhat.TheVariants as say
 use Rattle.tva_trace.specs.declared.said.SaidRow.{SaidRow}
 use Rattle.tva_plan.specs.Names.{is_host}
 use Rattle.tva_trace.specs.Rows.{has_room}
-
--- a shim has its widths, and a malformed one at most 400 bytes
-abbrev pub IsWithinWidths : Carried → Type 0
-IsWithinWidths carried.Nothing = Unit {0}
-IsWithinWidths (carried.Shim shim) = IsShim shim
-IsWithinWidths (carried.Malformed bytes) = bytes ≤ 400
 
 -- a file has 1 to 100,000,000 bytes, and each of its segments 1 to 1,500
 pub record IsFile (size segment : ℕ) : Type 0 where

@@ -6,15 +6,15 @@ use Rattle.tva_index.proofs.key_ring.KeyRing.leave.Goals as goal
 pub take_key-requires-clause-there : goal.take_key-requires-clause-there
 take_key-requires-clause-there c =
     let i = c.self.inside in
-    let e : i.order.items ≡ c.in-Some.key ∷ c.pop_front.new.self.items = c.in-Some.ensures.items in
-    front_there i.places i.first c.in-Some.key c.pop_front.new.self.items i.tree.links.items i.tree.entries.items i.tree.free.items
+    let e : i.order.items ≡ c.in-Some.key ∷ c.take_front.new.queue.items = c.in-Some.ensures.items in
+    front_there i.places i.first c.in-Some.key c.take_front.new.queue.items i.tree.links.items i.tree.entries.items i.tree.free.items
     (subst (λ (z : List ℕ). AreNumbered i.places i.first z i.tree.links.items i.tree.entries.items i.tree.free.items) e c.self.invariant.0)
 
 pub invariant_of-self : goal.invariant_of-self
 invariant_of-self c =
     let i = c.self.inside in
-    let e : i.order.items ≡ c.in-Some.key ∷ c.pop_front.new.self.items = c.in-Some.ensures.items in
-    let n = numbered_leave i.places i.first c.in-Some.key c.pop_front.new.self.items i.tree.links.items i.tree.entries.items i.tree.free.items
+    let e : i.order.items ≡ c.in-Some.key ∷ c.take_front.new.queue.items = c.in-Some.ensures.items in
+    let n = numbered_leave i.places i.first c.in-Some.key c.take_front.new.queue.items i.tree.links.items i.tree.entries.items i.tree.free.items
     (subst (λ (z : List ℕ). AreNumbered i.places i.first z i.tree.links.items i.tree.entries.items i.tree.free.items) e c.self.invariant.0)
     c.take_key.new.tree.links.items c.take_key.new.tree.entries.items c.take_key.new.tree.free.items c.take_key.ensures.tree c.take_key.ensures.without c.take_key.ensures.free.0 in
     (n, omega (arith, c.self.invariant.1, c.in-Some.ensures.capacity), omega (arith, c.self.invariant.2, c.take_key.ensures.free.1))

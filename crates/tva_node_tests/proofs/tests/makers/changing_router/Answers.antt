@@ -16,7 +16,7 @@ build-requires-clause-site c =
     record {
       number = omega arith;
       planned = (
-        plan_is _ c.link-back.result.limits c.link-on.result.limits refl refl back.limits on.limits
+        plan_is _ c.link-back.result.limits c.link-on.result.limits refl refl refl back.limits on.limits
             (c.new-2.ensures ∙ c.in_ok-vec.ensures.items) outgoing
             (c.new-4.ensures ∙ c.in_ok-vec-3.ensures.items ∙ two _ _ _ _ c.route.ensures c.route-2.ensures)
             c.requires,

@@ -80,10 +80,12 @@ way_prefixes =
     four_all (λ (r : Route). IsPrefix r.prefix) (to 0 0 0) (to 167772416 24 1) (to 167772544 25 2) (to 167772545 32 3)
     (valid 0 0 0 (omega arith) refl) (valid 167772416 24 1 (omega arith) refl) (valid 167772544 25 2 (omega arith) refl) (valid 167772545 32 3 (omega arith) refl)
 
-plan_is : (r : RouterPlan) (l : LinkLimits) → r.clock_offset ≤ 1000000000000000 → r.slots ≤ 1000000 → AreLinkLimits l → r.incoming ≡ (9, 12) ∷ [] → r.outgoing ≡ outs l → r.routes ≡ ways → r.restarts ≡ [] → r.reroutes ≡ [] → IsRouterPlan r
-plan_is r l offset slots k incoming outgoing routes restarts reroutes = record {
+plan_is : (r : RouterPlan) (l : LinkLimits) → r.clock_offset ≤ 1000000000000000 → r.slots ≤ 1000000 → r.edge_tag < 2 ^ 16 → AreLinkLimits l → r.incoming ≡ (9, 12) ∷ [] → r.outgoing ≡ outs l → r.routes ≡ ways → r.restarts ≡ [] → r.reroutes ≡ [] → IsRouterPlan r
+plan_is r l offset slots edge k incoming outgoing routes restarts reroutes = record {
   clock_offset = offset;
   slots = slots;
+  edge_tag = edge;
+  tags = subst (λ (z : List (ℕ × ℕ)). All (λ i. i.1 < 2 ^ 16) z) (sym incoming) (all-cons (λ (i : ℕ × ℕ). i.1 < 2 ^ 16) (9, 12) [] (omega arith) (all-nil (λ (i : ℕ × ℕ). i.1 < 2 ^ 16)));
   incoming = subst (λ (z : List (ℕ × ℕ)). AreDistinct (links_of z)) (sym incoming) (absent-nil 9, tt);
   outgoing = subst (λ (z : List (ℕ × LinkLimits)). AreDistinct (links_of z)) (sym outgoing) (outs_apart l);
   limits = subst (λ (z : List (ℕ × LinkLimits)). All (λ o. AreLinkLimits o.1) z) (sym outgoing) (outs_limits l k);
@@ -102,7 +104,7 @@ four_is a b c d p q r s e f g h = cc
 
 pub returns : goal.returns
 returns c =
-    plan_is _ c.args.limits c.edge-clock_offset.ensures.clock_offset c.edge-clock_offset.ensures.slots c.requires
+    plan_is _ c.args.limits c.edge-clock_offset.ensures.clock_offset c.edge-clock_offset.ensures.slots c.edge-clock_offset.ensures.edge_tag c.requires
     (c.new-2.ensures ∙ c.in_ok-vec.ensures.items)
     (c.new-3.ensures ∙ c.in_ok-vec-2.ensures.items)
     (c.new-4.ensures ∙ c.in_ok-vec-3.ensures.items ∙ four_is _ _ _ _ _ _ _ _ c.route.ensures c.route-2.ensures c.route-3.ensures c.route-4.ensures)
