@@ -14,13 +14,13 @@ use crate::status::Status;
 use itoa::Buffer;
 use std::alloc::{AllocError, Global};
 use std::thread::Threads;
-use tva_audit::{AuditError, Audited, RouterSum, audit};
+use tva_audit::{AuditError, Audited, RouterSum, audit_packed};
 use tva_base::Grant;
 use tva_outside::{Gate, Sink};
 use tva_plan::{Config, name_at};
 use tva_report::Pieces;
 use tva_sums::limit;
-use tva_trace::Row;
+use tva_trace::PackedRows;
 
 /// Audits a report of the rows under the plan. Where it is the report of the run, a line for each router
 /// is written, and how many lines the report has: all at once, and nothing where it isn't.
@@ -28,18 +28,18 @@ pub fn audit_rows<R: Threads + Sync, W: Sink, G: Gate>(
     rt: &R,
     alloc: Global,
     plan: &Config,
-    rows: Vec<Row>,
+    rows: PackedRows,
     report: &[u8],
     out: &mut W,
     gate: &G,
 ) -> Status
     requires config { IsConfig plan.now }
-    requires rows { AreTraceRows plan.now rows.items }
+    requires rows { AreTraceRows plan.now rows }
     ensures writes { W.faults out.old ≤ W.faults out.new }
-    ensures answer { IsAudited plan.now rows.items report.now (W.written out.old) (W.written out.new)
+    ensures answer { IsAudited plan.now rows report.now (W.written out.old) (W.written out.new)
         (Rose (W.faults out.old) (W.faults out.new)) result }
 {
-    let sums = match audit(rt, alloc, plan, rows, report, gate) {
+    let sums = match audit_packed(rt, alloc, plan, rows, report, gate) {
         Ok(Audited::Same(sums)) => sums,
         Ok(Audited::Differs(finding)) => return Status::Found(finding),
         Err(error) => return status_of(error),

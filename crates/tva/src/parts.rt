@@ -13,7 +13,7 @@ use std::alloc::Global;
 use tva_config::{ConfigError, read_config};
 use tva_outside::{Loaded, Sent, Shelf, Sink, write_all};
 use tva_plan::Config;
-use tva_trace::{Row, TraceError, read_trace};
+use tva_trace::{PackedRows, TraceError, read_packed};
 
 /// The bytes that are held under a name, at most `max` of them.
 pub fn load<S: Shelf>(alloc: Global, shelf: &mut S, name: &str, max: u64) -> Result<Vec<u8>, Status>
@@ -56,19 +56,19 @@ pub fn load_rows<S: Shelf>(
     shelf: &mut S,
     name: &str,
     plan: &Config,
-) -> Result<Vec<Row>, Status>
+) -> Result<PackedRows, Status>
     requires { length plan.now.nodes ≤ 65536 }
     ensures held { S.held shelf.new ≡ S.held shelf.old }
     ensures never_falls { S.faults shelf.old ≤ S.faults shelf.new }
-    ensures ok { IfOk result (λ rows. AreRowsOf (S.held shelf.old) (trace_at plan.now name.now) plan.now rows.items) }
-    ensures valid { IfOk result (λ rows. AreTraceRows plan.now rows.items) }
+    ensures ok { IfOk result (λ rows. AreRowsOf (S.held shelf.old) (trace_at plan.now name.now) plan.now rows) }
+    ensures valid { IfOk result (λ rows. AreTraceRows plan.now rows) }
     ensures err { IfErr result (IsNotFound (option_map (trace_at plan.now name.now) (S.held shelf.old)) (Rose (S.faults shelf.old) (S.faults shelf.new))) }
 {
     let bytes = match load(alloc, shelf, name, TRACE_MAX) {
         Ok(bytes) => bytes,
         Err(status) => return Err(status),
     };
-    match read_trace(alloc, &bytes, plan) {
+    match read_packed(alloc, &bytes, plan) {
         Ok(rows) => Ok(rows),
         Err(TraceError::Fault(fault)) => Err(Status::BadTrace(fault)),
         Err(TraceError::OutOfMemory) => Err(Status::OutOfMemory),

@@ -13,7 +13,7 @@ use tva_audit::step_and_put;
 use tva_net::{Memory, Net, NetError, Window};
 use tva_outside::{Gate, Sink};
 use tva_plan::Config;
-use tva_trace::Row;
+use tva_trace::PackedRows;
 
 /// Writes the report of the rows under the plan: the lines of each window while the next is worked,
 /// and the total line. Nothing is written of the window in which there are more events than the plan allows.
@@ -22,14 +22,14 @@ pub fn replay_rows<R: Threads + Sync, W: Sink, G: Gate>(
     rt: &R,
     alloc: Global,
     plan: &Config,
-    rows: Vec<Row>,
+    rows: PackedRows,
     out: &mut W,
     gate: &G,
 ) -> Status
     requires config { IsConfig plan.now }
-    requires rows { AreTraceRows plan.now rows.items }
+    requires rows { AreTraceRows plan.now rows }
     ensures writes { W.faults out.old ≤ W.faults out.new }
-    ensures answer { IsReplayed plan.now rows.items (W.written out.old) (W.written out.new)
+    ensures answer { IsReplayed plan.now rows (W.written out.old) (W.written out.new)
         (Rose (W.faults out.old) (W.faults out.new)) result }
 {
     let mut net = match Net::build_keeping(alloc, plan, rows, Memory::Nothing) {

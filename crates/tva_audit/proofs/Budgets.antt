@@ -14,7 +14,7 @@ use Rattle.tva_base.specs.declared.plan.RouterPlan.{RouterPlan}
 use Rattle.tva_base.specs.Changes.{boot_at}
 use Rattle.tva_flow.specs.Charges.{Charge, bytes_of}
 use Rattle.tva_flow.specs.Charges as flow
-use Rattle.tva_joins.proofs.Joins.{filter-true, filter-false}
+use Rattle.tva_log.proofs.Joins.{filter-true, filter-false}
 use Rattle.tva_router.specs.Boots.{charges_of_boot}
 use Rattle.tva_plan.specs.declared.config.Config.{Config}
 use Rattle.tva_plan.specs.declared.config.NodePlan.{NodePlan}

@@ -10,8 +10,8 @@ use Rattle.tva_run.proofs.Sites.{site_number}
 use Rattle.tva_base.specs.declared.event.Event.{Event}
 use Rattle.tva_base.specs.declared.packet.Grant.{Grant}
 use Rattle.tva_shim.specs.Packets.{PacketData, packet_length}
-use Rattle.tva_joins.specs.Joins.{from_source}
-use Rattle.tva_joins.proofs.Joins.{filter-true, filter-false}
+use Rattle.tva_log.specs.Joins.{from_source}
+use Rattle.tva_log.proofs.Joins.{filter-true, filter-false}
 use Rattle.tva_plan.specs.declared.config.Config.{Config}
 use Rattle.tva_plan.specs.declared.config.NodePlan.{NodePlan}
 use Rattle.tva_plan.specs.declared.config.NodePlan.TheVariants.{Router, Host}

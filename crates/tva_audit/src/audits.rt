@@ -19,7 +19,7 @@ use tva_net::{Memory, Net, NetError, Window};
 use tva_outside::Gate;
 use tva_plan::Config;
 use tva_report::{Comparison, Finding, first_bad};
-use tva_trace::{Row, summary_text};
+use tva_trace::{PackedRows, Row, summary_text};
 
 /// What an audit comes to: the report is that of the run, in which the routers let through so much; or
 /// this is the first line that differs.
@@ -52,6 +52,28 @@ pub fn audit<R: Threads + Sync, G: Gate>(
     requires config { IsConfig config.now }
     requires rows { AreTraceRows config.now rows.items }
     ensures answer { IsAudit config.now rows.items report.now result }
+{
+    match PackedRows::from_rows(alloc, rows) {
+        Ok(packed) => audit_packed(rt, alloc, config, packed, report, gate),
+        Err(_) => match first_bad(report) {
+            Some(line) => Err(AuditError::BadReport(line)),
+            None => Err(AuditError::OutOfMemory),
+        },
+    }
+}
+
+/// The same of rows in little memory.
+pub fn audit_packed<R: Threads + Sync, G: Gate>(
+    rt: &R,
+    alloc: Global,
+    config: &Config,
+    rows: PackedRows,
+    report: &[u8],
+    gate: &G,
+) -> Result<Audited, AuditError>
+    requires config { IsConfig config.now }
+    requires rows { AreTraceRows config.now rows }
+    ensures answer { IsAudit config.now rows report.now result }
 {
     if let Some(line) = first_bad(report) {
         return Err(AuditError::BadReport(line));

@@ -9,7 +9,7 @@ mod laws;
 mod lines;
 mod routers;
 
-pub use audits::{AuditError, Audited, audit};
+pub use audits::{AuditError, Audited, audit, audit_packed};
 pub use laws::{events_tell_charges, sums_are_below_their_limits};
 pub use lines::{put_lines, step_and_put};
 pub use routers::{RouterSum, sums};

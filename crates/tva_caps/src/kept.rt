@@ -1,30 +1,34 @@
-// A secret that is kept from one pre-capability to the next.
+// What is kept from one capability to the next.
 ghost use Rattle.std.specs.Prelude.{◌≡◌, ◌≤◌};
-ghost use Rattle.tva_caps.specs.Formula.{precap_of};
+ghost use Rattle.tva_base.specs.Versions.{AreSomeRights};
+ghost use Rattle.tva_caps.specs.Formula.{capability_of, precap_of};
 
-use crate::formulas::{EPOCH, precap_with, secret_at};
+use crate::formulas::{EPOCH, capability, precap_with, secret_at};
+use crate::known::Good;
 use std::marker::Model;
-use tva_base::Flow;
+use tva_base::{Flow, Rights};
 
 /// The secret of a master in an epoch, so that pre-capabilities of the same master and epoch hash it
-/// once. Contracts see nothing of it: whatever is kept, a pre-capability is the same. No call takes
-/// memory.
+/// once, and the last capability that was made of one, so that the same isn't made again. Contracts see
+/// nothing of it: whatever is kept, an answer is the same. No call takes memory.
 #[derive(Drop)]
 pub struct KeptSecret {
     master: [u8; 32],
     epoch: u64,
     secret: [u8; 32],
+    last: Option<Good>,
 }
 
 impl Model for KeptSecret {
     ghost use Rattle.std.specs.Prelude.{◌≡◌};
     ghost use Rattle.tva_caps.specs.Formula.{secret_of};
+    ghost use Rattle.tva_caps.specs.Known.{IsGoodOrNone};
 
     ghost Value = { Unit {0} };
 
     ghost view = { λ kept. tt };
 
-    ghost invariant = { λ kept. kept.secret ≡ secret_of kept.master kept.epoch };
+    ghost invariant = { λ kept. (kept.secret ≡ secret_of kept.master kept.epoch) × IsGoodOrNone kept.master kept.last };
 }
 
 impl KeptSecret {
@@ -34,6 +38,7 @@ impl KeptSecret {
             master,
             epoch: 0,
             secret: secret_at(&master, 0),
+            last: None,
         }
     }
 
@@ -46,10 +51,43 @@ impl KeptSecret {
     {
         let epoch = second / EPOCH;
         if self.epoch != epoch || self.master != *master {
+            if self.master != *master {
+                self.last = None;
+            }
             self.secret = secret_at(master, epoch);
             self.master = *master;
             self.epoch = epoch;
         }
         precap_with(&self.secret, second, flow)
+    }
+
+    /// The capability with these rights of that pre-capability. It is kept in place of the last one.
+    pub fn capability_at(
+        &mut self,
+        master: &[u8; 32],
+        second: u64,
+        flow: Flow,
+        rights: Rights,
+    ) -> u64
+        requires second { second ≤ 2000000 }
+        requires rights { AreSomeRights rights }
+        ensures { result ≡ capability_of (precap_of master.now flow second) rights }
+    {
+        if let Some(good) = self.last {
+            let is_same = good.second == second && good.flow == flow && good.rights == rights;
+            if is_same && self.master == *master {
+                return good.cap;
+            }
+        }
+        let cap = capability(self.precap_at(master, second, flow), rights);
+        if self.master == *master {
+            self.last = Some(Good {
+                flow,
+                rights,
+                second,
+                cap,
+            });
+        }
+        cap
     }
 }

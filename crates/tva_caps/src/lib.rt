@@ -6,6 +6,7 @@
 
 mod formulas;
 mod kept;
+mod known;
 mod laws;
 mod minters;
 mod secrets;
@@ -14,5 +15,6 @@ mod tests;
 
 pub use formulas::{capability, precap_at};
 pub use kept::KeptSecret;
+pub use known::Known;
 pub use laws::capability_lasts;
 pub use minters::{Checked, Minter};

@@ -1,10 +1,11 @@
 // The minter of a router: it mints pre-capabilities and checks what is shown.
-ghost use Rattle.std.specs.Prelude.{◌≡◌, ◌≤◌, ◌<◌, ◌+◌};
+ghost use Rattle.std.specs.Prelude.{◌≡◌, ◌≤◌, ◌<◌, ◌+◌, ◌==◌};
 ghost use Rattle.tva_base.specs.Versions.{AreSomeRights};
-ghost use Rattle.tva_caps.specs.Formula.{age_of, precap_of};
+ghost use Rattle.tva_caps.specs.Formula.{age_of, capability_of, precap_of};
 ghost use Rattle.tva_caps.specs.Minting.{MayCall, second_at};
 
 use crate::formulas::{EPOCH, capability, precap_with, stamp_shown};
+use crate::known::{Good, Known};
 use crate::secrets::Secrets;
 use std::marker::Model;
 use tva_base::{Flow, Grant, Rights, SECOND, Time};
@@ -73,8 +74,47 @@ impl Minter {
     /// The value's age is the router seconds since the last one with the value's first byte as its
     /// stamp. `Expired` comes where the age is `t` or more, and `BadHash` where the value isn't the
     /// capability of the pre-capability of the second that it came from, or there is no such second.
-    #[tactic(auto, unfolding(crate::specs::Check::check_of, crate::specs::Check::checked_at))]
     pub fn check(&mut self, now: Time, flow: Flow, cap: u64, rights: Rights) -> Checked
+        requires time { MayCall self.old now.0 }
+        requires granted { AreSomeRights rights }
+        ensures answer { result ≡ check_of self.old.master (second_at self.old now.0) flow cap rights }
+        ensures grant { IfValid result (λ g. (g.flow ≡ flow) × (g.rights ≡ rights)) }
+        ensures seconds { IfValid result (λ g. IsSecondOf g (second_at self.old now.0)) }
+        ensures bounded { IfValid result (λ g. g.second ≤ 2000000) }
+        ensures after { self.new ≡ record self.old { last = now.0 } }
+    {
+        self.check_with(now, flow, cap, rights, None)
+    }
+
+    /// The same, where what is known to be good isn't hashed again, and what is found good becomes known.
+    pub fn check_known(
+        &mut self,
+        now: Time,
+        flow: Flow,
+        cap: u64,
+        rights: Rights,
+        known: &mut Known,
+    ) -> Checked
+        requires time { MayCall self.old now.0 }
+        requires granted { AreSomeRights rights }
+        ensures answer { result ≡ check_of self.old.master (second_at self.old now.0) flow cap rights }
+        ensures grant { IfValid result (λ g. (g.flow ≡ flow) × (g.rights ≡ rights)) }
+        ensures seconds { IfValid result (λ g. IsSecondOf g (second_at self.old now.0)) }
+        ensures bounded { IfValid result (λ g. g.second ≤ 2000000) }
+        ensures after { self.new ≡ record self.old { last = now.0 } }
+    {
+        self.check_with(now, flow, cap, rights, Some(known))
+    }
+
+    #[tactic(auto, unfolding(crate::specs::Check::check_of, crate::specs::Check::checked_at))]
+    fn check_with(
+        &mut self,
+        now: Time,
+        flow: Flow,
+        cap: u64,
+        rights: Rights,
+        known: Option<&mut Known>,
+    ) -> Checked
         requires time { MayCall self.old now.0 }
         requires granted { AreSomeRights rights }
         ensures answer { result ≡ check_of self.old.master (second_at self.old now.0) flow cap rights }
@@ -92,7 +132,13 @@ impl Minter {
             return Checked::BadHash;
         }
         let minted = second - age;
-        if cap == capability(self.precap_kept(minted, flow), rights) {
+        let good = Good {
+            flow,
+            rights,
+            second: minted,
+            cap,
+        };
+        if self.is_good(&good, known) {
             return Checked::Valid(Grant {
                 flow,
                 rights,
@@ -100,6 +146,36 @@ impl Minter {
             });
         }
         Checked::BadHash
+    }
+
+    // Whether a capability is good, by what is known or by its digests.
+    fn is_good(&self, good: &Good, known: Option<&mut Known>) -> bool
+        requires past { good.now.second ≤ second_at self.now self.now.last }
+        requires recent { second_at self.now self.now.last < good.now.second + 128 }
+        requires rights { AreSomeRights good.now.rights }
+        ensures { result ≡ (good.now.cap == capability_of (precap_of self.now.master good.now.flow good.now.second) good.now.rights) }
+    {
+        let Some(known) = known else {
+            return self.has_its_digests(good);
+        };
+        if known.has(&self.master, good) {
+            return true;
+        }
+        let is_good = self.has_its_digests(good);
+        if is_good {
+            known.note(&self.master, *good);
+        }
+        is_good
+    }
+
+    // Whether a capability is the one of its pre-capability.
+    fn has_its_digests(&self, good: &Good) -> bool
+        requires past { good.now.second ≤ second_at self.now self.now.last }
+        requires recent { second_at self.now self.now.last < good.now.second + 128 }
+        requires rights { AreSomeRights good.now.rights }
+        ensures { result ≡ (good.now.cap == capability_of (precap_of self.now.master good.now.flow good.now.second) good.now.rights) }
+    {
+        good.cap == capability(self.precap_kept(good.second, good.flow), good.rights)
     }
 
     // Takes the secrets of the epoch of that time, and answers its router second.

@@ -1,8 +1,9 @@
 -- What is true of fair queues stays true after an offer and after a take.
-use Rattle.std.proofs.Common.{◌≡◌, ℕ, ◌+◌, ◌-◌, ◌<◌, ◌≤◌, ◌^◌, suc, Some, None, false, cond, List, [], ◌∷◌, ◌++◌, length, refl, sym, ap, subst, inl, inr, arith, length-append}
+use Rattle.std.proofs.Common.{◌≡◌, ℕ, ◌+◌, ◌-◌, ◌<◌, ◌≤◌, ◌^◌, suc, Option, Some, None, false, cond, List, [], ◌∷◌, ◌++◌, length, refl, sym, ap, subst, inl, inr, arith, length-append}
 use Rattle.std.proofs.lemmas.Bool.Decides.{nat_tests, leb_tells}
 use Rattle.std.proofs.lemmas.List.Sums.{sum_by-cons, sum_by_push}
 use Rattle.std.specs.List.{All, AllByRecursion}
+use Rattle.std.specs.Option.{option_map}
 use Rattle.std.proofs.lemmas.List.Elements.{All-from_recursion}
 use Rattle.tva_base.specs.declared.limits.DrrLimits.{DrrLimits}
 use Rattle.tva_drr.specs.Queues.{Queue, queue, fair, has_key, items_of, first, head, queue_bytes, all_bytes, bytes_in}
@@ -181,11 +182,8 @@ module _ {T : Type 0} (measure : T → ℕ) (l : DrrLimits) where
   keeps-offer b key qs x h e m q r =
       keeps-put b key qs x h e m (grind (arith, nat_tests)) (grind (arith, nat_tests)) (grind (arith, nat_tests)) (grind (arith, nat_tests))
 
-  -- nothing is taken where nothing waits
-  none_items : (key deficit : ℕ) (xs : List T) → 1 ≤ length xs → first xs ≡ None → popped measure key deficit xs ≡ queue key deficit xs
-  none_items key deficit [] n e = absurd (omega (arith, n))
-  none_items key deficit (x ∷ xs) n e = absurd (cc)
-
-  pub none_popped : (qs : List (Queue T)) → AreQueues measure l qs → head qs ≡ None → front_popped measure qs ≡ qs
-  none_popped [] a e = refl
-  none_popped (q ∷ qs) a e = let n = a.0.filled in ap (λ (z : Queue T). z ∷ qs) (none_items q.key q.deficit q.items n e)
+-- an item whose length is known is there
+pub with_length : {T : Type 0} (measure : T → ℕ) (item : Option T) (n : ℕ) → option_map measure item ≡ Some n
+    → (x : T) × (item ≡ Some x) × (measure x ≡ n)
+with_length measure None n e = absurd (cc)
+with_length measure (Some x) n e = (x, refl, cc)

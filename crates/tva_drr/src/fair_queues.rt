@@ -153,14 +153,15 @@ impl<T: Measured> FairQueues<T> {
             → IfSome result (λ item. GoesFirst key item self.old self.new) }
         ensures fair { IsFair T.measure self.new }
     {
-        let item = pop_slot(&mut self.waiting)?;
-        self.bytes -= item.length();
+        let length = self.head_length()?;
+        self.bytes -= length;
+        let item = pop_slot(&mut self.waiting);
         settle_slots(
             &mut self.waiting,
             &mut self.spare,
             &mut self.keys,
             self.limits.quantum,
         );
-        Some(item)
+        item
     }
 }

@@ -107,11 +107,10 @@ impl<T: Measured> Slot<T> {
             (self.old.queue.deficit - T.measure x) (drop 1 self.old.queue.items)) self.old.room) }
         ensures none { IfNone result (self.new ≡ self.old) }
     {
-        let item = take_first(&mut self.ring)?;
-        let length = item.length();
+        let length = self.head_length()?;
         self.bytes -= length;
         self.deficit -= length;
-        Some(item)
+        take_first(&mut self.ring)
     }
 }
 

@@ -4,9 +4,9 @@ use Rattle.std.specs.Prelude.{◌==◌}
 use Rattle.std.specs.List.{AllByRecursion}
 use Rattle.std.proofs.lemmas.Bool.{cases_lt, eq-eqb, ne_eqb}
 use Rattle.std.proofs.lemmas.List.Elements.{filter-append}
-use Rattle.tva_joins.specs.Joins.{IsJoin, NeverFalls, from_source, put_all}
-use Rattle.tva_joins.proofs.Joined.{join-put_all}
-use Rattle.tva_joins.proofs.Joins.{each-weaker, filter-all, filter-none}
+use Rattle.tva_log.specs.Joins.{IsJoin, NeverFalls, from_source, put_all}
+use Rattle.tva_log.proofs.Joined.{join-put_all}
+use Rattle.tva_log.proofs.Joins.{each-weaker, filter-all, filter-none}
 
 module _ {X : Type 0} (time source : X → ℕ) (gives : ℕ → List X) (own : (s : ℕ) → AllByRecursion (λ x. source x ≡ s) (gives s)) (rise : (s : ℕ) → NeverFalls time (gives s)) where
   -- what the sources up to one give, one source after another

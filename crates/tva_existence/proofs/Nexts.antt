@@ -18,9 +18,9 @@ use Rattle.tva_plan.specs.declared.config.NodePlan.{NodePlan}
 use Rattle.tva_plan.specs.declared.config.NodePlan.TheVariants.{Router, Host}
 use Rattle.tva_trace.specs.declared.rows.RowWhat.{RowWhat}
 use Rattle.tva_trace.specs.declared.rows.RowWhat.TheVariants.{Send, Inject, File, Tick}
-use Rattle.tva_joins.specs.Joins.{IsInOrder}
-use Rattle.tva_joins.proofs.Joins.{cut-cut, each-cut, each-filter, in_order-filter}
-use Rattle.tva_joins.proofs.Putting.{each-both}
+use Rattle.tva_log.specs.Joins.{IsInOrder}
+use Rattle.tva_log.proofs.Joins.{cut-cut, each-cut, each-filter, in_order-filter}
+use Rattle.tva_log.proofs.Putting.{each-both}
 use Rattle.tva_log.specs.declared.kinds.Input.{Input}
 use Rattle.tva_log.specs.declared.kinds.Input.TheVariants.{FromTrace, Arrival}
 use Rattle.tva_log.specs.Sites.{Site, IsSite, limits_out}

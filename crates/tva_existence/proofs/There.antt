@@ -19,9 +19,9 @@ use Rattle.tva_trace.specs.declared.rows.Row.{Row}
 use Rattle.tva_trace.specs.declared.rows.RowWhat.{RowWhat}
 use Rattle.tva_trace.specs.declared.rows.RowWhat.TheVariants.{Send, Inject, File, Tick}
 use Rattle.tva_trace.specs.Valid.{NeverFall}
-use Rattle.tva_joins.specs.Joins.{IsJoin, NeverFalls, IsInOrder}
-use Rattle.tva_joins.proofs.Joins.{cut-zero, each-filter, filter-true, filter-false, in_order-filter, join_unique, times_from}
-use Rattle.tva_joins.proofs.Putting.{each_from_sources}
+use Rattle.tva_log.specs.Joins.{IsJoin, NeverFalls, IsInOrder}
+use Rattle.tva_log.proofs.Joins.{cut-zero, each-filter, filter-true, filter-false, in_order-filter, join_unique, times_from}
+use Rattle.tva_log.proofs.Putting.{each_from_sources}
 use Rattle.tva_log.specs.declared.kinds.Input.{Input}
 use Rattle.tva_log.specs.declared.kinds.Input.TheVariants.{FromTrace, Arrival}
 use Rattle.tva_log.specs.Sites.{Site, site_of}

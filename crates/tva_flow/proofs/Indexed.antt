@@ -1,12 +1,10 @@
 -- Entries stay indexed where one is written or added.
 use Rattle.std.proofs.Common.{◌≡◌, ℕ, ◌+◌, ◌*◌, ◌<◌, ◌≤◌, List, [], ◌∷◌, ◌++◌, length, get_or, set, replicate, Option, Some, None, refl, sym, ap, ◌∙◌, subst, inl, inr, ◌⊎◌, zero, suc, arith}
-use Rattle.std.specs.List.{All}
 use Rattle.std.specs.Option.{MatchOption}
 use Rattle.std.proofs.lemmas.Bool.{cases_lt, cases_eq}
 use Rattle.std.proofs.lemmas.List.{get_or_past, get_or-set_same, get_or-set_other, get_or_append_left, get_or_push, get_or_default, get_or-replicate, length-set, length_push, length-replicate}
 use Rattle.tva_base.specs.declared.packet.Flow.{Flow}
 use Rattle.tva_index.specs.Buckets.{Placed, placed, IsLastBelow}
-use Rattle.tva_index.specs.Lowest.{IsLeastPlace}
 use Rattle.tva_flow.specs.declared.hash.HashKey.{HashKey}
 use Rattle.tva_flow.specs.declared.kept.Entry.{Entry}
 use Rattle.tva_flow.specs.Hash.{bucket_of}
@@ -39,6 +37,10 @@ home_there hs at i v n = get_or-set_other hs at i v None n
 number_here : (ns : List ℕ) (at i v : ℕ) → at < length ns → i ≡ at → get_or (set ns at v) i 0 ≡ v
 number_here ns at i v l k = ap (λ (z : ℕ). get_or (set ns at v) z 0) k ∙ get_or-set_same ns at v 0 l
 
+-- the end of the entry that was written is its number
+number_fits : (ns : List ℕ) (at i v : ℕ) (e : Entry) → at < length ns → i ≡ at → e.end ≡ v → get_or (set ns at v) i 0 ≤ e.end
+number_fits ns at i v e l k q = omega (arith, number_here ns at i v l k, q)
+
 abbrev nowhere : Option ℕ
 nowhere = None
 
@@ -62,16 +64,15 @@ indexed_none slots key p ends e f =
       until = λ i x l q. absurd (omega arith);
     }
 
--- an entry of the same flow
+-- an entry of the same flow, which ends no earlier
 pub indexed-rewrite : (slots : ℕ) (key : HashKey) (es : List Entry) (p : Placed) (ends : List ℕ) (at : ℕ) (old new : Entry) → AreIndexed slots key es p ends → at < length es → old ≡ get_or es at old → old.grant.flow ≡ new.grant.flow
-    → AreIndexed slots key (set es at new) p (set ends at new.end)
-indexed-rewrite slots key es p ends at old new k l q g =
+    → old.end ≤ new.end → AreIndexed slots key (set es at new) p ends
+indexed-rewrite slots key es p ends at old new k l q g h =
     let n : length (set es at new) ≡ length es = length-set es at new in
-    let m : at < length ends = omega (arith, l, k.few, k.numbers) in
     record {
       count = k.count;
       homes = k.homes;
-      numbers = length-set ends at new.end ∙ k.numbers;
+      numbers = k.numbers;
       few = omega (arith, n, k.few);
       found = λ i e w r. elim (read_set es at i new e l r) [
         | inl y ↦ subst (λ z. get_or p.homes z None ≡ Some (bucket_of (2 * slots + 1) key e.grant.flow)) (sym y.0)
@@ -80,8 +81,10 @@ indexed-rewrite slots key es p ends at old new k l q g =
       ];
       within = λ i b h. omega (arith, n, k.within i b h);
       until = λ i e w r. elim (read_set es at i new e l r) [
-        | inl y ↦ number_here ends at i new.end m y.0 ∙ ap (λ (z : Entry). z.end) (sym y.1)
-        | inr y ↦ get_or-set_other ends at i new.end 0 y.0 ∙ k.until i e (omega (arith, w, n)) y.1
+        | inl y ↦ (
+            let u : get_or ends at 0 ≤ new.end = omega (arith, k.until at old l q, h) in
+            subst (λ z. get_or ends z 0 ≤ e.end) (sym y.0) (subst (λ (z : Entry). get_or ends at 0 ≤ z.end) (sym y.1) u))
+        | inr y ↦ k.until i e (omega (arith, w, n)) y.1
       ];
     }
 
@@ -108,8 +111,8 @@ indexed-replace slots key es p p' ends at new k l f =
         | inr d ↦ omega (arith, n, k.within i b (sym (home_there p.homes at i v d) ∙ subst (λ (z : List (Option ℕ)). get_or z i None ≡ Some b) hs h))
       ];
       until = λ i e w r. elim (read_set es at i new e l r) [
-        | inl y ↦ number_here ends at i new.end m y.0 ∙ ap (λ (z : Entry). z.end) (sym y.1)
-        | inr y ↦ get_or-set_other ends at i new.end 0 y.0 ∙ k.until i e (omega (arith, w, n)) y.1
+        | inl y ↦ number_fits ends at i new.end e m y.0 (ap (λ (z : Entry). z.end) y.1)
+        | inr y ↦ omega (arith, get_or-set_other ends at i new.end 0 y.0, k.until i e (omega (arith, w, n)) y.1)
       ];
     }
 
@@ -137,8 +140,8 @@ indexed-push slots key es p p' ends new k l f =
         | inr d ↦ omega (arith, n, k.within i b (sym (home_there p.homes at i v d) ∙ subst (λ (z : List (Option ℕ)). get_or z i None ≡ Some b) hs h))
       ];
       until = λ i e w r. elim (read_push es i new e w r) [
-        | inl y ↦ number_here ends at i new.end m y.0 ∙ ap (λ (z : Entry). z.end) (sym y.1)
-        | inr y ↦ get_or-set_other ends at i new.end 0 (λ (x : i ≡ at). absurd (omega (arith, x, y.0))) ∙ k.until i e y.0 y.1
+        | inl y ↦ number_fits ends at i new.end e m y.0 (ap (λ (z : Entry). z.end) y.1)
+        | inr y ↦ omega (arith, get_or-set_other ends at i new.end 0 (λ (x : i ≡ at). absurd (omega (arith, x, y.0))), k.until i e y.0 y.1)
       ];
     }
 
@@ -151,18 +154,6 @@ none_of f (d ∷ ds) n = not_first f d ds (λ q. n 0 d (omega arith) refl q) (no
 pub up_to : (hs : List (Option ℕ)) (bound b : ℕ) (o : Option ℕ) (i : ℕ) → IsLastBelow hs bound b o → i < bound → get_or hs i None ≡ Some b → IsUpTo o i
 up_to hs bound b None i k l h = k i l h
 up_to hs bound b (Some p) i k l h = k.2 i l h
-
--- the root is least, so where it lives all do
-pub all_live : (slots : ℕ) (key : HashKey) (es : List Entry) (p : Placed) (ends : List ℕ) (first now : ℕ) (e : Entry) → AreIndexed slots key es p ends → slots ≤ length es → IsLeastPlace ends (Some first) → e ≡ get_or es first e → now < e.end
-    → All (λ (x : Entry). now < x.end) es
-all_live slots key es p ends first now e k f w r a i d l =
-    let n : length es ≡ slots = omega (arith, f, k.few) in
-    let x = get_or es i d in
-    omega (arith, k.until first e (omega (arith, w.0, k.numbers, n)) r, k.until i x l (get_or_default es i d x l), w.1 i (omega (arith, l, n, k.numbers)), a)
-
--- no entries, where there are no slots
-pub none_live : (slots : ℕ) (key : HashKey) (es : List Entry) (p : Placed) (ends : List ℕ) (now : ℕ) → AreIndexed slots key es p ends → IsLeastPlace ends None → All (λ (x : Entry). now < x.end) es
-none_live slots key es p ends now k w i d l = absurd (omega (arith, k.few, k.numbers, w, l))
 
 -- what is read twice at a place
 pub same_read : (es : List Entry) (i : ℕ) (d e : Entry) → d ≡ get_or es i d → e ≡ get_or es i e → i < length es → d ≡ e

@@ -2,6 +2,7 @@ pub mod Same
 pub mod Pushes
 pub mod Entries
 pub mod Indexed
+pub mod Late
 pub mod Steps
 pub mod Rows
 pub mod Rising

@@ -15,7 +15,11 @@ pub record Kept : Type 0 where
 abbrev pub kept : ℕ → HashKey → List Entry → Kept
 kept slots key items = record { slots = slots; key = key; items = items }
 
--- each place stands in the bucket of its entry's flow, and has its entry's end
+-- the number at a place is no later than the end of the entry there
+abbrev pub AreNoLater : List ℕ → List Entry → Type 0
+AreNoLater ends es = (i : ℕ) (e : Entry) → i < length es → e ≡ slice_index_or es i e → slice_index ends i ≤ e.end
+
+-- each place stands in the bucket of its entry's flow, and has a number that is no later than its entry's end
 pub record AreIndexed (slots : ℕ) (key : HashKey) (es : List Entry) (buckets : Placed) (ends : List ℕ) : Type 0 where
   pub count : buckets.count ≡ 2 * slots + 1
   pub homes : length buckets.homes ≡ slots
@@ -24,7 +28,7 @@ pub record AreIndexed (slots : ℕ) (key : HashKey) (es : List Entry) (buckets :
   pub found : (i : ℕ) (e : Entry) → i < length es → e ≡ slice_index_or es i e
       → home buckets.homes i ≡ Some (bucket_of (2 * slots + 1) key e.grant.flow)
   pub within : (i b : ℕ) → home buckets.homes i ≡ Some b → i < length es
-  pub until : (i : ℕ) (e : Entry) → i < length es → e ≡ slice_index_or es i e → slice_index ends i ≡ e.end
+  pub until : AreNoLater ends es
 
 -- what a walk through a bucket has left, from that place down
 abbrev pub IsUpTo : Option ℕ → ℕ → Type 0

@@ -3,7 +3,7 @@ ghost use Rattle.std.specs.Prelude.{◌≡◌, ℕ, ◌+◌, ◌*◌, ◌<◌, �
 ghost use Rattle.tva_index.specs.Buckets.{home};
 ghost use Rattle.tva_flow.specs.declared.kept.Entry.{Entry};
 ghost use Rattle.tva_flow.specs.Stands.{entry_of};
-ghost use Rattle.tva_flow.specs.Index.{kept};
+ghost use Rattle.tva_flow.specs.Index.{kept, AreNoLater};
 
 use crate::hash::{HashKey, bucket_of};
 use crate::kept::{Entry, is_live, is_same_flow};
@@ -13,8 +13,10 @@ use tva_base::Flow;
 use tva_index::{Buckets, Lowest};
 
 /// Entries, of which there are at most as many as slots. Contracts see them in the order of their
-/// places. A flow's place is found by its bucket, and that of the entry that ends first by a tree of
-/// their ends. All memory is taken when they are made.
+/// places. A flow's place is found by its bucket, and that of an entry that has ended by a tree of
+/// numbers. A place's number is at most the end of its entry: a renewal leaves it behind, and it is
+/// brought up to the end only where an entry that has ended is looked for. All memory is taken when
+/// they are made.
 #[derive(Drop)]
 pub(crate) struct Entries {
     slots: u32,
@@ -73,6 +75,37 @@ fn take_all(all: &mut Vec<Entry>, places: &mut Buckets)
     }
 }
 
+/// The place of an entry that has ended. Where the entry at a least number lives, its number is brought up
+/// to its end, and the next least one is looked at. Where the place is a least one still, no number is at
+/// most that time, so all entries live. One call may bring up many numbers, yet each of them was left behind
+/// by a packet that renewed its entry and wrote nothing here: so in the sum packets cost as they would if
+/// each renewal wrote its number.
+fn ended_in(all: &Vec<Entry>, ends: &mut Lowest, now: u64) -> Option<usize>
+    requires size { (length ends.old ≡ length all.now.items) × (length all.now.items ≤ 1000000) }
+    requires below { AreNoLater ends.old all.now.items }
+    ensures size { length ends.new ≡ length ends.old }
+    ensures below { AreNoLater ends.new all.now.items }
+    ensures place { MatchOption result (All (λ e. now < e.end) all.now.items) (λ at.
+        (at < length all.now.items)
+        × ((e : Entry) → e ≡ slice_index_or all.now.items at e → e.end ≤ now)) }
+{
+    let mut first = ends.least()?;
+    // A turn brings up a number that was behind, or all entries live: so one for each place and one more do.
+    for _turn in 0..all.len() + 1 {
+        let entry = &all[first as usize];
+        if !is_live(entry, now) {
+            return Some(first as usize);
+        }
+        ends.put(first, entry.end);
+        let next = ends.least()?;
+        if next == first {
+            return None;
+        }
+        first = next;
+    }
+    None
+}
+
 impl Entries {
     /// No entries. The error is want of memory.
     pub fn with_slots(alloc: Global, slots: u32, key: HashKey) -> Result<Entries, AllocError>
@@ -129,17 +162,14 @@ impl Entries {
     }
 
     /// The place of an entry that has ended, where there are as many entries as slots.
-    pub fn ended(&self, now: u64) -> Option<usize>
-        requires { self.now.slots ≤ length self.now.items }
-        ensures { MatchOption result (All (λ e. now < e.end) self.now.items) (λ at.
-            (at < length self.now.items)
-            × ((e : Entry) → e ≡ slice_index_or self.now.items at e → e.end ≤ now)) }
+    pub fn ended(&mut self, now: u64) -> Option<usize>
+        requires { self.old.slots ≤ length self.old.items }
+        ensures same { self.new ≡ self.old }
+        ensures place { MatchOption result (All (λ e. now < e.end) self.old.items) (λ at.
+            (at < length self.old.items)
+            × ((e : Entry) → e ≡ slice_index_or self.old.items at e → e.end ≤ now)) }
     {
-        let first = self.ends.least()? as usize;
-        if is_live(&self.all[first], now) {
-            return None;
-        }
-        Some(first)
+        ended_in(&self.all, &mut self.ends, now)
     }
 
     /// How many entries live.
@@ -149,15 +179,16 @@ impl Entries {
         self.all.iter().filter(|entry| is_live(entry, now)).count()
     }
 
-    /// Writes an entry of the same flow at a place.
+    /// Writes an entry of the same flow at a place, one that ends no earlier: so the number there may stay.
     pub fn rewrite(&mut self, at: usize, renewed: Entry)
         requires place { at < length self.old.items }
         requires flow { (e : Entry) → e ≡ slice_index_or self.old.items at e
             → e.grant.flow ≡ renewed.grant.flow }
+        requires end { (e : Entry) → e ≡ slice_index_or self.old.items at e
+            → e.end ≤ renewed.end }
         ensures { self.new ≡ kept self.old.slots self.old.key (slice_set self.old.items at renewed) }
     {
         self.all[at] = renewed;
-        self.ends.put(at as u32, renewed.end);
     }
 
     /// Writes an entry of any flow at a place.
@@ -183,8 +214,8 @@ impl Entries {
         self.ends.put(at, entry.end);
     }
 
-    /// Takes all entries away, and finds those to come by that key. The ends stay as they were: they are
-    /// asked for where each place has an entry again.
+    /// Takes all entries away, and finds those to come by that key. The numbers stay as they were: they are
+    /// asked for where each place has an entry again, and an entry that is added writes its own.
     pub fn clear(&mut self, key: HashKey)
         ensures { self.new ≡ kept self.old.slots key [] }
     {

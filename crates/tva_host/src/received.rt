@@ -104,7 +104,7 @@ fn nonzero_tags(entries: &Entries) -> ArrayVec<u16, 16>
     ensures { result.items ≡ nonzero_tags entries.now }
 {
     let mut tags = ArrayVec::new();
-    for entry in entries.as_slice() {
+    for entry in entries.listed().as_slice() {
         push_nonzero(&mut tags, entry.tag);
     }
     tags
@@ -124,7 +124,7 @@ fn precaps_of(entries: &Entries) -> Caps
     ensures { result ≡ map (λ e. e.precap) entries.now }
 {
     let mut precaps = Caps::new();
-    for entry in entries.as_slice() {
+    for entry in entries.listed().as_slice() {
         precaps.push(entry.precap);
     }
     precaps

@@ -1,8 +1,7 @@
 -- Walks by the bits of keys.
-use Rattle.std.proofs.Common.{◌≡◌, ℕ, zero, suc, ◌+◌, ◌*◌, ◌/◌, ◌%◌, ◌^◌, ◌<◌, ◌≤◌, List, length, get_or, Option, Some, None, refl, sym, ap, ◌∙◌, subst, inl, inr, arith}
+use Rattle.std.proofs.Common.{◌≡◌, ℕ, zero, suc, ◌+◌, ◌*◌, ◌/◌, ◌%◌, ◌^◌, ◌<◌, ◌≤◌, List, length, Option, Some, None, refl, sym, ap, ◌∙◌, subst, inl, inr, arith}
 use Rattle.std.specs.Option.{option_and_then}
 use Rattle.std.proofs.lemmas.Bool.{cases_lt, cases_eq}
-use Rattle.std.proofs.lemmas.List.{get_or_read}
 use Rattle.tva_index.specs.declared.bits.Numbered.{Numbered}
 use Rattle.tva_index.specs.declared.bits.Led.{Led}
 use Rattle.tva_index.specs.Bits.{link_at, entry_at, HasKey, IsAbsent, bits_past, link_by, spot, IsKeyTree, IsFound, IsMissing, IsBelow}
@@ -80,11 +79,6 @@ gone links key depth here (suc more) l = elim (cases_lt depth (suc more)) [
   | inr m ↦ (let e : depth ≡ suc more = omega (arith, l, m) in subst (λ z. spot links key z ≡ None) e here)
 ]
 
--- the link that is read by the bits that are left
-pub link_read : (links : List (Option ℕ)) (key depth at bits : ℕ) (x : Option ℕ) → bits ≡ bits_past key depth → link_by key depth at < length links → x ≡ get_or links (2 * at + bits % 2) x → x ≡ link_at links (link_by key depth at)
-link_read links key depth at bits x e l r =
-    get_or_read links (link_by key depth at) x l (r ∙ ap (λ (z : ℕ). get_or links (2 * at + z % 2) x) e) None
-
 module _ (links : List (Option ℕ)) (es : List (Option Numbered)) (free : List ℕ) (t : IsKeyTree links es free) where
   -- a walk stays within the tree: at the first place, or where a link leads
   pub stays : (key depth p : ℕ) → spot links key depth ≡ Some p → p < length es
@@ -132,15 +126,12 @@ module _ (links : List (Option ℕ)) (es : List (Option Numbered)) (free : List 
   abbrev pub IsLater : ℕ → ℕ → Type 0
   IsLater key depth = (p : ℕ) → HasKey key (entry_at es p) → (d : ℕ) → spot links key d ≡ Some p → depth < d
 
-  pub later-start : (key : ℕ) → IsLater key 0
-  later-start key p h zero e =
-      let z : 0 ≡ p = cc in
-      let n = has_key key (entry_at es p) h in
-      absurd (no_entry (entry_at es 0) n.0 t.first (subst (λ x. entry_at es x ≡ Some n.0) (sym z) n.1))
-  later-start key p h (suc d) e = omega arith
+  -- nor before its last step
+  abbrev pub IsNotBefore : ℕ → ℕ → Type 0
+  IsNotBefore key depth = (p : ℕ) → HasKey key (entry_at es p) → (d : ℕ) → spot links key d ≡ Some p → depth ≤ d
 
-  pub later-on : (key depth at : ℕ) → IsLater key depth → spot links key (depth + 1) ≡ Some at → (HasKey key (entry_at es at) → ⊥) → IsLater key (depth + 1)
-  later-on key depth at w e other p h d r = elim (cases_eq d (depth + 1)) [
+  pub later_here : (key depth at : ℕ) → IsNotBefore key depth → spot links key depth ≡ Some at → (HasKey key (entry_at es at) → ⊥) → IsLater key depth
+  later_here key depth at w e other p h d r = elim (cases_eq d depth) [
     | inl z ↦ (
         let same : p ≡ at = same_place (spot links key d) p at r (subst (λ x. spot links key x ≡ Some at) (sym z) e) in
         absurd (other (subst (λ x. HasKey key (entry_at es x)) same h)))
@@ -156,36 +147,6 @@ module _ (links : List (Option ℕ)) (es : List (Option Numbered)) (free : List 
       let l = w p h r.0 s in
       no_link (spot links key r.0) p (gone links key (suc depth) (step-off links key depth at e none) r.0 (omega (arith, l))) s
 
-  -- a step of the walk
-  pub goes : (key depth at bits next : ℕ) (x : Option ℕ) → spot links key depth ≡ Some at → bits ≡ bits_past key depth → x ≡ get_or links (2 * at + bits % 2) x → x ≡ Some next
-      → (spot links key (depth + 1) ≡ Some next) × (link_at links (2 * at + bits % 2) ≡ Some next) × (next < length es) × (bits / 2 ≡ bits_past key (depth + 1))
-  goes key depth at bits next x path same read is =
-      let l = link_within key depth at path in
-      let leads : link_at links (link_by key depth at) ≡ Some next = sym (link_read links key depth at bits x same l read) ∙ is in
-      let more : suc depth ≡ depth + 1 = omega arith in (
-        subst (λ (z : ℕ). spot links key z ≡ Some next) more (step-on links key depth at next path leads),
-        subst (λ (z : ℕ). link_at links (2 * at + z % 2) ≡ Some next) (sym same) leads,
-        (t.leads (link_by key depth at) next leads).1,
-        subst (λ (z : ℕ). bits / 2 ≡ bits_past key z) more (ap (λ (z : ℕ). z / 2) same),
-      )
-
-  pub stops : (key depth at bits : ℕ) (x : Option ℕ) → depth < 32 → spot links key depth ≡ Some at → bits ≡ bits_past key depth → IsLater key depth → x ≡ get_or links (2 * at + bits % 2) x → x ≡ None
-      → IsMissing links es key (2 * at + bits % 2)
-  stops key depth at bits x deep path same later read is =
-      let l = link_within key depth at path in
-      let none : link_at links (link_by key depth at) ≡ None = sym (link_read links key depth at bits x same l read) ∙ is in
-      let by : 2 * at + bits % 2 ≡ link_by key depth at = ap (λ (z : ℕ). 2 * at + z % 2) same in
-      record {
-        depth = depth;
-        deep = deep;
-        at = at;
-        path = path;
-        by = by;
-        nowhere = subst (λ (z : ℕ). link_at links z ≡ None) (sym by) none;
-        within = subst (λ (z : ℕ). z < length links) (sym by) l;
-        absent = later-none key depth at later path none;
-      }
-
   -- it ends before all bits are taken
   pub later_all : (key at : ℕ) → key < 2 ^ 32 → IsLater key 32 → spot links key 32 ≡ Some at → ⊥
   later_all key at small w e =
@@ -196,6 +157,39 @@ module _ (links : List (Option ℕ)) (es : List (Option Numbered)) (free : List 
       let same : key ≡ o.2.key = same_bits key o.2.key small (t.small at o.2 o.3) y.1 in
       let l = w at (key_is key (entry_at es at) o.2 o.3 (sym same)) 32 e in
       absurd (omega (arith, l))
+
+  pub later_end : (key at : ℕ) → key < 2 ^ 32 → IsNotBefore key 33 → spot links key 33 ≡ Some at → ⊥
+  later_end key at small w e = let c = came links key 32 at e in later_all key c.0 small (λ p h d r. let l = w p h d r in omega (arith, l)) c.1
+
+  -- a step of the walk
+  pub goes : (key depth at bits next : ℕ) → spot links key depth ≡ Some at → bits ≡ bits_past key depth → link_at links (2 * at + bits % 2) ≡ Some next
+      → (spot links key (depth + 1) ≡ Some next) × (bits / 2 ≡ bits_past key (depth + 1))
+  goes key depth at bits next path same leads =
+      let on : link_at links (link_by key depth at) ≡ Some next = subst (λ (z : ℕ). link_at links (2 * at + z % 2) ≡ Some next) same leads in
+      let more : suc depth ≡ depth + 1 = omega arith in (
+        subst (λ (z : ℕ). spot links key z ≡ Some next) more (step-on links key depth at next path on),
+        subst (λ (z : ℕ). bits / 2 ≡ bits_past key z) more (ap (λ (z : ℕ). z / 2) same),
+      )
+
+  -- it ends at a link that leads nowhere
+  pub stops : (key depth at bits : ℕ) → key < 2 ^ 32 → depth < 33 → spot links key depth ≡ Some at → bits ≡ bits_past key depth → IsLater key depth → link_at links (2 * at + bits % 2) ≡ None
+      → IsMissing links es key (2 * at + bits % 2)
+  stops key depth at bits small deep path same later none =
+      let off : link_at links (link_by key depth at) ≡ None = subst (λ (z : ℕ). link_at links (2 * at + z % 2) ≡ None) same none in
+      let by : 2 * at + bits % 2 ≡ link_by key depth at = ap (λ (z : ℕ). 2 * at + z % 2) same in
+      record {
+        depth = depth;
+        deep = elim (cases_eq depth 32) [
+          | inl e ↦ absurd (later_all key at small (subst (IsLater key) e later) (subst (λ z. spot links key z ≡ Some at) e path))
+          | inr n ↦ omega (arith, n, deep)
+        ];
+        at = at;
+        path = path;
+        by = by;
+        nowhere = none;
+        within = subst (λ (z : ℕ). z < length links) (sym by) (link_within key depth at path);
+        absent = later-none key depth at later path off;
+      }
 
   -- ## the way on to a place below
 

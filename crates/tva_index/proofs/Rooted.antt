@@ -6,10 +6,10 @@ use Rattle.tva_index.specs.declared.bits.Numbered.{Numbered}
 use Rattle.tva_index.specs.Bits.{link_at, entry_at, IsKeyTree}
 use Rattle.tva_index.proofs.Paths.{no_entry, no_link}
 
-abbrev nothing : {X : Type 0} → Option X
+abbrev pub nothing : {X : Type 0} → Option X
 nothing = None
 
-none_at : {X : Type 0} (xs : List (Option X)) (n q : ℕ) → xs ≡ replicate n None → get_or xs q None ≡ None
+pub none_at : {X : Type 0} (xs : List (Option X)) (n q : ℕ) → xs ≡ replicate n None → get_or xs q None ≡ None
 none_at {X} xs n q e = subst (λ (z : List (Option X)). get_or z q None ≡ None) (sym e) (elim (cases_lt q n) [
   | inl l ↦ get_or-replicate n q nothing None l
   | inr l ↦ get_or_past (replicate n nothing) q None (omega (arith, l, length-replicate n (nothing {X = X})))

@@ -1,13 +1,35 @@
 -- Kit: a tree of keys by their bits, for the invariant and the contracts of the functions on it.
-use Rattle.std.specs.Prelude.{◌≡◌, ℕ, zero, suc, ◌+◌, ◌*◌, ◌/◌, ◌%◌, ◌^◌, ◌<◌, ◌≤◌, List, length}
+use Rattle.std.specs.Prelude.{◌≡◌, ℕ, zero, suc, ◌+◌, ◌*◌, ◌/◌, ◌%◌, ◌^◌, ◌<◌, ◌≤◌, List, [], ◌∷◌, length, map}
 use Rattle.std.specs.Prelude.{slice_index, slice_index_or, slice_set, Option, Some, None, option_and_then}
 use Rattle.tva_index.specs.declared.bits.Numbered.{Numbered}
+use Rattle.tva_index.specs.declared.bits.Place.{Place}
 use Rattle.tva_index.specs.declared.bits.Led.{Led}
 use Rattle.tva_index.specs.declared.bits.End.{End}
 use Rattle.tva_index.specs.declared.bits.End.TheVariants.{Found, Missing}
 
 abbrev pub numbered : ℕ → ℕ → Numbered
 numbered key number = record { key = key; number = number }
+
+-- where a number of a link leads, and by a bit the one or the other link of a place
+abbrev pub led_to : ℕ → Option ℕ
+led_to zero = None
+led_to (suc p) = Some (suc p)
+
+abbrev pub way_on : Place → ℕ → Option ℕ
+way_on place zero = led_to place.low
+way_on place (suc _) = led_to place.high
+
+-- the links of places, two of each, and their entries
+abbrev pub links_of : List Place → List (Option ℕ)
+links_of [] = []
+links_of (p ∷ ps) = led_to p.low ∷ led_to p.high ∷ links_of ps
+
+abbrev pub entries_of : List Place → List (Option Numbered)
+entries_of ps = map (λ p. p.entry) ps
+
+-- a place at first
+abbrev pub unused_place : Place
+unused_place = record { low = 0; high = 0; entry = None }
 
 -- where a link leads, and what stands at a place
 abbrev pub link_at : List (Option ℕ) → ℕ → Option ℕ

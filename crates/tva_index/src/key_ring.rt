@@ -25,6 +25,7 @@ impl Model for KeyRing {
     ghost use Rattle.std.specs.Prelude.{◌≤◌, ◌^◌, vec_capacity};
     ghost use Rattle.std.specs.VecDeque.{deque_capacity};
     ghost use Rattle.tva_index.specs.KeyRing.{Ring, ring};
+    ghost use Rattle.tva_index.specs.Bits.{links_of, entries_of};
     ghost use Rattle.tva_index.specs.Numbers.{AreNumbered};
 
     ghost Value = { Ring };
@@ -32,7 +33,7 @@ impl Model for KeyRing {
     ghost view = { λ a. ring a.places a.order.items };
 
     ghost invariant = { λ a.
-        AreNumbered a.places a.first a.order.items a.tree.links.items a.tree.entries.items a.tree.free.items
+        AreNumbered a.places a.first a.order.items (links_of a.tree.places.items) (entries_of a.tree.places.items) a.tree.free.items
         × (a.places ≤ deque_capacity a.order) × (a.places ≤ vec_capacity a.tree.free) };
 }
 

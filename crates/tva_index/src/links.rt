@@ -15,8 +15,8 @@ pub(crate) struct Links {
     pub homes: Vec<Option<u32>>,
 }
 
-/// So many places that name none.
-pub(crate) fn nowhere(alloc: Global, count: u32) -> Result<Vec<Option<u32>>, AllocError>
+// So many places that name none.
+fn nowhere(alloc: Global, count: u32) -> Result<Vec<Option<u32>>, AllocError>
     ensures { IfOk result (λ v. v.items ≡ replicate count None) }
 {
     let mut all = Vec::with_capacity(alloc, count as usize)?;

@@ -11,7 +11,7 @@ use Rattle.tva_base.specs.declared.plan.RouterPlan.{RouterPlan}
 use Rattle.tva_base.specs.Changes.{boot_at, has_come}
 use Rattle.tva_flow.specs.Charges.{Charge}
 use Rattle.tva_router.specs.Boots.{charges_at, charges_of_boot}
-use Rattle.tva_joins.proofs.Joins.{each-weaker, filter-all, filter-none}
+use Rattle.tva_log.proofs.Joins.{each-weaker, filter-all, filter-none}
 
 one_more : (time now later : ℕ) → now ≤ later → cond (nat_le time now) 1 0 ≤ cond (nat_le time later) 1 0
 one_more time now later l = grind (arith, nat_tests)

@@ -12,8 +12,8 @@ use Rattle.tva_port.specs.Log as port
 use Rattle.tva_port.specs.Decide.{decision, MissesNone, RestsAt}
 use Rattle.tva_port.specs.Legal as ports
 use Rattle.tva_port.proofs.Logs.{goes_on-push, legal-here}
-use Rattle.tva_joins.specs.Joins.{IsInOrder, cut}
-use Rattle.tva_joins.proofs.Joins.{each-append, each-weaker, times_from}
+use Rattle.tva_log.specs.Joins.{IsInOrder, cut}
+use Rattle.tva_log.proofs.Joins.{each-append, each-weaker, times_from}
 use Rattle.tva_log.specs.declared.kinds.Input.{Input}
 use Rattle.tva_log.specs.Sites.{Site, IsSite, limits_out}
 use Rattle.tva_log.specs.Entries.{Entry, Took, Started, entry_time, entry_rank}

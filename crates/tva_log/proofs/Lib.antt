@@ -1,3 +1,7 @@
+pub mod Joins
+pub mod Putting
+pub mod Joined
+pub mod Places
 pub mod Logs
 pub mod Ports
 pub mod Links

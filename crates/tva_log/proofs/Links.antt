@@ -34,8 +34,8 @@ use Rattle.tva_transfer.specs.Files.{answered}
 use Rattle.tva_host.specs.Receiving.{receipt_of}
 use Rattle.tva_plan.specs.declared.config.NodePlan.{NodePlan}
 use Rattle.tva_plan.specs.declared.config.NodePlan.TheVariants as plans
-use Rattle.tva_joins.specs.Joins.{cut}
-use Rattle.tva_joins.proofs.Joins.{filter-true, filter-false}
+use Rattle.tva_log.specs.Joins.{cut}
+use Rattle.tva_log.proofs.Joins.{filter-true, filter-false}
 use Rattle.tva_log.specs.declared.kinds.Input.{Input}
 use Rattle.tva_log.specs.declared.kinds.Input.TheVariants.{FromTrace, Arrival}
 use Rattle.tva_log.specs.Sites.{Site, IsSite, IsPlanned, limits_out}

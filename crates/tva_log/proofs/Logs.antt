@@ -8,9 +8,9 @@ use Rattle.std.proofs.lemmas.List.Elements.{filter-append, filter_map-append}
 use Rattle.tva_base.specs.declared.packet.Class.{Class}
 use Rattle.tva_shim.specs.Packets.{PacketData}
 use Rattle.tva_port.specs.Log as port
-use Rattle.tva_joins.specs.Joins.{MayPrecede, IsInOrder, cut}
-use Rattle.tva_joins.proofs.Joins.{filter-true, each-append, each-weaker, in_order-filter, cut-late, cut-early, each-cut, cut-cut, times_from, each_later}
-use Rattle.tva_joins.proofs.Putting.{strictly_trans}
+use Rattle.tva_log.specs.Joins.{MayPrecede, IsInOrder, cut}
+use Rattle.tva_log.proofs.Joins.{filter-true, each-append, each-weaker, in_order-filter, cut-late, cut-early, each-cut, cut-cut, times_from, each_later}
+use Rattle.tva_log.proofs.Putting.{strictly_trans}
 use Rattle.tva_log.specs.declared.kinds.Input.{Input}
 use Rattle.tva_log.specs.Sites.{Site}
 use Rattle.tva_log.specs.Entries.{Entry, Took, Started, input_time, input_source, entry_time, entry_rank}

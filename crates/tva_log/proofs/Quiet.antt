@@ -6,7 +6,7 @@ use Rattle.std.proofs.lemmas.List.Elements.{Contains-append_left, Contains-appen
 use Rattle.std.proofs.lemmas.Bool.{lt-ltb, le-ltb, cases_lt}
 use Rattle.tva_base.specs.declared.limits.LinkLimits.{LinkLimits}
 use Rattle.tva_port.specs.Log.{NoneLater}
-use Rattle.tva_joins.proofs.Joins.{filter-true, filter-false, each-weaker, cut-early}
+use Rattle.tva_log.proofs.Joins.{filter-true, filter-false, each-weaker, cut-early}
 use Rattle.tva_log.specs.declared.kinds.Input.{Input}
 use Rattle.tva_log.specs.Sites.{Site, limits_out}
 use Rattle.tva_log.specs.Entries.{Entry, input_time, entry_time, entry_rank}

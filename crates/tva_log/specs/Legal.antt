@@ -6,7 +6,7 @@ use Rattle.tva_shim.specs.Packets.{packet_length}
 use Rattle.tva_port.specs.Log as port
 use Rattle.tva_port.specs.Legal as ports
 use Rattle.tva_port.specs.Decide.{MissesNone}
-use Rattle.tva_joins.specs.Joins.{IsInOrder}
+use Rattle.tva_log.specs.Joins.{IsInOrder}
 use Rattle.tva_log.specs.declared.kinds.Input.{Input}
 use Rattle.tva_log.specs.Sites.{Site, limits_out}
 use Rattle.tva_log.specs.Entries.{Entry, Took, Started, entry_time, entry_rank}

@@ -1,3 +1,4 @@
+pub mod Joins
 pub mod Sites
 pub mod Entries
 pub mod Parts

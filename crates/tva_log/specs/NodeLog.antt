@@ -9,7 +9,7 @@ use Rattle.tva_port.specs.Log as port
 use Rattle.tva_port.specs.declared.decision.Decision as decided
 use Rattle.tva_port.specs.declared.decision.Decision.TheVariants.{Start, WaitUntil, Idle}
 use Rattle.tva_port.specs.Decide.{decision}
-use Rattle.tva_joins.specs.Joins.{IsInOrder, cut, sorted}
+use Rattle.tva_log.specs.Joins.{IsInOrder, cut, sorted}
 use Rattle.tva_log.specs.declared.kinds.Input.{Input}
 use Rattle.tva_log.specs.Sites.{Site, limits_out}
 use Rattle.tva_log.specs.Entries.{Entry, Took, Started, input_time, input_source, entry_time, entry_rank}

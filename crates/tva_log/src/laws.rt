@@ -1,6 +1,6 @@
 // What holds of every log of a node.
 ghost use Rattle.std.specs.Prelude.{◌≡◌, ℕ, ◌≤◌, List};
-ghost use Rattle.tva_joins.specs.Joins.{IsInOrder, cut};
+ghost use Rattle.tva_log.specs.Joins.{IsInOrder, cut};
 ghost use Rattle.tva_log.specs.declared.kinds.Input.{Input};
 ghost use Rattle.tva_log.specs.Sites.{IsSite, Site};
 ghost use Rattle.tva_log.specs.Entries.{Entry, input_time, input_source, entry_time};

@@ -12,8 +12,8 @@ use Rattle.tva_plan.specs.declared.config.Config.{Config}
 use Rattle.tva_plan.specs.Valid.{IsConfig}
 use Rattle.tva_trace.specs.declared.rows.Row.{Row}
 use Rattle.tva_trace.specs.Valid.{AreTraceRows, IsRow}
-use Rattle.tva_joins.specs.Joins.{from_source}
-use Rattle.tva_joins.proofs.Joins.{cut-early, cut-zero, each-filter, each-weaker, filter-all, filter-none}
+use Rattle.tva_log.specs.Joins.{from_source}
+use Rattle.tva_log.proofs.Joins.{cut-early, cut-zero, each-filter, each-weaker, filter-all, filter-none}
 use Rattle.tva_log.specs.declared.kinds.Input.{Input}
 use Rattle.tva_log.specs.declared.kinds.Input.TheVariants.{FromTrace}
 use Rattle.tva_log.specs.Sites.{Site}

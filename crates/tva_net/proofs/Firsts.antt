@@ -1,5 +1,5 @@
 -- The nodes of a configuration, and that each row can be given to its node.
-use Rattle.std.proofs.Common.{◌≡◌, ℕ, ◌+◌, ◌<◌, ◌≤◌, Bool, true, false, cond, List, [], ◌∷◌, ◌++◌, length, get_or, map, filter, All, Option, Some, None, refl, sym, subst, ◌∙◌, ap, arith, inl, inr}
+use Rattle.std.proofs.Common.{◌≡◌, ℕ, ◌+◌, ◌<◌, ◌≤◌, Bool, true, false, cond, List, [], ◌∷◌, ◌++◌, length, get_or, map, filter, All, Option, Some, None, refl, sym, subst, ◌∙◌, ap, arith, inl, inr, suc, drop, drop-cons, add-one}
 use Rattle.std.specs.Prelude.{◌==◌, slice_get}
 use Rattle.std.specs.Option.{option_map, option_map_or}
 use Rattle.std.proofs.lemmas.Bool.{cases_lt}
@@ -12,9 +12,6 @@ use Rattle.tva_plan.specs.declared.config.NodePlan.{NodePlan}
 use Rattle.tva_plan.specs.declared.config.NodePlan.TheVariants as plans
 use Rattle.tva_plan.specs.Names.{is_host, is_host_plan}
 use Rattle.tva_plan.specs.Valid.{IsConfig}
-use Rattle.tva_shim.specs.declared.packets.Carried.{Carried}
-use Rattle.tva_shim.specs.declared.packets.Carried.TheVariants as carried
-use Rattle.tva_shim.specs.Packets.{IsCarried}
 use Rattle.tva_trace.specs.declared.rows.Row.{Row}
 use Rattle.tva_trace.specs.declared.rows.RowWhat.{RowWhat}
 use Rattle.tva_trace.specs.declared.rows.RowWhat.TheVariants as rows
@@ -118,6 +115,9 @@ map_row : (row : Row) (b : Bool) (rs : List Row) → map FromTrace (cond b (row 
 map_row row false rs = refl
 map_row row true rs = refl
 
+pub row_left : (rs : List Row) (place : ℕ) (row : Row) → place < length rs → row ≡ get_or rs place row → drop place rs ≡ row ∷ drop (place + 1) rs
+row_left rs place row within e = rw add-one (drop-cons rs place row within ∙ ap (λ (r : Row). r ∷ drop (suc place) rs) (sym e))
+
 pub row_first : (row : Row) (rs : List Row) (n : ℕ) → rows_at (row ∷ rs) n ≡ mail_at row.node (FromTrace row ∷ []) n ++ rows_at rs n
 row_first row rs n = map_row row (row.node == n) (filter (λ r. r.node == n) rs)
 
@@ -132,6 +132,9 @@ kept_with_rows keeps mail nodes filed got each n d l =
     (got.each n d there).keeps.keeps ∙ each n d there
 
 -- ## how many rows
+
+pub some_row : Row
+some_row = record { time = record { 0 = 0 }; node = 0; what = rows.Tick (record { 0 = 0 }) }
 
 pub row_there : (config : Config) (count : ℕ) (rs : List Row) → count ≡ length config.nodes → AreTraceRows config rs → All (λ row. row.node < count) rs
 row_there config count rs c h k d l = let there = (h.each k d l).node in omega (arith, there, c)

@@ -9,7 +9,7 @@ use Rattle.tva_log.specs.Entries.{Entry}
 use Rattle.tva_node.specs.declared.memory.Memory.{Memory}
 use Rattle.tva_node.specs.declared.memory.Memory.TheVariants.{All as KeepsAll, Events, Nothing}
 use Rattle.tva_node.specs.States.{Gone, NodeState, Stands, StandsFor, gone_after, gone_by}
-use Rattle.tva_joins.proofs.Joins.{each-weaker}
+use Rattle.tva_log.proofs.Joins.{each-weaker}
 use Rattle.tva_net.specs.Mail.{Forgot, GotMail, GotMails, IsGoneAsBefore, IsGoneAsBeforeBut, KeepsWork}
 use Rattle.tva_net.specs.Nets.{HadGone}
 use Rattle.tva_net.specs.Places.{ArePlaces, Rises}

@@ -8,8 +8,8 @@ use Rattle.std.proofs.lemmas.List.{append-nil, map-append}
 use Rattle.std.proofs.lemmas.List.Elements.{filter-append}
 use Rattle.std.proofs.lemmas.Grind.{flat_map-append}
 use Rattle.tva_base.specs.declared.event.Event.{Event}
-use Rattle.tva_joins.proofs.Joins.{filter-true, filter-all, filter-none, each-weaker}
-use Rattle.tva_joins.proofs.Putting.{each-both}
+use Rattle.tva_log.proofs.Joins.{filter-true, filter-all, filter-none, each-weaker}
+use Rattle.tva_log.proofs.Putting.{each-both}
 use Rattle.tva_run.specs.Report.{event_time}
 use Rattle.tva_run.specs.Windows.{Window, events_in, given}
 use Rattle.tva_net.specs.Work.{if_some}

@@ -20,3 +20,4 @@ pub mod Worked
 pub mod Firsts
 pub mod Adding
 pub mod Sorting
+pub mod Counts

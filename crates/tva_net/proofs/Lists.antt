@@ -5,8 +5,8 @@ use Rattle.std.specs.List.{AllByRecursion, AllZip}
 use Rattle.std.proofs.lemmas.Bool.{lt-ltb, eq-eqb, cases_Bool, cases_lt}
 use Rattle.std.proofs.lemmas.List.{append_cancel_right, drop_more}
 use Rattle.std.proofs.lemmas.List.Folds.{drop_split}
-use Rattle.tva_joins.specs.Joins.{IsInOrder, NeverFalls, cut, from_source}
-use Rattle.tva_joins.proofs.Joins.{filter-true, filter-false, cut-late, each-filter, each_later}
+use Rattle.tva_log.specs.Joins.{IsInOrder, NeverFalls, cut, from_source}
+use Rattle.tva_log.proofs.Joins.{filter-true, filter-false, cut-late, each-filter, each_later}
 use Rattle.tva_run.proofs.Next.{contains_cases, contains_first, contains_more}
 
 pub some_same : {X : Type 0} (x y : X) → Some x ≡ Some y → x ≡ y

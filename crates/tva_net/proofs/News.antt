@@ -6,8 +6,8 @@ use Rattle.std.proofs.lemmas.Bool.{eq-eqb, ne_eqb}
 use Rattle.std.proofs.lemmas.List.{append-nil}
 use Rattle.std.proofs.lemmas.List.Elements.{All-head, All-tail, filter-append}
 use Rattle.tva_base.specs.declared.event.Event.{Event}
-use Rattle.tva_joins.specs.Joins.{IsInOrder, IsJoin, MayPrecede, NeverFalls, from_source}
-use Rattle.tva_joins.proofs.Joins.{each-append, each-weaker, filter-all, filter-none}
+use Rattle.tva_log.specs.Joins.{IsInOrder, IsJoin, MayPrecede, NeverFalls, from_source}
+use Rattle.tva_log.proofs.Joins.{each-append, each-weaker, filter-all, filter-none}
 use Rattle.tva_log.specs.Entries.{Entry, entry_rank, entry_time}
 use Rattle.tva_log.specs.Sites.{Site}
 use Rattle.tva_log.specs.Told.{events}

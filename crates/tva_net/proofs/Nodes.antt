@@ -3,9 +3,9 @@ use Rattle.std.proofs.Common.{◌≡◌, ℕ, ◌+◌, ◌<◌, ◌≤◌, List,
 use Rattle.std.specs.Prelude.{◌==◌, nat_lt, Contains}
 use Rattle.tva_plan.specs.declared.config.Config.{Config}
 use Rattle.tva_trace.specs.declared.rows.Row.{Row}
-use Rattle.tva_joins.specs.Joins.{IsJoin, NeverFalls, from_source}
-use Rattle.tva_joins.proofs.Joins.{filter_swap, in_order-filter, cut-cut}
-use Rattle.tva_joins.proofs.Joined.{join-put_all}
+use Rattle.tva_log.specs.Joins.{IsJoin, NeverFalls, from_source}
+use Rattle.tva_log.proofs.Joins.{filter_swap, in_order-filter, cut-cut}
+use Rattle.tva_log.proofs.Joined.{join-put_all}
 use Rattle.tva_log.specs.declared.kinds.Input.{Input}
 use Rattle.tva_log.specs.Entries.{Entry, input_time, input_source}
 use Rattle.tva_log.specs.NodeLog.{IsNodeLog, due, in_turn}

@@ -3,9 +3,9 @@ use Rattle.std.proofs.Common.{◌≡◌, ℕ, ◌<◌, ◌≤◌, Bool, List, []
 use Rattle.std.specs.Prelude.{◌==◌}
 use Rattle.std.specs.List.{AllByRecursion}
 use Rattle.std.proofs.lemmas.Bool.{cases_Bool, cases_eq, cases_lt, eq-eqb, ne_eqb}
-use Rattle.tva_joins.specs.Joins.{IsInOrder, IsJoin, MayPrecede, NeverFalls, from_source}
-use Rattle.tva_joins.proofs.Joins.{each-filter, each-weaker, filter-false, filter-true, filter_swap, join_unique}
-use Rattle.tva_joins.proofs.Putting.{each-both}
+use Rattle.tva_log.specs.Joins.{IsInOrder, IsJoin, MayPrecede, NeverFalls, from_source}
+use Rattle.tva_log.proofs.Joins.{each-filter, each-weaker, filter-false, filter-true, filter_swap, join_unique}
+use Rattle.tva_log.proofs.Putting.{each-both}
 
 may : (a b : ℕ) → a ≤ b → (a < b) ⊎ ((a ≡ b) × (a ≤ b))
 may a b l = elim (cases_lt a b) [ inl k ↦ inl k | inr k ↦ inr (omega arith, l) ]

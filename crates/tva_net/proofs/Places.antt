@@ -7,7 +7,7 @@ use Rattle.std.proofs.lemmas.Bool.{cases_eq, cases_lt}
 use Rattle.std.proofs.lemmas.List.{append_assoc, drop_all, drop_more, get_or_default, get_or-set_other, get_or-set_same}
 use Rattle.std.proofs.lemmas.List.Elements.{All-from_recursion, recursion_from_All}
 use Rattle.std.proofs.lemmas.Option.{slice_get-get_or}
-use Rattle.tva_joins.proofs.Joins.{each-append, each-weaker}
+use Rattle.tva_log.proofs.Joins.{each-append, each-weaker}
 use Rattle.tva_node.specs.States.{NodeState}
 use Rattle.tva_net.specs.News.{since}
 use Rattle.tva_net.specs.Places.{AreAllPlaces, AreKnownElsewhere, ArePlaces, IsElsewhere, IsPutAmong, Rises, picked}

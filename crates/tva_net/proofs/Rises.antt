@@ -9,8 +9,8 @@ use Rattle.tva_plan.specs.declared.config.Config.{Config}
 use Rattle.tva_plan.specs.Valid.{IsConfig}
 use Rattle.tva_trace.specs.declared.rows.Row.{Row}
 use Rattle.tva_trace.specs.Valid.{NeverFall}
-use Rattle.tva_joins.specs.Joins.{NeverFalls}
-use Rattle.tva_joins.proofs.Joins.{filter-true, filter-false, each-weaker}
+use Rattle.tva_log.specs.Joins.{NeverFalls}
+use Rattle.tva_log.proofs.Joins.{filter-true, filter-false, each-weaker}
 use Rattle.tva_log.specs.declared.kinds.Input.{Input}
 use Rattle.tva_log.specs.Entries.{input_time}
 use Rattle.tva_run.specs.Reaching.{Logs, log_at, arrivals, arrivals_at, rows_at, reaches}

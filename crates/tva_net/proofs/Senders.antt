@@ -14,8 +14,8 @@ use Rattle.tva_shim.specs.Packets.{PacketData, packet_length}
 use Rattle.tva_plan.specs.declared.config.Config.{Config}
 use Rattle.tva_plan.specs.declared.config.NodePlan.{NodePlan}
 use Rattle.tva_plan.specs.Wiring.{picked}
-use Rattle.tva_joins.specs.Joins.{from_source}
-use Rattle.tva_joins.proofs.Joins.{filter-true, filter-false, filter-none, each-append}
+use Rattle.tva_log.specs.Joins.{from_source}
+use Rattle.tva_log.proofs.Joins.{filter-true, filter-false, filter-none, each-append}
 use Rattle.tva_log.specs.declared.kinds.Input.{Input}
 use Rattle.tva_log.specs.declared.kinds.Sending.{Sending}
 use Rattle.tva_log.specs.Sites.{Site, site_of, link_out}

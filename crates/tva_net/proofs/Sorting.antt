@@ -8,7 +8,7 @@ use Rattle.tva_base.specs.declared.event.Event.{Event}
 use Rattle.tva_base.specs.declared.event.Happened.TheVariants as happens
 use Rattle.tva_base.specs.declared.event.ShapeKind.TheVariants as shape
 use Rattle.tva_base.specs.declared.packet.Outcome.TheVariants as outcome
-use Rattle.tva_joins.specs.Joins.{NeverFalls}
+use Rattle.tva_log.specs.Joins.{NeverFalls}
 use Rattle.tva_log.specs.Told.{at_time}
 use Rattle.tva_run.specs.Report.{event_time}
 use Rattle.tva_run.proofs.Reports.{filter-map}

@@ -1,10 +1,11 @@
 -- Kit: what nodes are built with, and what is posted to them.
-use Rattle.std.specs.Prelude.{◌≡◌, ℕ, ◌<◌, ◌≤◌, ◌==◌, ◌&&◌, nat_le, false, Bool, List, [], ◌++◌, length, map, filter}
+use Rattle.std.specs.Prelude.{◌≡◌, ℕ, ◌<◌, ◌≤◌, ◌==◌, ◌&&◌, nat_le, false, true, Bool, List, [], ◌++◌, length, map, filter}
 use Rattle.std.specs.Prelude.{slice_get, slice_index, slice_index_or, Some, if◌then◌else◌}
 use Rattle.std.specs.Option.{option_map_or}
 use Rattle.tva_base.specs.declared.plan.LinkPlan.{LinkPlan}
 use Rattle.tva_plan.specs.declared.config.Config.{Config}
 use Rattle.tva_trace.specs.declared.rows.Row.{Row}
+use Rattle.tva_trace.specs.Packed.{carries_some}
 use Rattle.tva_log.specs.declared.kinds.Input.{Input}
 use Rattle.tva_log.specs.declared.kinds.Sending.{Sending}
 use Rattle.tva_log.specs.Entries.{input_time}
@@ -28,6 +29,10 @@ pub record AreFirstNodes (config : Config) (rows : List Row) (nodes : List NodeS
   pub count : length nodes ≡ length config.nodes
   pub each : (number : ℕ) (d : NodeState) → number < length nodes
       → IsFirstNode config rows number (slice_index_or nodes number d)
+
+-- a row carries something
+abbrev pub carries : Row → Bool
+carries row = carries_some row.what
 
 -- so many nodes have so many rows
 pub record AreRowCounts (nodes : ℕ) (rows : List Row) (counts : List ℕ) : Type 0 where

@@ -9,7 +9,7 @@ use Rattle.tva_plan.specs.declared.config.Config.{Config}
 use Rattle.tva_plan.specs.Valid.{IsConfig}
 use Rattle.tva_trace.specs.declared.rows.Row.{Row}
 use Rattle.tva_trace.specs.Valid.{AreTraceRows}
-use Rattle.tva_joins.specs.Joins.{from_source}
+use Rattle.tva_log.specs.Joins.{from_source}
 use Rattle.tva_log.specs.Entries.{input_source}
 use Rattle.tva_log.specs.NodeLog.{due, in_turn}
 use Rattle.tva_log.specs.Next.{IsQuiet}

@@ -8,7 +8,7 @@ use Rattle.tva_log.specs.Entries.{Entry}
 use Rattle.tva_log.specs.NodeLog.{in_turn}
 use Rattle.tva_log.specs.Next.{IsWorkAt}
 use Rattle.tva_node.specs.States.{NodeState, StandsFor}
-use Rattle.tva_joins.specs.Joins.{NeverFalls, from_source}
+use Rattle.tva_log.specs.Joins.{NeverFalls, from_source}
 use Rattle.tva_run.specs.Report.{event_time}
 
 -- ## news

@@ -1,11 +1,11 @@
 // The nodes of a configuration, with their rows.
-ghost use Rattle.std.specs.Prelude.{◌≡◌, ◌<◌, ◌≤◌, [], ◌∷◌, All, IfOk, IfSome, MatchOption, OnOk, length, reverse as reversed};
+ghost use Rattle.std.specs.Prelude.{◌≡◌, ◌<◌, ◌≤◌, [], All, IfOk, OnOk, filter, length};
 ghost use Rattle.std.specs.List.{AllZip};
 ghost use Rattle.tva_plan.specs.Valid.{IsConfig};
 ghost use Rattle.tva_trace.specs.Valid.{AreTraceRows};
 ghost use Rattle.tva_log.specs.declared.kinds.Input.TheVariants.{FromTrace};
 ghost use Rattle.tva_run.specs.Reaching.{links_out, rows_at};
-ghost use Rattle.tva_net.specs.Mail.{AreFirstNodes, AreRowCounts, CanDeliver, GotMails, IsFirstNode, KeepsWork};
+ghost use Rattle.tva_net.specs.Mail.{AreFirstNodes, AreRowCounts, CanDeliver, GotMails, IsFirstNode, KeepsWork, carries};
 
 use crate::posting::deliver;
 use std::alloc::{AllocError, Global};
@@ -13,25 +13,25 @@ use tva_base::LinkPlan;
 use tva_log::Input;
 use tva_node::{Memory, Node};
 use tva_plan::Config;
-use tva_trace::Row;
+use tva_trace::PackedRows;
 
 /// The nodes of a configuration in their order, each with its rows of the trace, to which nothing
 /// happened yet, and of which memory keeps so much. The error is want of memory.
 pub(crate) fn first_nodes(
     alloc: Global,
     config: &Config,
-    rows: Vec<Row>,
+    rows: PackedRows,
     keeps: Memory,
 ) -> Result<Vec<Node>, AllocError>
     requires config { IsConfig config.now }
-    requires rows { AreTraceRows config.now rows.items }
-    ensures first { IfOk result (λ nodes. AreFirstNodes config.now rows.items nodes.items) }
+    requires rows { AreTraceRows config.now rows }
+    ensures first { IfOk result (λ nodes. AreFirstNodes config.now rows nodes.items) }
     ensures keeps { IfOk result (λ nodes. All (λ v. v.keeps ≡ keeps) nodes.items) }
 {
     let mut nodes = nodes_of(alloc, config, keeps)?;
     let each = nodes.as_mut_slice();
-    make_room(alloc, each, rows.as_slice())?;
-    file_rows(each, rows)?;
+    make_room(alloc, each, &rows)?;
+    file_rows(each, &rows)?;
     Ok(nodes)
 }
 
@@ -81,67 +81,53 @@ fn links_out(
     Ok(out)
 }
 
+/// How many rows each node has, and how many of them carry something.
+#[derive(Drop)]
+struct RowCounts {
+    all: Vec<usize>,
+    carrying: Vec<usize>,
+}
+
 // Makes room for the rows of each node.
-fn make_room(alloc: Global, nodes: &mut [Node], rows: &[Row]) -> Result<(), AllocError>
+fn make_room(alloc: Global, nodes: &mut [Node], rows: &PackedRows) -> Result<(), AllocError>
     requires few { length rows.now ≤ 1000000 }
     requires within { All (λ row. row.node < length nodes.old) rows.now }
     ensures { nodes.new ≡ nodes.old }
 {
     let counts = row_counts(alloc, nodes.len(), rows)?;
     for place in 0..nodes.len() {
-        nodes[place].reserve(counts[place])?;
+        nodes[place].reserve(counts.all[place], counts.carrying[place])?;
     }
     Ok(())
 }
 
-// How many rows each of so many nodes has.
-fn row_counts(alloc: Global, count: usize, rows: &[Row]) -> Result<Vec<usize>, AllocError>
+// How many rows each of so many nodes has, and how many of them carry something.
+fn row_counts(alloc: Global, count: usize, rows: &PackedRows) -> Result<RowCounts, AllocError>
     requires few { length rows.now ≤ 1000000 }
     requires within { All (λ row. row.node < count) rows.now }
-    ensures { IfOk result (λ counts. AreRowCounts count rows.now counts.items) }
+    ensures all { IfOk result (λ counts. AreRowCounts count rows.now counts.all.items) }
+    ensures carrying { IfOk result (λ counts. AreRowCounts count (filter carries rows.now) counts.carrying.items) }
 {
-    let mut counts = vec![in alloc; 0; count]?;
-    for row in rows {
-        counts[usize::from(row.node)] += 1;
+    let mut all = vec![in alloc; 0; count]?;
+    let mut carrying = vec![in alloc; 0; count]?;
+    for place in 0..rows.len() {
+        let node = usize::from(rows.node_at(place));
+        all[node] += 1;
+        carrying[node] += usize::from(rows.carries_at(place));
     }
-    Ok(counts)
+    Ok(RowCounts { all, carrying })
 }
 
-// So many rows are filed before the memory that they took is given back.
-const GIVEN_BACK: usize = 4_096;
-
-// Gives each row to its node. Rows leave their list from its end, where their memory can be given back as they
-// go: else all of them would be held twice.
-fn file_rows(nodes: &mut [Node], rows: Vec<Row>) -> Result<(), AllocError>
-    requires { All (λ row. CanDeliver nodes.old row.node (FromTrace row)) rows.items }
-    ensures got { OnOk result (GotMails (rows_at rows.items) nodes.old nodes.new) }
+// Gives each row to its node.
+fn file_rows(nodes: &mut [Node], rows: &PackedRows) -> Result<(), AllocError>
+    requires { All (λ row. CanDeliver nodes.old row.node (FromTrace row)) rows.now }
+    ensures got { OnOk result (GotMails (rows_at rows.now) nodes.old nodes.new) }
     ensures keeps { AllZip KeepsWork nodes.old nodes.new }
 {
-    let mut left = turned(rows);
-    while let Some(row) = take_first(&mut left) {
+    for place in 0..rows.len() {
+        let row = rows.get(place);
         let node = usize::from(row.node);
         deliver(nodes, node, Input::FromTrace(row))?;
     }
     Ok(())
-}
-
-// Rows from the last to the first.
-fn turned(rows: Vec<Row>) -> Vec<Row>
-    ensures { reversed result.items ≡ rows.items }
-{
-    let mut left = rows;
-    left.reverse();
-    left
-}
-
-// Takes the first of rows that stand from the last to the first, and gives back the memory of many that left.
-fn take_first(left: &mut Vec<Row>) -> Option<Row>
-    ensures first { MatchOption result (left.old.items ≡ []) (λ row. reversed left.old.items ≡ row ∷ reversed left.new.items) }
-    ensures fewer { IfSome result (λ row. length left.new.items < length left.old.items) }
-{
-    let row = left.pop()?;
-    if left.len() % GIVEN_BACK == 0 {
-        left.shrink_to_fit();
-    }
-    Some(row)
 }

@@ -1,7 +1,7 @@
 // What happened at nodes, put into one list.
 ghost use Rattle.std.specs.Prelude.{◌≡◌, ℕ, ◌<◌, ◌≤◌, ◌++◌, All, IfOk, OnOk, drop, length, map, slice_index_or};
 ghost use Rattle.std.specs.List.{AllZip};
-ghost use Rattle.tva_joins.specs.Joins.{IsJoin};
+ghost use Rattle.tva_log.specs.Joins.{IsJoin};
 ghost use Rattle.tva_node.specs.States.{NodeState, Stands};
 ghost use Rattle.tva_run.specs.Report.{event_node, event_time};
 ghost use Rattle.tva_net.specs.News.{IsByTime, told_since};

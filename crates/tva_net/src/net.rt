@@ -19,7 +19,7 @@ use tva_base::Totals;
 use tva_node::{Memory, Node};
 use tva_outside::Gate;
 use tva_plan::Config;
-use tva_trace::Row;
+use tva_trace::{PackedRows, Row};
 
 /// A network: its nodes, worked up to a time. Contracts see what it keeps, and speak of the run of a
 /// configuration and a trace for which it stands.
@@ -49,7 +49,8 @@ impl Net {
         ensures stands { IfOk result (λ net. StandsFor config.now rows.items [] [] net) }
         ensures keeps { IfOk result (λ net. All (λ v. v.keeps ≡ Memory.All) net.work.nodes) }
     {
-        Net::build_keeping(alloc, config, rows, Memory::All)
+        let packed = PackedRows::from_rows(alloc, rows)?;
+        Net::build_keeping(alloc, config, packed, Memory::All)
     }
 
     /// The same network, of whose past memory keeps so much: it stands for the same run, and each window
@@ -57,12 +58,12 @@ impl Net {
     pub fn build_keeping(
         alloc: Global,
         config: &Config,
-        rows: Vec<Row>,
+        rows: PackedRows,
         keeps: Memory,
     ) -> Result<Net, AllocError>
         requires config { IsConfig config.now }
-        requires rows { AreTraceRows config.now rows.items }
-        ensures stands { IfOk result (λ net. StandsFor config.now rows.items [] [] net) }
+        requires rows { AreTraceRows config.now rows }
+        ensures stands { IfOk result (λ net. StandsFor config.now rows [] [] net) }
         ensures keeps { IfOk result (λ net. All (λ v. v.keeps ≡ keeps) net.work.nodes) }
     {
         Ok(Net {

@@ -22,7 +22,7 @@ use tva_base::{Event, Totals};
 use tva_node::Memory;
 use tva_outside::Gate;
 use tva_plan::Config;
-use tva_trace::Row;
+use tva_trace::PackedRows;
 
 /// The nodes at work, the greatest number of events, the sums of what was given, and the error that
 /// it has come to.
@@ -39,12 +39,12 @@ impl Parts {
     pub fn build(
         alloc: Global,
         config: &Config,
-        rows: Vec<Row>,
+        rows: PackedRows,
         keeps: Memory,
     ) -> Result<Parts, AllocError>
         requires config { IsConfig config.now }
-        requires rows { AreTraceRows config.now rows.items }
-        ensures stands { IfOk result (λ parts. StandsFor config.now rows.items [] [] (state_of parts)) }
+        requires rows { AreTraceRows config.now rows }
+        ensures stands { IfOk result (λ parts. StandsFor config.now rows [] [] (state_of parts)) }
         ensures times { IfOk result KnowsTimes }
         ensures keeps { IfOk result (λ parts. All (λ v. v.keeps ≡ keeps) parts.works.nodes.items) }
     {

@@ -22,7 +22,7 @@ use tva_index::Lowest;
 use tva_node::{Memory, Node, processors};
 use tva_outside::Gate;
 use tva_plan::Config;
-use tva_trace::Row;
+use tva_trace::PackedRows;
 
 /// The horizon, the links, the length of a window in nanoseconds, the nodes, when each of them has
 /// work next, how much of what each one's links sent was posted and how much of what each told was
@@ -48,12 +48,12 @@ impl Works {
     pub fn build(
         alloc: Global,
         config: &Config,
-        rows: Vec<Row>,
+        rows: PackedRows,
         keeps: Memory,
     ) -> Result<Works, AllocError>
         requires config { IsConfig config.now }
-        requires rows { AreTraceRows config.now rows.items }
-        ensures works { IfOk result (λ works. WorksFor config.now rows.items [] [] (work_of works)) }
+        requires rows { AreTraceRows config.now rows }
+        ensures works { IfOk result (λ works. WorksFor config.now rows [] [] (work_of works)) }
         ensures noted { IfOk result (λ works. AreNoted works.times works.nodes.items) }
         ensures keeps { IfOk result (λ works. All (λ v. v.keeps ≡ keeps) works.nodes.items) }
     {

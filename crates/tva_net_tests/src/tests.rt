@@ -12,7 +12,7 @@ use tva_base::{Event, Happened, Totals};
 use tva_config::read_config;
 use tva_net::{Memory, Net, NetError, Node, Window};
 use tva_outside::{Gate, OpenGate};
-use tva_trace::read_trace;
+use tva_trace::{read_packed, read_trace};
 
 // The network of a configuration and a trace.
 fn network(alloc: Global, config: &str, trace: &str) -> Result<Net, Fail> {
@@ -29,7 +29,7 @@ fn keeping(alloc: Global, config: &str, trace: &str, keeps: Memory) -> Result<Ne
     let Ok(config) = read_config(alloc, config.as_bytes()) else {
         return Err(Fail::from("no configuration"));
     };
-    let rows = read_trace(alloc, trace.as_bytes(), &config)?;
+    let rows = read_packed(alloc, trace.as_bytes(), &config)?;
     let net = Net::build_keeping(alloc, &config, rows, keeps)?;
     Ok(net)
 }

@@ -6,9 +6,9 @@ use Rattle.std.proofs.lemmas.Bool.{lt-ltb, le-ltb, cases_lt, eqb-true}
 use Rattle.std.proofs.lemmas.Bool.Decides.{nat_tests}
 use Rattle.std.proofs.lemmas.List.{append_cancel_left}
 use Rattle.std.proofs.lemmas.List.Elements.{filter-append, recursion_from_All}
-use Rattle.tva_joins.specs.Joins.{IsInOrder}
-use Rattle.tva_joins.proofs.Joins.{filter-true, filter-false, cut-early, cut-late, each-cut, each_later}
-use Rattle.tva_joins.proofs.Putting.{each-put_all, in_order-put_all}
+use Rattle.tva_log.specs.Joins.{IsInOrder}
+use Rattle.tva_log.proofs.Joins.{filter-true, filter-false, cut-early, cut-late, each-cut, each_later}
+use Rattle.tva_log.proofs.Putting.{each-put_all, in_order-put_all}
 use Rattle.tva_log.specs.declared.kinds.Input.{Input}
 use Rattle.tva_log.specs.Entries.{input_time, input_source}
 use Rattle.tva_log.specs.NodeLog.{in_turn, due}

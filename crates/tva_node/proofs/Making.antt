@@ -22,8 +22,8 @@ use Rattle.tva_router.specs.Handling.{Logs, outgoing_link}
 use Rattle.tva_router.specs.Routes.{rerouted}
 use Rattle.tva_router.specs.Stands as router
 use Rattle.tva_router.specs.Stands.{RouterData}
-use Rattle.tva_joins.specs.Joins.{NeverFalls}
-use Rattle.tva_joins.proofs.Joins.{each-append, each-weaker, filter-all, filter-none, filter-true, filter-false, filter_swap, in_order-filter, join_unique}
+use Rattle.tva_log.specs.Joins.{NeverFalls}
+use Rattle.tva_log.proofs.Joins.{each-append, each-weaker, filter-all, filter-none, filter-true, filter-false, filter_swap, in_order-filter, join_unique}
 use Rattle.tva_log.specs.Parts.{charges, port_logs}
 use Rattle.tva_log.proofs.Boots.{charges_none}
 use Rattle.tva_node.specs.declared.changes.Changes.{Changes}

@@ -14,9 +14,9 @@ use Rattle.tva_plan.specs.declared.config.NodePlan.{NodePlan}
 use Rattle.tva_port.specs.Waiting.{waiting_after, IsEmpty}
 use Rattle.tva_port.proofs.Idling.{empty_idles}
 use Rattle.tva_port.proofs.Levels.{none_first as no_request_first}
-use Rattle.tva_joins.specs.Joins.{precedes, put_in}
-use Rattle.tva_joins.proofs.Joins.{each-cut, each-weaker}
-use Rattle.tva_joins.proofs.Putting.{cut-put_all, put_all-append}
+use Rattle.tva_log.specs.Joins.{precedes, put_in}
+use Rattle.tva_log.proofs.Joins.{each-cut, each-weaker}
+use Rattle.tva_log.proofs.Putting.{cut-put_all, put_all-append}
 use Rattle.tva_log.specs.declared.kinds.Input.{Input}
 use Rattle.tva_log.specs.Sites.{Site, IsLinkOut, IsSite, limits_out, site_of}
 use Rattle.tva_log.specs.Entries.{Entry, input_source, input_time}

@@ -64,7 +64,7 @@ use Rattle.tva_log.specs.Entries as entry
 use Rattle.tva_log.specs.Parts.{act_of, act_of_input, act_of_row, acts, call_of, call_of_input, call_of_row, files, reply_at, calls, charge_of, charged, charges, content_at, is_row, port_entry, port_logs, queued_at, rows_in}
 use Rattle.tva_log.specs.Contents.{arrived, content_by, goes_out, handled, hosted, made_for, routed, sent_out}
 use Rattle.tva_log.specs.Told.{content_told, reply_told}
-use Rattle.tva_joins.proofs.Joins.{each-append, each-weaker}
+use Rattle.tva_log.proofs.Joins.{each-append, each-weaker}
 use Rattle.tva_log.proofs.Legal.{AreLegal}
 use Rattle.tva_log.proofs.Boots.{charges_now}
 use Rattle.tva_node.specs.declared.changes.Changes.{Changes}

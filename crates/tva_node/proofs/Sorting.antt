@@ -8,8 +8,8 @@ use Rattle.std.specs.List.Sorted.{IsNonDecreasingBy, IsStableByKey, ties}
 use Rattle.std.proofs.lemmas.Bool.{cases_order, cases_lt, eq-eqb, ne_eqb, lt-ltb, le-ltb}
 use Rattle.std.proofs.lemmas.List.Elements.{filter_agree, recursion_from_All}
 use Rattle.tva_base.specs.Plan.{AreRising}
-use Rattle.tva_joins.specs.Joins.{IsInOrder, MayPrecede, NeverFalls, from_source}
-use Rattle.tva_joins.proofs.Joins.{each-weaker}
+use Rattle.tva_log.specs.Joins.{IsInOrder, MayPrecede, NeverFalls, from_source}
+use Rattle.tva_log.proofs.Joins.{each-weaker}
 
 pub falls_from : {X : Type 0} (time : X → ℕ) (xs : List X) → IsNonDecreasingBy time xs → NeverFalls time xs
 falls_from time [] h = tt

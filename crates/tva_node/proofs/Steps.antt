@@ -7,8 +7,8 @@ use Rattle.std.proofs.lemmas.List.{append-nil, append_assoc}
 use Rattle.std.proofs.lemmas.List.Elements.{filter-append}
 use Rattle.tva_base.specs.declared.packet.Class.{Class}
 use Rattle.tva_shim.specs.Packets.{PacketData}
-use Rattle.tva_joins.specs.Joins.{MayPrecede, IsInOrder, cut}
-use Rattle.tva_joins.proofs.Joins.{each-append, each-weaker, cut-late, cut-early}
+use Rattle.tva_log.specs.Joins.{MayPrecede, IsInOrder, cut}
+use Rattle.tva_log.proofs.Joins.{each-append, each-weaker, cut-late, cut-early}
 use Rattle.tva_log.specs.declared.kinds.Input.{Input}
 use Rattle.tva_log.specs.Sites.{Site}
 use Rattle.tva_log.specs.Entries.{Content, Entry, Took, Started, input_time, entry_time, entry_rank}

@@ -14,7 +14,7 @@ use Rattle.tva_base.specs.declared.packet.Class.{Class}
 use Rattle.tva_base.specs.Plan.{links_of}
 use Rattle.tva_port.specs.Log as port
 use Rattle.tva_shim.specs.Packets.{PacketData}
-use Rattle.tva_joins.proofs.Joins.{each-append, each-weaker, each-cut}
+use Rattle.tva_log.proofs.Joins.{each-append, each-weaker, each-cut}
 use Rattle.tva_log.specs.declared.kinds.Input.{Input}
 use Rattle.tva_log.specs.declared.kinds.Sending.{Sending}
 use Rattle.tva_log.specs.Sites.{Site, limits_out, AreRising}

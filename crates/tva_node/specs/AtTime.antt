@@ -1,7 +1,7 @@
 -- Kit: a node's log within one time, while its inputs are taken and its links decide in turn.
 use Rattle.std.specs.Prelude.{◌≡◌, ℕ, ◌<◌, ◌≤◌, ◌⊎◌, List, [], None}
 use Rattle.std.specs.List.{AllByRecursion}
-use Rattle.tva_joins.specs.Joins.{IsInOrder}
+use Rattle.tva_log.specs.Joins.{IsInOrder}
 use Rattle.tva_log.specs.declared.kinds.Input.{Input}
 use Rattle.tva_log.specs.Sites.{Site}
 use Rattle.tva_log.specs.Entries.{Entry, entry_time, entry_rank}

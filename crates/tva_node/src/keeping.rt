@@ -23,7 +23,8 @@ impl Parts {
             Memory::All => copies_of(self.alloc, self.outbox.behind(place)),
             Memory::Events | Memory::Nothing => {
                 let first = place - self.outbox.gone();
-                let mut list = self.outbox.take(self.alloc);
+                let room = Vec::with_capacity(self.alloc, self.outbox.as_slice().len())?;
+                let mut list = self.outbox.take(room);
                 if first == 0 {
                     Ok(list)
                 } else {

@@ -104,11 +104,12 @@ impl Node {
         })
     }
 
-    /// Makes room for so many more inputs. The error is want of memory; nothing changes.
-    pub fn reserve(&mut self, count: usize) -> Result<(), AllocError>
+    /// Makes room for so many more inputs, so many of which are more than rows that carry nothing. The
+    /// error is want of memory; nothing changes.
+    pub fn reserve(&mut self, count: usize, carrying: usize) -> Result<(), AllocError>
         ensures { self.new ≡ self.old }
     {
-        self.parts.waiting.reserve(count)
+        self.parts.waiting.reserve(count, carrying)
     }
 
     /// The number of the node.

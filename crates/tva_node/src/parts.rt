@@ -146,10 +146,9 @@ impl Parts {
         ensures fewer { length self.new.waiting < length self.old.waiting }
         ensures keeps { Keeps (state_of self.old) (state_of self.new) }
     {
-        let Some(input) = self.waiting.take() else {
-            return Ok(());
-        };
-        let happened = self.role.take(self.alloc, self.number, input)?;
+        let happened = self
+            .role
+            .take(self.alloc, self.number, self.waiting.take())?;
         let queued = queued_on(&happened);
         self.log.push(Event {
             time: Time(now),

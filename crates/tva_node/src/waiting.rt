@@ -1,9 +1,9 @@
 // The inputs of a node that are not taken yet, in the order of their taking.
-ghost use Rattle.std.specs.Prelude.{◌≡◌, ◌≤◌, ◌∷◌, ◌++◌, ℕ, List, [], length, insert, true, IfOk, MatchOption, OnOk, OnErr};
-ghost use Rattle.tva_joins.specs.Joins.{IsInOrder, precedes, put_in};
+ghost use Rattle.std.specs.Prelude.{◌≡◌, ◌≢◌, ◌≤◌, ◌∷◌, ◌++◌, ℕ, List, [], Some, length, insert, true, IfOk, IfSome, IsSome, OnOk, OnErr};
+ghost use Rattle.tva_log.specs.Joins.{IsInOrder, precedes, put_in};
 ghost use Rattle.tva_log.specs.Entries.{input_source, input_time};
 ghost use Rattle.tva_node.specs.Keeping.{HoldsInputs};
-ghost use Rattle.tva_node.specs.Waiting.{IsFreeAt, at_place, turn_source, turn_time};
+ghost use Rattle.tva_node.specs.Waiting.{CanWait, IsFreeAt, at_place, input_of, place_of, put_at, row_of, turn_source, turn_time};
 ghost use Rattle.tva_node.specs.Work.{first_time};
 
 use crate::memory::{Memory, note_input};
@@ -11,20 +11,54 @@ use std::alloc::{AllocError, Global};
 use std::collections::VecDeque;
 use std::marker::Model;
 use std::mem;
+use std::mem::size_of;
+use tva_base::{Address, Flow, Time};
 use tva_log::Input;
 use tva_past::Kept;
+use tva_shim::Carried;
+use tva_trace::{Row, RowWhat};
 
 // So many places are worth giving back.
 const MANY: usize = 4_096;
 
 /// When an input comes, in nanoseconds, its source (0 for the trace, else one more than the link's
-/// number), and the place at which it is held.
-#[derive(Clone, Copy, Debug, PartialEq, Eq)]
+/// number), and what comes.
+#[derive(Clone, Copy)]
 pub(crate) struct Turn {
     pub time: u64,
     pub source: u32,
-    pub place: usize,
+    pub what: TurnWhat,
 }
+
+/// What a turn says: the place at which its input is held, or all of a row that carries nothing but its
+/// time. Such rows are the most that wait, and are short; an input that is held is large.
+#[derive(Clone, Copy)]
+pub(crate) enum TurnWhat {
+    Held(usize),
+    Send {
+        node: u16,
+        dst: Address,
+        payload: u16,
+    },
+    Inject {
+        node: u16,
+        flow: Flow,
+        payload: u16,
+    },
+    File {
+        node: u16,
+        dst: Address,
+        size: u32,
+        segment: u16,
+    },
+    Tick {
+        node: u16,
+        dst: Address,
+    },
+}
+
+// A million turns take 32 MB.
+const _: () = prove!(size_of::<Turn>() <= 32);
 
 /// A place: free, with the one that is free besides, or with an input.
 #[derive(Drop)]
@@ -33,8 +67,8 @@ pub(crate) enum Slot {
     Held(Input),
 }
 
-/// Inputs by time, and at one time by source. Each stays at its place while the turns move, and the place
-/// of one that is taken is used again.
+/// Inputs by time, and at one time by source. A row that carries nothing stands in its turn. Any other
+/// input stays at its place while the turns move, and the place of one that is taken is used again.
 #[derive(Drop)]
 pub(crate) struct Waiting {
     turns: VecDeque<Turn>,
@@ -65,12 +99,12 @@ impl Waiting {
         }
     }
 
-    /// Makes room for so many more. The error is want of memory.
-    pub fn reserve(&mut self, count: usize) -> Result<(), AllocError>
+    /// Makes room for so many more, so many of which are held at places. The error is want of memory.
+    pub fn reserve(&mut self, count: usize, held: usize) -> Result<(), AllocError>
         ensures { self.new ≡ self.old }
     {
         self.turns.reserve(count)?;
-        self.slots.reserve(count)
+        self.slots.reserve(held)
     }
 
     /// Puts one more at its place, behind all before which it need not stand, and behind all in the inbox.
@@ -87,18 +121,18 @@ impl Waiting {
         ensures held { HoldsInputs keeps inbox.new }
         ensures err { OnErr result ((self.new ≡ self.old) × (inbox.new ≡ inbox.old)) }
     {
-        let place = free_place(&mut self.slots, self.free)?;
+        self.give_back();
+        let what = said_or_held(&mut self.slots, self.free, &input)?;
         self.turns.reserve(1)?;
         note_input(inbox, keeps, &input)?;
         let turn = Turn {
             time: time_of(&input),
             source: source_of(&input),
-            place,
+            what,
         };
         let at = place_for(&self.turns, &turn);
         self.turns.insert(at, turn)?;
-        self.free = next_free(&self.slots[place]);
-        self.slots[place] = Slot::Held(input);
+        hold(&mut self.slots, &mut self.free, what, input);
         Ok(())
     }
 
@@ -112,26 +146,15 @@ impl Waiting {
         }
     }
 
-    /// Takes the next one. Where none is left, the memory of many places is given back.
-    pub fn take(&mut self) -> Option<Input>
-        ensures { MatchOption result ((self.old ≡ []) × (self.new ≡ [])) (λ input. self.old ≡ input ∷ self.new) }
+    /// Takes the next one.
+    pub fn take(&mut self) -> Input
+        requires { self.old ≢ [] }
+        ensures { self.old ≡ result ∷ self.new }
     {
-        let input = self.take_held();
-        self.give_back();
-        input
-    }
-
-    // Takes the next one from its place, which is free then.
-    fn take_held(&mut self) -> Option<Input>
-        ensures { MatchOption result ((self.old ≡ []) × (self.new ≡ [])) (λ input. self.old ≡ input ∷ self.new) }
-    {
-        let turn = self.turns.pop_front()?;
-        let slot = mem::replace(&mut self.slots[turn.place], Slot::Free(self.free));
-        self.free = Some(turn.place);
-        match slot {
-            Slot::Held(input) => Some(input),
-            Slot::Free(_) => unreachable!(),
-        }
+        let Some(turn) = self.turns.pop_front() else {
+            unreachable!()
+        };
+        take_said_or_held(&mut self.slots, &mut self.free, turn.time, turn.what)
     }
 
     // Gives back the memory of many places, where nothing waits.
@@ -143,6 +166,127 @@ impl Waiting {
             self.slots.clear();
             self.slots.shrink_to_fit();
         }
+    }
+}
+
+// What the turn of an input says: all of a row that carries nothing, and else a place that is free.
+fn said_or_held(
+    slots: &mut Vec<Slot>,
+    free: Option<usize>,
+    input: &Input,
+) -> Result<TurnWhat, AllocError>
+    ensures can { IfOk result (CanWait slots.new.items input.now) }
+    ensures same { (place : ℕ) → at_place slots.new.items place ≡ at_place slots.old.items place }
+{
+    match row_said(input) {
+        Some(what) => Ok(what),
+        None => Ok(TurnWhat::Held(free_place(slots, free)?)),
+    }
+}
+
+// What a turn says of a row that carries nothing.
+fn row_said(input: &Input) -> Option<TurnWhat>
+    ensures { IfSome result (λ what. row_of (input_time input.now) what ≡ Some input.now) }
+{
+    let Input::FromTrace(row) = input else {
+        return None;
+    };
+    let node = row.node;
+    match row.what {
+        RowWhat::Send { dst, payload } => Some(TurnWhat::Send { node, dst, payload }),
+        RowWhat::Inject {
+            flow,
+            payload,
+            carried: Carried::Nothing,
+        } => Some(TurnWhat::Inject {
+            node,
+            flow,
+            payload,
+        }),
+        RowWhat::Inject { .. } => None,
+        RowWhat::File { dst, size, segment } => Some(TurnWhat::File {
+            node,
+            dst,
+            size,
+            segment,
+        }),
+        RowWhat::Tick { dst } => Some(TurnWhat::Tick { node, dst }),
+    }
+}
+
+// Holds an input at its place, if its turn says one.
+fn hold(slots: &mut Vec<Slot>, free: &mut Option<usize>, what: TurnWhat, input: Input)
+    requires { CanWait slots.old.items input what }
+    ensures { slots.new.items ≡ put_at (place_of what) (Slot.Held input) slots.old.items }
+{
+    if let TurnWhat::Held(place) = what {
+        *free = next_free(&slots[place]);
+        slots[place] = Slot::Held(input);
+    }
+}
+
+// Takes the input of a turn: makes the row again that the turn says, or takes what is held at its place,
+// which is free then.
+fn take_said_or_held(
+    slots: &mut Vec<Slot>,
+    free: &mut Option<usize>,
+    time: u64,
+    what: TurnWhat,
+) -> Input
+    requires { IsSome (input_of slots.old.items time what) }
+    ensures input { input_of slots.old.items time what ≡ Some result }
+    ensures left { slots.new.items ≡ put_at (place_of what) (Slot.Free free.old) slots.old.items }
+{
+    let time = Time(time);
+    match what {
+        TurnWhat::Held(place) => take_held(slots, free, place),
+        TurnWhat::Send { node, dst, payload } => Input::FromTrace(Row {
+            time,
+            node,
+            what: RowWhat::Send { dst, payload },
+        }),
+        TurnWhat::Inject {
+            node,
+            flow,
+            payload,
+        } => Input::FromTrace(Row {
+            time,
+            node,
+            what: RowWhat::Inject {
+                flow,
+                payload,
+                carried: Carried::Nothing,
+            },
+        }),
+        TurnWhat::File {
+            node,
+            dst,
+            size,
+            segment,
+        } => Input::FromTrace(Row {
+            time,
+            node,
+            what: RowWhat::File { dst, size, segment },
+        }),
+        TurnWhat::Tick { node, dst } => Input::FromTrace(Row {
+            time,
+            node,
+            what: RowWhat::Tick { dst },
+        }),
+    }
+}
+
+// Takes an input from its place, which is free then.
+fn take_held(slots: &mut Vec<Slot>, free: &mut Option<usize>, place: usize) -> Input
+    requires { IsSome (at_place slots.old.items place) }
+    ensures input { at_place slots.old.items place ≡ Some result }
+    ensures left { slots.new.items ≡ put_at (Some place) (Slot.Free free.old) slots.old.items }
+{
+    let left = Slot::Free(*free);
+    *free = Some(place);
+    match mem::replace(&mut slots[place], left) {
+        Slot::Held(input) => input,
+        Slot::Free(_) => unreachable!(),
     }
 }
 

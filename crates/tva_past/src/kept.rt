@@ -111,13 +111,14 @@ impl<T> Kept<T> {
         self.held.clear();
     }
 
-    /// Hands out all that memory holds, and forgets it.
-    pub fn take(&mut self, alloc: Global) -> Vec<T>
+    /// Hands out all that memory holds, and forgets it. What is put in then goes where there is room.
+    pub fn take(&mut self, room: Vec<T>) -> Vec<T>
+        requires { room.items ≡ [] }
         ensures taken { result.items ≡ held self.old }
         ensures left { self.new ≡ forgotten self.old }
     {
         self.past = with_all(&self.past, &self.held);
         self.gone += self.held.len();
-        mem::replace(&mut self.held, Vec::new(alloc))
+        mem::replace(&mut self.held, room)
     }
 }

@@ -31,11 +31,11 @@ fn what_is_held_is_handed_out(rt: HostRuntime) -> Result<(), Fail> {
     all.note(&one)?;
     assert_eq!(rt; all.gone(), 1);
     all.push(one)?;
-    let taken = all.take(rt.alloc());
+    let taken = all.take(Vec::new(rt.alloc()));
     assert_eq!(rt; taken.len(), 1);
     assert_eq!(rt; taken[0].as_slice(), [7u8].as_slice());
     assert_eq!(rt; all.count(), 2);
     assert_eq!(rt; all.gone(), 2);
-    assert_eq!(rt; all.take(rt.alloc()).len(), 0);
+    assert_eq!(rt; all.take(Vec::new(rt.alloc())).len(), 0);
     Ok(())
 }

@@ -13,7 +13,7 @@ use Rattle.tva_base.specs.declared.plan.HostPlan.{HostPlan}
 use Rattle.tva_base.specs.declared.plan.RouterPlan.{RouterPlan}
 use Rattle.tva_base.specs.Changes.{last_of, has_come, boot_at, master_at, in_force}
 use Rattle.tva_flow.specs.Charges.{Charge, same_flow, of_flow}
-use Rattle.tva_joins.proofs.Joins.{filter_swap, each-passes}
+use Rattle.tva_log.proofs.Joins.{filter_swap, each-passes}
 use Rattle.tva_router.specs.Boots.{charges_of_boot}
 use Rattle.tva_log.specs.Entries.{Entry}
 use Rattle.tva_log.specs.Parts.{charged, charges}

@@ -27,7 +27,7 @@ use Rattle.tva_router.specs.Marks.{is_marked}
 use Rattle.tva_host.specs.Receiving.{shows_grant}
 use Rattle.tva_steady.proofs.Lists.{last-of}
 use Rattle.tva_plan.specs.declared.config.NodePlan.TheVariants as plans
-use Rattle.tva_joins.proofs.Joins.{each-passes}
+use Rattle.tva_log.proofs.Joins.{each-passes}
 use Rattle.tva_log.specs.declared.kinds.Input.{Input}
 use Rattle.tva_log.specs.Sites.{Site}
 use Rattle.tva_log.specs.Entries.{Arrived, Sent, Ticked, Received, Entry, Took, Started, input_time}

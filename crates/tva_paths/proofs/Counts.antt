@@ -24,9 +24,9 @@ use Rattle.tva_plan.specs.declared.config.NodePlan.{NodePlan}
 use Rattle.tva_plan.specs.Valid.{IsConfig, IsLinkPlan}
 use Rattle.tva_plan.proofs.Wired.{all_here}
 use Rattle.tva_trace.specs.declared.rows.Row.{Row}
-use Rattle.tva_joins.specs.Joins.{from_source}
-use Rattle.tva_joins.proofs.Joins.{each-passes, each-weaker, filter_swap}
-use Rattle.tva_joins.proofs.Putting.{each_from_sources}
+use Rattle.tva_log.specs.Joins.{from_source}
+use Rattle.tva_log.proofs.Joins.{each-passes, each-weaker, filter_swap}
+use Rattle.tva_log.proofs.Putting.{each_from_sources}
 use Rattle.tva_log.specs.declared.kinds.Input.{Input}
 use Rattle.tva_log.specs.declared.kinds.Input.TheVariants.{FromTrace, Arrival}
 use Rattle.tva_log.specs.Sites.{Site, site_of, limits_out}

@@ -30,7 +30,7 @@ use Rattle.tva_host.proofs.Calls.{history_of-push}
 use Rattle.tva_host.proofs.Shown.{answer_is_shown, nothing_is_shown}
 use Rattle.tva_plan.specs.declared.config.NodePlan.{NodePlan}
 use Rattle.tva_plan.specs.declared.config.NodePlan.TheVariants as plans
-use Rattle.tva_joins.proofs.Joins.{each-append, each-weaker}
+use Rattle.tva_log.proofs.Joins.{each-append, each-weaker}
 use Rattle.tva_trace.specs.declared.rows.Row.{Row}
 use Rattle.tva_trace.specs.declared.rows.RowWhat.{RowWhat}
 use Rattle.tva_trace.specs.declared.rows.RowWhat.TheVariants.{Send, Inject, File, Tick}

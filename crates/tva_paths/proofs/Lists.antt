@@ -2,7 +2,7 @@
 use Rattle.std.proofs.Common.{◌≡◌, ◌≤◌, ◌<◌, ℕ, suc, ◌+◌, List, [], ◌∷◌, ◌++◌, length, Option, Some, None, refl, ap, ap₂, subst, ◌∙◌, arith}
 use Rattle.std.specs.List.{AllByRecursion, filter_map, cons_option}
 use Rattle.std.proofs.lemmas.List.Elements.{recursion_from_All}
-use Rattle.tva_joins.proofs.Joins.{each-append}
+use Rattle.tva_log.proofs.Joins.{each-append}
 use Rattle.tva_port.specs.Keeps.{AreRising}
 
 pub some_same : {X : Type 0} (x y : X) → Some x ≡ Some y → x ≡ y

@@ -4,7 +4,7 @@ use Rattle.std.specs.Prelude.{map}
 use Rattle.std.specs.List.{AllByRecursion, filter_map, cons_option}
 use Rattle.tva_base.specs.declared.packet.PacketId.{PacketId}
 use Rattle.tva_shim.specs.Packets.{PacketData}
-use Rattle.tva_joins.proofs.Joins.{each-weaker}
+use Rattle.tva_log.proofs.Joins.{each-weaker}
 use Rattle.tva_paths.specs.Deals.{Deal, Prepared, Granted, Noticed, Coming}
 use Rattle.tva_paths.proofs.Lists.{Rises, each_rest, rises_rest}
 use Rattle.tva_paths.proofs.Hosts.{deal_key}

@@ -21,7 +21,7 @@ use Rattle.tva_host.specs.Receiving.{shows_grant}
 use Rattle.tva_steady.specs.Miles.{Mile, Went, Got, Told, contacts, charges_in, last_came, since_got}
 use Rattle.tva_steady.specs.Steady.{Way, ComesIn, IsPaid, IsMile, AreMiles, AreAuthorised}
 use Rattle.tva_steady.proofs.Pushes.{contacts-push, charges-push, came-got, came-same}
-use Rattle.tva_joins.proofs.Joins.{each-append, each-weaker}
+use Rattle.tva_log.proofs.Joins.{each-append, each-weaker}
 use Rattle.tva_log.specs.Entries.{Entry}
 use Rattle.tva_paths.specs.Deals.{Deal, Prepared, Granted, Noticed, Coming}
 use Rattle.tva_paths.specs.Paths.{shows, come_as, ask_came, grant_came, since_granted, WasCharged}

@@ -40,8 +40,8 @@ use Rattle.tva_plan.specs.Valid.{IsConfig}
 use Rattle.tva_trace.specs.declared.rows.Row.{Row}
 use Rattle.tva_trace.specs.declared.rows.RowWhat.{RowWhat}
 use Rattle.tva_trace.specs.declared.rows.RowWhat.TheVariants.{Send, Inject, File, Tick}
-use Rattle.tva_joins.specs.Joins.{IsInOrder}
-use Rattle.tva_joins.proofs.Joins.{each-weaker, times_from}
+use Rattle.tva_log.specs.Joins.{IsInOrder}
+use Rattle.tva_log.proofs.Joins.{each-weaker, times_from}
 use Rattle.tva_log.specs.declared.kinds.Input.{Input}
 use Rattle.tva_log.specs.declared.kinds.Input.TheVariants.{FromTrace, Arrival}
 use Rattle.tva_log.specs.Sites.{Site, IsPlanned}

@@ -27,8 +27,8 @@ use Rattle.tva_router.specs.Handling.{handle}
 use Rattle.tva_host.specs.Sending.{intended, after_intending}
 use Rattle.tva_host.specs.Receiving.{receipt_of, after_receipt}
 use Rattle.tva_plan.specs.declared.config.NodePlan.TheVariants as plans
-use Rattle.tva_joins.specs.Joins.{MayPrecede, IsInOrder, from_source, cut}
-use Rattle.tva_joins.proofs.Joins.{filter-true, filter-none, cut-late, each_later}
+use Rattle.tva_log.specs.Joins.{MayPrecede, IsInOrder, from_source, cut}
+use Rattle.tva_log.proofs.Joins.{filter-true, filter-none, cut-late, each_later}
 use Rattle.tva_log.specs.declared.kinds.Input.{Input}
 use Rattle.tva_log.specs.declared.kinds.Input.TheVariants.{FromTrace, Arrival}
 use Rattle.tva_log.specs.Sites.{Site, site_of, limits_out}

@@ -32,9 +32,9 @@ use Rattle.tva_plan.specs.Valid.{IsConfig}
 use Rattle.tva_trace.specs.declared.rows.Row.{Row}
 use Rattle.tva_trace.specs.declared.rows.RowWhat.{RowWhat}
 use Rattle.tva_trace.specs.declared.rows.RowWhat.TheVariants.{Send, Inject, File, Tick}
-use Rattle.tva_joins.specs.Joins.{IsInOrder, cut}
-use Rattle.tva_joins.proofs.Joins.{filter-true, cut-late, each-append, each-filter, each_later, cut-zero}
-use Rattle.tva_joins.proofs.Putting.{each_from_sources}
+use Rattle.tva_log.specs.Joins.{IsInOrder, cut}
+use Rattle.tva_log.proofs.Joins.{filter-true, cut-late, each-append, each-filter, each_later, cut-zero}
+use Rattle.tva_log.proofs.Putting.{each_from_sources}
 use Rattle.tva_log.specs.declared.kinds.Input.{Input}
 use Rattle.tva_log.specs.declared.kinds.Input.TheVariants.{FromTrace, Arrival}
 use Rattle.tva_log.specs.Sites.{Site, site_of, limits_out}

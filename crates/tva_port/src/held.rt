@@ -1,16 +1,16 @@
 // A packet that waits.
-ghost use Rattle.std.specs.Prelude.{◌≡◌, ◌≤◌};
+ghost use Rattle.std.specs.Prelude.{◌≡◌};
 ghost use Rattle.tva_shim.specs.Packets.{packet_length};
 
 use std::marker::Model;
 use tva_drr::{Measured, Offered};
-use tva_shim::{Packet, length};
+use tva_shim::Packet;
 
 /// A packet that waits, with its length in bytes, which is measured once. Contracts see the packet.
 #[derive(Drop)]
 pub(crate) struct HeldPacket {
-    packet: Packet,
-    bytes: u32,
+    pub packet: Packet,
+    pub bytes: u32,
 }
 
 impl Model for HeldPacket {
@@ -32,37 +32,13 @@ impl Measured for HeldPacket {
     }
 }
 
-impl HeldPacket {
-    pub fn new(packet: Packet) -> HeldPacket
-        ensures packet { result ≡ packet }
-        ensures sized { (20 ≤ packet_length packet) × (packet_length packet ≤ 2048) }
-    {
-        let bytes = length(&packet);
-        HeldPacket { packet, bytes }
-    }
-
-    /// The packet whose length was measured before.
-    pub fn measured(packet: Packet, bytes: u32) -> HeldPacket
-        requires { bytes ≡ packet_length packet }
-        ensures { result ≡ packet }
-    {
-        HeldPacket { packet, bytes }
-    }
-
-    pub fn into_packet(self) -> Packet
-        ensures { result ≡ self }
-    {
-        self.packet
-    }
-}
-
 /// The answer to an offer, with the packet that it hands back.
 pub(crate) fn given_back(answer: Offered<HeldPacket>) -> Offered<Packet>
     ensures { result ≡ answer }
 {
     match answer {
         Offered::Queued => Offered::Queued,
-        Offered::NoQueue(held) => Offered::NoQueue(held.into_packet()),
-        Offered::QueueFull(held) => Offered::QueueFull(held.into_packet()),
+        Offered::NoQueue(held) => Offered::NoQueue(held.packet),
+        Offered::QueueFull(held) => Offered::QueueFull(held.packet),
     }
 }

@@ -1,13 +1,18 @@
 // The legacy packets of a link, first in, first out.
-ghost use Rattle.std.specs.Prelude.{◌≡◌, ◌+◌, ◌^◌, ◌≤◌, nat_lt, ◌||◌, if◌then◌else◌, [], ◌∷◌, ◌++◌, length, drop, IfOk};
+ghost use Rattle.std.specs.Prelude.{◌≡◌, ◌==◌, ◌+◌, ◌^◌, ◌≤◌, nat_lt, ◌||◌, if◌then◌else◌, [], ◌∷◌, ◌++◌, length, drop, IfOk};
 ghost use Rattle.tva_drr.specs.Queues.{first};
 ghost use Rattle.tva_shim.specs.Packets.{packet_length};
+ghost use Rattle.tva_base.specs.declared.packet.Class.TheVariants.{Legacy};
+ghost use Rattle.tva_port.specs.Decide.{start_or};
+ghost use Rattle.tva_port.specs.declared.decision.Decision.TheVariants.{Idle};
 ghost use Rattle.tva_port.specs.Lists.{LegacyData, legacy_data, lacks_room, legacy_answer, legacy_leaves};
 
+use crate::decision::Decision;
 use crate::held::HeldPacket;
 use circular_buffer::HeapCircularBuffer;
 use std::alloc::{AllocError, Global};
 use std::marker::Model;
+use tva_base::Class;
 use tva_drr::{Measured, Offered, take_first};
 use tva_shim::{Packet, length};
 
@@ -70,17 +75,28 @@ impl LegacyList {
             return Offered::QueueFull(packet);
         }
         self.bytes += bytes;
-        let _ = self.ring.push_back(HeldPacket::measured(packet, bytes));
+        let _ = self.ring.push_back(HeldPacket { packet, bytes });
         Offered::Queued
     }
 
-    /// Takes the oldest packet.
-    pub fn take(&mut self) -> Option<Packet>
-        ensures value { result ≡ first self.old.packets }
+    /// Whether nothing waits.
+    pub fn is_empty(&self) -> bool
+        ensures { result ≡ (length self.now.packets == 0) }
+    {
+        self.ring.len() == 0
+    }
+
+    /// Starts the oldest packet.
+    pub fn start(&mut self) -> Decision
+        ensures value { result ≡ start_or Legacy (first self.old.packets) Idle }
         ensures left { self.new ≡ legacy_data self.old.places self.old.most (drop 1 self.old.packets) }
     {
-        let held = take_first(&mut self.ring)?;
-        self.bytes -= held.length();
-        Some(held.into_packet())
+        match take_first(&mut self.ring) {
+            Some(held) => {
+                self.bytes -= held.length();
+                Decision::Start(Class::Legacy, held.packet)
+            }
+            None => Decision::Idle,
+        }
     }
 }

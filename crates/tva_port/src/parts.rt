@@ -1,16 +1,16 @@
 // What is queued and what starts, on the parts of a port.
-ghost use Rattle.std.specs.Prelude.{◌≡◌, ◌≤◌, Some, MatchOption};
+ghost use Rattle.std.specs.Prelude.{◌≡◌, ◌≤◌, true, Some, None, IsSome, if◌then◌else◌};
 ghost use Rattle.tva_base.specs.declared.limits.LinkLimits.{LinkLimits};
 ghost use Rattle.tva_base.specs.Plan.{AreLinkLimits};
 ghost use Rattle.tva_shim.specs.Packets.{PacketData, packet_length};
-ghost use Rattle.tva_port.specs.Levels.{limits_in, next_in, request_taken};
+ghost use Rattle.tva_port.specs.Levels.{limits_in, next_in};
 ghost use Rattle.tva_port.specs.Waiting.{waiting, queue_answer};
 ghost use Rattle.tva_port.specs.Decide.{covered, wait_for, decide_on};
 ghost use Rattle.tva_port.specs.Steps.{put_leaves, decision_leaves, IsPaid};
 
 use crate::credits::cost_of;
 use crate::decision::Decision;
-use crate::fair::{offer_to, take_from};
+use crate::fair::{offer_to, start_from};
 use crate::held::HeldPacket;
 use crate::legacy::LegacyList;
 use crate::requests::RequestQueues;
@@ -18,23 +18,19 @@ use tva_base::{Class, LinkLimits, Time};
 use tva_drr::{FairQueues, Offered};
 use tva_shim::Packet;
 
-/// Takes the request at the head, where the credit covers its cost.
-fn take_covered(limits: &LinkLimits, credit: u64, requests: &mut RequestQueues) -> Option<Packet>
+/// Whether there is a request at the head whose cost the credit covers.
+fn is_covered(limits: &LinkLimits, credit: u64, requests: &RequestQueues) -> bool
     requires limits { AreLinkLimits limits.now }
-    requires most { (limits_in requests.old).max ≡ 2048 }
-    ensures value { result ≡ covered limits.now credit (next_in requests.old) }
-    ensures left { MatchOption result (requests.new ≡ requests.old)
-        (λ _. requests.new ≡ request_taken requests.old) }
-    ensures sized { (packet : PacketData) → next_in requests.old ≡ Some packet
+    requires most { (limits_in requests.now).max ≡ 2048 }
+    ensures covered { covered limits.now credit (next_in requests.now) ≡ (if result then next_in requests.now else None) }
+    ensures some { result ≡ true → IsSome (next_in requests.now) }
+    ensures sized { (packet : PacketData) → next_in requests.now ≡ Some packet
         → packet_length packet ≤ 2048 }
 {
-    let Some(bytes) = requests.head_length() else {
-        return None;
-    };
-    if cost_of(limits, bytes) > credit {
-        return None;
+    match requests.head_length() {
+        Some(bytes) => cost_of(limits, bytes) <= credit,
+        None => false,
     }
-    requests.take()
 }
 
 /// How long a link rests that starts nothing: until the credit, which grows by one each nanosecond,
@@ -77,16 +73,16 @@ pub(crate) fn start_next(
     ensures regulars { regulars.new.limits ≡ regulars.old.limits }
     ensures legacy { (legacy.new.places ≡ legacy.old.places) × (legacy.new.most ≡ legacy.old.most) }
 {
-    match take_covered(limits, credit, requests) {
-        Some(packet) => Decision::Start(Class::Request, packet),
-        None => match take_from(regulars) {
-            Some(packet) => Decision::Start(Class::Regular, packet),
-            None => match legacy.take() {
-                Some(packet) => Decision::Start(Class::Legacy, packet),
-                None => rest(limits, credit, now, requests),
-            },
-        },
+    if is_covered(limits, credit, requests) {
+        return requests.start();
     }
+    if regulars.head_length().is_some() {
+        return start_from(regulars, Class::Regular);
+    }
+    if !legacy.is_empty() {
+        return legacy.start();
+    }
+    rest(limits, credit, now, requests)
 }
 
 /// Queues a packet in its class, or hands it back.

@@ -1,5 +1,5 @@
 // The requests that wait for a link.
-ghost use Rattle.std.specs.Prelude.{◌≡◌, ◌≤◌, Some, IfOk, IfNone};
+ghost use Rattle.std.specs.Prelude.{◌≡◌, ◌≤◌, Some, IfOk};
 ghost use Rattle.std.specs.Option.{option_map};
 ghost use Rattle.tva_base.specs.Plan.{AreLinkLimits};
 ghost use Rattle.tva_shim.specs.Packets.{PacketData, packet_length};
@@ -7,15 +7,19 @@ ghost use Rattle.tva_shim.specs.Shows.{inner_key_of};
 ghost use Rattle.tva_hier.specs.Groups.{next};
 ghost use Rattle.tva_hier.specs.Offer.{answer_to_offer, left_by_offer};
 ghost use Rattle.tva_hier.specs.Take.{left_by_take};
+ghost use Rattle.tva_base.specs.declared.packet.Class.TheVariants.{Request};
+ghost use Rattle.tva_port.specs.Decide.{start_or};
+ghost use Rattle.tva_port.specs.declared.decision.Decision.TheVariants.{Idle};
 ghost use Rattle.tva_port.specs.Levels.{no_requests, limits_in, next_in, request_answer, request_leaves, request_taken};
 
-use crate::fair::{offer_to, take_from};
+use crate::decision::Decision;
+use crate::fair::{offer_to, start_from};
 use crate::held::{HeldPacket, given_back};
 use std::alloc::{AllocError, Global};
-use tva_base::LinkLimits;
+use tva_base::{Class, LinkLimits};
 use tva_drr::{FairQueues, Offered};
 use tva_hier::HierQueues;
-use tva_shim::{Packet, inner_queue_key};
+use tva_shim::{Packet, inner_queue_key, length};
 
 /// Requests in fair queues by their keys; or on a link with two levels in two-level queues, by
 /// their keys and within a key by the tag before it.
@@ -70,15 +74,14 @@ impl RequestQueues {
         }
     }
 
-    /// Takes the next request.
-    pub fn take(&mut self) -> Option<Packet>
-        ensures value { result ≡ next_in self.old }
+    /// Starts the next request.
+    pub fn start(&mut self) -> Decision
+        ensures value { result ≡ start_or Request (next_in self.old) Idle }
         ensures left { self.new ≡ request_taken self.old }
-        ensures none { IfNone result (self.new ≡ self.old) }
     {
         match self {
-            RequestQueues::OneLevel(queues) => take_from(queues),
-            RequestQueues::TwoLevels(queues) => take_within(queues),
+            RequestQueues::OneLevel(queues) => start_from(queues, Class::Request),
+            RequestQueues::TwoLevels(queues) => start_within(queues),
         }
     }
 }
@@ -93,15 +96,17 @@ fn offer_within(queues: &mut HierQueues<HeldPacket>, key: u32, packet: Packet) -
     ensures sized { (20 ≤ packet_length packet) × (packet_length packet ≤ 2048) }
 {
     let inner = inner_queue_key(&packet);
-    given_back(queues.offer(key, inner, HeldPacket::new(packet)))
+    let bytes = length(&packet);
+    given_back(queues.offer(key, inner, HeldPacket { packet, bytes }))
 }
 
-/// Takes the next packet of two-level queues.
-fn take_within(queues: &mut HierQueues<HeldPacket>) -> Option<Packet>
-    ensures value { result ≡ next queues.old.groups }
+/// Starts the next packet of two-level queues.
+fn start_within(queues: &mut HierQueues<HeldPacket>) -> Decision
+    ensures value { result ≡ start_or Request (next queues.old.groups) Idle }
     ensures left { queues.new ≡ left_by_take packet_length queues.old }
-    ensures none { IfNone result (queues.new ≡ queues.old) }
 {
-    let held = queues.take()?;
-    Some(held.into_packet())
+    match queues.take() {
+        Some(held) => Decision::Start(Class::Request, held.packet),
+        None => Decision::Idle,
+    }
 }

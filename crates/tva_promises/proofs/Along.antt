@@ -34,8 +34,8 @@ use Rattle.tva_log.specs.Entries.{Content, Arrived, Sent, Ticked, Received, Entr
 use Rattle.tva_log.specs.Parts.{charged, charge_of, charges, call_of_row, call_of_input, call_of, calls, packet_sent, port_entry, port_logs}
 use Rattle.tva_log.specs.Contents.{content}
 use Rattle.tva_log.specs.NodeLog.{start_after, starts, due, GoesOn, IsNodeLog}
-use Rattle.tva_joins.specs.Joins.{IsInOrder}
-use Rattle.tva_joins.proofs.Joins.{each-append, each-weaker, each-filter, times_from}
+use Rattle.tva_log.specs.Joins.{IsInOrder}
+use Rattle.tva_log.proofs.Joins.{each-append, each-weaker, each-filter, times_from}
 use Rattle.tva_promises.specs.Sizes.{IsSizedInput, IsSizedEntry}
 use Rattle.tva_promises.proofs.Transfers.{IsSizedTaken, files_sized, input_taken}
 use Rattle.tva_promises.proofs.Made.{AreMet, IsSizedCall, call_met}

@@ -31,7 +31,7 @@ use Rattle.tva_flow.specs.Budget.{IsWithinSeconds, AreTimely}
 use Rattle.tva_flow.proofs.Same.{flow_is}
 use Rattle.tva_flow.proofs.Rows.{list_rows, held}
 use Rattle.tva_flow.proofs.Timely.{held-timely}
-use Rattle.tva_joins.proofs.Joins.{each-filter, each-passes}
+use Rattle.tva_log.proofs.Joins.{each-filter, each-passes}
 use Rattle.tva_router.specs.declared.judged.Arrival.{Arrival}
 use Rattle.tva_router.specs.Judging.{Answer, tag_of, second_of, fresh_for, answer_of, answer_to_checked, answer_to_cap, answer_to_shown, answer_to_nonce, judged, marked, judged_by, judged_request, judged_kind, judged_shim, judge}
 use Rattle.tva_router.specs.Handling.{Logs, arrival, stopped, forwarded, handle}

@@ -35,8 +35,8 @@ use Rattle.tva_log.specs.Entries as entry
 use Rattle.tva_log.specs.Parts.{queued_at, reply_at, port_entry, port_logs}
 use Rattle.tva_log.specs.NodeLog.{start_of, start_after, starts, LeavesNone}
 use Rattle.tva_log.proofs.Links.{same_out}
-use Rattle.tva_joins.specs.Joins.{cut}
-use Rattle.tva_joins.proofs.Joins.{filter-true, filter-false}
+use Rattle.tva_log.specs.Joins.{cut}
+use Rattle.tva_log.proofs.Joins.{filter-true, filter-false}
 use Rattle.tva_promises.proofs.Packets.{sized_length}
 use Rattle.tva_promises.proofs.Waits.{IsSizedPort}
 

@@ -47,7 +47,7 @@ use Rattle.tva_transfer.specs.Files.{Files, first_segment, segment_due}
 use Rattle.tva_trace.specs.declared.rows.RowWhat.{RowWhat}
 use Rattle.tva_trace.specs.declared.rows.RowWhat.TheVariants.{Send, Inject, File, Tick}
 use Rattle.tva_log.specs.Contents.{made_for, sent_with}
-use Rattle.tva_joins.proofs.Joins.{each-append}
+use Rattle.tva_log.proofs.Joins.{each-append}
 use Rattle.tva_promises.specs.Sizes.{IsSizedWhat}
 use Rattle.tva_promises.proofs.Transfers.{AreSizedFiles, due_upper, first_upper, upper_few, upper_fills}
 

@@ -20,8 +20,8 @@ use Rattle.tva_trace.specs.declared.rows.RowWhat.{RowWhat}
 use Rattle.tva_trace.specs.declared.rows.RowWhat.TheVariants.{Send, Inject, File, Tick}
 use Rattle.tva_trace.specs.Meaning.{AreRows}
 use Rattle.tva_trace.specs.Valid.{IsRowWhat, IsRow, AreTraceRows}
-use Rattle.tva_joins.specs.Joins.{from_source, cut}
-use Rattle.tva_joins.proofs.Joins.{each-filter, filter-true, cut-zero, cut-cut}
+use Rattle.tva_log.specs.Joins.{from_source, cut}
+use Rattle.tva_log.proofs.Joins.{each-filter, filter-true, cut-zero, cut-cut}
 use Rattle.tva_log.specs.declared.kinds.Input.{Input}
 use Rattle.tva_log.specs.declared.kinds.Input.TheVariants.{FromTrace, Arrival}
 use Rattle.tva_log.specs.Sites.{Site, site_of}

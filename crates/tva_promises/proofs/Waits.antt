@@ -14,7 +14,7 @@ use Rattle.tva_port.proofs.Deciding.{covered_pays}
 use Rattle.tva_port.proofs.Legality.{started_is, few_started}
 use Rattle.tva_port.proofs.Waits.{waits-queued, waits-started}
 use Rattle.tva_port.proofs.Holding.{Each, each-offered, each-taken, each-first, each-head, EachRequest, request-none, request-offered, request-taken, request-next}
-use Rattle.tva_joins.proofs.Joins.{each-append}
+use Rattle.tva_log.proofs.Joins.{each-append}
 
 -- all that waits is within the sizes
 pub record AreSized (w : Waiting) : Type 0 where

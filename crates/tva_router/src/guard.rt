@@ -20,14 +20,16 @@ use crate::places::{place_of, places_of};
 use std::alloc::{AllocError, Global};
 use std::collections::HashMap;
 use tva_base::{Cause, Class, Grant, RouterPlan};
-use tva_caps::{Checked, Minter};
+use tva_caps::{Checked, Known, Minter};
 use tva_flow::{FlowCache, Verdict};
 use tva_shim::{Carried, Entry, Kind, Shim, Shown};
 
-/// What a router judges packets with: the places are those of its incoming links.
+/// What a router judges packets with: what mints and checks, the capabilities that it knows to be good, as
+/// many as flows may live, its cache, and the places of its incoming links.
 #[derive(Drop)]
 pub(crate) struct Guard {
     pub minter: Minter,
+    pub known: Known,
     pub cache: FlowCache,
     pub incoming: HashMap<u16, usize>,
 }
@@ -42,6 +44,7 @@ impl Guard {
         let key = flow_key(&plan.master);
         Ok(Guard {
             minter: Minter::new(plan.master, plan.clock_offset),
+            known: Known::with_places(alloc, plan.master, plan.slots)?,
             cache: FlowCache::with_slots_keyed(alloc, plan.slots, plan.clock_offset, key)?,
             incoming: places_of(alloc, plan.incoming.as_slice())?,
         })
@@ -55,6 +58,7 @@ impl Guard {
         ensures stands { StandsFor self.new.cache [] }
     {
         self.minter = Minter::new(master, plan.clock_offset);
+        self.known.restart(master);
         self.cache.clear_keyed(flow_key(&master));
     }
 
@@ -174,9 +178,13 @@ impl Guard {
     {
         match cap_at(shown) {
             Some(cap) => {
-                let checked = self
-                    .minter
-                    .check(arrival.time, arrival.flow, cap, shown.rights);
+                let checked = self.minter.check_known(
+                    arrival.time,
+                    arrival.flow,
+                    cap,
+                    shown.rights,
+                    &mut self.known,
+                );
                 self.answer_to_checked(plan, arrival, checked, shown.nonce)
             }
             None => Err(Cause::NoCapability),

@@ -372,7 +372,7 @@ fn has_entry(rt: &impl Abort, packet: &Packet) -> Result<(), Fail> {
         tag: 12,
         precap: precap_at(MASTER, 7, packet.flow),
     };
-    assert_eq!(rt; entries.as_slice(), [entry].as_slice());
+    assert_eq!(rt; entries.listed().as_slice(), [entry].as_slice());
     Ok(())
 }
 

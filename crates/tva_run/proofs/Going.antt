@@ -12,9 +12,9 @@ use Rattle.tva_base.specs.declared.plan.LinkPlan.{LinkPlan}
 use Rattle.tva_plan.specs.declared.config.Config.{Config}
 use Rattle.tva_plan.specs.declared.config.NodePlan.{NodePlan}
 use Rattle.tva_trace.specs.declared.rows.Row.{Row}
-use Rattle.tva_joins.specs.Joins.{IsJoin, cut}
-use Rattle.tva_joins.proofs.Joins.{filter-true, filter-false, in_order-filter, in_order-append, join_unique, cut-cut, each-cut}
-use Rattle.tva_joins.proofs.Putting.{each_from_sources}
+use Rattle.tva_log.specs.Joins.{IsJoin, cut}
+use Rattle.tva_log.proofs.Joins.{filter-true, filter-false, in_order-filter, in_order-append, join_unique, cut-cut, each-cut}
+use Rattle.tva_log.proofs.Putting.{each_from_sources}
 use Rattle.tva_log.specs.Sites.{Site, site_of}
 use Rattle.tva_log.specs.Entries.{input_time, input_source, entry_time}
 use Rattle.tva_log.specs.NodeLog.{IsNodeLog, due}

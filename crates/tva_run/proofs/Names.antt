@@ -50,9 +50,9 @@ use Rattle.tva_trace.specs.declared.rows.Row.{Row}
 use Rattle.tva_trace.specs.declared.rows.RowWhat.{RowWhat}
 use Rattle.tva_trace.specs.declared.rows.RowWhat.TheVariants.{Send, Inject, File, Tick}
 use Rattle.tva_trace.specs.Lines.{HasEvent, HasHappened, HasLink, HasNode, HasOutcome, HasReply, HasSource}
-use Rattle.tva_joins.specs.Joins.{cut}
-use Rattle.tva_joins.proofs.Joins.{each-append, each-filter, cut-zero}
-use Rattle.tva_joins.proofs.Putting.{each_from_sources}
+use Rattle.tva_log.specs.Joins.{cut}
+use Rattle.tva_log.proofs.Joins.{each-append, each-filter, cut-zero}
+use Rattle.tva_log.proofs.Putting.{each_from_sources}
 use Rattle.tva_log.specs.declared.kinds.Input.{Input}
 use Rattle.tva_log.specs.declared.kinds.Input.TheVariants.{FromTrace, Arrival}
 use Rattle.tva_log.specs.Sites.{Site, site_of, link_out, limits_out, IsPlanned}

@@ -11,8 +11,8 @@ use Rattle.tva_base.specs.Plan.{AreLinkLimits}
 use Rattle.tva_plan.specs.declared.config.Config.{Config}
 use Rattle.tva_plan.specs.Valid.{IsConfig}
 use Rattle.tva_trace.specs.declared.rows.Row.{Row}
-use Rattle.tva_joins.specs.Joins.{cut}
-use Rattle.tva_joins.proofs.Joins.{filter-true, filter-false, cut-cut, in_order-filter}
+use Rattle.tva_log.specs.Joins.{cut}
+use Rattle.tva_log.proofs.Joins.{filter-true, filter-false, cut-cut, in_order-filter}
 use Rattle.tva_log.specs.declared.kinds.Input.{Input}
 use Rattle.tva_log.specs.Sites.{Site, limits_out, IsLinkOut, IsSite}
 use Rattle.tva_log.specs.Entries.{Entry, input_time, input_source, entry_time, entry_rank}

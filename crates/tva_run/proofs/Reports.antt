@@ -7,9 +7,9 @@ use Rattle.tva_base.specs.declared.event.Event.{Event}
 use Rattle.tva_base.specs.declared.plan.LinkPlan.{LinkPlan}
 use Rattle.tva_plan.specs.declared.config.Config.{Config}
 use Rattle.tva_trace.specs.declared.rows.Row.{Row}
-use Rattle.tva_joins.specs.Joins.{IsInOrder, cut}
-use Rattle.tva_joins.proofs.Joins.{filter-true, filter-false, cut-late, each_later}
-use Rattle.tva_joins.proofs.Joined.{one_join, join-cut}
+use Rattle.tva_log.specs.Joins.{IsInOrder, cut}
+use Rattle.tva_log.proofs.Joins.{filter-true, filter-false, cut-late, each_later}
+use Rattle.tva_log.proofs.Joined.{one_join, join-cut}
 use Rattle.tva_log.specs.Sites.{Site}
 use Rattle.tva_log.specs.Told.{event_of, events}
 use Rattle.tva_run.specs.Reaching.{Logs, log_at, site_at}

@@ -16,8 +16,8 @@ use Rattle.tva_shim.specs.Shows.{key_of}
 use Rattle.tva_host.specs.declared.made.Made.{Made}
 use Rattle.tva_port.specs.Log as port
 use Rattle.tva_port.proofs.Logs.{free-queued, free-started}
-use Rattle.tva_joins.specs.Joins.{NeverFalls}
-use Rattle.tva_joins.proofs.Joins.{each-append, each-weaker}
+use Rattle.tva_log.specs.Joins.{NeverFalls}
+use Rattle.tva_log.proofs.Joins.{each-append, each-weaker}
 use Rattle.tva_log.specs.declared.kinds.Input.{Input}
 use Rattle.tva_log.specs.declared.kinds.Input.TheVariants.{Arrival}
 use Rattle.tva_log.specs.Sites.{Site, site_of, link_out, limits_out}

@@ -15,7 +15,7 @@ use Rattle.tva_plan.specs.declared.config.NodePlan.TheVariants as plans
 use Rattle.tva_plan.specs.Wiring.{picked, number_from, links_from, limited_from, outgoing_of}
 use Rattle.tva_plan.specs.Valid.{IsConfig, IsLinkPlan, IsWired, AreWired}
 use Rattle.tva_plan.proofs.Wired.{router_at, host_at}
-use Rattle.tva_joins.proofs.Joins.{each-weaker}
+use Rattle.tva_log.proofs.Joins.{each-weaker}
 use Rattle.tva_base.specs.declared.packet.Class.{Class}
 use Rattle.tva_shim.specs.Packets.{PacketData, packet_length}
 use Rattle.tva_log.specs.declared.kinds.Input.{Input}

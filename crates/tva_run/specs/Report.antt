@@ -17,7 +17,7 @@ use Rattle.tva_base.specs.declared.event.Totals.{Totals}
 use Rattle.tva_plan.specs.declared.config.Config.{Config}
 use Rattle.tva_trace.specs.declared.rows.Row.{Row}
 use Rattle.tva_trace.specs.Lines.{line_of, summary_of}
-use Rattle.tva_joins.specs.Joins.{IsJoin}
+use Rattle.tva_log.specs.Joins.{IsJoin}
 use Rattle.tva_log.specs.Told.{events}
 use Rattle.tva_run.specs.Reaching.{Logs, log_at, site_at}
 use Rattle.tva_run.specs.Run.{IsRunTo}

@@ -5,7 +5,7 @@ use Rattle.tva_base.specs.declared.event.Event.{Event}
 use Rattle.tva_base.specs.declared.plan.LinkPlan.{LinkPlan}
 use Rattle.tva_plan.specs.declared.config.Config.{Config}
 use Rattle.tva_trace.specs.declared.rows.Row.{Row}
-use Rattle.tva_joins.specs.Joins.{IsJoin, cut}
+use Rattle.tva_log.specs.Joins.{IsJoin, cut}
 use Rattle.tva_log.specs.Sites.{Site}
 use Rattle.tva_log.specs.declared.kinds.Input.{Input}
 use Rattle.tva_log.specs.Entries.{Entry, input_time, input_source, entry_time}

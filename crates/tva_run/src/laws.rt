@@ -7,7 +7,7 @@ ghost use Rattle.tva_plan.specs.declared.config.Config.{Config};
 ghost use Rattle.tva_plan.specs.Valid.{IsConfig};
 ghost use Rattle.tva_trace.specs.declared.rows.Row.{Row};
 ghost use Rattle.tva_trace.specs.Lines.{HasEvent};
-ghost use Rattle.tva_joins.specs.Joins.{IsJoin, NeverFalls};
+ghost use Rattle.tva_log.specs.Joins.{IsJoin, NeverFalls};
 ghost use Rattle.tva_log.specs.Sites.{IsSite, Site};
 ghost use Rattle.tva_log.specs.Entries.{Entry, input_time};
 ghost use Rattle.tva_log.specs.Legal.{AreShort};

@@ -1,4 +1,5 @@
 pub mod Sizes
+pub mod Paired
 pub mod Lengths
 pub mod Tags
 pub mod NumberBytes

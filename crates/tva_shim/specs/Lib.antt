@@ -1,4 +1,5 @@
 pub mod Widths
+pub mod Paired
 pub mod Shims
 pub mod Layout
 pub mod Packets

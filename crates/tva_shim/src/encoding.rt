@@ -121,8 +121,8 @@ fn write_entries(bytes: &mut ArrayVec<u8, 330>, entries: &Entries)
     ensures room { array_vec_len bytes.new ≤ 163 }
     ensures entries { AreEntries entries.now }
 {
-    bytes.push(entries.as_slice().len() as u8);
-    for entry in entries.as_slice() {
+    bytes.push(entries.len() as u8);
+    for entry in entries.listed().as_slice() {
         write_two(bytes, entry.tag);
         write_eight(bytes, entry.precap);
     }

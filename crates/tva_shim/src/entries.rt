@@ -17,20 +17,26 @@ pub struct Entry {
 #[derive(Clone, Copy, Debug, PartialEq, Eq)]
 pub struct PathFull;
 
-/// The entries of a request, at most 16. Contracts see them as a list.
+/// The entries of a request, at most 16. Contracts see them as a list. Their tags stand apart from their
+/// pre-capabilities, so that nothing is left between them and a packet is small.
 #[derive(Debug, Drop)]
-pub struct Entries(ArrayVec<Entry, 16>);
+pub struct Entries {
+    tags: ArrayVec<u16, 16>,
+    precaps: ArrayVec<u64, 16>,
+}
 
 impl Model for Entries {
-    ghost use Rattle.std.specs.Prelude.{List};
+    ghost use Rattle.std.specs.Prelude.{◌≡◌, List, length};
     ghost use Rattle.tva_shim.specs.declared.entries.Entry.{Entry};
+    ghost use Rattle.tva_shim.specs.Paired.{paired};
     ghost use Rattle.tva_shim.specs.Widths.{AreEntries};
 
     ghost Value = { List Entry };
 
-    ghost view = { λ entries. entries.0.items };
+    ghost view = { λ entries. paired entries.tags.items entries.precaps.items };
 
-    ghost invariant = { λ entries. AreEntries entries.0.items };
+    ghost invariant = { λ entries. (length entries.tags.items ≡ length entries.precaps.items)
+        × AreEntries (paired entries.tags.items entries.precaps.items) };
 }
 
 impl Entries {
@@ -38,7 +44,18 @@ impl Entries {
     pub fn new() -> Entries
         ensures { result ≡ [] }
     {
-        Entries(ArrayVec::new())
+        Entries {
+            tags: ArrayVec::new(),
+            precaps: ArrayVec::new(),
+        }
+    }
+
+    /// How many there are.
+    pub fn len(&self) -> usize
+        ensures count { result ≡ length self.now }
+        ensures widths { AreEntries self.now }
+    {
+        self.tags.len()
     }
 
     /// Puts an entry last.
@@ -46,7 +63,8 @@ impl Entries {
         requires { length self.old < 16 }
         ensures { self.new ≡ self.old ++ entry ∷ [] }
     {
-        self.0.push(entry);
+        self.tags.push(entry.tag);
+        self.precaps.push(entry.precap);
     }
 
     /// Puts an entry last, where there are fewer than 16.
@@ -55,7 +73,7 @@ impl Entries {
         ensures ok { OnOk result (self.new ≡ self.old ++ entry ∷ []) }
         ensures err { OnErr result (self.new ≡ self.old) }
     {
-        if self.0.len() == 16 {
+        if self.len() == 16 {
             return Err(PathFull);
         }
         self.push(entry);
@@ -63,11 +81,18 @@ impl Entries {
     }
 
     /// The entries, in the order of the routers.
-    pub fn as_slice(&self) -> &[Entry]
-        ensures items { result.now ≡ self.now }
+    pub fn listed(&self) -> ArrayVec<Entry, 16>
+        ensures items { result.items ≡ self.now }
         ensures widths { AreEntries self.now }
     {
-        self.0.as_slice()
+        let mut list = ArrayVec::new();
+        for place in 0..self.len() {
+            list.push(Entry {
+                tag: self.tags[place],
+                precap: self.precaps[place],
+            });
+        }
+        list
     }
 
     /// The same entries once more.
@@ -75,7 +100,7 @@ impl Entries {
         ensures { result ≡ self.now }
     {
         let mut copy = Entries::new();
-        for entry in self.as_slice() {
+        for entry in self.listed().as_slice() {
             copy.push(*entry);
         }
         copy

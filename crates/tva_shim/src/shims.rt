@@ -75,7 +75,7 @@ impl Shim {
         ensures { result ≡ last_tag (entries_of self.now.kind) }
     {
         match &self.kind {
-            Kind::Request(entries) => last_tag_of(entries.as_slice()),
+            Kind::Request(entries) => last_tag_of(entries.listed().as_slice()),
             _ => unreachable!(),
         }
     }
@@ -87,7 +87,7 @@ impl Shim {
         ensures { result ≡ tag_before (entries_of self.now.kind) }
     {
         match &self.kind {
-            Kind::Request(entries) => tag_before_of(entries.as_slice()),
+            Kind::Request(entries) => tag_before_of(entries.listed().as_slice()),
             _ => unreachable!(),
         }
     }
@@ -195,7 +195,7 @@ fn kind_bytes_of(version: u8, kind: &Kind) -> u32
     ensures caps { AreCaps (caps_of kind.now) }
 {
     match kind {
-        Kind::Request(entries) => 3 + 10 * entries.as_slice().len() as u32,
+        Kind::Request(entries) => 3 + 10 * entries.len() as u32,
         Kind::List(shown) | Kind::Renewal(shown) => {
             10 + rights_size(version) + 8 * shown.caps.as_slice().len() as u32
         }

@@ -5,6 +5,7 @@ pub mod ItemLists
 pub mod Joins
 pub mod Printables
 pub mod OneList
+pub mod Packing
 pub mod Reading
 pub mod RecordsLeft
 pub mod RowsThere

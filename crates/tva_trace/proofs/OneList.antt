@@ -1,6 +1,5 @@
 -- A text has one list of rows at most.
-use Rattle.std.proofs.Common.{◌≡◌, List, [], ◌∷◌, ℕ, refl, sym, ap, subst, ◌∙◌, Result, Ok, Err, IfOk, Vec}
-use Rattle.std.specs.declared.alloc.Global.{Global}
+use Rattle.std.proofs.Common.{◌≡◌, List, [], ◌∷◌, ℕ, refl, sym, ap, subst, ◌∙◌, Result, Ok, Err, IfOk}
 use Rattle.std.specs.List.{AllZip}
 use Rattle.tva_base.specs.declared.packet.Time.{Time}
 use Rattle.tva_shim.specs.declared.packets.Carried.{Carried}
@@ -17,7 +16,8 @@ use Rattle.tva_trace.specs.declared.said.SaidShim.{SaidShim}
 use Rattle.tva_trace.specs.declared.said.SaidShim.TheVariants.{Bytes, Built}
 use Rattle.tva_trace.specs.declared.said.SaidWhat.{SaidWhat}
 use Rattle.tva_trace.specs.declared.said.SaidWhat.TheVariants as say
-use Rattle.tva_trace.specs.Meaning.{Answers, AreRows, CarriedBy, CarriedByBytes, Means, MeansWhat}
+use Rattle.tva_trace.specs.Packed.{AnswersPacked}
+use Rattle.tva_trace.specs.Meaning.{AreRows, CarriedBy, CarriedByBytes, Means, MeansWhat}
 
 bytes_mean_one : (bytes : List ℕ) (a b : Carried) → CarriedByBytes bytes a → CarriedByBytes bytes b → a ≡ b
 bytes_mean_one bytes carried.Nothing carried.Nothing p q = refl
@@ -72,6 +72,6 @@ rows_are_one config text a b p q =
     rows_meant p.0 a b p.2 (subst (λ (said : List SaidRow). AllZip Means said b) same q.2)
 
 -- the rows of an answer are the text's only ones
-pub no_others : (config : Config) (text : List ℕ) (r : Result (Vec Row Global) TraceError) → Answers config text r → IfOk r (λ rows. (other : List Row) → AreRows config text other → other ≡ rows.items)
-no_others config text (Ok rows) are = λ other more. rows_are_one config text other rows.items more are
+pub no_others : (config : Config) (text : List ℕ) (r : Result (List Row) TraceError) → AnswersPacked config text r → IfOk r (λ rows. (other : List Row) → AreRows config text other → other ≡ rows)
+no_others config text (Ok rows) are = λ other more. rows_are_one config text other rows more are
 no_others config text (Err fault) are = tt

@@ -6,5 +6,6 @@ pub mod Rows
 pub mod ShimText
 pub mod Valid
 pub mod Words
+pub mod Packed
 pub mod Shortage
 pub mod Files

@@ -18,7 +18,6 @@ use crate::secrets::KeptSecrets;
 use byteorder::{BigEndian, ByteOrder};
 use std::collections::HashMap;
 use tva_base::{Caps, Flow, Rights, decimal, seconds_max, units_max, version_for};
-use tva_caps::capability;
 use tva_plan::{NodePlan, number_of};
 use tva_shim::{Kind, ReturnInfo, Shim, Shown};
 
@@ -91,8 +90,7 @@ fn minted_of(
     let number = number_of(plans, numbers, name)?;
     let master = master_at(plans, number)?;
     let second = decimal(second, 2_000_000)?;
-    let precap = secrets.precap_at(number, &master, second, flow);
-    Some(capability(precap, rights))
+    Some(secrets.capability_at(number, &master, second, flow, rights))
 }
 
 /// An item.

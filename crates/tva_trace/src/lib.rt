@@ -3,6 +3,7 @@
 //! has the bytes of its event, each printable, and that bytes have one text of their shim.
 #![tactic(auto)]
 
+mod brief;
 mod carried;
 mod fields;
 mod files;
@@ -11,6 +12,7 @@ mod judge;
 mod laws;
 mod lines;
 mod names;
+mod packed;
 mod parts;
 mod read;
 mod rows;
@@ -24,6 +26,7 @@ pub use laws::{
     transfers_are_few,
 };
 pub use lines::{line_text, summary_text};
-pub use read::read_trace;
+pub use packed::PackedRows;
+pub use read::{read_packed, read_trace};
 pub use rows::{Row, RowWhat, TraceError, TraceFault, TraceRule};
 pub use texts::shim_text;

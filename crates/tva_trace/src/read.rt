@@ -5,6 +5,7 @@ ghost use Rattle.tva_trace.specs.declared.rows.Row.{Row};
 ghost use Rattle.tva_trace.specs.declared.rows.TraceError.TheVariants as error;
 ghost use Rattle.tva_trace.specs.Files.{Counts, FindsRoom, counted, filed_in};
 ghost use Rattle.tva_trace.specs.Meaning.{Answers, AreRows, IsPut};
+ghost use Rattle.tva_trace.specs.Packed.{AnswersPacked};
 ghost use Rattle.tva_plan.specs.Numbers.{Numbers};
 ghost use Rattle.tva_trace.specs.Rows.{said_by};
 ghost use Rattle.tva_trace.specs.Shortage.{IsShortage};
@@ -14,6 +15,7 @@ use crate::carried::row_from;
 use crate::fields::is_header;
 use crate::files::{FileCounts, count_file};
 use crate::judge::row_of;
+use crate::packed::PackedRows;
 use crate::rows::{Row, TraceError, TraceFault, TraceRule};
 use crate::said::SaidRow;
 use crate::secrets::KeptSecrets;
@@ -36,6 +38,20 @@ pub fn read_trace(alloc: Global, text: &[u8], config: &Config) -> Result<Vec<Row
     ensures only { IfOk result (λ rows. (other : List Row) → AreRows config.now text.now other → other ≡ rows.items) }
     ensures valid { IfOk result (λ rows. AreTraceRows config.now rows.items) }
 {
+    let rows = read_packed(alloc, text, config)?;
+    match rows.to_rows(alloc) {
+        Ok(rows) => Ok(rows),
+        Err(_) => Err(TraceError::OutOfMemory),
+    }
+}
+
+/// The same rows, or the same fault, in little memory.
+pub fn read_packed(alloc: Global, text: &[u8], config: &Config) -> Result<PackedRows, TraceError>
+    requires { length config.now.nodes ≤ 65536 }
+    ensures answer { AnswersPacked config.now text.now result }
+    ensures only { IfOk result (λ rows. (other : List Row) → AreRows config.now text.now other → other ≡ rows) }
+    ensures valid { IfOk result (λ rows. AreTraceRows config.now rows) }
+{
     match node_numbers(alloc, config.nodes.as_slice()) {
         Ok(numbers) => read_rows(alloc, text, config, &numbers),
         Err(_) => Err(TraceError::OutOfMemory),
@@ -48,12 +64,12 @@ fn read_rows(
     text: &[u8],
     config: &Config,
     numbers: &HashMap<&[u8], u16>,
-) -> Result<Vec<Row>, TraceError>
+) -> Result<PackedRows, TraceError>
     requires { Numbers config.now.nodes numbers.now }
-    ensures answer { Answers config.now text.now result }
-    ensures valid { IfOk result (λ rows. AreTraceRows config.now rows.items) }
+    ensures answer { AnswersPacked config.now text.now result }
+    ensures valid { IfOk result (λ rows. AreTraceRows config.now rows) }
 {
-    let mut rows = Vec::new(alloc);
+    let mut rows = PackedRows::new(alloc);
     let room = room_for_rows(text);
     let mut secrets = KeptSecrets::new();
     let mut files = HashMap::new(alloc);
@@ -112,14 +128,14 @@ fn shortage(kind: &ErrorKind) -> TraceError
 /// Puts a row last, if there is one, counts it where it begins a transfer, and answers the last row's
 /// time. Where there is none, that is behind the header, room is made for so many.
 fn put_row(
-    rows: &mut Vec<Row>,
+    rows: &mut PackedRows,
     files: &mut FileCounts,
     room: usize,
     last: u64,
     said: Option<SaidRow>,
 ) -> Result<u64, AllocError>
     requires { IfSome said (λ row. FindsRoom (counted files.old) row.node row.what) }
-    ensures put { IfOk result (λ time. IsPut rows.old.items rows.new.items last time said) }
+    ensures put { IfOk result (λ time. IsPut rows.old rows.new last time said) }
     ensures counts { OnOk result (Counts (counted files.old) (counted files.new) (filed_in said)) }
 {
     match said {

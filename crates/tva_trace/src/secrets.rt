@@ -1,9 +1,10 @@
 // The secrets that are kept while a trace is read.
 ghost use Rattle.std.specs.Prelude.{◌≡◌, ◌≤◌};
-ghost use Rattle.tva_caps.specs.Formula.{precap_of};
+ghost use Rattle.tva_base.specs.Versions.{AreSomeRights};
+ghost use Rattle.tva_caps.specs.Formula.{capability_of, precap_of};
 
 use std::array::from_fn;
-use tva_base::Flow;
+use tva_base::{Flow, Rights};
 use tva_caps::KeptSecret;
 
 /// How many secrets are kept.
@@ -23,13 +24,21 @@ impl KeptSecrets {
         }
     }
 
-    /// The pre-capability that the router of that number, which has this master, mints for the flow
-    /// in a second.
-    pub fn precap_at(&mut self, number: u16, master: &[u8; 32], second: u64, flow: Flow) -> u64
-        requires { second ≤ 2000000 }
-        ensures { result ≡ precap_of master.now flow second }
+    /// The capability with these rights of the pre-capability that the router of that number, which has
+    /// this master, mints for the flow in a second.
+    pub fn capability_at(
+        &mut self,
+        number: u16,
+        master: &[u8; 32],
+        second: u64,
+        flow: Flow,
+        rights: Rights,
+    ) -> u64
+        requires second { second ≤ 2000000 }
+        requires rights { AreSomeRights rights }
+        ensures { result ≡ capability_of (precap_of master.now flow second) rights }
     {
         let kept = &mut self.by_router[usize::from(number) % KEPT];
-        kept.precap_at(master, second, flow)
+        kept.capability_at(master, second, flow, rights)
     }
 }

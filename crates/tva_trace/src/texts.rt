@@ -155,7 +155,7 @@ fn put_kind(alloc: Global, text: &mut String, shim: &Shim) -> Result<(), AllocEr
     ensures { OnOk result (string_bytes text.new ≡ string_bytes text.old ++ spaced (kind_words shim.now.kind)) }
 {
     match &shim.kind {
-        Kind::Request(entries) => put_entries(alloc, text, entries.as_slice()),
+        Kind::Request(entries) => put_entries(alloc, text, entries.listed().as_slice()),
         Kind::List(shown) => put_shown(alloc, text, shown),
         Kind::Nonce(nonce) => put_nonce(alloc, text, *nonce),
         Kind::Renewal(shown) => put_shown(alloc, text, shown),

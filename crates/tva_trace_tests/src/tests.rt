@@ -2,6 +2,7 @@
 ghost use Rattle.std.specs.Prelude.{◌≡◌, ◌≤◌, length};
 
 mod lines;
+mod packed;
 mod rows;
 
 use std::alloc::{AllocError, Global};
@@ -11,7 +12,7 @@ use tva_base::{
     Rights, RouterPlan, Time,
 };
 use tva_plan::{Config, NodePlan};
-use tva_trace::Row;
+use tva_trace::{PackedRows, Row};
 
 // A router whose master is the bytes 0 to 31.
 fn router(alloc: Global, name: &str) -> NodePlan
@@ -136,4 +137,5 @@ fn crosses<T: Send + Sync>() {}
 #[test]
 fn rows_cross_to_threads() {
     crosses::<Row>();
+    crosses::<PackedRows>();
 }

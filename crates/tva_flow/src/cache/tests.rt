@@ -219,3 +219,42 @@ fn cleared_and_full_again(rt: HostRuntime) -> Result<(), Fail> {
     assert!(rt; matches!(verdict, Verdict::Authorised(_)) && living == 81);
     Ok(())
 }
+
+/// A full cache of 100 flows. Each began at the time of its number, and all but that one sent their other
+/// half at 100: so they end two seconds after they began, and that one a second after.
+fn renewed_but(rt: &impl Abort, alloc: Global, left: u32) -> Result<FlowCache, Fail> {
+    let mut cache = FlowCache::with_slots(alloc, 100, 0)?;
+    for number in 0..100u32 {
+        let (_verdict, living) = half_of_a_unit(rt, &mut cache, u64::from(number), number);
+        assert_eq!(rt; living, number.wrapping_add(1));
+    }
+    for number in 0..100u32 {
+        if number != left {
+            let (verdict, _living) = half_of_a_unit(rt, &mut cache, 100, number);
+            assert!(rt; matches!(verdict, Verdict::Authorised(_)));
+        }
+    }
+    Ok(cache)
+}
+
+/// Where all flows but one were renewed since they began, that one makes room at the very end of its life
+/// and no earlier, whether it began first, last or between. Where all were, none makes room before the
+/// first of them ends. The place is taken then, and no other flow finds one.
+#[test]
+fn room_among_flows_that_were_renewed(rt: HostRuntime) -> Result<(), Fail> {
+    for (left, end) in [
+        (0, 1_000_000_000u64),
+        (73, 1_000_000_073),
+        (99, 1_000_000_099),
+        (100, 2_000_000_000),
+    ] {
+        let mut cache = renewed_but(&rt, rt.alloc(), left)?;
+        let early = half_of_a_unit(&rt, &mut cache, end.wrapping_sub(1), 100);
+        assert_eq!(rt; early, (Verdict::CacheFull, 100));
+        let (verdict, living) = half_of_a_unit(&rt, &mut cache, end, 100);
+        assert!(rt; matches!(verdict, Verdict::Authorised(_)) && living == 100);
+        let other = half_of_a_unit(&rt, &mut cache, end, 101);
+        assert_eq!(rt; other, (Verdict::CacheFull, 100));
+    }
+    Ok(())
+}

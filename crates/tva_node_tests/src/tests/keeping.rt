@@ -1,7 +1,7 @@
 // Hosts whose memory forgets, each beside one whose memory keeps all: both tell and send the same.
-ghost use Rattle.std.specs.Prelude.{OnOk};
+ghost use Rattle.std.specs.Prelude.{IfOk, OnOk};
 ghost use Rattle.tva_node.specs.States.{Stands};
-ghost use Rattle.tva_node_tests.specs.Ready.{IsHeld};
+ghost use Rattle.tva_node_tests.specs.Ready.{IsHeld, IsReady};
 
 use super::makers::host;
 use super::playing::{Case, HostAt, give};
@@ -27,18 +27,25 @@ pub fn play_beside<R: Abort>(
     case: &Case,
     keeps: Memory,
 ) -> Result<(), AllocError> {
-    let mut whole = host(
-        alloc,
-        at.number,
-        at.address,
-        at.kind,
-        at.uplink,
-        Memory::All,
-    )?;
-    let mut node = host(alloc, at.number, at.address, at.kind, at.uplink, keeps)?;
-    give(rt, &mut whole, true, case.parts)?;
-    give(rt, &mut node, true, case.parts)?;
+    let mut whole = host_with(rt, alloc, at, case, Memory::All)?;
+    let mut node = host_with(rt, alloc, at, case, keeps)?;
     work_both(rt, alloc, &mut whole, &mut node)
+}
+
+// A host that was given what a case has.
+fn host_with<R: Abort>(
+    rt: &R,
+    alloc: Global,
+    at: &HostAt,
+    case: &Case,
+    keeps: Memory,
+) -> Result<Node, AllocError>
+    ensures ready { IfOk result IsReady }
+    ensures stands { IfOk result Stands }
+{
+    let mut node = host(alloc, at.number, at.address, at.kind, at.uplink, keeps)?;
+    give(rt, &mut node, true, case.parts)?;
+    Ok(node)
 }
 
 // Works both over windows of a millisecond.

@@ -14,7 +14,7 @@ use tva_trace::{Row, RowWhat, read_trace};
 const HEADER: &str = "time,node,kind,src,dst,payload,shim\n";
 
 // At a router: time, node, source and destination, payload, and what the packet carries.
-const AT_ROUTERS: [(&str, &str); 19] = [
+pub const AT_ROUTERS: [(&str, &str); 19] = [
     (
         "7,R1,list,10.0.0.1,10.0.1.1,472,00000000000a/1/2/1/R1@5;0123456789ABCDEF",
         "7 0 0a000001>0a000101 472 110600000000000a0201004205e5a8e67c5a90d30123456789abcdef",
@@ -94,7 +94,7 @@ const AT_ROUTERS: [(&str, &str); 19] = [
 ];
 
 // At a router between two hosts.
-const AT_HOSTS: [(&str, &str); 8] = [
+pub const AT_HOSTS: [(&str, &str); 8] = [
     (
         "1000000000,A,send,,10.0.1.1,1600,",
         "1000000000 1 send 0a000101 1600",
@@ -163,14 +163,14 @@ fn rows_of(alloc: Global, config: &Config, text: &[u8]) -> Result<Vec<Row>, Fail
 }
 
 // The rows of a line behind the header.
-fn rows_of_line(alloc: Global, config: &Config, line: &str) -> Result<Vec<Row>, Fail>
+pub fn rows_of_line(alloc: Global, config: &Config, line: &str) -> Result<Vec<Row>, Fail>
     requires { length config.now.nodes ≤ 65536 }
 {
     let text = format!(in alloc; "{HEADER}{line}\n")?;
     rows_of(alloc, config, text.as_bytes())
 }
 
-fn expect_told(
+pub fn expect_told(
     rt: &impl Abort,
     alloc: Global,
     row: &Row,

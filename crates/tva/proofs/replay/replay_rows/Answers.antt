@@ -22,13 +22,13 @@ step_and_put-step-requires-clause-known g c κs within =
     let W = g.W.Sink in
     let plan = c.args.plan.now in
     subst (λ (es : List Event). All (HasEvent plan) es) (sym c.as_slice.ensures.value)
-    (behind_named plan c.args.rows.items (W.written c.args.out.now) (W.written c.loop-status.out) c.loop-status.events.items c.loop-status.net c.loop-status.invariant.behind)
+    (behind_named plan c.args.rows (W.written c.args.out.now) (W.written c.loop-status.out) c.loop-status.events.items c.loop-status.net c.loop-status.invariant.behind)
 
 pub returns-in_default : goal.returns-in_default
 returns-in_default g c =
     let W = g.W.Sink in
     let plan = c.args.plan.now in
-    let rows = c.args.rows.items in
+    let rows = c.args.rows in
     let list = c.loop-status.events.items in
     let behind = c.loop-status.invariant.behind in
     let later = c.loop-status.invariant.later in
@@ -47,7 +47,7 @@ pub loop-status-smaller : goal.loop-status-smaller
 loop-status-smaller g c =
     let W = g.W.Sink in
     let plan = c.args.plan.now in
-    let rows = c.args.rows.items in
+    let rows = c.args.rows in
     let list = c.loop-status.events.items in
     let behind = c.loop-status.invariant.behind in
     let put = lines_put plan c.step_and_put-step.result.1 c.as_slice.result.now list c.step_and_put-step.new.text.items c.as_slice-in-loop-status.result.now
@@ -62,7 +62,7 @@ pub loop-status-preserved : goal.loop-status-preserved
 loop-status-preserved g c =
     let W = g.W.Sink in
     let plan = c.args.plan.now in
-    let rows = c.args.rows.items in
+    let rows = c.args.rows in
     let list = c.loop-status.events.items in
     let behind = c.loop-status.invariant.behind in
     let later = c.loop-status.invariant.later in
@@ -82,7 +82,7 @@ pub returns-in-Ok-Ended-clause-answer : goal.returns-in-Ok-Ended-clause-answer
 returns-in-Ok-Ended-clause-answer g c =
     let W = g.W.Sink in
     let plan = c.args.plan.now in
-    let rows = c.args.rows.items in
+    let rows = c.args.rows in
     let list = c.loop-status.events.items in
     let behind = c.loop-status.invariant.behind in
     let later = c.loop-status.invariant.later in
@@ -101,7 +101,7 @@ pub returns-in-Err-step-clause-answer : goal.returns-in-Err-step-clause-answer
 returns-in-Err-step-clause-answer g c =
     let W = g.W.Sink in
     let plan = c.args.plan.now in
-    let rows = c.args.rows.items in
+    let rows = c.args.rows in
     let list = c.loop-status.events.items in
     let behind = c.loop-status.invariant.behind in
     let put = lines_put plan c.step_and_put-step.result.1 c.as_slice.result.now list c.step_and_put-step.new.text.items c.as_slice-in-loop-status.result.now

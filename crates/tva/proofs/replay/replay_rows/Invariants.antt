@@ -5,7 +5,7 @@ use Rattle.tva.proofs.replay.replay_rows.Given as goal
 -- the lines of what the network gave before the last window are written, and the count hasn't fallen
 abbrev pub invariant-loop-status : goal.invariant-loop-status
 invariant-loop-status g l = record {
-  behind : IsBehind l.plan l.fn.rows.items (g.W.Sink.written l.fn.out) (g.W.Sink.written l.out) l.events.items l.net;
+  behind : IsBehind l.plan l.fn.rows (g.W.Sink.written l.fn.out) (g.W.Sink.written l.out) l.events.items l.net;
   later : g.W.Sink.faults l.fn.out ≤ g.W.Sink.faults l.out;
 }
 

@@ -27,6 +27,11 @@ rewrite-requires-clause-flow c e q =
     let p = rw c.in-Some.is at c.requires.place in
     rw c.fresh-entry.ensures.value (p.1 e q).0
 
+pub rewrite-requires-clause-end : goal.rewrite-requires-clause-end
+rewrite-requires-clause-end c e q =
+    let p = rw c.in-Some.is at c.requires.place in
+    rw c.fresh-entry.ensures.value (omega (arith, (p.1 e q).1))
+
 pub returns-in-Some-clause-answer : goal.returns-in-Some-clause-answer
 returns-in-Some-clause-answer c o last h l v =
     let p = rw c.in-Some.is at c.requires.place in
@@ -52,16 +57,16 @@ returns-then-not-is_full-clause-near c =
 pub returns-in_default-ended-clause-answer : goal.returns-in_default-ended-clause-answer
 returns-in_default-ended-clause-answer c o last h l v =
     let p = rw c.in_default.is at c.requires.place in
-    admits-full c.args.entries.now.slots o last c.args.now c.args.entries.now.items h c.args.grant c.args.nonce c.args.bytes v l (full _ _ _ c.is_full.ensures c.if-not-is_full.false) c.in_default-ended.ensures p (fits _ _ _ c.is_over.ensures c.if-is_over.false)
+    rw c.in_default-ended.ensures.same (admits-full c.args.entries.now.slots o last c.args.now c.args.entries.now.items h c.args.grant c.args.nonce c.args.bytes v l (full _ _ _ c.is_full.ensures c.if-not-is_full.false) c.in_default-ended.ensures.place p (fits _ _ _ c.is_over.ensures c.if-is_over.false))
 
 pub returns-clause-answer : goal.returns-clause-answer
 returns-clause-answer c o last h l v =
     let p = rw c.in_default.is at c.requires.place in
-    let d = c.in-Some-ended.ensures in
+    let d = c.in-Some-ended.ensures.place in
     let r = some_place c.args.entries.now.items c.in-Some-ended.other d.0 in
-    rw (c.replace.ensures, c.fresh-entry.ensures.value) (admits-opened_over c.args.entries.now.slots o last c.args.now c.args.entries.now.items h c.in-Some-ended.other r.0 c.args.grant c.args.nonce c.args.bytes v l d.0 r.1 p (d.1 r.0 r.1) (fits _ _ _ c.is_over.ensures c.if-is_over.false) c.requires.packet)
+    rw (c.replace.ensures, c.in-Some-ended.ensures.same, c.fresh-entry.ensures.value) (admits-opened_over c.args.entries.now.slots o last c.args.now c.args.entries.now.items h c.in-Some-ended.other r.0 c.args.grant c.args.nonce c.args.bytes v l d.0 r.1 p (d.1 r.0 r.1) (fits _ _ _ c.is_over.ensures c.if-is_over.false) c.requires.packet)
 
 pub returns-clause-near : goal.returns-clause-near
 returns-clause-near c =
     let r = c.fresh-entry.ensures.ranges in
-    rw (c.replace.ensures, c.fresh-entry.ensures.value) (near-set c.args.now c.args.entries.now.items c.in-Some-ended.other (opened c.args.now c.args.grant c.args.nonce c.args.bytes) c.requires.near (near-opened c.args.now c.args.grant c.args.nonce c.args.bytes c.requires.packet r.0 r.1 (fits _ _ _ c.is_over.ensures c.if-is_over.false)))
+    rw (c.replace.ensures, c.in-Some-ended.ensures.same, c.fresh-entry.ensures.value) (near-set c.args.now c.args.entries.now.items c.in-Some-ended.other (opened c.args.now c.args.grant c.args.nonce c.args.bytes) c.requires.near (near-opened c.args.now c.args.grant c.args.nonce c.args.bytes c.requires.packet r.0 r.1 (fits _ _ _ c.is_over.ensures c.if-is_over.false)))

@@ -1,4 +1,6 @@
-use Rattle.std.proofs.Common.{sym, ◌∙◌, arith}
+use Rattle.std.proofs.Common.{sym, ap, ◌∙◌, arith}
+use Rattle.tva_flow.specs.declared.kept.Entry.{Entry}
+use Rattle.tva_flow.proofs.Indexed.{same_read}
 use Rattle.tva_flow.specs.Steps.{renewed}
 use Rattle.tva_flow.proofs.Admit.{answers-renewed, answers-denied, judged}
 use Rattle.tva_flow.proofs.ByEntry.{living_rows}
@@ -39,3 +41,7 @@ returns-else-is_authorised-clause-answer c =
 
 pub rewrite-requires-clause-flow : goal.rewrite-requires-clause-flow
 rewrite-requires-clause-flow c e q = rw c.extended.ensures.value (c.requires.live e q).0
+
+pub rewrite-requires-clause-end : goal.rewrite-requires-clause-end
+rewrite-requires-clause-end c e q =
+    rw c.extended.ensures.value (omega (arith, ap (λ (x : Entry). x.end) (same_read c.args.entries.now.items c.args.at e c.get-entry.result q c.get-entry.ensures c.requires.place)))

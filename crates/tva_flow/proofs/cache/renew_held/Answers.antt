@@ -46,3 +46,7 @@ returns-else-is_authorised-clause-answer c f s o last h k w l v =
 
 pub rewrite-requires-clause-flow : goal.rewrite-requires-clause-flow
 rewrite-requires-clause-flow c e q = rw c.extended.ensures.value (ap (λ (x : Entry). x.grant.flow) (same_read c.args.entries.now.items c.args.at e c.get-entry.result q c.get-entry.ensures c.requires.place))
+
+pub rewrite-requires-clause-end : goal.rewrite-requires-clause-end
+rewrite-requires-clause-end c e q =
+    rw c.extended.ensures.value (omega (arith, ap (λ (x : Entry). x.end) (same_read c.args.entries.now.items c.args.at e c.get-entry.result q c.get-entry.ensures c.requires.place)))

@@ -1,12 +1,13 @@
 use Rattle.std.proofs.Common.{subst, arith}
-use Rattle.tva_index.specs.Bits.{entry_at, IsEnd}
+use Rattle.tva_index.specs.Bits.{links_of, entries_of, entry_at, IsEnd}
+use Rattle.tva_index.proofs.Places.{length-entries_of}
 use Rattle.tva_index.proofs.Paths.{has_key}
 use Rattle.tva_index.proofs.Grown.{entry_within}
 use Rattle.tva_index.proofs.bits.number_of.Goals as goal
 
-pub index-requires : goal.index-requires
-index-requires c =
-    let t = c.args.tree.now in
-    let e = subst (IsEnd t.links.items t.entries.items c.args.key) c.in-Found.is c.walk.ensures in
-    let old = has_key c.args.key (entry_at t.entries.items c.in-Found.led.at) e.entry in
-    omega (arith, entry_within t.entries.items c.in-Found.led.at old.0 old.1)
+pub entry_of-requires : goal.entry_of-requires
+entry_of-requires c =
+    let ps = c.args.tree.now.places.items in
+    let e = subst (IsEnd (links_of ps) (entries_of ps) c.args.key) c.in-Found.is c.walk.ensures in
+    let old = has_key c.args.key (entry_at (entries_of ps) c.in-Found.led.at) e.entry in
+    omega (arith, entry_within (entries_of ps) c.in-Found.led.at old.0 old.1, length-entries_of ps)

@@ -1,34 +1,37 @@
-use Rattle.std.proofs.Common.{None, ◌∙◌, subst, arith}
-use Rattle.std.proofs.lemmas.List.{get_or_read}
-use Rattle.tva_index.specs.Bits.{entry_at, IsEnd}
+use Rattle.std.proofs.Common.{◌≡◌, set, Some, None, ap, ◌∙◌, sym, subst}
+use Rattle.tva_index.specs.Bits.{links_of, entries_of, entry_at, IsKeyTree, IsWithout, IsEnd}
 use Rattle.tva_index.proofs.Paths.{has_key}
 use Rattle.tva_index.proofs.Pruned.{pruned, without}
 use Rattle.tva_index.proofs.bits.take_key.Goals as goal
 
-pub overflow_cast-leaf : goal.overflow_cast-leaf
-overflow_cast-leaf c =
-    let t = c.args.tree.now in
-    let b = c.leaf_below-leaf.ensures in
-    let w = (c.requires.tree.leads c.leaf_below-leaf.result.link c.leaf_below-leaf.result.at b.below.link).1 in
-    let few = c.requires.tree.few in
-    omega (arith, w, few)
-
 pub returns-clause-tree : goal.returns-clause-tree
 returns-clause-tree c =
     let t = c.args.tree.now in
+    let ps = t.places.items in
+    let at = c.in-Found.led.at in
+    let leaf = c.leaf_below-leaf.result in
     let b = c.leaf_below-leaf.ensures in
-    let e = subst (IsEnd t.links.items t.entries.items c.args.key) c.in-Found.is c.walk.ensures in
-    let old = has_key c.args.key (entry_at t.entries.items c.in-Found.led.at) e.entry in
-    let w = (c.requires.tree.leads c.leaf_below-leaf.result.link c.leaf_below-leaf.result.at b.below.link).1 in
-    let read = get_or_read t.entries.items c.leaf_below-leaf.result.at c.index.result.now w c.index.ensures None ∙ b.below.entry in
-    rw (read, c.push_reserved.ensures.items) (pruned t.links.items t.entries.items t.free.items c.requires.tree c.args.key c.in-Found.led.at c.leaf_below-leaf.result b old.0 old.1 old.2)
+    let e = subst (IsEnd (links_of ps) (entries_of ps) c.args.key) c.in-Found.is c.walk.ensures in
+    let old = has_key c.args.key (entry_at (entries_of ps) at) e.entry in
+    let links : links_of c.set_link.new.places.items ≡ set (links_of ps) leaf.link None =
+    c.set_link.ensures.links ∙ ap (λ z. set z leaf.link None) (c.set_entry-in-Found.ensures.links ∙ c.set_entry.ensures.links) in
+    let entries : entries_of c.set_link.new.places.items ≡ set (set (entries_of ps) at (Some b.below.key)) leaf.at None =
+    c.set_link.ensures.entries ∙ (c.set_entry-in-Found.ensures.entries ∙ ap (λ z. set z leaf.at None) (c.set_entry.ensures.entries ∙ ap (set (entries_of ps) at) (c.entry_of-moved.ensures ∙ b.below.entry))) in
+    subst (λ z. IsKeyTree z (entries_of c.set_link.new.places.items) c.push_reserved.new.self.items) (sym links)
+    (subst (λ z. IsKeyTree (set (links_of ps) leaf.link None) z c.push_reserved.new.self.items) (sym entries)
+    (subst (IsKeyTree (set (links_of ps) leaf.link None) (set (set (entries_of ps) at (Some b.below.key)) leaf.at None)) (sym c.push_reserved.ensures.items)
+    (pruned (links_of ps) (entries_of ps) t.free.items c.requires.tree c.args.key at leaf b old.0 old.1 old.2)))
 
 pub returns-clause-without : goal.returns-clause-without
 returns-clause-without c =
     let t = c.args.tree.now in
+    let ps = t.places.items in
+    let at = c.in-Found.led.at in
+    let leaf = c.leaf_below-leaf.result in
     let b = c.leaf_below-leaf.ensures in
-    let e = subst (IsEnd t.links.items t.entries.items c.args.key) c.in-Found.is c.walk.ensures in
-    let old = has_key c.args.key (entry_at t.entries.items c.in-Found.led.at) e.entry in
-    let w = (c.requires.tree.leads c.leaf_below-leaf.result.link c.leaf_below-leaf.result.at b.below.link).1 in
-    let read = get_or_read t.entries.items c.leaf_below-leaf.result.at c.index.result.now w c.index.ensures None ∙ b.below.entry in
-    rw read (without t.links.items t.entries.items t.free.items c.requires.tree c.args.key c.in-Found.led.at c.leaf_below-leaf.result b old.0 old.1 old.2)
+    let e = subst (IsEnd (links_of ps) (entries_of ps) c.args.key) c.in-Found.is c.walk.ensures in
+    let old = has_key c.args.key (entry_at (entries_of ps) at) e.entry in
+    let entries : entries_of c.set_link.new.places.items ≡ set (set (entries_of ps) at (Some b.below.key)) leaf.at None =
+    c.set_link.ensures.entries ∙ (c.set_entry-in-Found.ensures.entries ∙ ap (λ z. set z leaf.at None) (c.set_entry.ensures.entries ∙ ap (set (entries_of ps) at) (c.entry_of-moved.ensures ∙ b.below.entry))) in
+    subst (IsWithout c.args.key (entries_of ps)) (sym entries)
+    (without (links_of ps) (entries_of ps) t.free.items c.requires.tree c.args.key at leaf b old.0 old.1 old.2)

@@ -1,64 +1,46 @@
-use Rattle.std.proofs.Common.{◌≡◌, ℕ, ◌+◌, ◌<◌, Some, None, refl, subst, arith}
-use Rattle.std.proofs.lemmas.List.{get_or_read}
-use Rattle.tva_index.specs.Bits.{HasKey, entry_at, spot}
-use Rattle.tva_index.proofs.Paths.{later-start, later-on, goes, stops, later_all, link_within}
+use Rattle.std.proofs.Common.{◌≡◌, ◌+◌, ◌*◌, ◌%◌, ◌<◌, ℕ, length, Some, sym, ◌∙◌, subst, arith}
+use Rattle.tva_index.specs.Bits.{HasKey, links_of, entries_of, link_at, spot}
+use Rattle.tva_index.proofs.Places.{length-entries_of, entry_read_of, way_read}
+use Rattle.tva_index.proofs.Paths.{stays, goes, stops, later_here, later_end, IsNotBefore}
 use Rattle.tva_index.proofs.bits.walk.Goals as goal
-
-pub loop-step-init : goal.loop-step-init
-loop-step-init c =
-    let t = c.args.tree.now in
-    record { path = refl; bits = refl; later = later-start t.links.items t.entries.items t.free.items c.requires c.args.key }
-
-pub overflow_mul-link : goal.overflow_mul-link
-overflow_mul-link c =
-    let t = c.args.tree.now in
-    omega (arith, link_within t.links.items t.entries.items t.free.items c.requires c.args.key c.loop-step._step c.loop-step.at c.loop-step.invariant.path)
-
-pub index-requires-in-loop-step : goal.index-requires-in-loop-step
-index-requires-in-loop-step c =
-    let t = c.args.tree.now in
-    let i = c.loop-step.invariant in
-    let g = goes t.links.items t.entries.items t.free.items c.requires c.args.key c.loop-step._step c.loop-step.at c.loop-step.bits c.in-Some.next c.index.result.now i.path i.bits c.index.ensures c.in-Some.is in
-    omega (arith, g.2)
 
 pub returns-in_default : goal.returns-in_default
 returns-in_default c =
     let t = c.args.tree.now in
-    let i = c.loop-step.invariant in
-    stops t.links.items t.entries.items t.free.items c.requires c.args.key c.loop-step._step c.loop-step.at c.loop-step.bits c.index.result.now c.loop-step-test.true i.path i.bits i.later c.index.ensures c.in_default.is
-
-pub returns-then-is_of : goal.returns-then-is_of
-returns-then-is_of c =
-    let t = c.args.tree.now in
-    let i = c.loop-step.invariant in
-    let g = goes t.links.items t.entries.items t.free.items c.requires c.args.key c.loop-step._step c.loop-step.at c.loop-step.bits c.in-Some.next c.index.result.now i.path i.bits c.index.ensures c.in-Some.is in
-    let k = rw c.if-is_of.true at c.is_of.ensures in
-    record {
-      depth = c.loop-step._step + 1;
-      deep = omega (arith, c.loop-step-test.true);
-      path = g.0;
-      link = g.1;
-      entry = subst (HasKey c.args.key) (get_or_read t.entries.items c.in-Some.next c.index-in-loop-step.result.now g.2 c.index-in-loop-step.ensures None) k;
-    }
+    let ps = t.places.items in
+    let s = c.loop-step in
+    let i = s.invariant in
+    let x = c.index-place.result.now in
+    let w : s.led.at < length ps = omega (arith, stays (links_of ps) (entries_of ps) t.free.items c.requires c.args.key s._step s.led.at i.path, length-entries_of ps) in
+    let other = subst (λ o. HasKey c.args.key o → ⊥) (entry_read_of ps s.led.at x w c.index-place.ensures) (rw c.if-is_of.false at c.is_of.ensures) in
+    stops (links_of ps) (entries_of ps) t.free.items c.requires c.args.key s._step s.led.at s.bits (omega (arith, c.ranges.key.fits)) c.loop-step-test.true i.path i.bits
+    (later_here (links_of ps) (entries_of ps) t.free.items c.requires c.args.key s._step s.led.at i.later i.path other)
+    (way_read ps s.led.at s.bits x w c.index-place.ensures ∙ (sym c.step_from.ensures ∙ c.in_default.is))
 
 pub loop-step-preserved : goal.loop-step-preserved
 loop-step-preserved c =
     let t = c.args.tree.now in
-    let i = c.loop-step.invariant in
-    let g = goes t.links.items t.entries.items t.free.items c.requires c.args.key c.loop-step._step c.loop-step.at c.loop-step.bits c.in-Some.next c.index.result.now i.path i.bits c.index.ensures c.in-Some.is in
-    let k = rw c.if-is_of.false at c.is_of.ensures in
+    let ps = t.places.items in
+    let s = c.loop-step in
+    let i = s.invariant in
+    let x = c.index-place.result.now in
+    let w : s.led.at < length ps = omega (arith, stays (links_of ps) (entries_of ps) t.free.items c.requires c.args.key s._step s.led.at i.path, length-entries_of ps) in
+    let other = subst (λ o. HasKey c.args.key o → ⊥) (entry_read_of ps s.led.at x w c.index-place.ensures) (rw c.if-is_of.false at c.is_of.ensures) in
+    let leads : link_at (links_of ps) (2 * s.led.at + s.bits % 2) ≡ Some c.in-Some.next = way_read ps s.led.at s.bits x w c.index-place.ensures ∙ (sym c.step_from.ensures ∙ c.in-Some.is) in
+    let g = goes (links_of ps) (entries_of ps) t.free.items c.requires c.args.key s._step s.led.at s.bits c.in-Some.next i.path i.bits leads in
     record {
       path = g.0;
-      bits = g.3;
-      later = later-on t.links.items t.entries.items t.free.items c.requires c.args.key c.loop-step._step c.in-Some.next i.later g.0
-          (subst (λ o. HasKey c.args.key o → ⊥) (get_or_read t.entries.items c.in-Some.next c.index-in-loop-step.result.now g.2 c.index-in-loop-step.ensures None) k);
+      link = λ _. leads;
+      bits = g.1;
+      later = λ p h d r. let l = later_here (links_of ps) (entries_of ps) t.free.items c.requires c.args.key s._step s.led.at i.later i.path other p h d r in omega (arith, l);
     }
 
 pub unreachable-requires : goal.unreachable-requires
 unreachable-requires c =
     let t = c.args.tree.now in
+    let ps = t.places.items in
     let i = c.loop-step.invariant in
-    let n : c.loop-step._step ≡ 32 = omega arith in
-    later_all t.links.items t.entries.items t.free.items c.requires c.args.key c.loop-step.at (omega arith)
-    (subst (λ (z : ℕ). (p : ℕ) → HasKey c.args.key (entry_at t.entries.items p) → (d : ℕ) → spot t.links.items c.args.key d ≡ Some p → z < d) n i.later)
-    (subst (λ (z : ℕ). spot t.links.items c.args.key z ≡ Some c.loop-step.at) n i.path)
+    let n : c.loop-step._step ≡ 33 = omega arith in
+    later_end (links_of ps) (entries_of ps) t.free.items c.requires c.args.key c.loop-step.led.at (omega arith)
+    (subst (IsNotBefore (links_of ps) (entries_of ps) t.free.items c.requires c.args.key) n i.later)
+    (subst (λ (z : ℕ). spot (links_of ps) c.args.key z ≡ Some c.loop-step.led.at) n i.path)

@@ -1,31 +1,26 @@
-use Rattle.std.proofs.Common.{rules, ◌≡◌, ◌<◌, [], List, All, length, sym, subst, ◌∙◌, ap, arith}
+use Rattle.std.proofs.Common.{rules, ◌≡◌, [], List, length, sym, subst, ◌∙◌, ap}
 use Rattle.std.proofs.lemmas.List.{with_items_is}
-use Rattle.tva_trace.specs.declared.rows.Row.{Row}
 use Rattle.tva_node.specs.States.{NodeState}
 use Rattle.tva_run.specs.Reaching.{rows_at}
 use Rattle.tva_net.specs.Mail.{AreFirstNodes, GotMails}
 use Rattle.tva_net.proofs.Firsts.{row_there, rows_deliver, with_rows}
 use Rattle.tva_net.proofs.building.first_nodes.Goals as goal
 
-pub make_room-requires-clause-few : goal.make_room-requires-clause-few
-make_room-requires-clause-few c = let few = c.requires.rows.few in let same = ap length c.as_slice.ensures.value in omega (arith, few, same)
-
 pub make_room-requires-clause-within : goal.make_room-requires-clause-within
 make_room-requires-clause-within c =
-    subst (λ (rs : List Row). All (λ row. row.node < length c.as_mut_slice-each.result.now) rs) (sym c.as_slice.ensures.value)
-    (row_there c.args.config.now (length c.as_mut_slice-each.result.now) c.args.rows.items (ap length c.as_mut_slice-each.ensures.value ∙ c.in_ok-nodes.ensures.first.count) c.requires.rows)
+    row_there c.args.config.now (length c.as_mut_slice-each.result.now) c.args.rows (ap length c.as_mut_slice-each.ensures.value ∙ c.in_ok-nodes.ensures.first.count) c.requires.rows
 
 pub file_rows-requires : goal.file_rows-requires
 file_rows-requires c =
     let config = c.args.config.now in
     let same : c.make_room.new.nodes ≡ c.in_ok-nodes.nodes.items = c.make_room.ensures ∙ c.as_mut_slice-each.ensures.value in
     let first = subst (λ (vs : List NodeState). AreFirstNodes config [] vs) (sym same) c.in_ok-nodes.ensures.first in
-    rows_deliver config c.make_room.new.nodes c.args.rows.items first c.requires.rows
+    rows_deliver config c.make_room.new.nodes c.args.rows first c.requires.rows
 
 pub returns-clause-first : goal.returns-clause-first
 returns-clause-first c =
     let config = c.args.config.now in
-    let rows = c.args.rows.items in
+    let rows = c.args.rows in
     let nodes = c.in_ok-nodes.nodes.items in
     let filed = c.file_rows.new.nodes in
     let same : c.make_room.new.nodes ≡ nodes = c.make_room.ensures ∙ c.as_mut_slice-each.ensures.value in

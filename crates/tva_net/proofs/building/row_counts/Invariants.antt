@@ -1,6 +1,9 @@
-use Rattle.std.proofs.Common.{take}
-use Rattle.tva_net.specs.Mail.{AreRowCounts}
+use Rattle.std.proofs.Common.{filter, take}
+use Rattle.tva_net.specs.Mail.{AreRowCounts, carries}
 use Rattle.tva_net.proofs.building.row_counts.Given as goal
 
-abbrev pub invariant-loop-row : goal.invariant-loop-row
-invariant-loop-row l = AreRowCounts l.count (take l.row-index l.rows) l.counts.items
+abbrev pub invariant-loop-place : goal.invariant-loop-place
+invariant-loop-place l = record {
+  all : AreRowCounts l.count (take l.place l.rows) l.all.items;
+  carrying : AreRowCounts l.count (filter carries (take l.place l.rows)) l.carrying.items;
+}

@@ -1,6 +1,6 @@
 use Rattle.std.proofs.Common.{rules, ◌≡◌, ◌<◌, ◌+◌, ◌-◌, ◌/◌, length, get_or, sym, ◌∙◌, ap, arith}
-use Rattle.tva_joins.specs.Joins.{precedes}
-use Rattle.tva_joins.proofs.Places.{put_in-at, none_sooner}
+use Rattle.tva_log.specs.Joins.{precedes}
+use Rattle.tva_log.proofs.Places.{put_in-at, none_sooner}
 use Rattle.tva_node.specs.Waiting.{turn_time, turn_source}
 use Rattle.tva_node.proofs.waiting.place_for.Goals as goal
 

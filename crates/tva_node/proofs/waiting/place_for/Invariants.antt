@@ -1,6 +1,6 @@
 use Rattle.std.proofs.Common.{◌≡◌, ◌≤◌, ◌<◌, ◌-◌, length, take, get_or, true, false}
 use Rattle.std.specs.List.{AllByRecursion}
-use Rattle.tva_joins.specs.Joins.{precedes}
+use Rattle.tva_log.specs.Joins.{precedes}
 use Rattle.tva_node.specs.Waiting.{turn_time, turn_source}
 use Rattle.tva_node.specs.declared.waiting.Turn.{Turn}
 use Rattle.tva_node.proofs.waiting.place_for.Given as goal

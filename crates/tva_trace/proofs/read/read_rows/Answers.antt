@@ -10,7 +10,7 @@ pub records-init : goal.records-init
 records-init c =
     let fr = c.from_reader-reader.ensures in
     let e = c.flexible.ensures ∙ ap (λ b. with_flexible b true) c.has_headers.ensures in
-    rw c.new-rows.ensures.items (read-start c.args.config.now c.args.text.now _ (counted c.new-files.result) (counts_none c.new-files.result c.new-files.ensures.empty)
+    rw c.new-rows.ensures (read-start c.args.config.now c.args.text.now _ (counted c.new-files.result) (counts_none c.new-files.result c.new-files.ensures.empty)
     (rw (e) at fr.trim ∙ c.new.ensures.trim)
     (inr (inr (rw e at fr.has_headers, fr.headers)))
     (rw e at fr.config ∙ c.new.ensures.config)
@@ -21,21 +21,21 @@ records-init c =
 pub shortage-requires : goal.shortage-requires
 shortage-requires c =
     let inv = c.records.invariant in
-    rw c.kind.ensures (read-short c.args.config.now c.args.text.now c.records.reader c.read_byte_record.new.self c.records.number c.records.last (counted c.records.files) c.records.rows.items (error_kind c.in-Err.error) inv (c.in-Err.ensures.why inv.is_ready))
+    rw c.kind.ensures (read-short c.args.config.now c.args.text.now c.records.reader c.read_byte_record.new.self c.records.number c.records.last (counted c.records.files) c.records.rows (error_kind c.in-Err.error) inv (c.in-Err.ensures.why inv.is_ready))
 
 pub returns-in-Err-said_by-clause-answer : goal.returns-in-Err-said_by-clause-answer
 returns-in-Err-said_by-clause-answer c =
     let inv = c.records.invariant in
     let fields = fields_of c.read_byte_record.new.row in
     let read = subst (λ (b : Bool). ReadRecord told c.records.reader c.read_byte_record.new.self b fields) c.if-not-found.false (c.in-Ok.ensures.reads inv.untrimmed inv.is_ready) in
-    read-fault c.args.config.now c.args.text.now c.records.reader c.read_byte_record.new.self c.records.number c.records.last (counted c.records.files) c.records.rows.items fields c.in-Err-said_by.rule inv read (sym c.in-Err-said_by.ensures.said)
+    read-fault c.args.config.now c.args.text.now c.records.reader c.read_byte_record.new.self c.records.number c.records.last (counted c.records.files) c.records.rows fields c.in-Err-said_by.rule inv read (sym c.in-Err-said_by.ensures.said)
 
 pub records-preserved : goal.records-preserved
 records-preserved c =
     let inv = c.records.invariant in
     let fields = fields_of c.read_byte_record.new.row in
     let read = subst (λ (b : Bool). ReadRecord told c.records.reader c.read_byte_record.new.self b fields) c.if-not-found.false (c.in-Ok.ensures.reads inv.untrimmed inv.is_ready) in
-    read-on c.in-Ok-said_by.said c.args.config.now c.args.text.now c.records.reader c.read_byte_record.new.self c.records.number c.records.last c.in-Ok-put_row.time (counted c.records.files) (counted c.put_row.new.files) c.records.rows.items c.put_row.new.rows.items fields inv read
+    read-on c.in-Ok-said_by.said c.args.config.now c.args.text.now c.records.reader c.read_byte_record.new.self c.records.number c.records.last c.in-Ok-put_row.time (counted c.records.files) (counted c.put_row.new.files) c.records.rows c.put_row.new.rows fields inv read
     (inl (c.in-Ok.ensures.ready inv.untrimmed)) c.in-Ok-said_by.ensures.few (sym c.in-Ok-said_by.ensures.said) c.in-Ok-said_by.ensures.valid c.in-Ok-put_row.ensures.put c.in-Ok-put_row.ensures.counts c.in-Ok.ensures.flexible
 
 pub put_row-requires : goal.put_row-requires
@@ -49,15 +49,15 @@ returns-then-number-eq1-clause-answer c =
     let inv = c.records.invariant in
     let fields = fields_of c.read_byte_record.new.row in
     let read = subst (λ (b : Bool). ReadRecord told c.records.reader c.read_byte_record.new.self b fields) c.if-not-found.true (c.in-Ok.ensures.reads inv.untrimmed inv.is_ready) in
-    read-nothing c.args.config.now c.args.text.now c.records.reader c.read_byte_record.new.self c.records.number c.records.last (counted c.records.files) c.records.rows.items fields inv read c.if-number-eq1.true
+    read-nothing c.args.config.now c.args.text.now c.records.reader c.read_byte_record.new.self c.records.number c.records.last (counted c.records.files) c.records.rows fields inv read c.if-number-eq1.true
 
 pub returns-then-not-found-clause-answer : goal.returns-then-not-found-clause-answer
 returns-then-not-found-clause-answer c =
     let inv = c.records.invariant in
     let fields = fields_of c.read_byte_record.new.row in
     let read = subst (λ (b : Bool). ReadRecord told c.records.reader c.read_byte_record.new.self b fields) c.if-not-found.true (c.in-Ok.ensures.reads inv.untrimmed inv.is_ready) in
-    read-whole c.args.config.now c.args.text.now c.records.reader c.read_byte_record.new.self c.records.number c.records.last (counted c.records.files) c.records.rows.items fields inv read c.if-number-eq1.false
+    read-whole c.args.config.now c.args.text.now c.records.reader c.read_byte_record.new.self c.records.number c.records.last (counted c.records.files) c.records.rows fields inv read c.if-number-eq1.false
 
 pub returns-then-not-found-clause-valid : goal.returns-then-not-found-clause-valid
 returns-then-not-found-clause-valid c =
-    read-valid c.args.config.now c.args.text.now c.records.reader c.records.number c.records.last (counted c.records.files) c.records.rows.items c.records.invariant
+    read-valid c.args.config.now c.args.text.now c.records.reader c.records.number c.records.last (counted c.records.files) c.records.rows c.records.invariant

@@ -1,5 +1,5 @@
-use Rattle.tva_trace.proofs.OneList.{no_others}
+use Rattle.std.proofs.Common.{◌∙◌, sym}
 use Rattle.tva_trace.proofs.read.read_trace.Goals as goal
 
 pub returns-in-Ok-clause-only : goal.returns-in-Ok-clause-only
-returns-in-Ok-clause-only c = no_others c.args.config.now c.args.text.now c.read_rows.result c.read_rows.ensures.answer
+returns-in-Ok-clause-only c = λ other are. c.in_ok-rows.ensures.only other are ∙ sym c.in-Ok.ensures

@@ -1,5 +1,6 @@
 use Rattle.std.proofs.Common.{◌≡◌, ◌∷◌, ℕ, List, subst, arith}
 use Rattle.tva_index.specs.Numbers.{AreNumbered}
+use Rattle.tva_index.specs.Bits.{links_of, entries_of}
 use Rattle.tva_index.proofs.Ringed.{front_there, numbered_leave}
 use Rattle.tva_index.proofs.key_ring.KeyRing.leave.Goals as goal
 
@@ -7,14 +8,14 @@ pub take_key-requires-clause-there : goal.take_key-requires-clause-there
 take_key-requires-clause-there c =
     let i = c.self.inside in
     let e : i.order.items ≡ c.in-Some.key ∷ c.take_front.new.queue.items = c.in-Some.ensures.items in
-    front_there i.places i.first c.in-Some.key c.take_front.new.queue.items i.tree.links.items i.tree.entries.items i.tree.free.items
-    (subst (λ (z : List ℕ). AreNumbered i.places i.first z i.tree.links.items i.tree.entries.items i.tree.free.items) e c.self.invariant.0)
+    front_there i.places i.first c.in-Some.key c.take_front.new.queue.items (links_of i.tree.places.items) (entries_of i.tree.places.items) i.tree.free.items
+    (subst (λ (z : List ℕ). AreNumbered i.places i.first z (links_of i.tree.places.items) (entries_of i.tree.places.items) i.tree.free.items) e c.self.invariant.0)
 
 pub invariant_of-self : goal.invariant_of-self
 invariant_of-self c =
     let i = c.self.inside in
     let e : i.order.items ≡ c.in-Some.key ∷ c.take_front.new.queue.items = c.in-Some.ensures.items in
-    let n = numbered_leave i.places i.first c.in-Some.key c.take_front.new.queue.items i.tree.links.items i.tree.entries.items i.tree.free.items
-    (subst (λ (z : List ℕ). AreNumbered i.places i.first z i.tree.links.items i.tree.entries.items i.tree.free.items) e c.self.invariant.0)
-    c.take_key.new.tree.links.items c.take_key.new.tree.entries.items c.take_key.new.tree.free.items c.take_key.ensures.tree c.take_key.ensures.without c.take_key.ensures.free.0 in
+    let n = numbered_leave i.places i.first c.in-Some.key c.take_front.new.queue.items (links_of i.tree.places.items) (entries_of i.tree.places.items) i.tree.free.items
+    (subst (λ (z : List ℕ). AreNumbered i.places i.first z (links_of i.tree.places.items) (entries_of i.tree.places.items) i.tree.free.items) e c.self.invariant.0)
+    (links_of c.take_key.new.tree.places.items) (entries_of c.take_key.new.tree.places.items) c.take_key.new.tree.free.items c.take_key.ensures.tree c.take_key.ensures.without c.take_key.ensures.free.0 in
     (n, omega (arith, c.self.invariant.1, c.in-Some.ensures.capacity), omega (arith, c.self.invariant.2, c.take_key.ensures.free.1))

@@ -1,5 +1,6 @@
 use Rattle.std.proofs.Common.{ap, ◌∙◌}
 use Rattle.tva_index.specs.KeyRing.{Ring, place_in}
+use Rattle.tva_index.specs.Bits.{links_of, entries_of}
 use Rattle.tva_index.proofs.Ringed.{numbered_place, absent_place}
 use Rattle.tva_index.proofs.key_ring.KeyRing.place.Goals as goal
 
@@ -7,12 +8,12 @@ pub returns-in-Some : goal.returns-in-Some
 returns-in-Some c =
     let i = c.self.inside in
     let e = rw c.in-Some.is at c.number_of.ensures in
-    numbered_place i.places i.first i.order.items i.tree.links.items i.tree.entries.items i.tree.free.items c.self.invariant.0 c.args.key c.in-Some.number e.0 e.1
+    numbered_place i.places i.first i.order.items (links_of i.tree.places.items) (entries_of i.tree.places.items) i.tree.free.items c.self.invariant.0 c.args.key c.in-Some.number e.0 e.1
     ∙ ap (λ (r : Ring). place_in c.args.key r.keys) c.self.view_is
 
 pub returns-in-None : goal.returns-in-None
 returns-in-None c =
     let i = c.self.inside in
     let e = rw c.in-None.is at c.number_of.ensures in
-    absent_place i.places i.first i.order.items i.tree.links.items i.tree.entries.items i.tree.free.items c.self.invariant.0 c.args.key e
+    absent_place i.places i.first i.order.items (links_of i.tree.places.items) (entries_of i.tree.places.items) i.tree.free.items c.self.invariant.0 c.args.key e
     ∙ ap (λ (r : Ring). place_in c.args.key r.keys) c.self.view_is

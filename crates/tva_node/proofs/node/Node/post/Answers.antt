@@ -1,5 +1,5 @@
 use Rattle.std.proofs.Common.{◌≡◌, ◌≤◌, ◌∷◌, [], ◌++◌, sym, subst}
-use Rattle.tva_joins.specs.Joins.{put_in}
+use Rattle.tva_log.specs.Joins.{put_in}
 use Rattle.tva_log.specs.Entries.{input_source, input_time}
 use Rattle.tva_node.specs.States.{Fits, Gone, NodeState, Stands, state_of}
 use Rattle.tva_node.proofs.Decides.{on_both}

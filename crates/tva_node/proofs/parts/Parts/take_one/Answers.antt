@@ -13,29 +13,29 @@ use Rattle.tva_node.proofs.Works.{next_fits, took_one}
 use Rattle.tva_node.proofs.Zips.{begins_same}
 use Rattle.tva_node.proofs.parts.Parts.take_one.Goals as goal
 
-pub returns-in_default-clause-fewer : goal.returns-in_default-clause-fewer
-returns-in_default-clause-fewer c =
-    let none : false ≡ true = subst (λ (is : List Input). is_due c.args.now is ≡ true) c.in_default.ensures.0 c.requires.next in
+pub take-requires : goal.take-requires
+take-requires c = λ e.
+    let none : false ≡ true = subst (λ (is : List Input). is_due c.args.now is ≡ true) e c.requires.next in
     absurd (cc)
 
 pub take-requires-2-clause-time : goal.take-requires-2-clause-time
 take-requires-2-clause-time c =
     let st = c.requires.stands in
-    let due = some_due c.args.now c.args.self.now.waiting c.in-Some.input c.take.new.self c.requires.next c.in-Some.ensures in
+    let due = some_due c.args.now c.args.self.now.waiting c.take.result c.take.new.self c.requires.next c.take.ensures in
     subst (λ t. IsBy t c.args.self.now.role) (sym due) st.2.past
 
 pub take-requires-2-clause-horizon : goal.take-requires-2-clause-horizon
 take-requires-2-clause-horizon c =
     let st = c.requires.stands in
-    let due = some_due c.args.now c.args.self.now.waiting c.in-Some.input c.take.new.self c.requires.next c.in-Some.ensures in
+    let due = some_due c.args.now c.args.self.now.waiting c.take.result c.take.new.self c.requires.next c.take.ensures in
     let h = st.2.horizon in
     omega (arith, due, h.0, h.1)
 
 pub take-requires-2-clause-fits : goal.take-requires-2-clause-fits
 take-requires-2-clause-fits c =
     let st = c.requires.stands in
-    subst (λ p. Fits p c.in-Some.input) st.2.plan
-    (next_fits (state_of c.args.self.now) c.args.now st.0 st.1 st.2 st.3 c.in-Some.input c.take.new.self c.in-Some.ensures)
+    subst (λ p. Fits p c.take.result) st.2.plan
+    (next_fits (state_of c.args.self.now) c.args.now st.0 st.1 st.2 st.3 c.take.result c.take.new.self c.take.ensures)
 
 pub ask-requires : goal.ask-requires
 ask-requires c =
@@ -48,9 +48,9 @@ returns-clause-stands c =
     let p = c.args.self.now in
     let v = state_of p in
     let happened = c.in_ok-happened.happened in
-    let due = some_due c.args.now p.waiting c.in-Some.input c.take.new.self c.requires.next c.in-Some.ensures in
+    let due = some_due c.args.now p.waiting c.take.result c.take.new.self c.requires.next c.take.ensures in
     let told = c.in_ok-happened.ensures.took (site_at p) st.1 st.2.site refl st.2.plan st.2.role in
-    let done = took_one v c.args.now st.0 st.1 st.2 st.3 c.in-Some.input c.take.new.self happened c.take-2.new.self c.in-Some.ensures due told c.in_ok-happened.ensures.plan
+    let done = took_one v c.args.now st.0 st.1 st.2 st.3 c.take.result c.take.new.self happened c.take-2.new.self c.take.ensures due told c.in_ok-happened.ensures.plan
     (subst (λ t. IsBy t c.take-2.new.self) due c.in_ok-happened.ensures.last) in
     let links : c.ask.new.self ≡ map (asked_by (queued_on happened) c.args.now) p.links = c.ask.ensures ∙ ap (λ (queued : Option ℕ). map (asked_by queued c.args.now) p.links) c.queued_on-queued.ensures in
     let pairs : map link_pair c.ask.new.self ≡ map link_pair p.links = ap (map link_pair) links ∙ asked_pairs (queued_on happened) c.args.now p.links in

@@ -1,0 +1,83 @@
+// Capabilities that are known to be good.
+ghost use Rattle.std.specs.Prelude.{◌≡◌, true, All};
+ghost use Rattle.tva_caps.specs.Known.{IsGood, IsGoodOrNone};
+
+use std::alloc::{AllocError, Global};
+use std::marker::Model;
+use tva_base::{Flow, Rights};
+
+/// A capability of a flow with these rights, whose pre-capability is of that router second.
+#[derive(Clone, Copy, Debug, PartialEq, Eq)]
+pub(crate) struct Good {
+    pub flow: Flow,
+    pub rights: Rights,
+    pub second: u64,
+    pub cap: u64,
+}
+
+/// Capabilities that a router found good, so that one that is shown again isn't hashed again. Contracts see
+/// nothing of it: whatever is known, an answer is the same. Memory is taken when it is made.
+#[derive(Drop)]
+pub struct Known {
+    master: [u8; 32],
+    places: Vec<Option<Good>>,
+}
+
+impl Model for Known {
+    ghost use Rattle.std.specs.Prelude.{All};
+    ghost use Rattle.tva_caps.specs.Known.{IsGoodOrNone};
+
+    ghost Value = { Unit {0} };
+
+    ghost view = { λ known. tt };
+
+    ghost invariant = { λ known. All (IsGoodOrNone known.master) known.places.items };
+}
+
+impl Known {
+    /// At first nothing is known of what a router with this master found; there is room for so much. The
+    /// error is want of memory.
+    pub fn with_places(alloc: Global, master: [u8; 32], count: u32) -> Result<Known, AllocError> {
+        Ok(Known {
+            master,
+            places: vec![in alloc; None; count as usize]?,
+        })
+    }
+
+    /// The same for another master.
+    pub fn restart(&mut self, master: [u8; 32]) {
+        self.places.fill(None);
+        self.master = master;
+    }
+
+    // Whether it is known that a router with this master would find this good.
+    pub(crate) fn has(&self, master: &[u8; 32], good: &Good) -> bool
+        ensures { result ≡ true → IsGood master.now good.now }
+    {
+        if self.master != *master {
+            return false;
+        }
+        match self.places.get(self.place_of(good)) {
+            Some(Some(found)) => *found == *good,
+            _ => false,
+        }
+    }
+
+    // Notes what a router with this master found good, in place of what stood there.
+    pub(crate) fn note(&mut self, master: &[u8; 32], good: Good)
+        requires { IsGood master.now good }
+    {
+        let place = self.place_of(&good);
+        if self.master == *master && place < self.places.len() {
+            self.places[place] = Some(good);
+        }
+    }
+
+    // Where a capability is noted: its last bytes are those of a digest.
+    fn place_of(&self, good: &Good) -> usize {
+        match self.places.len() {
+            0 => 0,
+            count => (good.cap % count as u64) as usize,
+        }
+    }
+}

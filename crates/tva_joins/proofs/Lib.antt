@@ -1,4 +1,0 @@
-pub mod Joins
-pub mod Putting
-pub mod Joined
-pub mod Places

@@ -1,0 +1,165 @@
+// What a row asks, in little memory: a shim is its layout, among those of all others.
+ghost use Rattle.std.specs.Prelude.{◌≡◌, ◌≤◌, ◌++◌, IfOk, OnErr, length};
+ghost use Rattle.tva_shim.specs.declared.packets.Carried.TheVariants as carried;
+ghost use Rattle.tva_shim.specs.Shims.{IsShim};
+ghost use Rattle.tva_shim.specs.Layout.{layout};
+ghost use Rattle.tva_trace.specs.Packed.{Grows, IsLayoutAt, IsWhatHeld, part, shim_in, what_in};
+
+use crate::rows::RowWhat;
+use arrayvec::ArrayVec;
+use std::alloc::AllocError;
+use std::mem::size_of;
+use tva_base::{Address, Flow, Time};
+use tva_shim::{Carried, Shim, decode, encode};
+
+/// What a row asks: of a shim where its layout begins, and how many bytes it has. Short numbers stand
+/// first, so that nothing is left between them.
+#[derive(Clone, Copy)]
+pub enum BriefWhat {
+    Send {
+        payload: u16,
+        dst: Address,
+    },
+    File {
+        segment: u16,
+        dst: Address,
+        size: u32,
+    },
+    Tick {
+        dst: Address,
+    },
+    Bare {
+        payload: u16,
+        flow: Flow,
+    },
+    Malformed {
+        payload: u16,
+        bytes: u16,
+        flow: Flow,
+    },
+    Shim {
+        payload: u16,
+        bytes: u16,
+        flow: Flow,
+        start: u32,
+    },
+}
+
+/// A row: its time in nanoseconds, what it asks, and the number of its node.
+#[derive(Clone, Copy)]
+pub struct BriefRow {
+    pub time: Time,
+    pub what: BriefWhat,
+    pub node: u16,
+}
+
+// A million rows take at most 32 MB, beside the layouts of their shims.
+const _: () = prove!(size_of::<BriefRow>() <= 32);
+
+/// The brief form of what a row asks. The layout of its shim is put behind the others; an error leaves
+/// them as they were.
+pub fn brief_of(layouts: &mut Vec<u8>, what: RowWhat) -> Result<BriefWhat, AllocError>
+    ensures grows { IfOk result (λ brief. Grows layouts.old.items layouts.new.items) }
+    ensures held { IfOk result (λ brief. IsWhatHeld layouts.new.items brief) }
+    ensures same { IfOk result (λ brief. what_in layouts.new.items brief ≡ what) }
+    ensures err { OnErr result (layouts.new.items ≡ layouts.old.items) }
+{
+    match what {
+        RowWhat::Send { dst, payload } => Ok(BriefWhat::Send { payload, dst }),
+        RowWhat::File { dst, size, segment } => Ok(BriefWhat::File { segment, dst, size }),
+        RowWhat::Tick { dst } => Ok(BriefWhat::Tick { dst }),
+        RowWhat::Inject {
+            flow,
+            payload,
+            carried: Carried::Nothing,
+        } => Ok(BriefWhat::Bare { payload, flow }),
+        RowWhat::Inject {
+            flow,
+            payload,
+            carried: Carried::Malformed(bytes),
+        } => Ok(BriefWhat::Malformed {
+            payload,
+            bytes,
+            flow,
+        }),
+        RowWhat::Inject {
+            flow,
+            payload,
+            carried: Carried::Shim(shim),
+        } => {
+            let (start, bytes) = put_layout(layouts, &shim)?;
+            Ok(BriefWhat::Shim {
+                payload,
+                bytes,
+                flow,
+                start,
+            })
+        }
+    }
+}
+
+// Puts the layout of a shim last, and answers where it begins and how many bytes it has. The error is
+// want of memory, of which layouts may take 4 GB.
+fn put_layout(layouts: &mut Vec<u8>, shim: &Shim) -> Result<(u32, u16), AllocError>
+    ensures grows { IfOk result (λ place. Grows layouts.old.items layouts.new.items) }
+    ensures held { IfOk result (λ place. IsLayoutAt layouts.new.items place.0 place.1) }
+    ensures same { IfOk result (λ place. shim_in (part layouts.new.items place.0 place.1) ≡ carried.Shim shim.now) }
+    ensures err { OnErr result (layouts.new.items ≡ layouts.old.items) }
+{
+    let Ok(start) = u32::try_from(layouts.len()) else {
+        return Err(AllocError);
+    };
+    let mut bytes = ArrayVec::new();
+    encode(shim, &mut bytes);
+    layouts.extend_from_slice(bytes.as_slice())?;
+    Ok((start, bytes.len() as u16))
+}
+
+/// What a brief form says over the layouts.
+pub fn what_from(layouts: &[u8], brief: BriefWhat) -> RowWhat
+    requires { IsWhatHeld layouts.now brief }
+    ensures { result ≡ what_in layouts.now brief }
+{
+    match brief {
+        BriefWhat::Send { payload, dst } => RowWhat::Send { dst, payload },
+        BriefWhat::File { segment, dst, size } => RowWhat::File { dst, size, segment },
+        BriefWhat::Tick { dst } => RowWhat::Tick { dst },
+        BriefWhat::Bare { payload, flow } => RowWhat::Inject {
+            flow,
+            payload,
+            carried: Carried::Nothing,
+        },
+        BriefWhat::Malformed {
+            payload,
+            bytes,
+            flow,
+        } => RowWhat::Inject {
+            flow,
+            payload,
+            carried: Carried::Malformed(bytes),
+        },
+        BriefWhat::Shim {
+            payload,
+            bytes,
+            flow,
+            start,
+        } => RowWhat::Inject {
+            flow,
+            payload,
+            carried: Carried::Shim(shim_at(layouts, start, bytes)),
+        },
+    }
+}
+
+// The shim whose layout stands there.
+fn shim_at(layouts: &[u8], start: u32, bytes: u16) -> Shim
+    requires { IsLayoutAt layouts.now start bytes }
+    ensures { shim_in (part layouts.now start bytes) ≡ carried.Shim result }
+{
+    let from = start as usize;
+    let until = from + usize::from(bytes);
+    match decode(&layouts[from..until]) {
+        Some(shim) => shim,
+        None => unreachable!(),
+    }
+}

@@ -1,0 +1,122 @@
+// The rows of a trace in little memory.
+ghost use Rattle.std.specs.Prelude.{◌≡◌, ◌<◌, [], ◌∷◌, ◌++◌, IfOk, OnErr, OnOk, length, slice_index_or};
+ghost use Rattle.tva_trace.specs.declared.rows.Row.{Row};
+ghost use Rattle.tva_trace.specs.Packed.{carries_some};
+
+use crate::brief::{BriefRow, BriefWhat, brief_of, what_from};
+use crate::rows::Row;
+use std::alloc::{AllocError, Global};
+use std::marker::Model;
+
+/// Rows, in at most 32 bytes each, and the layouts of their shims beside them. Contracts see them as
+/// a list.
+#[derive(Drop)]
+pub struct PackedRows {
+    rows: Vec<BriefRow>,
+    layouts: Vec<u8>,
+}
+
+impl Model for PackedRows {
+    ghost use Rattle.std.specs.Prelude.{List};
+    ghost use Rattle.tva_trace.specs.declared.rows.Row.{Row};
+    ghost use Rattle.tva_trace.specs.Packed.{AreHeld, rows_in};
+
+    ghost Value = { List Row };
+
+    ghost view = { λ p. rows_in p.layouts.items p.rows.items };
+
+    ghost invariant = { λ p. AreHeld p.layouts.items p.rows.items };
+}
+
+impl PackedRows {
+    /// No rows.
+    pub fn new(alloc: Global) -> PackedRows
+        ensures { result ≡ [] }
+    {
+        PackedRows {
+            rows: Vec::new(alloc),
+            layouts: Vec::new(alloc),
+        }
+    }
+
+    /// The rows of a list. The error is want of memory.
+    pub fn from_rows(alloc: Global, rows: Vec<Row>) -> Result<PackedRows, AllocError>
+        ensures { IfOk result (λ packed. packed ≡ rows.items) }
+    {
+        let mut packed = PackedRows::new(alloc);
+        packed.reserve(rows.len())?;
+        for row in rows {
+            packed.push(row)?;
+        }
+        Ok(packed)
+    }
+
+    /// Makes room for so many rows more, without their shims. The error is want of memory.
+    pub fn reserve(&mut self, count: usize) -> Result<(), AllocError>
+        ensures { self.new ≡ self.old }
+    {
+        self.rows.reserve(count)
+    }
+
+    /// Puts a row last. An error is want of memory, and changes nothing.
+    pub fn push(&mut self, row: Row) -> Result<(), AllocError>
+        ensures ok { OnOk result (self.new ≡ self.old ++ row ∷ []) }
+        ensures err { OnErr result (self.new ≡ self.old) }
+    {
+        let Row { time, node, what } = row;
+        let what = brief_of(&mut self.layouts, what)?;
+        self.rows.push(BriefRow { time, what, node })?;
+        Ok(())
+    }
+
+    /// How many rows there are.
+    pub fn len(&self) -> usize
+        ensures { result ≡ length self.now }
+    {
+        self.rows.len()
+    }
+
+    /// The row at a place.
+    pub fn get(&self, place: usize) -> Row
+        requires { place < length self.now }
+        ensures { result ≡ slice_index_or self.now place result }
+    {
+        let row = self.rows[place];
+        Row {
+            time: row.time,
+            node: row.node,
+            what: what_from(self.layouts.as_slice(), row.what),
+        }
+    }
+
+    /// The number of the node of the row at a place.
+    pub fn node_at(&self, place: usize) -> u16
+        requires { place < length self.now }
+        ensures { (row : Row) → result ≡ (slice_index_or self.now place row).node }
+    {
+        self.rows[place].node
+    }
+
+    /// Whether the row at a place injects a packet that carries something.
+    pub fn carries_at(&self, place: usize) -> bool
+        requires { place < length self.now }
+        ensures { (row : Row) → result ≡ carries_some (slice_index_or self.now place row).what }
+    {
+        match self.rows[place].what {
+            BriefWhat::Malformed { .. } | BriefWhat::Shim { .. } => true,
+            _ => false,
+        }
+    }
+
+    /// The rows as a list. The error is want of memory.
+    pub fn to_rows(&self, alloc: Global) -> Result<Vec<Row>, AllocError>
+        ensures { IfOk result (λ rows. rows.items ≡ self.now) }
+    {
+        let count = self.len();
+        let mut rows = Vec::with_capacity(alloc, count)?;
+        for place in 0..count {
+            rows.push(self.get(place))?;
+        }
+        Ok(rows)
+    }
+}
