@@ -1,19 +1,18 @@
 -- What an audit answers, from what it found.
 use Rattle.std.proofs.Common.{◌≡◌, ◌⊎◌, inl, inr, ℕ, List, Err, Ok, refl, sym, ap, ◌∙◌, subst, None, Some}
 use Rattle.std.specs.declared.option.Option.{Option}
-use Rattle.std.specs.Option.{option_map}
+use Rattle.std.specs.Option.{option_map, option_map_or}
 use Rattle.tva_outside.specs.Held.{Held}
 use Rattle.tva_plan.specs.declared.config.Config.{Config}
 use Rattle.tva_report.specs.Lines.{first_bad}
 use Rattle.tva_trace.specs.declared.rows.Row.{Row}
 use Rattle.tva_trace.specs.Meaning.{AreRows}
 use Rattle.tva.specs.Command.{audit}
-use Rattle.tva.specs.Expected.{Expected, Found, IsText, audits, file_at, followed, of_audit, of_trace, plan_at, refuses, report_at, report_or_fault, told, trace_at, ◌>>=◌}
+use Rattle.tva.specs.Expected.{Expected, Found, IsText, audits, comes_to, file_at, followed, plan_at, refuses, report_at, told, trace_at, ◌>>=◌}
 use Rattle.tva.specs.Answer.{Answers}
 use Rattle.tva.specs.Parts.{EndsAudited, IsAudited, IsAuditText, IsFound, IsNotFound}
 use Rattle.tva.specs.declared.status.Status as status
 use Rattle.tva.specs.declared.status.Status.TheVariants.{Done, Found as Differs, Usage, ReadFault, WriteFault, TooLarge, BadConfig, BadTrace, EventLimit, OutOfMemory, BadReport}
-use Rattle.tva.proofs.Fronts.{begins_of_nothing}
 use Rattle.tva.proofs.Replays.{untold, with_reads}
 
 -- ## what the audit of a report without a bad line answers
@@ -24,17 +23,17 @@ module _ (plan : Config) (trace report : List ℕ) (rows : List Row) (are : AreR
 
   answers_of_ends : (w : Type 0) (old new : Option (List ℕ)) (s : status.Status) → EndsAudited plan rows report old new w s
       → Answers (Some (audits plan trace report)) ⊥ w old new s
-  answers_of_ends w old new Done (text, is, written) = ((text, text_of_audit text is, written), tt)
+  answers_of_ends w old new Done (text, is, written) = (text, text_of_audit text is, written)
   answers_of_ends w old new (Differs f) (is, kept) = ((rows, are, is), kept)
   answers_of_ends w old new Usage a = absurd a
   answers_of_ends w old new ReadFault a = absurd a
-  answers_of_ends w old new WriteFault (rose, (text, is, cut)) = (rose, ((text, text_of_audit text is, cut), tt))
+  answers_of_ends w old new WriteFault (rose, (text, is, cut)) = (rose, (text, text_of_audit text is, cut))
   answers_of_ends w old new (TooLarge k) a = absurd a
   answers_of_ends w old new (BadConfig fault) a = absurd a
   answers_of_ends w old new (BadTrace fault) a = absurd a
-  answers_of_ends w old new (EventLimit most) (same, past, kept) = ((rows, are, same, past, kept), tt)
-  answers_of_ends w old new OutOfMemory (inl same) = (inl same, tt)
-  answers_of_ends w old new OutOfMemory (inr (text, is, cut)) = (inr (text, text_of_audit text is, cut), tt)
+  answers_of_ends w old new (EventLimit most) (same, past, kept) = ((rows, are, same, past, kept), inl kept)
+  answers_of_ends w old new OutOfMemory (inl same) = inl same
+  answers_of_ends w old new OutOfMemory (inr (text, is, cut)) = inr (text, text_of_audit text is, cut)
   answers_of_ends w old new (BadReport k) a = absurd a
 
 -- a bad line, or none
@@ -61,29 +60,37 @@ bad_or_none plan rows report old new w (BadReport k) a = inl (record { line = k;
 
 -- ## files
 
+-- what an audit comes to
+abbrev of_audit : List ℕ → List ℕ → List ℕ → Held → Expected
+of_audit config trace report files = comes_to (audit config trace report) files
+
+-- a report with this first bad line, if any
+abbrev good_or_bad : List ℕ → Option ℕ → Found (List ℕ)
+good_or_bad text first = option_map_or (λ line. Err (BadReport line)) first (Ok text)
+
 module _ (config trace report text : List ℕ) (plan : Config) (files : Held) (found : plan_at config files ≡ Ok plan) (there : trace_at plan trace files ≡ Ok text) where
   -- what comes of the report where plan and rows were found
   of_found : of_audit config trace report files ≡ followed (report_at report files) (audits plan text)
   of_found =
-      ap (λ (p : Found Config). followed p (λ plan. followed (trace_at plan trace files) (of_trace report files plan))) found
-      ∙ ap (λ (t : Found (List ℕ)). followed t (of_trace report files plan)) there
+      ap (λ (p : Found Config). followed p (λ plan. followed (trace_at plan trace files) (λ rows. followed (report_at report files) (audits plan rows)))) found
+      ∙ ap (λ (t : Found (List ℕ)). followed t (λ rows. followed (report_at report files) (audits plan rows))) there
 
   of_read : (bytes : List ℕ) → file_at 1073741824 report files ≡ Ok bytes
-      → of_audit config trace report files ≡ followed (report_or_fault bytes (first_bad bytes)) (audits plan text)
+      → of_audit config trace report files ≡ followed (good_or_bad bytes (first_bad bytes)) (audits plan text)
   of_read bytes read =
-      of_found ∙ ap (λ (b : Found (List ℕ)). followed (b >>= (λ text. report_or_fault text (first_bad text))) (audits plan text)) read
+      of_found ∙ ap (λ (b : Found (List ℕ)). followed (b >>= (λ text. good_or_bad text (first_bad text))) (audits plan text)) read
 
   of_good : (bytes : List ℕ) → file_at 1073741824 report files ≡ Ok bytes → first_bad bytes ≡ None
       → of_audit config trace report files ≡ audits plan text bytes
-  of_good bytes read good = of_read bytes read ∙ ap (λ (o : Option ℕ). followed (report_or_fault bytes o) (audits plan text)) good
+  of_good bytes read good = of_read bytes read ∙ ap (λ (o : Option ℕ). followed (good_or_bad bytes o) (audits plan text)) good
 
   of_bad : (bytes : List ℕ) (line : ℕ) → file_at 1073741824 report files ≡ Ok bytes → first_bad bytes ≡ Some line
       → of_audit config trace report files ≡ refuses (BadReport line)
-  of_bad bytes line read bad = of_read bytes read ∙ ap (λ (o : Option ℕ). followed (report_or_fault bytes o) (audits plan text)) bad
+  of_bad bytes line read bad = of_read bytes read ∙ ap (λ (o : Option ℕ). followed (good_or_bad bytes o) (audits plan text)) bad
 
   of_unread : (refusal : status.Status) → file_at 1073741824 report files ≡ Err refusal → of_audit config trace report files ≡ refuses refusal
   of_unread refusal read =
-      of_found ∙ ap (λ (b : Found (List ℕ)). followed (b >>= (λ text. report_or_fault text (first_bad text))) (audits plan text)) read
+      of_found ∙ ap (λ (b : Found (List ℕ)). followed (b >>= (λ text. good_or_bad text (first_bad text))) (audits plan text)) read
 
 told_bad : (held : Option Held) (config trace report text bytes : List ℕ) (plan : Config) (r w : Type 0) (old new : Option (List ℕ)) (line : ℕ) →
     IsFound held (plan_at config) plan → IsFound held (trace_at plan trace) text → IsFound held (file_at 1073741824 report) bytes →
@@ -143,4 +150,4 @@ audit_unread (Some files) config trace report text plan r w old (BadConfig fault
 audit_unread (Some files) config trace report text plan r w old (BadTrace fault) found rows a =
     (of_unread config trace report text plan files found rows (BadTrace fault) a, refl)
 audit_unread (Some files) config trace report text plan r w old OutOfMemory found rows a =
-    (inl refl, begins_of_nothing old old (of_audit config trace report files) refl)
+    inl refl

@@ -8,3 +8,4 @@ pub mod Reported
 pub mod SumLines
 pub mod Wants
 pub mod Audits
+pub mod Each

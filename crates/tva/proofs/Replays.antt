@@ -9,15 +9,16 @@ use Rattle.tva_base.specs.declared.event.Event.{Event}
 use Rattle.tva_plan.specs.declared.config.Config.{Config}
 use Rattle.tva_plan.specs.Valid.{IsConfig}
 use Rattle.tva_trace.specs.declared.rows.Row.{Row}
-use Rattle.tva_trace.specs.Lines.{line_of, summary_of}
+use Rattle.tva_lines.specs.Lines.{line_of, summary_of}
 use Rattle.tva_trace.specs.Meaning.{AreRows}
 use Rattle.tva_trace.proofs.OneList.{rows_are_one}
 use Rattle.tva_run.specs.Report.{AreEventsTo, IsReport, lines_of, report_of, totals_of}
 use Rattle.tva_run.proofs.Runs.{are_delayed}
 use Rattle.tva_run.proofs.Reports.{events_begin, one_list}
+use Rattle.tva_existence.proofs.Whole.{read_report}
 use Rattle.tva.specs.Command.{replay}
-use Rattle.tva.specs.Expected.{Expected, followed, refuses, of_plan, plan_at, replays, told, trace_at}
-use Rattle.tva.specs.Answer.{Answers}
+use Rattle.tva.specs.Expected.{Expected, followed, refuses, plan_at, replays, told, trace_at}
+use Rattle.tva.specs.Answer.{Answers, WroteCut}
 use Rattle.tva.specs.Parts.{IsCut, IsFound, IsReplayed}
 use Rattle.tva_run.specs.Shown.{IsBegun, IsCutShort, all_of}
 use Rattle.tva.specs.declared.status.Status as status
@@ -35,7 +36,7 @@ cut_of_short plan rows old new text short cut =
 
 module _ (plan : Config) (rows : List Row) (valid : IsConfig plan) where
   -- there is one report
-  same_report : (text other : List ℕ) → IsReport plan rows text → IsReport plan rows other → text ≡ other
+  pub same_report : (text other : List ℕ) → IsReport plan rows text → IsReport plan rows other → text ≡ other
   same_report text other a b =
       a.whole ∙ ap (report_of plan) (one_list plan rows (are_delayed plan valid) (plan.horizon.0 + 1) a.told b.told a.events b.events) ∙ sym b.whole
 
@@ -72,36 +73,34 @@ cut_of_whole old new text w = (length text, w ∙ ap (append_known old) (sym (ta
 -- ## what the replay of its rows answers
 
 module _ (plan : Config) (trace : List ℕ) (rows : List Row) (valid : IsConfig plan) (are : AreRows plan trace rows) where
-  of_rows : (text : List ℕ) (others : List Row) → AreRows plan trace others → IsReport plan others text → IsReport plan rows text
+  pub of_rows : (text : List ℕ) (others : List Row) → AreRows plan trace others → IsReport plan others text → IsReport plan rows text
   of_rows text others theirs report = subst (λ (rs : List Row). IsReport plan rs text) (rows_are_one plan trace others rows theirs are) report
 
+  -- the first bytes of what is begun are those of the report
+  cut_of_begun : (old new : Option (List ℕ)) (text : List ℕ) → IsBegun plan rows text → IsCut old new text → WroteCut old new (replays plan trace)
+  cut_of_begun old new text begun cut =
+      let whole = read_report plan rows valid trace are in
+      (whole.0, (rows, are, whole.1), begins_of_begun plan rows valid old new text whole.0 begun whole.1 cut)
+
+  cut_at_limit : (old new : Option (List ℕ)) (text : List ℕ) → IsCutShort plan rows text → new ≡ append_known old text → WroteCut old new (replays plan trace)
+  cut_at_limit old new text short written =
+      let whole = read_report plan rows valid trace are in
+      (whole.0, (rows, are, whole.1), begins_of_short plan rows valid old new text whole.0 short whole.1 (cut_of_whole old new text written))
+
   pub answers_of_replayed : (w : Type 0) (old new : Option (List ℕ)) (s : status.Status) → IsReplayed plan rows old new w s → Answers (Some (replays plan trace)) ⊥ w old new s
-  answers_of_replayed w old new Done (text, has, written) =
-      let each : (others : List Row) (other : List ℕ) → AreRows plan trace others → IsReport plan others other → new ≡ append_known old other =
-      λ others other theirs report.
-      written ∙ ap (append_known old) (same_report plan rows valid text other
-      (record { told = has.told; events = has.events; whole = has.whole }) (of_rows other others theirs report)) in
-      ((text, (rows, are, has), written), each)
+  answers_of_replayed w old new Done (text, has, written) = (text, (rows, are, has), written)
   answers_of_replayed w old new Usage a = absurd a
   answers_of_replayed w old new (Differs f) a = absurd a
   answers_of_replayed w old new (BadReport k) a = absurd a
   answers_of_replayed w old new ReadFault a = absurd a
-  answers_of_replayed w old new WriteFault (rose, (text, begun, cut)) =
-      let begins : (others : List Row) (other : List ℕ) → AreRows plan trace others → IsReport plan others other → IsCut old new other =
-      λ others other theirs report. begins_of_begun plan rows valid old new text other begun (of_rows other others theirs report) cut in
-      (rose, ((text, (rows, are, begun), cut), begins))
+  answers_of_replayed w old new WriteFault (rose, (text, begun, cut)) = (rose, cut_of_begun old new text begun cut)
   answers_of_replayed w old new (TooLarge k) a = absurd a
   answers_of_replayed w old new (BadConfig f) a = absurd a
   answers_of_replayed w old new (BadTrace f) a = absurd a
   answers_of_replayed w old new (EventLimit most) (same, (text, short, written)) =
-      let begins : (others : List Row) (other : List ℕ) → AreRows plan trace others → IsReport plan others other → IsCut old new other =
-      λ others other theirs report. begins_of_short plan rows valid old new text other short (of_rows other others theirs report) (cut_of_whole old new text written) in
-      ((rows, are, (same, (text, short, written))), begins)
-  answers_of_replayed w old new OutOfMemory (inl same) = (inl same, λ others other theirs report. cut_of_nothing old new other same)
-  answers_of_replayed w old new OutOfMemory (inr (text, begun, cut)) = (
-    inr (text, (rows, are, begun), cut),
-    λ others other theirs report. begins_of_begun plan rows valid old new text other begun (of_rows other others theirs report) cut,
-  )
+      ((rows, are, (same, (text, short, written))), inr (cut_at_limit old new text short written))
+  answers_of_replayed w old new OutOfMemory (inl same) = inl same
+  answers_of_replayed w old new OutOfMemory (inr (text, begun, cut)) = inr (cut_of_begun old new text begun cut)
 
 -- ## files
 
@@ -138,8 +137,9 @@ told_replay : (held : Option Held) (config trace text : List ℕ) (plan : Config
     Answers (Some (replays plan text)) ⊥ w old new s → Answers (told held (replay config trace)) r w old new s
 told_replay None config trace text plan r w old new s found rows a = untold (replays plan text) r w old new s (λ e. cc) a
 told_replay (Some files) config trace text plan r w old new s found rows a =
-    let comes : followed (plan_at config files) (of_plan trace files) ≡ replays plan text =
-    ap (λ p. followed p (of_plan trace files)) found ∙ ap (λ t. followed t (replays plan)) rows in
+    let after : Config → Expected = λ plan. followed (trace_at plan trace files) (replays plan) in
+    let comes : followed (plan_at config files) after ≡ replays plan text =
+    ap (λ p. followed p after) found ∙ ap (λ t. followed t (replays plan)) rows in
     subst (λ (x : Expected). Answers (Some x) r w old new s) (sym comes) (with_reads (replays plan text) r w old new s a)
 
 -- what a replay answers where its plan and its rows were found, one after another

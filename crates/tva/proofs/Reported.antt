@@ -9,7 +9,7 @@ use Rattle.tva_report.specs.Differences.{first_difference}
 use Rattle.tva_report.proofs.Differing.{same_of_none}
 use Rattle.tva_report.proofs.LinesBack.{good_back, text_back}
 use Rattle.tva_trace.specs.declared.rows.Row.{Row}
-use Rattle.tva_trace.specs.Lines.{summary_of, text_of_totals}
+use Rattle.tva_lines.specs.Lines.{summary_of, text_of_totals}
 use Rattle.tva_run.specs.Report.{lines_of, report_of, totals_of}
 use Rattle.tva_run.specs.Shown.{HasReport}
 use Rattle.tva_run.proofs.Runs.{are_delayed}
@@ -24,7 +24,7 @@ some_same e = cc
 -- a run has one report
 pub one_report : (plan : Config) (rows : List Row) → IsConfig plan → (text other : List ℕ) → HasReport plan rows text → HasReport plan rows other → text ≡ other
 one_report plan rows valid text other a b =
-    a.whole ∙ ap (report_of plan) (one_list plan rows (are_delayed plan valid) (plan.horizon.0 + 1) a.told b.told a.events b.events) ∙ sym b.whole
+    a.report.whole ∙ ap (report_of plan) (one_list plan rows (are_delayed plan valid) (plan.horizon.0 + 1) a.report.told b.report.told a.report.events b.report.events) ∙ sym b.report.whole
 
 -- a text that a line feed ends
 abbrev pub IsFed : List ℕ → Type 0
@@ -49,8 +49,8 @@ pieces_fed (b ∷ bs) =
 pub ends_report : (plan : Config) (rows : List Row) (text : List ℕ) → HasReport plan rows text → IsFed text
 unfolding report_of
 ends_report plan rows text has = (
-  lines_of plan has.told ++ text_of_totals (totals_of has.told),
-  has.whole ∙ sym (append_assoc (lines_of plan has.told) (text_of_totals (totals_of has.told)) (10 ∷ [])),
+  lines_of plan has.report.told ++ text_of_totals (totals_of has.report.told),
+  has.report.whole ∙ sym (append_assoc (lines_of plan has.report.told) (text_of_totals (totals_of has.report.told)) (10 ∷ [])),
 )
 
 -- a report without a bad line, and of which no line differs from those of such a text, is that text

@@ -40,7 +40,7 @@ ends_found f (refuses r) h = absurd h
 -- a run that answers so ends as it is to, where neither count rose
 pub settles_of_answer : (e : Option Expected) (r w : Type 0) (old new : Option (List ℕ)) (s : status.Status) → Answers e r w old new s → (r → ⊥) → (w → ⊥) → IfSome e (Settles s)
 settles_of_answer None r w old new s a reads writes_rose = tt
-settles_of_answer (Some x) r w old new Done a reads writes_rose = inl (ends_with_text x a.0.0 a.0.1)
+settles_of_answer (Some x) r w old new Done a reads writes_rose = inl (ends_with_text x a.0 a.1)
 settles_of_answer (Some x) r w old new Usage a reads writes_rose = absurd a
 settles_of_answer (Some x) r w old new (Differs f) a reads writes_rose = inl (ends_found f x a.0)
 settles_of_answer (Some x) r w old new (BadReport k) a reads writes_rose = inl (subst (λ (y : Expected). Ends (BadReport k) y) (sym a.0) refl)
@@ -77,12 +77,12 @@ refusal_of_settled s (refuses r) e = e
 -- the same for refusals of what is read, where no load failed
 pub refusal_of_answer : (e : Option Expected) (r w : Type 0) (old new : Option (List ℕ)) (s : status.Status) → Answers e r w old new s → (r → ⊥) → IfSome e (SettlesRefusal s)
 refusal_of_answer None r w old new s a reads = tt
-refusal_of_answer (Some x) r w old new Done a reads = refusal_of_text Done x a.0.0 a.0.1
+refusal_of_answer (Some x) r w old new Done a reads = refusal_of_text Done x a.0 a.1
 refusal_of_answer (Some x) r w old new Usage a reads = absurd a
 refusal_of_answer (Some x) r w old new (Differs f) a reads = refusal_of_settled (Differs f) x (inl (ends_found f x a.0))
 refusal_of_answer (Some x) r w old new (BadReport k) a reads = refusal_of_settled (BadReport k) x (inl (subst (λ (y : Expected). Ends (BadReport k) y) (sym a.0) refl))
 refusal_of_answer (Some x) r w old new ReadFault a reads = elim a.0 [ inl rose ↦ absurd (reads rose) | inr missing ↦ refusal_of_settled ReadFault x (inl (ends_missing x missing)) ]
-refusal_of_answer (Some x) r w old new WriteFault a reads = refusal_of_begun WriteFault x a.1.0.0 a.1.0.1
+refusal_of_answer (Some x) r w old new WriteFault a reads = refusal_of_begun WriteFault x a.1.0 a.1.1
 refusal_of_answer (Some x) r w old new (TooLarge k) a reads = refusal_of_settled (TooLarge k) x (inl (subst (λ (y : Expected). Ends (TooLarge k) y) (sym a.0) refl))
 refusal_of_answer (Some x) r w old new (BadConfig f) a reads = refusal_of_settled (BadConfig f) x (inl (subst (λ (y : Expected). Ends (BadConfig f) y) (sym a.0) refl))
 refusal_of_answer (Some x) r w old new (BadTrace f) a reads = refusal_of_settled (BadTrace f) x (inl (subst (λ (y : Expected). Ends (BadTrace f) y) (sym a.0) refl))

@@ -1,7 +1,7 @@
 -- The line of a router's sums, written word by word.
 use Rattle.std.proofs.Common.{◌≡◌, ℕ, List, [], ◌∷◌, ◌++◌, ap, ◌∙◌, append_assoc, codes, decimal}
 use Rattle.std.specs.List.{join_with_byte}
-use Rattle.tva_trace.specs.Lines.{ended}
+use Rattle.tva_lines.specs.Lines.{ended}
 
 -- two pieces more are one
 then_more : (old x y t u : List ℕ) → t ≡ old ++ x → u ≡ t ++ y → u ≡ old ++ (x ++ y)

@@ -2,6 +2,8 @@
 use Rattle.std.proofs.Common.{◌≡◌, ℕ, ◌+◌, All, Bool, true, false, cond, List, length, Result, Ok, Err, Some, None, IfSome, refl, sym, ◌∙◌, ap, subst, inl, inr, arith}
 use Rattle.std.specs.declared.option.Option.{Option}
 use Rattle.std.specs.Prelude.{nat_lt, option_and_then}
+use Rattle.std.specs.Option.{option_map_or}
+use Rattle.std.specs.Result.{result_map_both}
 use Rattle.tva_outside.specs.Held.{Held, bytes_at}
 use Rattle.tva_plan.specs.declared.config.Config.{Config}
 use Rattle.tva_config_entries.specs.declared.faults.ConfigFault.{ConfigFault}
@@ -21,8 +23,8 @@ use Rattle.tva_run.specs.Report.{AreEventsTo, report_of}
 use Rattle.tva_run.proofs.Runs.{are_delayed}
 use Rattle.tva_run.proofs.Reports.{no_more_events}
 use Rattle.tva_promises.proofs.Runs.{read_run_keeps}
-use Rattle.tva_paths.proofs.Read.{read_given}
-use Rattle.tva_paths.proofs.Steady.{honest_regular}
+use Rattle.tva_honest.proofs.Read.{read_given}
+use Rattle.tva_honest.proofs.Steady.{honest_regular}
 use Rattle.tva_delivery.proofs.Kept.{keeps}
 use Rattle.tva_trace.proofs.FewFiles.{files_few}
 use Rattle.tva_existence.proofs.Whole.{read_events}
@@ -37,8 +39,8 @@ use Rattle.tva_audit.proofs.Budgets.{sums_below}
 use Rattle.tva_gen.specs.Text.{generated}
 use Rattle.tva.specs.Check.{check_line}
 use Rattle.tva.specs.Command.{Command, command_of, replay, check, shim, gen, audit}
-use Rattle.tva.specs.Expected.{Expected, writes, shows, replays, audits, refuses, Found, followed, ◌>>=◌, within_limit, plan_at, plan_or_fault, trace_at, trace_or_fault, report_at, report_or_fault, of_plan, of_trace, told, Ends, EndsAudit, EndsReplay}
-use Rattle.tva.specs.Network.{ArePromisesKept, AreHonestTaken, AreFilesKept, AreSumsBelow}
+use Rattle.tva.specs.Expected.{Expected, writes, shows, replays, audits, refuses, Found, followed, ◌>>=◌, within_limit, plan_at, trace_at, report_at, told, Ends, EndsAudit, EndsReplay}
+use Rattle.tva.specs.Network.{OfRows, EachKeepsPromises, EachTakesHonest, EachKeepsFiles, AreSumsBelow}
 use Rattle.tva_run.specs.Shown.{HasReport, IsPastLimit, IsWithinLimit}
 use Rattle.tva.specs.Wanted.{wanted, HasOneEnd}
 use Rattle.tva.proofs.Reported.{ends_report, one_report, some_is_there, some_same, text_of_same}
@@ -49,12 +51,16 @@ use Rattle.tva.specs.declared.status.Status.TheVariants.{Done, Found as Differs,
 
 -- it holds of all texts and refusals, of the replay of each trace that is read under a valid plan, and of its audit with each
 -- report without a bad line
-record HoldsOfEach (P : Expected → Type 0) : Type 0 where
+pub record HoldsOfEach (P : Expected → Type 0) : Type 0 where
   pub of_text : (text : List ℕ) → P (writes text)
   pub of_shim : (bytes : List ℕ) → P (shows bytes)
   pub of_trace : (plan : Config) (trace : List ℕ) (said : List SaidRow) → IsConfig plan → rows_of plan trace ≡ Ok said → P (replays plan trace)
   pub of_audit : (plan : Config) (trace : List ℕ) (said : List SaidRow) (report : List ℕ) → IsConfig plan → rows_of plan trace ≡ Ok said → first_bad report ≡ None → P (audits plan trace report)
   pub of_refusal : (r : status.Status) → P (refuses r)
+
+-- a report with this first bad line, if any
+abbrev good_or_bad : List ℕ → Option ℕ → Found (List ℕ)
+good_or_bad text first = option_map_or (λ line. Err (BadReport line)) first (Ok text)
 
 module _ (P : Expected → Type 0) (holds : HoldsOfEach P) where
   -- a file that is found is judged by its bytes
@@ -71,18 +77,18 @@ module _ (P : Expected → Type 0) (holds : HoldsOfEach P) where
 
   of_plan_or_fault : (text : List ℕ) (r : Result Config ConfigFault) (next : Config → Expected) → read_of text ≡ r
       → ((plan : Config) → IsConfig plan → P (next plan))
-      → P (followed (plan_or_fault r) next)
+      → P (followed (result_map_both (λ (plan : Config). plan) BadConfig r) next)
   of_plan_or_fault text (Ok plan) next e h = h plan (read_valid text plan e)
   of_plan_or_fault text (Err fault) next e h = holds.of_refusal (BadConfig fault)
 
   of_plan_at : (name : List ℕ) (files : Held) (next : Config → Expected) → ((plan : Config) → IsConfig plan → P (next plan))
       → P (followed (plan_at name files) next)
   of_plan_at name files next h =
-      of_file 1048576 (bytes_at files name) (λ bytes. plan_or_fault (read_of bytes)) next (λ bytes. of_plan_or_fault bytes (read_of bytes) next refl h)
+      of_file 1048576 (bytes_at files name) (λ text. result_map_both (λ (plan : Config). plan) BadConfig (read_of text)) next (λ bytes. of_plan_or_fault bytes (read_of bytes) next refl h)
 
   of_trace_or_fault : (plan : Config) (text : List ℕ) (r : Result (List SaidRow) TraceFault) (next : List ℕ → Expected) → rows_of plan text ≡ r
       → ((said : List SaidRow) → rows_of plan text ≡ Ok said → P (next text))
-      → P (followed (trace_or_fault text r) next)
+      → P (followed (result_map_both (λ (said : List SaidRow). text) BadTrace r) next)
   of_trace_or_fault plan text (Ok said) next e h = h said e
   of_trace_or_fault plan text (Err fault) next e h = holds.of_refusal (BadTrace fault)
 
@@ -90,21 +96,21 @@ module _ (P : Expected → Type 0) (holds : HoldsOfEach P) where
       → ((text : List ℕ) (said : List SaidRow) → rows_of plan text ≡ Ok said → P (next text))
       → P (followed (trace_at plan name files) next)
   of_trace_at name files plan next h =
-      of_file 67108864 (bytes_at files name) (λ text. trace_or_fault text (rows_of plan text)) next (λ text. of_trace_or_fault plan text (rows_of plan text) next refl (h text))
+      of_file 67108864 (bytes_at files name) (λ text. result_map_both (λ (said : List SaidRow). text) BadTrace (rows_of plan text)) next (λ text. of_trace_or_fault plan text (rows_of plan text) next refl (h text))
 
   of_report_or_fault : (text : List ℕ) (r : Option ℕ) (next : List ℕ → Expected) → first_bad text ≡ r → (first_bad text ≡ None → P (next text))
-      → P (followed (report_or_fault text r) next)
+      → P (followed (good_or_bad text r) next)
   of_report_or_fault text None next e h = h e
   of_report_or_fault text (Some line) next e h = holds.of_refusal (BadReport line)
 
   of_report_at : (name : List ℕ) (files : Held) (next : List ℕ → Expected) → ((text : List ℕ) → first_bad text ≡ None → P (next text))
       → P (followed (report_at name files) next)
   of_report_at name files next h =
-      of_file 1073741824 (bytes_at files name) (λ text. report_or_fault text (first_bad text)) next (λ text. of_report_or_fault text (first_bad text) next refl (h text))
+      of_file 1073741824 (bytes_at files name) (λ text. good_or_bad text (first_bad text)) next (λ text. of_report_or_fault text (first_bad text) next refl (h text))
 
   of_told : (files : Held) (c : Command) → IfSome (told (Some files) c) P
   of_told files (replay config trace) =
-      of_plan_at config files (of_plan trace files)
+      of_plan_at config files (λ plan. followed (trace_at plan trace files) (replays plan))
       (λ plan valid. of_trace_at trace files plan (replays plan) (λ text said read. holds.of_trace plan text said valid read))
   of_told files (check config) =
       of_plan_at config files (λ plan. writes (check_line plan)) (λ plan valid. holds.of_text (check_line plan))
@@ -112,9 +118,9 @@ module _ (P : Expected → Type 0) (holds : HoldsOfEach P) where
   of_told files (gen seed count config) =
       of_plan_at config files (λ plan. writes (generated plan seed count)) (λ plan valid. holds.of_text (generated plan seed count))
   of_told files (audit config trace report) =
-      of_plan_at config files (λ plan. followed (trace_at plan trace files) (of_trace report files plan))
+      of_plan_at config files (λ plan. followed (trace_at plan trace files) (λ rows. followed (report_at report files) (audits plan rows)))
       (λ plan valid.
-      of_trace_at trace files plan (of_trace report files plan)
+      of_trace_at trace files plan (λ rows. followed (report_at report files) (audits plan rows))
       (λ text said read. of_report_at report files (audits plan text) (λ bytes good. holds.of_audit plan text said bytes valid read good)))
 
   of_command : (files : Held) (c : Option Command) → IfSome (option_and_then (told (Some files)) c) P
@@ -124,9 +130,23 @@ module _ (P : Expected → Type 0) (holds : HoldsOfEach P) where
   of_wanted : (words : List (List ℕ)) (files : Held) → IfSome (wanted (Some files) words) P
   of_wanted words files = of_command files (command_of words)
 
+  -- where it isn't told what is held, words alone come to a shim's text
+  of_words : (c : Option Command) → IfSome (option_and_then (told None) c) P
+  of_words None = tt
+  of_words (Some (replay config trace)) = tt
+  of_words (Some (check config)) = tt
+  of_words (Some (shim bytes)) = holds.of_shim bytes
+  of_words (Some (gen seed count config)) = tt
+  of_words (Some (audit config trace report)) = tt
+
+  -- of files that are told or aren't
+  pub of_any : (held : Option Held) (words : List (List ℕ)) → IfSome (wanted held words) P
+  of_any None words = of_words (command_of words)
+  of_any (Some files) words = of_wanted words files
+
 -- ## promises
 
-kept_of_each : HoldsOfEach ArePromisesKept
+kept_of_each : HoldsOfEach (OfRows EachKeepsPromises)
 kept_of_each = record {
   of_text = λ text. tt;
   of_shim = λ bytes. tt;
@@ -138,12 +158,12 @@ kept_of_each = record {
 }
 
 -- every run of a trace that is to be replayed keeps its promises
-pub kept_of_wanted : (words : List (List ℕ)) (files : Held) → IfSome (wanted (Some files) words) ArePromisesKept
-kept_of_wanted = of_wanted ArePromisesKept kept_of_each
+pub kept_of_wanted : (words : List (List ℕ)) (files : Held) → IfSome (wanted (Some files) words) (OfRows EachKeepsPromises)
+kept_of_wanted = of_wanted (OfRows EachKeepsPromises) kept_of_each
 
 -- ## honest senders
 
-honest_of_each : HoldsOfEach AreHonestTaken
+honest_of_each : HoldsOfEach (OfRows EachTakesHonest)
 honest_of_each = record {
   of_text = λ text. tt;
   of_shim = λ bytes. tt;
@@ -157,12 +177,12 @@ honest_of_each = record {
 }
 
 -- and takes what honest senders show
-pub honest_of_wanted : (words : List (List ℕ)) (files : Held) → IfSome (wanted (Some files) words) AreHonestTaken
-honest_of_wanted = of_wanted AreHonestTaken honest_of_each
+pub honest_of_wanted : (words : List (List ℕ)) (files : Held) → IfSome (wanted (Some files) words) (OfRows EachTakesHonest)
+honest_of_wanted = of_wanted (OfRows EachTakesHonest) honest_of_each
 
 -- ## files
 
-files_of_each : HoldsOfEach AreFilesKept
+files_of_each : HoldsOfEach (OfRows EachKeepsFiles)
 files_of_each = record {
   of_text = λ text. tt;
   of_shim = λ bytes. tt;
@@ -174,8 +194,8 @@ files_of_each = record {
 }
 
 -- and its files
-pub files_of_wanted : (words : List (List ℕ)) (files : Held) → IfSome (wanted (Some files) words) AreFilesKept
-files_of_wanted = of_wanted AreFilesKept files_of_each
+pub files_of_wanted : (words : List (List ℕ)) (files : Held) → IfSome (wanted (Some files) words) (OfRows EachKeepsFiles)
+files_of_wanted = of_wanted (OfRows EachKeepsFiles) files_of_each
 
 -- ## sums
 
@@ -201,7 +221,7 @@ below_of_wanted = of_wanted AreSumsBelow below_of_each
 -- no run is within its number of events and past it
 apart : (plan : Config) (rows : List Row) → IsConfig plan → IsWithinLimit plan rows → IsPastLimit plan rows → ⊥
 apart plan rows valid (text, has) past =
-    omega (arith, has.few, past.more, no_more_events plan rows (are_delayed plan valid) past.until past.told has.told past.events has.events)
+    omega (arith, has.few, past.more, no_more_events plan rows (are_delayed plan valid) past.until past.told has.report.told past.events has.report.events)
 
 module _ (plan : Config) (trace : List ℕ) (rows : List Row) (valid : IsConfig plan) (are : AreRows plan trace rows) where
   -- as a trace has the rows of just one list
@@ -241,7 +261,7 @@ module _ (plan : Config) (trace : List ℕ) (rows : List Row) (valid : IsConfig 
         let past : IsPastLimit plan rows = record { until = plan.horizon.0 + 1; told = told; events = events; more = more } in
         (EventLimit plan.max_events, (rows, are, (refl, past)), λ other o. past_ends other past (of_these other o))
     | inr few ↦
-        let within : IsWithinLimit plan rows = (report_of plan told, record { told = told; events = events; few = few; whole = refl }) in
+        let within : IsWithinLimit plan rows = (report_of plan told, record { report = record { told = told; events = events; whole = refl }; few = few }) in
         (Done, (rows, are, within), λ other o. within_ends other within (of_these other o))
   ]
 
@@ -317,7 +337,7 @@ module _ (plan : Config) (trace : List ℕ) (rows : List Row) (valid : IsConfig 
           (EventLimit plan.max_events, (rows, are, (refl, past)), λ other o. past_audit other past (audit_of_these other o))
       | inr few ↦
           let text : List ℕ = report_of plan told in
-          compared_end text (record { told = told; events = events; few = few; whole = refl })
+          compared_end text (record { report = record { told = told; events = events; whole = refl }; few = few })
           (first_difference (report_lines text) (report_lines report)) refl
     ]
 

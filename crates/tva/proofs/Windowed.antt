@@ -12,14 +12,14 @@ use Rattle.tva_base.specs.declared.event.Event.{Event}
 use Rattle.tva_base.specs.declared.event.Totals.{Totals}
 use Rattle.tva_plan.specs.declared.config.Config.{Config}
 use Rattle.tva_trace.specs.declared.rows.Row.{Row}
-use Rattle.tva_trace.specs.Lines.{HasEvent, line_of, summary_of}
+use Rattle.tva_lines.specs.Lines.{HasEvent, line_of, summary_of}
 use Rattle.tva_run.specs.Report.{AreEventsTo, IsReport, lines_of, report_of, totals_of}
 use Rattle.tva_run.specs.Windows.{Window, given}
 use Rattle.tva_run.proofs.Names.{events_named}
-use Rattle.tva_net.specs.Nets.{NetState, StandsFor}
+use Rattle.tva_net.specs.Nets.{NetState}
 use Rattle.tva_net.specs.declared.kinds.NetError.{NetError}
 use Rattle.tva_net.specs.declared.kinds.NetError.TheVariants as error
-use Rattle.tva_net.specs.Steps.{GoesOn, HasEnded, PassesLimit, Refuses}
+use Rattle.tva_net.specs.Steps.{GoesOn, HasEnded, PassesLimit, Refuses, StandsFor}
 use Rattle.tva.specs.Parts.{IsReplayed, IsWritten, WroteCutShort, ended_by}
 use Rattle.tva_run.specs.Shown.{AreLines, HasReport, IsBegun, IsCutShort, all_of}
 use Rattle.tva.specs.declared.status.Status as status
@@ -43,7 +43,7 @@ module _ (plan : Config) (rows : List Row) where
 
   -- what the network gave is the run's
   events_to : (windows : List Window) (told : List Event) (net : NetState) → StandsFor plan rows windows told net → AreEventsTo plan rows net.work.worked_to told
-  events_to windows told net s = record { logs = s.work.logs; run = s.work.run; events = s.work.events }
+  events_to windows told net s = record { logs = s.tells.way.run.logs; run = s.tells.way.run.run; events = s.tells.way.run.events }
 
   lines_more : (told list : List Event) → lines_of plan (told ++ list) ≡ lines_of plan told ++ lines_of plan list
   lines_more told list = flat_map-append (line_of plan) told list
@@ -67,7 +67,7 @@ module _ (plan : Config) (rows : List Row) where
   pub behind_named : (old now : Option (List ℕ)) (list : List Event) (net : NetState) → IsBehind old now list net → All (HasEvent plan) list
   behind_named old now list net b =
       All-right (HasEvent plan) b.told list
-      (events_named plan rows net.work.worked_to (b.told ++ list) b.stands.work.valid (events_to b.windows (b.told ++ list) net b.stands))
+      (events_named plan rows net.work.worked_to (b.told ++ list) b.stands.tells.way.valid (events_to b.windows (b.told ++ list) net b.stands))
 
   -- its lines are written whole
   pub shows_more : (old mid after : Option (List ℕ)) (list : List Event) (net : NetState) (b : IsBehind old mid list net)
@@ -118,13 +118,13 @@ module _ (plan : Config) (rows : List Row) where
   unfolding report_of
   ends_with_total old mid after first between now before net totals s shown ended same later w =
       let told = shown.told in
-      let sums : totals ≡ totals_of told = same ∙ ended.stands.given.sums in
+      let sums : totals ≡ totals_of told = same ∙ ended.stands.tells.given.sums in
       let last : IsWritten mid after (Rose between now) (summary_of (totals_of told)) s = subst (λ (t : Totals). IsWritten mid after (Rose between now) (summary_of t) s) sums w in
       let both = written_both old mid after first between now (lines_of plan told) (summary_of (totals_of told)) s shown.written later last in
       let events : AreEventsTo plan rows (plan.horizon.0 + 1) told = record { logs = ended.whole.logs; run = ended.whole.run; events = ended.whole.events } in
       let text : List ℕ = report_of plan told in
       let report : IsReport plan rows text = record { told = told; events = events; whole = refl } in
-      let has : HasReport plan rows text = record { told = told; events = events; few = ended.stands.given.few; whole = refl } in
+      let has : HasReport plan rows text = record { report = report; few = ended.stands.tells.given.few } in
       begun_ends old after (Rose first now) text s (inl report)
       (λ e. subst (λ (t : status.Status). IsReplayed plan rows old after (Rose first now) t) (sym e)
       (text, has, subst (λ (t : status.Status). IsWritten old after (Rose first now) text t) e both))
@@ -144,7 +144,7 @@ module _ (plan : Config) (rows : List Row) where
   ends_at_limit old mid before net most shown same p =
       let told = shown.told in
       let windows : List (List Event) = given told shown.windows in
-      let held : told ≡ all_of windows = sym shown.stands.work.held in
+      let held : told ≡ all_of windows = sym shown.stands.tells.way.held in
       let all : AreEventsTo plan rows net.work.worked_to (told ++ p.list) = record { logs = p.run.logs; run = p.run.run; events = p.run.events } in
       let text : List ℕ = lines_of plan (all_of windows) in
       let short : IsCutShort plan rows text = record {
@@ -155,7 +155,7 @@ module _ (plan : Config) (rows : List Row) where
         passing = p.list;
         events = subst (λ (es : List Event). AreEventsTo plan rows net.work.worked_to (es ++ p.list)) held all;
         last = subst (λ (es : List Event). given (es ++ p.list) (shown.windows ++ p.more) ≡ windows ++ p.list ∷ []) held p.given;
-        few = subst (λ (es : List Event). length es ≤ plan.max_events) held shown.stands.given.few;
+        few = subst (λ (es : List Event). length es ≤ plan.max_events) held shown.stands.tells.given.few;
         more = subst (λ (es : List Event). plan.max_events < length (es ++ p.list)) held p.many;
         lines = refl;
       } in
@@ -172,9 +172,9 @@ module _ (plan : Config) (rows : List Row) where
       → GoesOn plan rows windows told list net → 0 < length list → net.limit - net.totals.events < before.limit - before.totals.events
   unfolding totals_of
   fewer_left windows told list before net s g some =
-      let first : before.totals.events ≡ length told = ap (λ (t : Totals). t.events) s.given.sums in
-      let last : net.totals.events ≡ length (told ++ list) = ap (λ (t : Totals). t.events) g.stands.given.sums in
-      let same : net.limit ≡ before.limit = g.stands.given.most ∙ sym s.given.most in
-      let limit : net.limit ≡ plan.max_events = g.stands.given.most in
-      let few : length (told ++ list) ≤ plan.max_events = g.stands.given.few in
+      let first : before.totals.events ≡ length told = ap (λ (t : Totals). t.events) s.tells.given.sums in
+      let last : net.totals.events ≡ length (told ++ list) = ap (λ (t : Totals). t.events) g.stands.tells.given.sums in
+      let same : net.limit ≡ before.limit = g.stands.tells.given.most ∙ sym s.tells.given.most in
+      let limit : net.limit ≡ plan.max_events = g.stands.tells.given.most in
+      let few : length (told ++ list) ≤ plan.max_events = g.stands.tells.given.few in
       omega (arith, length-append told list)

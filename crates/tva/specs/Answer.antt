@@ -7,7 +7,7 @@ use Rattle.tva_trace.specs.Meaning.{AreRows}
 use Rattle.tva_run.specs.Report.{IsReport}
 use Rattle.tva.specs.Expected.{Expected, replays, audits, refuses, IsText}
 use Rattle.tva.specs.Parts.{IsCut, WroteCutShort}
-use Rattle.tva_run.specs.Shown.{IsBegun, IsPastLimit}
+use Rattle.tva_run.specs.Shown.{IsPastLimit}
 use Rattle.tva_audit.specs.Audit.{IsFound}
 use Rattle.tva_report.specs.declared.differences.Finding.{Finding}
 use Rattle.tva.specs.declared.status.Status as status
@@ -20,9 +20,9 @@ use Rattle.tva.specs.declared.status.Status.TheVariants.{BadConfig, BadTrace, Ev
 abbrev pub WroteAll : Option (List ℕ) → Option (List ℕ) → Expected → Type 0
 WroteAll old new x = (text : List ℕ) × IsText x text × (new ≡ append_known old text)
 
--- a text that is to be written, or that a replay has begun
+-- a text that is to be written, of a replay the report of its run, which may have too many events
 abbrev pub IsBegunText : Expected → List ℕ → Type 0
-IsBegunText (replays plan trace) text = (rows : List Row) × AreRows plan trace rows × IsBegun plan rows text
+IsBegunText (replays plan trace) text = (rows : List Row) × AreRows plan trace rows × IsReport plan rows text
 IsBegunText x text = IsText x text
 
 -- the first bytes of such a text, some or all, are written
@@ -47,33 +47,19 @@ abbrev pub HasFound : Finding → Expected → Type 0
 HasFound f (audits plan trace report) = (rows : List Row) × AreRows plan trace rows × IsFound plan rows report f
 HasFound f x = ⊥
 
--- ## every run
-
--- whatever run of the trace there is, its report is what is written
-abbrev pub WroteEach : Option (List ℕ) → Option (List ℕ) → Expected → Type 0
-WroteEach old new (replays plan trace) =
-    (rows : List Row) (text : List ℕ) → AreRows plan trace rows → IsReport plan rows text → new ≡ append_known old text
-WroteEach old new x = Unit {0}
-
--- whatever run of the trace there is, its report begins with what is written
-abbrev pub BeginsEach : Option (List ℕ) → Option (List ℕ) → Expected → Type 0
-BeginsEach old new (replays plan trace) =
-    (rows : List Row) (text : List ℕ) → AreRows plan trace rows → IsReport plan rows text → IsCut old new text
-BeginsEach old new x = Unit {0}
-
 -- ## answers
 
 -- what a command answers: what is expected where it is told, whether each count rose, and the bytes
 -- written before and after
 abbrev pub Answers : Option Expected → Type 0 → Type 0 → Option (List ℕ) → Option (List ℕ) → status.Status → Type 0
-Answers e read_rose write_rose old new Done = IfSome e (λ x. WroteAll old new x × WroteEach old new x)
+Answers e read_rose write_rose old new Done = IfSome e (WroteAll old new)
 Answers e read_rose write_rose old new (Found f) = IfSome e (HasFound f) × (new ≡ old)
 Answers e read_rose write_rose old new (BadReport line) = IfSome e (λ x. x ≡ refuses (BadReport line)) × (new ≡ old)
 Answers e read_rose write_rose old new Usage = ⊥
 Answers e read_rose write_rose old new ReadFault = (read_rose ⊎ (e ≡ Some (refuses ReadFault))) × (new ≡ old)
-Answers e read_rose write_rose old new WriteFault = write_rose × IfSome e (λ x. WroteCut old new x × BeginsEach old new x)
+Answers e read_rose write_rose old new WriteFault = write_rose × IfSome e (WroteCut old new)
 Answers e read_rose write_rose old new (TooLarge k) = IfSome e (λ x. x ≡ refuses (TooLarge k)) × (new ≡ old)
 Answers e read_rose write_rose old new (BadConfig fault) = IfSome e (λ x. x ≡ refuses (BadConfig fault)) × (new ≡ old)
 Answers e read_rose write_rose old new (BadTrace fault) = IfSome e (λ x. x ≡ refuses (BadTrace fault)) × (new ≡ old)
-Answers e read_rose write_rose old new (EventLimit m) = IfSome e (λ x. WroteLines m old new x × BeginsEach old new x)
-Answers e read_rose write_rose old new OutOfMemory = IfSome e (λ x. WrotePart old new x × BeginsEach old new x)
+Answers e read_rose write_rose old new (EventLimit m) = IfSome e (λ x. WroteLines m old new x × WrotePart old new x)
+Answers e read_rose write_rose old new OutOfMemory = IfSome e (WrotePart old new)

@@ -3,7 +3,7 @@ use Rattle.std.specs.Prelude.{ℕ, List, [], ◌∷◌, ◌++◌, Option, Some, 
 use Rattle.std.specs.List.{flat_map, join_with_byte}
 use Rattle.tva_base.specs.declared.packet.Grant.{Grant}
 use Rattle.tva_plan.specs.declared.config.Config.{Config}
-use Rattle.tva_trace.specs.Lines.{ended, name_of}
+use Rattle.tva_lines.specs.Lines.{ended, name_of}
 use Rattle.tva_sums.specs.Sums.{limit_of}
 use Rattle.tva_audit.specs.declared.routers.RouterSum.{RouterSum}
 

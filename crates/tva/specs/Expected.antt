@@ -2,17 +2,15 @@
 use Rattle.std.specs.Prelude.{◌≡◌, ℕ, ◌+◌, List, ◌++◌, length, nat_lt, if◌then◌else◌}
 use Rattle.std.specs.Prelude.{Result, Ok, Err, None, Some, codes}
 use Rattle.std.specs.declared.option.Option.{Option}
-use Rattle.std.specs.Option.{option_map}
+use Rattle.std.specs.Option.{option_map, option_map_or}
+use Rattle.std.specs.Result.{result_map_both}
 use Rattle.tva_outside.specs.Held.{Held, bytes_at}
 use Rattle.tva_plan.specs.declared.config.Config.{Config}
-use Rattle.tva_config_entries.specs.declared.faults.ConfigFault.{ConfigFault}
 use Rattle.tva_config.specs.Read.{read_of}
 use Rattle.tva_trace.specs.declared.rows.Row.{Row}
-use Rattle.tva_trace.specs.declared.rows.TraceFault.{TraceFault}
-use Rattle.tva_trace.specs.declared.said.SaidRow.{SaidRow}
 use Rattle.tva_trace.specs.Rows.{rows_of}
 use Rattle.tva_trace.specs.Meaning.{AreRows}
-use Rattle.tva_trace.specs.ShimText.{IsTextOf}
+use Rattle.tva_shim_text.specs.ShimText.{IsTextOf}
 use Rattle.tva_gen.specs.Text.{generated}
 use Rattle.tva_audit.specs.Audit.{HasSums, IsFound}
 use Rattle.tva_audit.specs.declared.routers.RouterSum.{RouterSum}
@@ -57,57 +55,35 @@ within_limit max (Some bytes) = if nat_lt max (length bytes) then Err (TooLarge 
 abbrev pub file_at : ℕ → List ℕ → Held → Found (List ℕ)
 file_at max name files = within_limit max (bytes_at files name)
 
--- the plan of a configuration, and the plan that is held under a name, in at most 1 MiB
-abbrev pub plan_or_fault : Result Config ConfigFault → Found Config
-plan_or_fault (Ok plan) = Ok plan
-plan_or_fault (Err fault) = Err (BadConfig fault)
-
+-- the plan of a configuration that is held under a name, in at most 1 MiB, or its first fault
 abbrev pub plan_at : List ℕ → Held → Found Config
-plan_at name files = file_at 1048576 name files >>= λ bytes. plan_or_fault (read_of bytes)
+plan_at name files = file_at 1048576 name files >>= λ text. result_map_both (λ plan. plan) BadConfig (read_of text)
 
--- a trace that has rows under a plan, and such a trace that is held under a name, in at most 64 MiB
-abbrev pub trace_or_fault : List ℕ → Result (List SaidRow) TraceFault → Found (List ℕ)
-trace_or_fault text (Ok said) = Ok text
-trace_or_fault text (Err fault) = Err (BadTrace fault)
-
+-- a trace that is held under a name, in at most 64 MiB, where it has rows under a plan, or its first fault
 abbrev pub trace_at : Config → List ℕ → Held → Found (List ℕ)
-trace_at plan name files = file_at 67108864 name files >>= λ text. trace_or_fault text (rows_of plan text)
+trace_at plan name files =
+    file_at 67108864 name files >>= λ text. result_map_both (λ said. text) BadTrace (rows_of plan text)
 
--- a report without a bad line that is held under a name, in at most 1 GiB
-abbrev pub report_or_fault : List ℕ → Option ℕ → Found (List ℕ)
-report_or_fault text None = Ok text
-report_or_fault text (Some line) = Err (BadReport line)
-
+-- a report that is held under a name, in at most 1 GiB, where it has no bad line, or its first bad line
 abbrev pub report_at : List ℕ → Held → Found (List ℕ)
-report_at name files = file_at 1073741824 name files >>= λ text. report_or_fault text (first_bad text)
+report_at name files =
+    file_at 1073741824 name files >>= λ text. option_map_or (λ line. Err (BadReport line)) (first_bad text) (Ok text)
 
--- what comes of a command that reads files, file by file: each is judged before the next one is loaded
-abbrev pub of_plan : List ℕ → Held → Config → Expected
-of_plan trace files plan = followed (trace_at plan trace files) (replays plan)
+-- what a command comes to over what is held, file by file: each is judged before the next one is loaded
+abbrev pub comes_to : Command → Held → Expected
+comes_to (replay config trace) files =
+    followed (plan_at config files) (λ plan. followed (trace_at plan trace files) (replays plan))
+comes_to (check config) files = followed (plan_at config files) (λ plan. writes (check_line plan))
+comes_to (shim bytes) files = shows bytes
+comes_to (gen seed count config) files = followed (plan_at config files) (λ plan. writes (generated plan seed count))
+comes_to (audit config trace report) files =
+    followed (plan_at config files) (λ plan. followed (trace_at plan trace files)
+    (λ rows. followed (report_at report files) (audits plan rows)))
 
-abbrev pub of_replay : List ℕ → List ℕ → Held → Expected
-of_replay config trace files = followed (plan_at config files) (of_plan trace files)
-
-abbrev pub of_trace : List ℕ → Held → Config → List ℕ → Expected
-of_trace report files plan rows = followed (report_at report files) (audits plan rows)
-
-abbrev pub of_audit : List ℕ → List ℕ → List ℕ → Held → Expected
-of_audit config trace report files =
-    followed (plan_at config files) (λ plan. followed (trace_at plan trace files) (of_trace report files plan))
-
-abbrev pub of_check : List ℕ → Held → Expected
-of_check config files = followed (plan_at config files) (λ plan. writes (check_line plan))
-
-abbrev pub of_gen : ℕ → ℕ → List ℕ → Held → Expected
-of_gen seed count config files = followed (plan_at config files) (λ plan. writes (generated plan seed count))
-
--- what comes of a command, where the shelf tells what it holds or the command reads nothing
+-- the same where the shelf tells what it holds, or the command reads nothing
 abbrev pub told : Option Held → Command → Option Expected
-told held (replay config trace) = option_map (of_replay config trace) held
-told held (check config) = option_map (of_check config) held
 told held (shim bytes) = Some (shows bytes)
-told held (gen seed count config) = option_map (of_gen seed count config) held
-told held (audit config trace report) = option_map (of_audit config trace report) held
+told held command = option_map (comes_to command) held
 
 -- the text is what is to be written
 abbrev pub IsText : Expected → List ℕ → Type 0

@@ -7,7 +7,7 @@ use Rattle.tva_log.specs.Sites.{Site}
 use Rattle.tva_run.specs.Reaching.{Logs, log_at, site_at}
 use Rattle.tva_run.specs.Run.{IsRunTo}
 use Rattle.tva_promises.specs.Promises.{KeepsPromises}
-use Rattle.tva_paths.specs.Paths.{AreHonestRegular}
+use Rattle.tva_honest.specs.Paths.{AreHonestRegular}
 use Rattle.tva_delivery.specs.Delivery.{KeepsFiles}
 use Rattle.tva_audit.specs.Audit.{HasSums}
 use Rattle.tva_audit.specs.Sums.{IsBelowLimit}
@@ -26,23 +26,14 @@ EachKeepsPromises plan rows =
     (until : ℕ) (logs : Logs) → IsRunTo plan rows until logs
     → (node : ℕ) (site : Site) → site_at plan node ≡ Some site → KeepsPromises site until (log_at logs node)
 
-abbrev pub ArePromisesKept : Expected → Type 0
-ArePromisesKept x = OfRows EachKeepsPromises x
-
 -- in every such run, up to any time, what an honest sender shows is regular at each router to which its path is steady
 abbrev pub EachTakesHonest : Config → List Row → Type 0
 EachTakesHonest plan rows = (until : ℕ) (logs : Logs) → IsRunTo plan rows until logs → AreHonestRegular plan logs
-
-abbrev pub AreHonestTaken : Expected → Type 0
-AreHonestTaken x = OfRows EachTakesHonest x
 
 -- in every such run, up to any time, each receiver delivers the ranges of a transfer in order and once, no more than its
 -- file has, and no sender believes more than was delivered
 abbrev pub EachKeepsFiles : Config → List Row → Type 0
 EachKeepsFiles plan rows = (until : ℕ) (logs : Logs) → IsRunTo plan rows until logs → KeepsFiles plan logs
-
-abbrev pub AreFilesKept : Expected → Type 0
-AreFilesKept x = OfRows EachKeepsFiles x
 
 -- in the sums of each audited run the worst grant of each router has less than twice its units
 abbrev pub AreSumsBelow : Expected → Type 0

@@ -81,7 +81,8 @@ abbrev pub WroteAudit : Config → List Row → List ℕ → Option (List ℕ) �
 WroteAudit plan rows report old new = (text : List ℕ) × IsAuditText plan rows report text × IsCut old new text
 
 -- how the audit of a report without a bad line ends
-abbrev pub EndsAudited : Config → List Row → List ℕ → Option (List ℕ) → Option (List ℕ) → Type 0 → status.Status → Type 0
+abbrev pub EndsAudited : Config → List Row → List ℕ → Option (List ℕ) → Option (List ℕ) → Type 0 → status.Status
+    → Type 0
 EndsAudited plan rows report old new rose Done =
     (text : List ℕ) × IsAuditText plan rows report text × (new ≡ append_known old text)
 EndsAudited plan rows report old new rose (Differs f) = IsDifference plan rows report f × (new ≡ old)

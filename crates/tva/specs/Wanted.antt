@@ -2,8 +2,8 @@
 use Rattle.std.specs.Prelude.{◌≡◌, ◌⊎◌, ℕ, List, option_and_then, None, Some}
 use Rattle.std.specs.declared.option.Option.{Option}
 use Rattle.tva_outside.specs.Held.{Held}
-use Rattle.tva.specs.Command.{Command, command_of, replay, check, shim, gen, audit}
-use Rattle.tva.specs.Expected.{Expected, writes, shows, replays, audits, refuses, told, Ends}
+use Rattle.tva.specs.Command.{Command, command_of, shim}
+use Rattle.tva.specs.Expected.{Expected, refuses, told, Ends}
 use Rattle.tva.specs.declared.status.Status as status
 use Rattle.tva.specs.declared.status.Status.TheVariants.{Done, WriteFault, EventLimit, OutOfMemory}
 
@@ -14,11 +14,8 @@ wanted held words = option_and_then (told held) (command_of words)
 -- words that need no file: they are no command, or that which shows a shim
 abbrev pub NeedsNoFile : Option Command → Type 0
 NeedsNoFile None = Unit {0}
-NeedsNoFile (Some (replay config trace)) = ⊥
-NeedsNoFile (Some (check config)) = ⊥
 NeedsNoFile (Some (shim bytes)) = Unit {0}
-NeedsNoFile (Some (gen seed count config)) = ⊥
-NeedsNoFile (Some (audit config trace report)) = ⊥
+NeedsNoFile _ = ⊥
 
 -- a status with which nothing is written
 abbrev pub IsRefusal : status.Status → Type 0
@@ -34,11 +31,8 @@ Settles s x = Ends s x ⊎ (s ≡ OutOfMemory)
 
 -- the same where it is to end with a refusal of what is read
 abbrev pub SettlesRefusal : status.Status → Expected → Type 0
-SettlesRefusal s (writes text) = Unit {0}
-SettlesRefusal s (shows bytes) = Unit {0}
-SettlesRefusal s (replays plan trace) = Unit {0}
-SettlesRefusal s (audits plan trace report) = Unit {0}
 SettlesRefusal s (refuses r) = Settles s (refuses r)
+SettlesRefusal s x = Unit {0}
 
 -- it is to end in just one way, and no other: a trace that is to be replayed has rows, and their run is within the number of
 -- events that it may have, or passes it

@@ -4,7 +4,7 @@ ghost use Rattle.std.specs.List.{flat_map};
 ghost use Rattle.tva_outside.specs.Faults.{Rose};
 ghost use Rattle.tva_plan.specs.Valid.{IsConfig};
 ghost use Rattle.tva_report.specs.Lines.{report_lines};
-ghost use Rattle.tva_trace.specs.Lines.{name_of};
+ghost use Rattle.tva_lines.specs.Lines.{name_of};
 ghost use Rattle.tva_trace.specs.Valid.{AreTraceRows};
 ghost use Rattle.tva.specs.Audit.{audit_text, sum_line, worst_word};
 ghost use Rattle.tva.specs.Parts.{IsAudited, refused_by};

@@ -1,7 +1,7 @@
 // The lines of a report.
 ghost use Rattle.std.specs.Prelude.{◌≡◌, ◌≤◌, ℕ, List, OnOk};
 ghost use Rattle.tva_outside.specs.Faults.{Rose};
-ghost use Rattle.tva_trace.specs.Lines.{summary_of};
+ghost use Rattle.tva_lines.specs.Lines.{summary_of};
 ghost use Rattle.tva.specs.Parts.{IsWritten};
 
 use crate::parts::send;
@@ -9,8 +9,8 @@ use crate::status::Status;
 use arrayvec::ArrayString;
 use std::alloc::AllocError;
 use tva_base::Totals;
+use tva_lines::summary_text;
 use tva_outside::Sink;
-use tva_trace::summary_text;
 
 /// Writes the lines in `text`, where there was memory to put them there.
 #[tactic(auto, using(crate::proofs::Replays::cut_of_nothing))]

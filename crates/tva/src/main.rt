@@ -7,6 +7,7 @@
 mod audited;
 mod check;
 mod command;
+mod laws;
 mod lines;
 mod parts;
 mod replay;

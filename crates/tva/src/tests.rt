@@ -1,5 +1,5 @@
 // What no script shows of the program: what it answers over files and a sink in memory, which files it
-// loads and which nodes it tells the gate of, that both halves of a network run at once, and what comes of
+// loads and which nodes it tells the gate of, that the parts of a network run at once, and what comes of
 // a replay where its own files and its sink want memory too. Whole replays, words and texts are shown by
 // `tests/replays` and `tests/commands`, and damage at each place by `tests/damage`.
 use crate::top::run;

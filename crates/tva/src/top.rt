@@ -8,8 +8,8 @@ ghost use Rattle.tva_trace.specs.declared.rows.TraceFault.{TraceFault};
 ghost use Rattle.tva.specs.Asked.{asked};
 ghost use Rattle.tva.specs.Command.{command_of, texts, replay, check, shim, gen, audit};
 ghost use Rattle.tva.specs.Expected.{told, shows, refuses};
-ghost use Rattle.tva.specs.Answer.{Answers, BeginsEach, HasFound, WroteAll, WroteEach, WroteLines, WrotePart};
-ghost use Rattle.tva.specs.Network.{AreFilesKept, AreHonestTaken, ArePromisesKept, AreSumsBelow};
+ghost use Rattle.tva.specs.Answer.{Answers, HasFound, WroteAll, WroteLines, WrotePart};
+ghost use Rattle.tva.specs.Network.{AreSumsBelow, EachKeepsFiles, EachKeepsPromises, EachTakesHonest, OfRows};
 ghost use Rattle.tva.specs.Wanted.{wanted, HasOneEnd, IsRefusal, NeedsNoFile, Settles, SettlesRefusal};
 
 use crate::REPORT_MAX;
@@ -24,14 +24,14 @@ use std::alloc::Global;
 use std::thread::Threads;
 use tva_gen::generate;
 use tva_outside::{Gate, Shelf, Sink};
-use tva_trace::shim_text;
+use tva_shim_text::shim_text;
 
 /// Does what the words ask for, over the files of the shelf, and writes to the sink. Refusals come
 /// in this order: words that are no command; then, file by file, a file that can't be loaded or is
 /// too large, and a fault of the configuration or of the trace, or a bad line of the report; then, window
 /// by window, more events than the configuration allows, and failing writes. A line of an audited report
 /// that differs is told where the run ends.
-#[tactic(auto, using(crate::proofs::Fronts::part_of_answer, crate::proofs::Fronts::begins_of_answer, crate::proofs::Settled::settles_of_answer, crate::proofs::Settled::refusal_of_answer))]
+#[tactic(auto, using(crate::proofs::Fronts::part_of_answer, crate::proofs::Settled::settles_of_answer, crate::proofs::Settled::refusal_of_answer))]
 pub fn run<R: Threads + Sync, S: Shelf, W: Sink, G: Gate>(
     rt: &R,
     alloc: Global,
@@ -56,18 +56,16 @@ pub fn run<R: Threads + Sync, S: Shelf, W: Sink, G: Gate>(
     ensures found { (finding : Finding) → result ≡ Status.Found finding →
         IfSome (wanted (S.held shelf.old) (texts words.now)) (HasFound finding) }
 
-    // What is written: the whole text, of a replay the report of the run, which is the only one, and of
-    // an audit, whose report is that of the run, what its routers let through; with the event limit the
-    // lines of all windows before the one that passes it, and nothing by an audit; and always the first
-    // bytes of a text that is to be written, with which the report of each run begins.
+    // What is written: the whole text, of a replay the report of the run, and of an audit, whose report
+    // is that of the run, what its routers let through; with the event limit the lines of all windows
+    // before the one that passes it, and nothing by an audit; and always nothing or the first bytes of a
+    // text that is to be written, of a replay the report of the run. That each run has this very report
+    // is said in `laws`.
     ensures done { result ≡ Status.Done →
         IfSome (wanted (S.held shelf.old) (texts words.now)) (WroteAll (W.written out.old) (W.written out.new)) }
-    ensures one { result ≡ Status.Done →
-        IfSome (wanted (S.held shelf.old) (texts words.now)) (WroteEach (W.written out.old) (W.written out.new)) }
     ensures event_limit { (most : ℕ) → result ≡ Status.EventLimit most →
         IfSome (wanted (S.held shelf.old) (texts words.now)) (WroteLines most (W.written out.old) (W.written out.new)) }
     ensures front { IfSome (wanted (S.held shelf.old) (texts words.now)) (WrotePart (W.written out.old) (W.written out.new)) }
-    ensures each { IfSome (wanted (S.held shelf.old) (texts words.now)) (BeginsEach (W.written out.old) (W.written out.new)) }
     ensures nothing { IsRefusal result → W.written out.new ≡ W.written out.old }
 
     // Where no count rises it comes to what is wanted, unless memory runs out; and to each refusal
@@ -86,15 +84,15 @@ pub fn run<R: Threads + Sync, S: Shelf, W: Sink, G: Gate>(
     // The network: in every run of a trace that is to be replayed, or whose report is audited, up to any
     // time, the log of each node keeps its promises at each of its places. Budgets are counted for each
     // router, each of its boots and each grant.
-    ensures network { (files : Held) → IfSome (wanted (Some files) (texts words.now)) ArePromisesKept }
+    ensures network { (files : Held) → IfSome (wanted (Some files) (texts words.now)) (OfRows EachKeepsPromises) }
 
     // Honest senders, in each such run: what shows a grant is charged and regular at each router to
     // which the path of its host is steady, in a boot of that router.
-    ensures honest { (files : Held) → IfSome (wanted (Some files) (texts words.now)) AreHonestTaken }
+    ensures honest { (files : Held) → IfSome (wanted (Some files) (texts words.now)) (OfRows EachTakesHonest) }
 
     // Files, in each such run: whatever is lost, dropped, demoted, repeated or late, a receiver delivers
     // each range of a transfer once and in order, and its sender never believes more than was delivered.
-    ensures delivered { (files : Held) → IfSome (wanted (Some files) (texts words.now)) AreFilesKept }
+    ensures delivered { (files : Held) → IfSome (wanted (Some files) (texts words.now)) (OfRows EachKeepsFiles) }
 
     // Sums: in each whole run of an audited trace no router let a grant have twice its units in one boot.
     ensures limits { (files : Held) → IfSome (wanted (Some files) (texts words.now)) AreSumsBelow }

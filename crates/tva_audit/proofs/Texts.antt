@@ -8,7 +8,7 @@ use Rattle.std.proofs.lemmas.List.Elements.{All-append, All-from_recursion}
 use Rattle.tva_base.specs.Printable.{IsLine}
 use Rattle.tva_base.specs.declared.event.Event.{Event}
 use Rattle.tva_plan.specs.declared.config.Config.{Config}
-use Rattle.tva_trace.specs.Lines.{line_of, text_of_event}
+use Rattle.tva_lines.specs.Lines.{line_of, text_of_event}
 use Rattle.tva_report.specs.Lines.{ended, first_bad, report_lines, text_of}
 use Rattle.tva_report.proofs.LinesBack.{good_made, lines_made}
 use Rattle.tva_run.specs.Report.{lines_of}

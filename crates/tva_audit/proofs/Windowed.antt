@@ -8,7 +8,7 @@ use Rattle.tva_base.specs.declared.event.Event.{Event}
 use Rattle.tva_base.specs.declared.event.Totals.{Totals}
 use Rattle.tva_plan.specs.declared.config.Config.{Config}
 use Rattle.tva_trace.specs.declared.rows.Row.{Row}
-use Rattle.tva_trace.specs.Lines.{HasEvent, summary_of, text_of_event, text_of_totals}
+use Rattle.tva_lines.specs.Lines.{HasEvent, summary_of, text_of_event, text_of_totals}
 use Rattle.tva_report.specs.Lines.{first_bad, report_lines, text_of}
 use Rattle.tva_report.specs.Differences.{first_difference}
 use Rattle.tva_report.specs.Compared.{Compared}
@@ -19,13 +19,13 @@ use Rattle.tva_run.specs.Report.{AreEventsTo, lines_of, report_of, totals_of}
 use Rattle.tva_run.specs.Shown.{HasReport}
 use Rattle.tva_run.specs.Windows.{Window}
 use Rattle.tva_run.proofs.Names.{events_named}
-use Rattle.tva_node.specs.declared.memory.Memory.TheVariants as memory
+use Rattle.tva_waiting.specs.declared.memory.Memory.TheVariants as memory
 use Rattle.tva_node.specs.States.{KeepsEvents, NodeState}
-use Rattle.tva_net.proofs.Lists.{zip_length}
-use Rattle.tva_net.specs.Nets.{GrowsFrom, NetState, StandsFor}
+use Rattle.tva_mail.proofs.Lists.{zip_length}
+use Rattle.tva_net.specs.Nets.{GrowsFrom, NetState}
 use Rattle.tva_net.specs.declared.kinds.NetError.{NetError}
 use Rattle.tva_net.specs.declared.kinds.NetError.TheVariants as error
-use Rattle.tva_net.specs.Steps.{GoesOn, HasEnded, Refuses}
+use Rattle.tva_net.specs.Steps.{GoesOn, HasEnded, Refuses, StandsFor}
 use Rattle.tva_audit.specs.declared.routers.RouterSum.{RouterSum}
 use Rattle.tva_audit.specs.declared.audits.Audited.{Audited}
 use Rattle.tva_audit.specs.declared.audits.Audited.TheVariants.{Same, Differs}
@@ -106,13 +106,13 @@ module _ (config : Config) (rows : List Row) (report : List ℕ) where
   -- what the network gave is the run's
   events_to : (windows : List Window) (told : List Event) (net : NetState) → StandsFor config rows windows told net
       → AreEventsTo config rows net.work.worked_to told
-  events_to windows told net s = record { logs = s.work.logs; run = s.work.run; events = s.work.events }
+  events_to windows told net s = record { logs = s.tells.way.run.logs; run = s.tells.way.run.run; events = s.tells.way.run.events }
 
   -- the nodes and links of its events are the configuration's
   pub named : (c : Compared) (list : List Event) (net : NetState) → IsBehind c list net → All (HasEvent config) list
   named c list net b =
       All-right (HasEvent config) b.told list
-      (events_named config rows net.work.worked_to (b.told ++ list) b.stands.work.valid (events_to b.windows (b.told ++ list) net b.stands))
+      (events_named config rows net.work.worked_to (b.told ++ list) b.stands.tells.way.valid (events_to b.windows (b.told ++ list) net b.stands))
 
   -- the lines of the last events are fed
   pub feeds : (c d : Compared) (list : List Event) (net : NetState) (text : List ℕ) → IsBehind c list net → HasLines config list text
@@ -151,12 +151,12 @@ module _ (config : Config) (rows : List Row) (report : List ℕ) where
     pub few_in_all : sum_by (λ v. length v.events) net.work.nodes ≤ 4000000
     few_in_all =
         let few = few_told config ended.whole.logs net.work.nodes l.told ended.whole.tell ended.whole.events in
-        let most = ended.stands.work.valid.max_events.1 in
-        let within = ended.stands.given.few in
+        let most = ended.stands.tells.way.valid.max_events.1 in
+        let within = ended.stands.tells.given.few in
         omega (arith, few, most, within)
 
     sites : AreSites config net.work.nodes
-    sites = λ place d below. (ended.stands.work.nodes place d below).site
+    sites = ended.stands.tells.way.sites
 
     told_events : AreEventsTo config rows (config.horizon.0 + 1) l.told
     told_events = record { logs = ended.whole.logs; run = ended.whole.run; events = ended.whole.events }
@@ -169,10 +169,10 @@ module _ (config : Config) (rows : List Row) (report : List ℕ) where
     whole_text =
         text_of_more (texts_of config l.told) (text_of_totals net.totals)
         ∙ ap (λ (t : List ℕ). t ++ summary_of net.totals) (lines_same config l.told)
-        ∙ ap (λ (t : Totals). lines_of config l.told ++ summary_of t) ended.stands.given.sums
+        ∙ ap (λ (t : Totals). lines_of config l.told ++ summary_of t) ended.stands.tells.given.sums
 
     reports : HasReport config rows (text_of all_lines)
-    reports = record { told = l.told; events = told_events; few = ended.stands.given.few; whole = whole_text }
+    reports = record { report = record { told = l.told; events = told_events; whole = whole_text }; few = ended.stands.tells.given.few }
 
     has_sums : (sums : List RouterSum) → sums ≡ sums_told net.work.nodes → HasSums config rows sums
     has_sums sums same = record {
@@ -199,9 +199,9 @@ module _ (config : Config) (rows : List Row) (report : List ℕ) where
       → GoesOn config rows windows told list net → 0 < length list → net.limit - net.totals.events < before.limit - before.totals.events
   unfolding totals_of
   fewer_left windows told list before net s g some =
-      let first : before.totals.events ≡ length told = ap (λ (t : Totals). t.events) s.given.sums in
-      let last : net.totals.events ≡ length (told ++ list) = ap (λ (t : Totals). t.events) g.stands.given.sums in
-      let same : net.limit ≡ before.limit = g.stands.given.most ∙ sym s.given.most in
-      let limit : net.limit ≡ config.max_events = g.stands.given.most in
-      let few : length (told ++ list) ≤ config.max_events = g.stands.given.few in
+      let first : before.totals.events ≡ length told = ap (λ (t : Totals). t.events) s.tells.given.sums in
+      let last : net.totals.events ≡ length (told ++ list) = ap (λ (t : Totals). t.events) g.stands.tells.given.sums in
+      let same : net.limit ≡ before.limit = g.stands.tells.given.most ∙ sym s.tells.given.most in
+      let limit : net.limit ≡ config.max_events = g.stands.tells.given.most in
+      let few : length (told ++ list) ≤ config.max_events = g.stands.tells.given.few in
       omega (arith, length-append told list)

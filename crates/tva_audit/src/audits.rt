@@ -2,7 +2,7 @@
 ghost use Rattle.std.specs.Prelude.{◌≡◌, ◌≤◌, ◌++◌, [], ◌∷◌, ℕ, List, All, length, sum_by};
 ghost use Rattle.tva_base.specs.Printable.{IsLine};
 ghost use Rattle.tva_plan.specs.Valid.{IsConfig};
-ghost use Rattle.tva_trace.specs.Lines.{text_of_totals};
+ghost use Rattle.tva_lines.specs.Lines.{text_of_totals};
 ghost use Rattle.tva_trace.specs.Valid.{AreTraceRows};
 ghost use Rattle.tva_report.specs.Compared as compared;
 ghost use Rattle.tva_node.specs.States.{KeepsEvents};
@@ -15,11 +15,12 @@ use arrayvec::ArrayString;
 use std::alloc::{AllocError, Global};
 use std::thread::Threads;
 use tva_base::Totals;
+use tva_lines::summary_text;
 use tva_net::{Memory, Net, NetError, Window};
 use tva_outside::Gate;
 use tva_plan::Config;
 use tva_report::{Comparison, Finding, first_bad};
-use tva_trace::{PackedRows, Row, summary_text};
+use tva_trace::{PackedRows, Row};
 
 /// What an audit comes to: the report is that of the run, in which the routers let through so much; or
 /// this is the first line that differs.

@@ -6,20 +6,20 @@ ghost use Rattle.tva_base.specs.declared.event.Event.{Event};
 ghost use Rattle.tva_plan.specs.declared.config.Config.{Config};
 ghost use Rattle.tva_plan.specs.Valid.{IsConfig};
 ghost use Rattle.tva_trace.specs.declared.rows.Row.{Row};
-ghost use Rattle.tva_trace.specs.Lines.{HasEvent, text_of_event};
+ghost use Rattle.tva_lines.specs.Lines.{HasEvent, text_of_event};
 ghost use Rattle.tva_run.specs.Report.{lines_of};
 ghost use Rattle.tva_run.specs.Windows.{Window as Span};
-ghost use Rattle.tva_net.specs.Nets.{GrowsFrom, StandsFor};
-ghost use Rattle.tva_net.specs.Steps.{Gives, Refuses};
+ghost use Rattle.tva_net.specs.Nets.{GrowsFrom};
+ghost use Rattle.tva_net.specs.Steps.{Gives, Refuses, StandsFor};
 
 use arrayvec::ArrayString;
 use std::alloc::{AllocError, Global};
 use std::thread::Threads;
 use tva_base::Event;
+use tva_lines::line_text;
 use tva_net::{Net, NetError, Window};
 use tva_outside::Gate;
 use tva_plan::Config;
-use tva_trace::line_text;
 
 /// Leaves the lines of the events in `text`, and nothing else.
 pub fn put_lines(config: &Config, events: &[Event], text: &mut Vec<u8>) -> Result<(), AllocError>

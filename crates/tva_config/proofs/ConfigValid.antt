@@ -18,12 +18,12 @@ use Rattle.tva_config_entries.specs.declared.entries.HostEntry.{HostEntry}
 use Rattle.tva_config_entries.specs.declared.entries.LinkEntry.{LinkEntry}
 use Rattle.tva_config.specs.declared.joined.OwnedRoute.{OwnedRoute}
 use Rattle.tva_config_entries.specs.Faults.{at, fault_at}
-use Rattle.tva_config.specs.Nodes.{node_names, node_of, all_slots, slots_of}
-use Rattle.tva_config.specs.Links.{links_of, uplinks_of, rings_of}
+use Rattle.tva_config.specs.Nodes.{node_names, node_of, all_slots}
 use Rattle.tva_plan.specs.Wiring.{all_places}
 use Rattle.tva_plan.specs.Names.{name_at, is_host_plan}
 use Rattle.tva_plan.specs.Counts.{routes_in, slots_in}
-use Rattle.tva_config.specs.Read.{Owned, if_owned, routes_at, router_plan, host_plan, router_plans, host_plans, config_of}
+use Rattle.tva_config.specs.Read.{Owned, router_plan, host_plan, router_plans}
+use Rattle.tva_config.specs.Stages.{slots_of, links_of, uplinks_of, rings_of, if_owned, routes_at, host_plans, config_of}
 use Rattle.tva_config_entries.proofs.Ranges.{IsRouterEntry, IsHostEntry, IsLinkEntry}
 use Rattle.tva_plan.specs.Valid.{IsName, IsNodePlan, IsLinkPlan, AreWired, AreRoutersFirst, addresses_at, IsConfig}
 use Rattle.tva_config_entries.proofs.Turns.{all_cons, unless_gave}

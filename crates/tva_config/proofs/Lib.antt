@@ -6,6 +6,7 @@ pub mod PlanValid
 pub mod Positions
 pub mod ReadValid
 pub mod Rising
+pub mod Staged
 pub mod StepsChanges
 pub mod StepsKeep
 pub mod StepsLinks

@@ -16,9 +16,9 @@ use Rattle.tva_config.specs.declared.joined.OwnedRoute.{OwnedRoute}
 use Rattle.tva_config.specs.declared.joined.OwnedRestart.{OwnedRestart}
 use Rattle.tva_config.specs.declared.joined.OwnedReroute.{OwnedReroute}
 use Rattle.tva_plan.specs.Wiring.{picked, tagged_to, incoming_of, limited_from, outgoing_of}
-use Rattle.tva_config.specs.Read.{Owned, if_owned, routes_at, if_restart, restarts_at, if_reroute, reroutes_at, router_plan, host_plan}
+use Rattle.tva_config.specs.Read.{Owned, router_plan, host_plan}
 use Rattle.tva_config.specs.Routes.{is_for}
-use Rattle.tva_config.specs.Changes.{is_restart_of, is_reroute_of}
+use Rattle.tva_config.specs.Stages.{if_owned, routes_at, if_restart, restarts_at, if_reroute, reroutes_at, is_restart_of, is_reroute_of}
 use Rattle.tva_config_entries.proofs.Ranges.{IsRouterEntry, IsHostEntry}
 use Rattle.tva_plan.specs.Valid.{IsLinkPlan}
 use Rattle.tva_config_entries.proofs.Turns.{all_cons}
@@ -244,7 +244,7 @@ pub record AreOwned (links : List LinkPlan) (owned : Owned) : Type 0 where
 -- the plan of a router is valid
 pub router_valid : (count : ℕ) (links : List LinkPlan) (all : Owned) (n : ℕ) (r : RouterEntry)
     → IsRouterEntry r → All (IsLinkPlan count) links → All (λ l. l.tag < 2 ^ 16) links → AreOwned links all → IsRouterPlan (router_plan links all n r)
-unfolding router_plan
+unfolding router_plan routes_at restarts_at reroutes_at
 router_valid count links all n r entry known tags owned =
     let moved = moved_all links all.routes n all.reroutes owned.reroutes in
     record {

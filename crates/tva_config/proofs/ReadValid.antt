@@ -1,5 +1,5 @@
 -- What is read of a text is valid.
-use Rattle.std.proofs.Common.{◌≡◌, ℕ, List, [], length, Option, Result, Ok, Err, IfOk, All, subst, arith}
+use Rattle.std.proofs.Common.{◌≡◌, ℕ, List, [], length, Option, Result, Ok, Err, IfOk, All, ◌∙◌, subst, arith}
 use Rattle.tva_base.specs.declared.plan.LinkPlan.{LinkPlan}
 use Rattle.tva_base.specs.Plan.{AreDistinct}
 use Rattle.tva_config_entries.specs.declared.entries.RouteEntry.{RouteEntry}
@@ -9,16 +9,17 @@ use Rattle.tva_config_entries.specs.declared.faults.ConfigError.{ConfigError}
 use Rattle.tva_config_entries.specs.Faults.{Answers}
 use Rattle.tva_config_entries.specs.Tables.{Entries}
 use Rattle.tva_config_entries.specs.Reading.{entries_read}
-use Rattle.tva_config.specs.Nodes.{node_names, node_of, names_of, addresses_of, retries_of, slots_of}
-use Rattle.tva_config.specs.Links.{link_between, link_step, links_of, uplink_step, uplinks_of, rings_of}
-use Rattle.tva_config.specs.Routes.{route_step, routes_of}
-use Rattle.tva_config.specs.Changes.{restarts_of, reroutes_of}
-use Rattle.tva_config.specs.Read.{config_of, Owned, owned_of, Joined, joined_of, linked_of, plan_of, read_of}
+use Rattle.tva_config.specs.Nodes.{node_names, node_of}
+use Rattle.tva_config.specs.Links.{link_between, link_step, uplink_step}
+use Rattle.tva_config.specs.Routes.{route_step}
+use Rattle.tva_config.specs.Read.{Owned, plan_of, read_of}
+use Rattle.tva_config.specs.Stages.{names_of, addresses_of, retries_of, slots_of, links_of, uplinks_of, rings_of, routes_of, restarts_of, reroutes_of, config_of, owned_of, Joined, joined_of, linked_of, planned_of}
 use Rattle.tva_config_entries.proofs.Ranges.{AreEntries, IsRouteEntry}
 use Rattle.tva_config_entries.proofs.ReadingValid.{read_entries_valid}
 use Rattle.tva_plan.specs.Valid.{IsConfig}
 use Rattle.tva_config.proofs.ConfigValid.{Passed, config_valid}
 use Rattle.tva_config.proofs.PlanValid.{AreOwned}
+use Rattle.tva_config.proofs.Staged.{plan_staged}
 use Rattle.tva_config.proofs.StepsRoutes.{routes_keep}
 use Rattle.tva_config.proofs.StepsChanges.{restarts_keep, reroutes_keep}
 use Rattle.tva_config.proofs.StepsKeep.{names_are, names_distinct, addresses_are, addresses_distinct, retries_late}
@@ -94,9 +95,9 @@ joined_passed e j known gave =
     subst (Joins e) made passed))))))))
 
 plan_valid : (e : Entries) (c : Config) → AreEntries e → plan_of e ≡ Ok c → IsConfig c
-unfolding plan_of
+unfolding planned_of
 plan_valid e c known gave =
-    let (j, joined, last) = first_gave (joined_of e) _ c gave in
+    let (j, joined, last) = first_gave (joined_of e) _ c (plan_staged e ∙ gave) in
     let plan = config_of e.horizon e.max_events e.routers e.hosts j.links j.uplinks j.owned in
     subst IsConfig (gave_one plan c last)
     (config_valid e.horizon e.max_events e.routers e.hosts e.links j.links j.uplinks j.owned (joined_passed e j known joined))
@@ -104,7 +105,7 @@ plan_valid e c known gave =
 -- what a text is read as is valid
 pub read_valid : (text : List ℕ) (c : Config) → read_of text ≡ Ok c → IsConfig c
 unfolding read_of
-read_valid text c gave = when_gave IsConfig (entries_read text) _ c gave (λ e k1 g1. plan_valid e c (read_entries_valid text e k1) g1)
+read_valid text c gave = when_gave IsConfig (entries_read text) plan_of c gave (λ e k1 g1. plan_valid e c (read_entries_valid text e k1) g1)
 
 pub answer_valid : (text : List ℕ) (answer : Result Config ConfigError) → Answers (read_of text) answer → IfOk answer IsConfig
 answer_valid text (Ok c) is = read_valid text c is

@@ -17,7 +17,8 @@ use Rattle.tva_config_entries.specs.Faults.{at, fault_at, unless, found}
 use Rattle.tva_config.specs.Links.{link_between}
 use Rattle.tva_plan.specs.Wiring.{outgoing_of}
 use Rattle.tva_config.specs.Routes.{router_named, is_for, resolved}
-use Rattle.tva_config.specs.Changes.{is_restart_of, is_late_restart, restart_step, restarts_of, is_reroute_of, is_late_reroute, reroute_step, reroutes_of}
+use Rattle.tva_config.specs.Changes.{is_late_restart, restart_step, is_late_reroute, reroute_step}
+use Rattle.tva_config.specs.Stages.{is_restart_of, restarts_of, is_reroute_of, reroutes_of}
 use Rattle.tva_config_entries.proofs.Turns.{first_gave, unless_gave, in_turn_keeps, all_push}
 use Rattle.tva_config.proofs.Numbered.{untrue}
 use Rattle.tva_config.proofs.Rising.{rising_more}

@@ -12,7 +12,8 @@ use Rattle.tva_config_entries.specs.declared.faults.ConfigRule.TheVariants as ru
 use Rattle.tva_config_entries.specs.declared.entries.RouterEntry.{RouterEntry}
 use Rattle.tva_config_entries.specs.declared.entries.HostEntry.{HostEntry}
 use Rattle.tva_config_entries.specs.Faults.{at, fault_at, unless}
-use Rattle.tva_config.specs.Nodes.{node_names, node_place, name_step, names_of, address_step, addresses_of, retry_step, retries_of}
+use Rattle.tva_config.specs.Nodes.{node_names, node_place, name_step, address_step, retry_step}
+use Rattle.tva_config.specs.Stages.{names_of, addresses_of, retries_of}
 use Rattle.tva_config_entries.proofs.Turns.{first_gave, unless_gave, in_turn_keeps, in_turn_maps, in_turn_shows, distinct_push}
 
 pub or_false : (a b : Bool) → (a || b) ≡ false → (a ≡ false) × (b ≡ false)

@@ -13,7 +13,8 @@ use Rattle.tva_config_entries.specs.declared.entries.HostEntry.{HostEntry}
 use Rattle.tva_config_entries.specs.declared.entries.LinkEntry.{LinkEntry}
 use Rattle.tva_config_entries.specs.Faults.{at, fault_at, unless, found}
 use Rattle.tva_config.specs.Nodes.{node_of}
-use Rattle.tva_config.specs.Links.{joins, link_step, links_of, only, uplink_step, uplinks_of}
+use Rattle.tva_config.specs.Links.{joins, link_step, only, uplink_step}
+use Rattle.tva_config.specs.Stages.{links_of, uplinks_of}
 use Rattle.tva_plan.specs.Wiring.{links_from}
 use Rattle.tva_config_entries.proofs.Ranges.{IsLinkEntry}
 use Rattle.tva_plan.specs.Valid.{IsLinkPlan, ends_of}

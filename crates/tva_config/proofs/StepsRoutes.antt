@@ -16,7 +16,8 @@ use Rattle.tva_config.specs.declared.joined.OwnedRoute.{OwnedRoute}
 use Rattle.tva_config_entries.specs.Faults.{at, fault_at, unless, found}
 use Rattle.tva_config.specs.Links.{joins, link_between}
 use Rattle.tva_plan.specs.Wiring.{picked, limited_from, outgoing_of}
-use Rattle.tva_config.specs.Routes.{router_named, link_to, is_for, resolved, route_step, routes_of}
+use Rattle.tva_config.specs.Routes.{router_named, is_for, resolved, route_step}
+use Rattle.tva_config.specs.Stages.{link_to, routes_of}
 use Rattle.tva_config_entries.proofs.Ranges.{IsRouteEntry}
 use Rattle.tva_config_entries.proofs.Turns.{first_gave, unless_gave, found_gave, in_turn_keeps_of, distinct_push, all_push}
 use Rattle.tva_config.proofs.StepsKeep.{not_in, any_of_map}

@@ -3,4 +3,5 @@ pub mod Links
 pub mod Nodes
 pub mod Read
 pub mod Routes
+pub mod Stages
 pub mod Views

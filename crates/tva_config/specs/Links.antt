@@ -1,5 +1,5 @@
 -- Product: what links must be to the nodes and to one another.
-use Rattle.std.specs.Prelude.{ℕ, ◌+◌, ◌==◌, ◌&&◌, Bool, List, [], ◌∷◌, length, nat_lt}
+use Rattle.std.specs.Prelude.{ℕ, ◌+◌, ◌==◌, ◌&&◌, Bool, List, [], ◌∷◌, length}
 use Rattle.std.specs.Prelude.{Ok, Option, Some, None, codes}
 use Rattle.std.specs.List.{list_any, position_from}
 use Rattle.tva_base.specs.declared.plan.LinkPlan.{LinkPlan}
@@ -7,8 +7,8 @@ use Rattle.tva_config_entries.specs.declared.faults.ConfigTable.TheVariants as t
 use Rattle.tva_config_entries.specs.declared.faults.ConfigRule.TheVariants as rule
 use Rattle.tva_config_entries.specs.declared.entries.HostEntry.{HostEntry}
 use Rattle.tva_config_entries.specs.declared.entries.LinkEntry.{LinkEntry}
-use Rattle.tva_config_entries.specs.Faults.{Read, ◌>>=◌, at, fault_at, unless, found, in_turn}
-use Rattle.tva_plan.specs.Wiring.{links_from, all_places}
+use Rattle.tva_config_entries.specs.Faults.{Read, ◌>>=◌, at, fault_at, unless, found}
+use Rattle.tva_plan.specs.Wiring.{links_from}
 
 -- the link is from this node to that
 abbrev pub joins : ℕ → ℕ → LinkPlan → Bool
@@ -27,26 +27,13 @@ link_step node earlier link = do
   single ← unless (list_any (joins from to) earlier) (fault_at (at table.Link (length earlier)) rule.Pair (codes "to"))
   Ok (record { from = from; to = to; delay = link.delay; tag = link.tag; limits = link.limits })
 
-unfoldable pub links_of : (List ℕ → Option ℕ) → List LinkEntry → Read (List LinkPlan)
-links_of node links = in_turn (link_step node) [] links
-
 -- the element of a list of one
 abbrev pub only : {A : Type 0} → List A → Option A
-only [] = None
 only (x ∷ []) = Some x
-only (x ∷ y ∷ rest) = None
+only _ = None
 
--- each host has one link out
-abbrev pub uplink_of : ℕ → List LinkPlan → ℕ → Read ℕ
-uplink_of routers links host =
-    found (only (links_from (routers + host) links)) (fault_at (at table.Host host) rule.Uplink (codes "name"))
-
+-- each host, behind so many routers, has one link out
 abbrev pub uplink_step : ℕ → List LinkPlan → List ℕ → HostEntry → Read ℕ
-uplink_step routers links earlier host = uplink_of routers links (length earlier)
-
-unfoldable pub uplinks_of : ℕ → List LinkPlan → List HostEntry → Read (List ℕ)
-uplinks_of routers links hosts = in_turn (uplink_step routers links) [] hosts
-
--- all links together have at most 1,000,000 places
-unfoldable pub rings_of : List LinkPlan → Read (Unit {0})
-rings_of links = unless (nat_lt 1000000 (all_places links)) (fault_at (at table.Link 0) rule.Rings (codes "-"))
+uplink_step routers links earlier host =
+    found (only (links_from (routers + length earlier) links))
+    (fault_at (at table.Host (length earlier)) rule.Uplink (codes "name"))

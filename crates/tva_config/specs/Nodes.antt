@@ -1,5 +1,5 @@
--- Product: what the nodes must be to one another: names, addresses, times, and the sum of slots.
-use Rattle.std.specs.Prelude.{ℕ, ◌+◌, ◌-◌, ◌==◌, List, [], ◌++◌, map, length, nat_lt, sum_by}
+-- Product: what the nodes must be to one another: names, addresses and times; and the sum of slots.
+use Rattle.std.specs.Prelude.{ℕ, ◌+◌, ◌-◌, ◌==◌, List, ◌++◌, map, length, nat_lt, sum_by}
 use Rattle.std.specs.Prelude.{if◌then◌else◌, Ok, Option, codes}
 use Rattle.std.specs.List.{list_any, position_from}
 use Rattle.std.specs.Str.{bytes_eq}
@@ -9,7 +9,7 @@ use Rattle.tva_config_entries.specs.declared.faults.ConfigRule.TheVariants as ru
 use Rattle.tva_config_entries.specs.declared.place.Place.{Place}
 use Rattle.tva_config_entries.specs.declared.entries.RouterEntry.{RouterEntry}
 use Rattle.tva_config_entries.specs.declared.entries.HostEntry.{HostEntry}
-use Rattle.tva_config_entries.specs.Faults.{Read, ◌>>=◌, at, fault_at, unless, in_turn}
+use Rattle.tva_config_entries.specs.Faults.{Read, ◌>>=◌, at, fault_at, unless}
 
 -- the names of all nodes, in the order of their numbers
 abbrev pub node_names : List RouterEntry → List HostEntry → List (List ℕ)
@@ -30,18 +30,12 @@ name_step routers earlier name = do
       (fault_at (node_place routers (length earlier)) rule.Names (codes "name"))
   Ok name
 
-unfoldable pub names_of : List RouterEntry → List HostEntry → Read (List (List ℕ))
-names_of routers hosts = in_turn (name_step (length routers)) [] (node_names routers hosts)
-
 -- an address that no earlier host has
 abbrev pub address_step : List Address → HostEntry → Read Address
 address_step earlier host = do
   apart ← unless (list_any (λ a. a.0 == host.address.0) earlier)
       (fault_at (at table.Host (length earlier)) rule.Addresses (codes "address"))
   Ok host.address
-
-unfoldable pub addresses_of : List HostEntry → Read (List Address)
-addresses_of hosts = in_turn address_step [] hosts
 
 -- a host asks again only a second and its margin later
 abbrev pub retry_step : List ℕ → HostEntry → Read ℕ
@@ -50,12 +44,6 @@ retry_step earlier host = do
       (fault_at (at table.Host (length earlier)) rule.Retry (codes "retry_ns"))
   Ok host.retry
 
-unfoldable pub retries_of : List HostEntry → Read (List ℕ)
-retries_of hosts = in_turn retry_step [] hosts
-
--- all routers together have at most 1,000,000 slots
+-- the slots of all routers together
 abbrev pub all_slots : List RouterEntry → ℕ
 all_slots routers = sum_by (λ r. r.slots) routers
-
-unfoldable pub slots_of : List RouterEntry → Read (Unit {0})
-slots_of routers = unless (nat_lt 1000000 (all_slots routers)) (fault_at (at table.Router 0) rule.Slots (codes "slots"))

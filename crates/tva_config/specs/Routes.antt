@@ -1,5 +1,5 @@
 -- Product: what routes must be to the nodes, the links and one another.
-use Rattle.std.specs.Prelude.{ℕ, ◌==◌, ◌&&◌, Bool, List, [], length, nat_lt, if◌then◌else◌}
+use Rattle.std.specs.Prelude.{ℕ, ◌==◌, ◌&&◌, Bool, List, length, nat_lt, if◌then◌else◌}
 use Rattle.std.specs.Prelude.{option_and_then, Ok, Option, Some, None, codes}
 use Rattle.std.specs.List.{list_any}
 use Rattle.tva_base.specs.declared.addresses.Prefix.{Prefix}
@@ -8,19 +8,11 @@ use Rattle.tva_config_entries.specs.declared.faults.ConfigRule.TheVariants as ru
 use Rattle.tva_config_entries.specs.declared.place.Place.{Place}
 use Rattle.tva_config_entries.specs.declared.entries.RouteEntry.{RouteEntry}
 use Rattle.tva_config.specs.declared.joined.OwnedRoute.{OwnedRoute}
-use Rattle.tva_config_entries.specs.Faults.{Read, ◌>>=◌, at, fault_at, unless, found, in_turn}
+use Rattle.tva_config_entries.specs.Faults.{Read, ◌>>=◌, at, fault_at, unless, found}
 
--- a node that is one of so many routers
-abbrev pub if_router : ℕ → ℕ → Option ℕ
-if_router routers node = if nat_lt node routers then Some node else None
-
--- the number of the router of a name
+-- the number of the router of a name, where so many nodes are routers
 abbrev pub router_named : ℕ → (List ℕ → Option ℕ) → List ℕ → Option ℕ
-router_named routers node name = option_and_then (if_router routers) (node name)
-
--- the number of a router's link to the node of a name
-abbrev pub link_to : (List ℕ → Option ℕ) → (ℕ → ℕ → Option ℕ) → ℕ → List ℕ → Option ℕ
-link_to node link router name = option_and_then (link router) (node name)
+router_named routers node name = option_and_then (λ n. if nat_lt n routers then Some n else None) (node name)
 
 -- the route is one of this router for this prefix
 abbrev pub is_for : ℕ → Prefix → OwnedRoute → Bool
@@ -34,7 +26,7 @@ abbrev pub resolved : Place → ℕ → (List ℕ → Option ℕ) → (ℕ → �
     → Read OwnedRoute
 resolved place routers node link entry = do
   router ← found (router_named routers node entry.router) (fault_at place rule.Owner (codes "router"))
-  out ← found (link_to node link router entry.via) (fault_at place rule.Via (codes "via"))
+  out ← found (option_and_then (link router) (node entry.via)) (fault_at place rule.Via (codes "via"))
   Ok (record { router = router; route = record { prefix = entry.prefix; link = out } })
 
 -- and no earlier route of the router is for the same prefix
@@ -45,7 +37,3 @@ route_step routers node link earlier entry = do
   apart ← unless (list_any (is_for owned.router owned.route.prefix) earlier)
       (fault_at (at table.Route (length earlier)) rule.Prefix (codes "prefix"))
   Ok owned
-
-unfoldable pub routes_of : ℕ → (List ℕ → Option ℕ) → (ℕ → ℕ → Option ℕ) → List RouteEntry
-    → Read (List OwnedRoute)
-routes_of routers node link routes = in_turn (route_step routers node link) [] routes

@@ -9,7 +9,8 @@ use Rattle.std.specs.declared.alloc.Global.{Global}
 use Rattle.tva_base.specs.declared.plan.LinkPlan.{LinkPlan}
 use Rattle.tva_config.specs.declared.joined.JoinedLists.{JoinedLists}
 use Rattle.tva_config.specs.declared.joined.OwnedLists.{OwnedLists}
-use Rattle.tva_config.specs.Read.{Owned, Joined}
+use Rattle.tva_config.specs.Read.{Owned}
+use Rattle.tva_config.specs.Stages.{Joined}
 use Rattle.tva_config.specs.declared.joined.OwnedRoute.{OwnedRoute}
 use Rattle.tva_config.specs.declared.joined.OwnedRestart.{OwnedRestart}
 use Rattle.tva_config.specs.declared.joined.OwnedReroute.{OwnedReroute}

@@ -4,7 +4,8 @@ ghost use Rattle.std.specs.List.{list_any};
 ghost use Rattle.std.specs.HashMap.{get_by_text};
 ghost use Rattle.tva_config_entries.specs.Faults.{AnswersBy};
 ghost use Rattle.tva_config.specs.Views.{link_at, IsSeen, is_late, IsRestarted, IsRerouted};
-ghost use Rattle.tva_config.specs.Changes.{is_late_restart, restart_step, restarts_of, is_late_reroute, reroute_step, reroutes_of};
+ghost use Rattle.tva_config.specs.Changes.{is_late_restart, restart_step, is_late_reroute, reroute_step};
+ghost use Rattle.tva_config.specs.Stages.{restarts_of, reroutes_of};
 
 use crate::joined::{OwnedReroute, OwnedRestart};
 use crate::routes::{NumberedRoutes, resolve, router_named};
@@ -16,7 +17,7 @@ use tva_config_entries::{
 };
 
 /// The restarts, or the first fault among them. So many nodes are routers.
-#[tactic(auto, unfolding(crate::specs::Changes::restarts_of))]
+#[tactic(auto, unfolding(crate::specs::Stages::restarts_of))]
 pub fn number_restarts(
     alloc: Global,
     routers: usize,
@@ -77,7 +78,7 @@ fn is_late(last: Option<u64>, time: u64) -> bool
 }
 
 /// The changes of routes, or the first fault among them. So many nodes are routers.
-#[tactic(auto, unfolding(crate::specs::Changes::reroutes_of))]
+#[tactic(auto, unfolding(crate::specs::Stages::reroutes_of))]
 pub fn number_reroutes(
     alloc: Global,
     routers: usize,

@@ -4,7 +4,8 @@ ghost use Rattle.std.specs.List.{list_any};
 ghost use Rattle.std.specs.HashMap.{get_by_text};
 ghost use Rattle.tva_config_entries.specs.Faults.{AnswersBy};
 ghost use Rattle.tva_config.specs.Views.{IsPairs, link_at};
-ghost use Rattle.tva_config.specs.Links.{joins, link_between, link_step, links_of, only, uplink_of, uplinks_of, rings_of};
+ghost use Rattle.tva_config.specs.Links.{joins, link_between, link_step, only};
+ghost use Rattle.tva_config.specs.Stages.{links_of, uplink_of, uplinks_of, rings_of};
 ghost use Rattle.tva_plan.specs.Wiring.{links_from, queues_behind, places, all_places};
 
 use std::alloc::Global;
@@ -22,7 +23,7 @@ pub struct NumberedLinks {
 }
 
 /// The links, or the first fault among them.
-#[tactic(auto, unfolding(crate::specs::Links::links_of))]
+#[tactic(auto, unfolding(crate::specs::Stages::links_of))]
 pub fn number_links(
     alloc: Global,
     numbers: &HashMap<String, u16>,
@@ -88,7 +89,7 @@ pub fn node(numbers: &HashMap<String, u16>, name: &str) -> Option<u16>
 }
 
 /// The links out of the hosts, or the first host that hasn't one.
-#[tactic(auto, unfolding(crate::specs::Links::uplinks_of))]
+#[tactic(auto, unfolding(crate::specs::Stages::uplinks_of))]
 pub fn uplinks(
     alloc: Global,
     routers: usize,
@@ -144,7 +145,7 @@ fn only_link(links: &[LinkPlan], node: u16) -> Option<u16>
 }
 
 /// Refuses more than 1,000,000 places in all queues of all links.
-#[tactic(auto, unfolding(crate::specs::Links::rings_of))]
+#[tactic(auto, unfolding(crate::specs::Stages::rings_of))]
 pub fn rings(links: &[LinkPlan]) -> Result<(), ConfigFault>
     requires { length links.now ≤ 4096 }
     ensures { result ≡ rings_of links.now }

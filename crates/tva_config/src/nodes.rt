@@ -7,7 +7,8 @@ ghost use Rattle.std.specs.Map.{update};
 ghost use Rattle.std.specs.Str.{bytes_eq};
 ghost use Rattle.tva_config_entries.specs.declared.faults.ConfigTable.TheVariants as table;
 ghost use Rattle.tva_config_entries.specs.Faults.{AnswersBy, at, fault_at};
-ghost use Rattle.tva_config.specs.Nodes.{node_names, node_of, node_place, names_of, addresses_of, retries_of, slots_of, all_slots};
+ghost use Rattle.tva_config.specs.Nodes.{node_names, node_of, node_place, all_slots};
+ghost use Rattle.tva_config.specs.Stages.{names_of, addresses_of, retries_of, slots_of};
 
 use std::alloc::{AllocError, Global};
 use std::collections::{HashMap, HashSet};
@@ -17,7 +18,7 @@ use tva_config_entries::{
 };
 
 /// The numbers of the nodes by their names, or the first name that an earlier node has.
-#[tactic(auto, unfolding(crate::specs::Nodes::names_of))]
+#[tactic(auto, unfolding(crate::specs::Stages::names_of))]
 pub fn numbers(
     alloc: Global,
     routers: &[RouterEntry],
@@ -83,7 +84,7 @@ fn place(routers: usize, node: usize) -> Place
 }
 
 /// Refuses the first host with an address that an earlier one has.
-#[tactic(auto, unfolding(crate::specs::Nodes::addresses_of))]
+#[tactic(auto, unfolding(crate::specs::Stages::addresses_of))]
 pub fn addresses(alloc: Global, hosts: &[HostEntry]) -> Result<(), ConfigError>
     requires { length hosts.now ≤ 1024 }
     ensures { AnswersBy (λ _. map (λ h. h.address) hosts.now) (addresses_of hosts.now) result }
@@ -110,7 +111,7 @@ fn host_fault(host: usize, rule: ConfigRule, key: &str) -> ConfigFault
 }
 
 /// Refuses the first host that asks again before a second and its margin are over.
-#[tactic(auto, unfolding(crate::specs::Nodes::retries_of))]
+#[tactic(auto, unfolding(crate::specs::Stages::retries_of))]
 pub fn retries(hosts: &[HostEntry]) -> Result<(), ConfigFault>
     requires { length hosts.now ≤ 1024 }
     ensures { retries_of hosts.now ≡ result_map_both (λ _. map (λ h. h.retry) hosts.now) (λ fault. fault) result }
@@ -131,7 +132,7 @@ fn is_early(host: &HostEntry) -> bool
 }
 
 /// Refuses more than 1,000,000 slots of all routers.
-#[tactic(auto, unfolding(crate::specs::Nodes::slots_of))]
+#[tactic(auto, unfolding(crate::specs::Stages::slots_of))]
 pub fn slots(routers: &[RouterEntry]) -> Result<(), ConfigFault>
     requires { length routers.now ≤ 1024 }
     ensures { result ≡ slots_of routers.now }

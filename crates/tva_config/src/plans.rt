@@ -1,6 +1,7 @@
 // The plans of nodes, from what their entries, links and routes are read as.
 ghost use Rattle.std.specs.Prelude.{◌≡◌, ◌≤◌, ◌+◌, ◌++◌, IfOk, OnOk, length};
-ghost use Rattle.tva_config.specs.Read.{routes_at, restarts_at, reroutes_at, router_plan, host_plan, router_plans, host_plans};
+ghost use Rattle.tva_config.specs.Read.{router_plan, host_plan, router_plans};
+ghost use Rattle.tva_config.specs.Stages.{routes_at, restarts_at, reroutes_at, host_plans};
 ghost use Rattle.tva_config.specs.Views.{seen_owned};
 ghost use Rattle.tva_plan.specs.Wiring.{incoming_of, outgoing_of};
 
@@ -32,7 +33,7 @@ pub fn router_plans(
 }
 
 // The plan of a router of that number.
-#[tactic(auto, unfolding(crate::specs::Read::router_plan))]
+#[tactic(auto, unfolding(crate::specs::Read::router_plan, crate::specs::Stages::routes_at, crate::specs::Stages::restarts_at, crate::specs::Stages::reroutes_at))]
 fn router_plan(
     alloc: Global,
     links: &[LinkPlan],
@@ -98,7 +99,7 @@ fn outgoing(
 }
 
 // The routes of a router.
-#[tactic(auto, unfolding(crate::specs::Read::routes_at))]
+#[tactic(auto, unfolding(crate::specs::Stages::routes_at))]
 fn routes_at(alloc: Global, router: u16, routes: &[OwnedRoute]) -> Result<Listed<Route>, AllocError>
     ensures { IfOk result (λ found. found ≡ routes_at router routes.now) }
 {
@@ -112,7 +113,7 @@ fn routes_at(alloc: Global, router: u16, routes: &[OwnedRoute]) -> Result<Listed
 }
 
 // The restarts of a router.
-#[tactic(auto, unfolding(crate::specs::Read::restarts_at))]
+#[tactic(auto, unfolding(crate::specs::Stages::restarts_at))]
 fn restarts_at(
     alloc: Global,
     router: u16,
@@ -130,7 +131,7 @@ fn restarts_at(
 }
 
 // The changes of a router's routes.
-#[tactic(auto, unfolding(crate::specs::Read::reroutes_at))]
+#[tactic(auto, unfolding(crate::specs::Stages::reroutes_at))]
 fn reroutes_at(
     alloc: Global,
     router: u16,

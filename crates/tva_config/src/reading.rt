@@ -8,7 +8,8 @@ ghost use Rattle.tva_config_entries.specs.Faults.{Answers, AnswersBy, IsOrLacksM
 ghost use Rattle.tva_plan.specs.Valid.{IsConfig};
 ghost use Rattle.tva_config_entries.specs.Views.{seen_entries};
 ghost use Rattle.tva_config.specs.Views.{link_at, seen_owned, seen_joined};
-ghost use Rattle.tva_config.specs.Read.{config_of, owned_of, linked_of, joined_of, plan_of, read_of};
+ghost use Rattle.tva_config.specs.Read.{read_of};
+ghost use Rattle.tva_config.specs.Stages.{config_of, owned_of, linked_of, joined_of, planned_of};
 
 use crate::joined::{JoinedLists, OwnedLists};
 use crate::{changes, links, nodes, plans, routes};
@@ -43,14 +44,14 @@ fn read_text(alloc: Global, text: &[u8]) -> Result<Config, ConfigError>
 }
 
 // The plan of the entries, or the first fault of the steps across tables.
-#[tactic(auto, unfolding(crate::specs::Read::plan_of))]
+#[tactic(auto, unfolding(crate::specs::Stages::planned_of))]
 fn plan(alloc: Global, entries: EntryLists) -> Result<Config, ConfigError>
     requires nodes { length entries.routers.items + length entries.hosts.items ≤ 1024 }
     requires links { length entries.links.items ≤ 4096 }
     requires routes { length entries.routes.items ≤ 65536 }
     requires restarts { length entries.restarts.items ≤ 65536 }
     requires reroutes { length entries.reroutes.items ≤ 65536 }
-    ensures { Answers (plan_of (seen_entries entries)) result }
+    ensures { Answers (planned_of (seen_entries entries)) result }
 {
     let joined = join(alloc, &entries)?;
     Ok(config(
@@ -66,7 +67,7 @@ fn plan(alloc: Global, entries: EntryLists) -> Result<Config, ConfigError>
 }
 
 // The steps across tables, or the first fault of them.
-#[tactic(auto, unfolding(crate::specs::Read::joined_of))]
+#[tactic(auto, unfolding(crate::specs::Stages::joined_of))]
 fn join(alloc: Global, entries: &EntryLists) -> Result<JoinedLists, ConfigError>
     requires nodes { length entries.now.routers.items + length entries.now.hosts.items ≤ 1024 }
     requires links { length entries.now.links.items ≤ 4096 }
@@ -86,7 +87,7 @@ fn join(alloc: Global, entries: &EntryLists) -> Result<JoinedLists, ConfigError>
 }
 
 // The steps from the links on, by the numbers of names, or the first fault of them.
-#[tactic(auto, unfolding(crate::specs::Read::linked_of))]
+#[tactic(auto, unfolding(crate::specs::Stages::linked_of))]
 fn join_links(
     alloc: Global,
     numbers: &HashMap<String, u16>,
@@ -116,7 +117,7 @@ fn join_links(
 }
 
 // The steps over routes, restarts and changes of routes, or the first fault of them.
-#[tactic(auto, unfolding(crate::specs::Read::owned_of))]
+#[tactic(auto, unfolding(crate::specs::Stages::owned_of))]
 fn own(
     alloc: Global,
     routers: usize,
@@ -147,7 +148,7 @@ fn own(
 }
 
 // The configuration of valid entries.
-#[tactic(auto, unfolding(crate::specs::Read::config_of))]
+#[tactic(auto, unfolding(crate::specs::Stages::config_of))]
 fn config(
     alloc: Global,
     horizon: u64,

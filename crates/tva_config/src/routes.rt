@@ -3,7 +3,8 @@ ghost use Rattle.std.specs.Prelude.{◌≡◌, ◌≤◌, IfOk, length};
 ghost use Rattle.std.specs.HashMap.{get_by_text};
 ghost use Rattle.tva_config_entries.specs.Faults.{AnswersBy};
 ghost use Rattle.tva_config.specs.Views.{link_at, IsSeen};
-ghost use Rattle.tva_config.specs.Routes.{router_named, link_to, resolved, route_step, routes_of};
+ghost use Rattle.tva_config.specs.Routes.{router_named, resolved, route_step};
+ghost use Rattle.tva_config.specs.Stages.{link_to, routes_of};
 
 use crate::joined::OwnedRoute;
 use crate::links::node;
@@ -22,7 +23,7 @@ pub struct NumberedRoutes {
 }
 
 /// The routes, or the first fault among them. So many nodes are routers.
-#[tactic(auto, unfolding(crate::specs::Routes::routes_of))]
+#[tactic(auto, unfolding(crate::specs::Stages::routes_of))]
 pub fn number_routes(
     alloc: Global,
     routers: usize,

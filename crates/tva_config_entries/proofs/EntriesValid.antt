@@ -1,10 +1,11 @@
 -- What the entries of the tables keep that were read.
-use Rattle.std.proofs.Common.{◌≡◌, ◌≤◌, ◌<◌, ◌^◌, ◌&&◌, nat_le, Bool, true, false, cond, eqb, ℕ, List, [], Option, Some, None, Ok, All, codes, refl, subst, arith}
+use Rattle.std.proofs.Common.{◌≡◌, ◌≤◌, ◌<◌, ◌^◌, ◌&&◌, nat_le, Bool, true, false, cond, eqb, ℕ, List, [], Some, None, Ok, All, codes, refl, subst, arith}
 use Rattle.std.proofs.lemmas.Bool.{and_parts, leb-true}
 use Rattle.std.proofs.lemmas.List.Elements.{All-nil}
 use Rattle.toml.specs.Data.{Members}
 use Rattle.tva_base.specs.declared.limits.LinkLimits.{LinkLimits}
 use Rattle.tva_base.specs.Plan.{AreClassLimits, AreLinkLimits, IsPrefix}
+use Rattle.tva_base.specs.Addresses.{address_of, prefix_of}
 use Rattle.tva_base.specs.Versions.{AreRights, IsVersion, seconds_max, units_max}
 use Rattle.tva_base.specs.declared.packet.Rights.{Rights}
 use Rattle.tva_base.specs.declared.plan.PolicyKind.TheVariants as policy
@@ -18,8 +19,9 @@ use Rattle.tva_config_entries.specs.declared.entries.RouteEntry.{RouteEntry}
 use Rattle.tva_config_entries.specs.Faults.{Read}
 use Rattle.tva_config_entries.specs.Keys.{only_listed, required, optional}
 use Rattle.tva_config_entries.specs.Values as value
-use Rattle.tva_config_entries.specs.Entries.{router_keys, router_of, host_keys, rights_of, policy_plan_of, host_of, link_keys, row, class_limits, behind_a_tag, inner_of, limits_of, link_of, route_keys, route_of}
-use Rattle.tva_config_entries.specs.Tables.{entry_step, entries_of}
+use Rattle.tva_config_entries.specs.Entries.{router_keys, router_of, host_keys, policy_plan_of, host_of, link_keys, row, class_limits, behind_a_tag, limits_of, link_of, route_keys, route_of}
+use Rattle.tva_config_entries.specs.Tables.{entries_of}
+use Rattle.tva_config_entries.specs.Stages.{entry_step}
 use Rattle.tva_config_entries.proofs.Ranges.{IsRouterEntry, IsHostEntry, IsLinkEntry, IsRouteEntry}
 use Rattle.tva_plan.specs.Valid.{IsName}
 use Rattle.tva_config_entries.proofs.KindsValid.{IsWithin, required_valid, optional_valid, number_valid, name_valid, prefix_kind_valid, nonce_valid}
@@ -57,15 +59,15 @@ pub router_valid : (p : Place) (ms : Members) (r : RouterEntry) → router_of p 
 unfolding router_of
 router_valid p ms r gave =
     when_gave IsRouterEntry (only_listed p router_keys ms) _ r gave (λ u known g1.
-    when_gave IsRouterEntry (required p ms (codes "name") value.name) _ r g1 (λ name k1 g2.
-    when_gave IsRouterEntry (required p ms (codes "master") value.master) _ r g2 (λ master k2 g3.
+    when_gave IsRouterEntry (required p ms (codes "name") (value.written value.name_of)) _ r g1 (λ name k1 g2.
+    when_gave IsRouterEntry (required p ms (codes "master") (value.written (value.hex_bytes_of 32))) _ r g2 (λ master k2 g3.
     when_gave IsRouterEntry (required p ms (codes "slots") (value.number 0 1000000)) _ r g3 (λ slots k3 g4.
     when_gave IsRouterEntry (optional p ms (codes "clock_offset_ns") (value.number 0 1000000000000000) 0) _ r g4 (λ offset k4 g5.
     when_gave IsRouterEntry (optional p ms (codes "edge_tag") (value.number 0 65535) 0) _ r g5 (λ tag k5 g6.
     let made : RouterEntry = record { name = name; master = master; slots = slots; clock_offset = offset; edge_tag = tag } in
     let same : made ≡ r = gave_one made r g6 in
     let valid : IsRouterEntry made = record {
-      name = required_valid IsName value.name p ms (codes "name") name name_valid k1;
+      name = required_valid IsName (value.written value.name_of) p ms (codes "name") name name_valid k1;
       slots = (number_needed 0 1000000 p ms (codes "slots") slots k3).1;
       clock_offset = (number_or 0 1000000000000000 0 p ms (codes "clock_offset_ns") offset refl k4).1;
       edge_tag = tag_within tag (number_or 0 65535 0 p ms (codes "edge_tag") tag refl k5);
@@ -79,35 +81,30 @@ units_usual version = at_least 32 (eqb version 1) 1023 1048575 refl refl
 seconds_usual : (version : ℕ) → (nat_le 0 10 && nat_le 10 (seconds_max version)) ≡ true
 seconds_usual version = at_least 10 (eqb version 1) 63 127 refl refl
 
-rights_read : (version : ℕ) (p : Place) (ms : Members) (rights : Rights) → rights_of version p ms ≡ Ok rights → AreRights version rights
-rights_read version p ms rights gave =
-    when_gave (AreRights version) (optional p ms (codes "n") (value.number 0 (units_max version)) 32) _ rights gave (λ n k1 g1.
-    when_gave (AreRights version) (optional p ms (codes "t") (value.number 0 (seconds_max version)) 10) _ rights g1 (λ t k2 g2.
-    let made : Rights = record { n = n; t = t } in
-    let valid : AreRights version made = record {
-      units = (number_or 0 (units_max version) 32 p ms (codes "n") n (units_usual version) k1).1;
-      seconds = (number_or 0 (seconds_max version) 10 p ms (codes "t") t (seconds_usual version) k2).1;
-    } in
-    subst (AreRights version) (gave_one made rights g2) valid))
-
 rights_valid : (version : ℕ) (p : Place) (ms : Members) (plan : PolicyPlan) → policy_plan_of version p ms ≡ Ok plan → AreRights version plan.rights
 unfolding policy_plan_of
 rights_valid version p ms plan gave =
-    when_gave (λ (q : PolicyPlan). AreRights version q.rights) (optional p ms (codes "policy") value.policy_kind policy.DenyAll) _ plan gave (λ kind k1 g1.
-    when_gave (λ (q : PolicyPlan). AreRights version q.rights) (rights_of version p ms) _ plan g1 (λ rights k2 g2.
-    when_gave (λ (q : PolicyPlan). AreRights version q.rights) (optional p ms (codes "grants") (value.number 0 1000000) 1000) _ plan g2 (λ grants k3 g3.
-    when_gave (λ (q : PolicyPlan). AreRights version q.rights) (optional p ms (codes "deny") value.addresses []) _ plan g3 (λ deny k4 g4.
-    when_gave (λ (q : PolicyPlan). AreRights version q.rights) (optional p ms (codes "deny_tags") value.tags []) _ plan g4 (λ deny_tags k5 g5.
+    when_gave (λ (q : PolicyPlan). AreRights version q.rights) (optional p ms (codes "policy") (value.written value.policy_of) policy.DenyAll) _ plan gave (λ kind k1 g1.
+    when_gave (λ (q : PolicyPlan). AreRights version q.rights) (optional p ms (codes "n") (value.number 0 (units_max version)) 32) _ plan g1 (λ n k2 g2.
+    when_gave (λ (q : PolicyPlan). AreRights version q.rights) (optional p ms (codes "t") (value.number 0 (seconds_max version)) 10) _ plan g2 (λ t k3 g3.
+    when_gave (λ (q : PolicyPlan). AreRights version q.rights) (optional p ms (codes "grants") (value.number 0 1000000) 1000) _ plan g3 (λ grants k4 g4.
+    when_gave (λ (q : PolicyPlan). AreRights version q.rights) (optional p ms (codes "deny") (value.few_items (value.written address_of)) []) _ plan g4 (λ deny k5 g5.
+    when_gave (λ (q : PolicyPlan). AreRights version q.rights) (optional p ms (codes "deny_tags") (value.few_items (value.number 1 65535)) []) _ plan g5 (λ deny_tags k6 g6.
+    let rights : Rights = record { n = n; t = t } in
     let made : PolicyPlan = record { kind = kind; rights = rights; grants = grants; deny = deny; deny_tags = deny_tags } in
-    subst (λ (q : PolicyPlan). AreRights version q.rights) (gave_one made plan g5) (rights_read version p ms rights k2))))))
+    let valid : AreRights version rights = record {
+      units = (number_or 0 (units_max version) 32 p ms (codes "n") n (units_usual version) k2).1;
+      seconds = (number_or 0 (seconds_max version) 10 p ms (codes "t") t (seconds_usual version) k3).1;
+    } in
+    subst (λ (q : PolicyPlan). AreRights version q.rights) (gave_one made plan g6) valid))))))
 
 pub host_valid : (version : ℕ) → IsVersion version → (p : Place) (ms : Members) (h : HostEntry) → host_of version p ms ≡ Ok h → IsHostEntry h
 unfolding host_of
 host_valid version is p ms h gave =
     when_gave IsHostEntry (only_listed p host_keys ms) _ h gave (λ u known g1.
-    when_gave IsHostEntry (required p ms (codes "name") value.name) _ h g1 (λ name k1 g2.
-    when_gave IsHostEntry (required p ms (codes "address") value.address) _ h g2 (λ address k2 g3.
-    when_gave IsHostEntry (optional p ms (codes "nonce") value.nonce 1) _ h g3 (λ nonce k3 g4.
+    when_gave IsHostEntry (required p ms (codes "name") (value.written value.name_of)) _ h g1 (λ name k1 g2.
+    when_gave IsHostEntry (required p ms (codes "address") (value.written address_of)) _ h g2 (λ address k2 g3.
+    when_gave IsHostEntry (optional p ms (codes "nonce") (value.written value.nonce_of) 1) _ h g3 (λ nonce k3 g4.
     when_gave IsHostEntry (optional p ms (codes "margin_ns") (value.number 0 1000000000000) 1000000) _ h g4 (λ margin k4 g5.
     when_gave IsHostEntry (optional p ms (codes "retry_ns") (value.number 0 10000000000000) 2000000000) _ h g5 (λ retry k5 g6.
     when_gave IsHostEntry (policy_plan_of version p ms) _ h g6 (λ plan k6 g7.
@@ -122,8 +119,8 @@ host_valid version is p ms h gave =
     } in
     let same : made ≡ h = gave_one made h g7 in
     let valid : IsHostEntry made = record {
-      name = required_valid IsName value.name p ms (codes "name") name name_valid k1;
-      nonce = optional_valid (λ k. k < 2 ^ 48) value.nonce p ms (codes "nonce") 1 nonce nonce_valid one_below k3;
+      name = required_valid IsName (value.written value.name_of) p ms (codes "name") name name_valid k1;
+      nonce = optional_valid (λ k. k < 2 ^ 48) (value.written value.nonce_of) p ms (codes "nonce") 1 nonce nonce_valid one_below k3;
       margin = (number_or 0 1000000000000 1000000 p ms (codes "margin_ns") margin refl k4).1;
       retry = (number_or 0 10000000000000 2000000000 p ms (codes "retry_ns") retry refl k5).1;
       version = is;
@@ -156,17 +153,8 @@ inner_chosen : (b : Bool) (inner n : ℕ) → cond b (Some inner) None ≡ Some 
 inner_chosen true inner n e = cc
 inner_chosen false inner n e = absurd (cc)
 
-inner_valid : (p : Place) (ms : Members) (o : Option ℕ) → inner_of p ms ≡ Ok o → (n : ℕ) → o ≡ Some n
-    → (1 ≤ n) × (n ≤ 65536)
-inner_valid p ms o gave =
-    when_gave (λ (r : Option ℕ). (n : ℕ) → r ≡ Some n → (1 ≤ n) × (n ≤ 65536))
-    (optional p ms (codes "request_levels") (value.number 1 2) 1) _ o gave (λ levels k1 g1.
-    when_gave (λ (r : Option ℕ). (n : ℕ) → r ≡ Some n → (1 ≤ n) × (n ≤ 65536))
-    (optional p ms (codes "request_inner") (value.number 1 65536) 4) _ o g1 (λ inner k2 g2.
-    let same : behind_a_tag levels inner ≡ o = gave_one (behind_a_tag levels inner) o g2 in
-    subst (λ (r : Option ℕ). (n : ℕ) → r ≡ Some n → (1 ≤ n) × (n ≤ 65536)) same
-    (λ n e. subst (λ z. (1 ≤ z) × (z ≤ 65536)) (inner_chosen (eqb levels 2) inner n e)
-    (number_or 1 65536 4 p ms (codes "request_inner") inner refl k2))))
+inner_valid : (levels inner : ℕ) → IsWithin 1 65536 inner → (n : ℕ) → behind_a_tag levels inner ≡ Some n → (1 ≤ n) × (n ≤ 65536)
+inner_valid levels inner within n e = subst (λ z. (1 ≤ z) × (z ≤ 65536)) (inner_chosen (eqb levels 2) inner n e) within
 
 limits_valid : (p : Place) (ns : ℕ) (ms : Members) (l : LinkLimits) → IsWithin 1 1000000 ns → limits_of p ns ms ≡ Ok l → AreLinkLimits l
 unfolding limits_of
@@ -180,7 +168,8 @@ limits_valid p ns ms l rate gave =
     when_gave AreLinkLimits (row p ms (codes "request_bytes") (codes "regular_bytes") 2048 1073741824 1048576) _ l g6 (λ class_bytes k7 g7.
     when_gave AreLinkLimits (optional p ms (codes "legacy_ring") (value.number 1 65536) 256) _ l g7 (λ legacy_ring k8 g8.
     when_gave AreLinkLimits (optional p ms (codes "legacy_bytes") (value.number 2048 1073741824) 262144) _ l g8 (λ legacy_bytes k9 g9.
-    when_gave AreLinkLimits (inner_of p ms) _ l g9 (λ inner k10 g10.
+    when_gave AreLinkLimits (optional p ms (codes "request_levels") (value.number 1 2) 1) _ l g9 (λ levels k10 g10.
+    when_gave AreLinkLimits (optional p ms (codes "request_inner") (value.number 1 65536) 4) _ l g10 (λ inner k11 g11.
     let made : LinkLimits = record {
       ns_per_byte = ns;
       share = share;
@@ -189,9 +178,9 @@ limits_valid p ns ms l rate gave =
       regular = class_limits queues.1 rings.1 queue_bytes.1 class_bytes.1 quantum;
       legacy_ring = legacy_ring;
       legacy_bytes = legacy_bytes;
-      request_inner = inner;
+      request_inner = behind_a_tag levels inner;
     } in
-    let same : made ≡ l = gave_one made l g10 in
+    let same : made ≡ l = gave_one made l g11 in
     let few = number_or 2048 1000000 2048 p ms (codes "quantum") quantum refl k3 in
     let (q0, q1) = row_valid p ms (codes "request_queues") (codes "regular_queues") 1 65536 64 queues refl k4 in
     let (r0, r1) = row_valid p ms (codes "request_ring") (codes "regular_ring") 1 65536 32 rings refl k5 in
@@ -206,16 +195,16 @@ limits_valid p ns ms l rate gave =
       regular = class_valid queues.1 rings.1 queue_bytes.1 class_bytes.1 quantum q1 r1 b1 c1 few;
       legacy_ring = number_or 1 65536 256 p ms (codes "legacy_ring") legacy_ring refl k8;
       legacy_bytes = bytes_within legacy_bytes legacy;
-      request_inner = inner_valid p ms inner k10;
+      request_inner = inner_valid levels inner (number_or 1 65536 4 p ms (codes "request_inner") inner refl k11);
     } in
-    subst AreLinkLimits same valid))))))))))
+    subst AreLinkLimits same valid)))))))))))
 
 pub link_valid : (p : Place) (ms : Members) (l : LinkEntry) → link_of p ms ≡ Ok l → IsLinkEntry l
 unfolding link_of
 link_valid p ms l gave =
     when_gave IsLinkEntry (only_listed p link_keys ms) _ l gave (λ u known g1.
-    when_gave IsLinkEntry (required p ms (codes "from") value.name) _ l g1 (λ from k1 g2.
-    when_gave IsLinkEntry (required p ms (codes "to") value.name) _ l g2 (λ to k2 g3.
+    when_gave IsLinkEntry (required p ms (codes "from") (value.written value.name_of)) _ l g1 (λ from k1 g2.
+    when_gave IsLinkEntry (required p ms (codes "to") (value.written value.name_of)) _ l g2 (λ to k2 g3.
     when_gave IsLinkEntry (required p ms (codes "ns_per_byte") (value.number 1 1000000)) _ l g3 (λ ns k3 g4.
     when_gave IsLinkEntry (required p ms (codes "delay_ns") (value.number 1 1000000000000)) _ l g4 (λ delay k4 g5.
     when_gave IsLinkEntry (optional p ms (codes "tag") (value.number 0 65535) 0) _ l g5 (λ tag k5 g6.
@@ -233,12 +222,12 @@ pub route_valid : (p : Place) (ms : Members) (r : RouteEntry) → route_of p ms 
 unfolding route_of
 route_valid p ms r gave =
     when_gave IsRouteEntry (only_listed p route_keys ms) _ r gave (λ u known g1.
-    when_gave IsRouteEntry (required p ms (codes "router") value.name) _ r g1 (λ router k1 g2.
-    when_gave IsRouteEntry (required p ms (codes "prefix") value.prefix) _ r g2 (λ prefix k2 g3.
-    when_gave IsRouteEntry (required p ms (codes "via") value.name) _ r g3 (λ via k3 g4.
+    when_gave IsRouteEntry (required p ms (codes "router") (value.written value.name_of)) _ r g1 (λ router k1 g2.
+    when_gave IsRouteEntry (required p ms (codes "prefix") (value.written prefix_of)) _ r g2 (λ prefix k2 g3.
+    when_gave IsRouteEntry (required p ms (codes "via") (value.written value.name_of)) _ r g3 (λ via k3 g4.
     let made : RouteEntry = record { router = router; prefix = prefix; via = via } in
     let same : made ≡ r = gave_one made r g4 in
-    subst IsRouteEntry same (required_valid IsPrefix value.prefix p ms (codes "prefix") prefix prefix_kind_valid k2)))))
+    subst IsRouteEntry same (required_valid IsPrefix (value.written prefix_of) p ms (codes "prefix") prefix prefix_kind_valid k2)))))
 
 -- what each entry keeps, all of a table keep
 pub entries_valid : {A : Type 0} (P : A → Type 0) (t : tables.ConfigTable) (entry_of : Place → Members → Read A)

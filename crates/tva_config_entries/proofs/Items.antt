@@ -1,11 +1,11 @@
 -- Going over the items of an array.
-use Rattle.std.proofs.Common.{◌≡◌, ◌∙◌, ◌<◌, ◌≤◌, ◌+◌, ℕ, List, [], ◌∷◌, ◌++◌, length, get_or, drop, Option, Some, None, refl, sym, ap, subst, append_assoc, append-nil}
+use Rattle.std.proofs.Common.{◌≡◌, ◌∙◌, ◌<◌, ◌≤◌, ◌+◌, ℕ, List, [], ◌∷◌, ◌++◌, length, get_or, drop, Option, Some, None, sym, ap, subst, append_assoc, append-nil}
 use Rattle.std.specs.Option.{option_map}
 use Rattle.std.proofs.lemmas.List.{at_drop_more, at_drop_all}
-use Rattle.toml.specs.Data.{Data, string, integer, float, boolean, datetime, array, table, as_table}
+use Rattle.toml.specs.Data.{Data}
 use Rattle.toml.specs.declared.value.Value.{Value}
 use Rattle.toml.specs.View.{view, items_view}
-use Rattle.tva_config_entries.specs.Values.{and_first, items, table_members}
+use Rattle.tva_config_entries.specs.Values.{and_first, items}
 
 -- so far these were found, and the rest of the array gives what is missing
 abbrev pub Collects : {A : Type 0} → (Data → Option A) → List A → List Value → ℕ → Type 0
@@ -55,13 +55,3 @@ collects_all kind found vs ws i same past so_far =
     ap Some (sym (append-nil found))
     ∙ ap (λ o. option_map (λ rest. found ++ rest) o) (sym (at_drop_all (λ l. items kind (items_view l)) vs i (subst (λ l. length l ≤ i) same past)))
     ∙ so_far
-
--- a table's members are what `toml` gives for it
-pub members_given : (d : Data) → as_table d ≡ table_members d
-members_given (string text) = refl
-members_given (integer n) = refl
-members_given (float f) = refl
-members_given (boolean b) = refl
-members_given (datetime t) = refl
-members_given (array items) = refl
-members_given (table ms) = refl

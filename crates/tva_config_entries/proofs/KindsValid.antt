@@ -1,6 +1,7 @@
 -- What a value that was read keeps: its range, its letters.
 use Rattle.std.proofs.Common.{◌≡◌, ◌≤◌, ◌<◌, ◌^◌, ◌*◌, ◌&&◌, nat_le, ℕ, ℤ, pos, negsuc, Bool, true, false, cond, List, [], ◌∷◌, length, Result, Ok, Err, Option, Some, None, IfSome, option_and_then, refl, sym, ◌∙◌, subst, arith}
 use Rattle.std.specs.Option.{option_map}
+use Rattle.std.specs.Result.{result_ok}
 use Rattle.std.specs.List.{list_all}
 use Rattle.std.proofs.lemmas.Bool.{and_parts, leb-true}
 use Rattle.hex.specs.Hex.{IsBytes, decode_sized}
@@ -10,37 +11,42 @@ use Rattle.toml.specs.Data.{Data, Members, as_integer, as_str, get_member}
 use Rattle.tva_base.specs.declared.addresses.Prefix.{Prefix}
 use Rattle.tva_base.specs.Addresses.{prefix_of}
 use Rattle.tva_base.specs.Plan.{IsPrefix}
+use Rattle.tva_config_entries.specs.declared.faults.ConfigFault.{ConfigFault}
+use Rattle.tva_config_entries.specs.declared.faults.ConfigRule.TheVariants as rule
 use Rattle.tva_config_entries.specs.declared.place.Place.{Place}
-use Rattle.tva_config_entries.specs.Keys.{value_or_fault, required_at, required, optional_at, optional}
-use Rattle.tva_config_entries.specs.Values.{within, number, name_of, name, prefix, decoded, number_of_bytes, nonce_of, nonce}
+use Rattle.tva_config_entries.specs.Faults.{Read, fault_at, found}
+use Rattle.tva_config_entries.specs.Keys.{keyed, required, optional}
+use Rattle.tva_config_entries.specs.Values.{within, number, written, name_of, number_of_bytes, nonce_of}
 use Rattle.tva_plan.specs.Names.{is_name_byte}
 use Rattle.tva_plan.specs.Valid.{IsName}
 use Rattle.tva_config_entries.proofs.Prefixes.{prefix_valid}
 
--- what is known of each value of a kind is known of what a key gives
-gave_at : {A : Type 0} (P : A → Type 0) (place : Place) (key : List ℕ) (o : Option A) (x : A)
-    → ((y : A) → o ≡ Some y → P y) → value_or_fault place key o ≡ Ok x → P x
-gave_at P place key None x known gave = absurd (cc)
-gave_at P place key (Some y) x known gave = let same : y ≡ x = cc in subst P same (known y refl)
+-- what is known of each value of a kind, and of what is read of a missing key, is known of what a key gives
+gave_at : {A : Type 0} (P : A → Type 0) (o : Option A) (fault : ConfigFault) (x : A)
+    → ((y : A) → o ≡ Some y → P y) → found o fault ≡ Ok x → P x
+gave_at P None fault x known gave = absurd (cc)
+gave_at P (Some y) fault x known gave = let same : y ≡ x = cc in subst P same (known y refl)
 
-required_from : {A : Type 0} (P : A → Type 0) (kind : Data → Option A) (place : Place) (key : List ℕ) (o : Option Data) (x : A)
-    → ((d : Data) (y : A) → kind d ≡ Some y → P y) → required_at place key kind o ≡ Ok x → P x
-required_from P kind place key None x known gave = absurd (cc)
-required_from P kind place key (Some d) x known gave = gave_at P place key (kind d) x (known d) gave
+keyed_from : {A : Type 0} (P : A → Type 0) (kind : Data → Option A) (place : Place) (key : List ℕ) (missing : Read A) (o : Option Data) (x : A)
+    → ((d : Data) (y : A) → kind d ≡ Some y → P y) → (missing ≡ Ok x → P x) → keyed place key kind missing o ≡ Ok x → P x
+keyed_from P kind place key missing None x known usual gave = usual gave
+keyed_from P kind place key missing (Some d) x known usual gave = gave_at P (kind d) (fault_at place rule.Value key) x (known d) gave
+
+never : {A : Type 0} (P : Type 0) (fault : ConfigFault) (x : A) → ◌≡◌ {A = Read A} (Err fault) (Ok x) → P
+never P fault x gave = absurd (cc)
 
 pub required_valid : {A : Type 0} (P : A → Type 0) (kind : Data → Option A) (place : Place) (ms : Members) (key : List ℕ) (x : A)
     → ((d : Data) (y : A) → kind d ≡ Some y → P y) → required place ms key kind ≡ Ok x → P x
-required_valid P kind place ms key x known gave = required_from P kind place key (get_member key ms) x known gave
+required_valid P kind place ms key x known gave =
+    keyed_from P kind place key (Err (fault_at place rule.Missing key)) (get_member key ms) x known (never (P x) (fault_at place rule.Missing key) x) gave
 
-optional_from : {A : Type 0} (P : A → Type 0) (kind : Data → Option A) (place : Place) (key : List ℕ) (default : A) (o : Option Data) (x : A)
-    → ((d : Data) (y : A) → kind d ≡ Some y → P y) → P default → optional_at place key kind default o ≡ Ok x → P x
-optional_from P kind place key default None x known usual gave = let same : default ≡ x = cc in subst P same usual
-optional_from P kind place key default (Some d) x known usual gave = gave_at P place key (kind d) x (known d) gave
+the_default : {A : Type 0} (P : A → Type 0) (default x : A) → P default → ◌≡◌ {A = Read A} (Ok default) (Ok x) → P x
+the_default P default x usual gave = let same : default ≡ x = cc in subst P same usual
 
 pub optional_valid : {A : Type 0} (P : A → Type 0) (kind : Data → Option A) (place : Place) (ms : Members) (key : List ℕ) (default x : A)
     → ((d : Data) (y : A) → kind d ≡ Some y → P y) → P default → optional place ms key kind default ≡ Ok x → P x
 optional_valid P kind place ms key default x known usual gave =
-    optional_from P kind place key default (get_member key ms) x known usual gave
+    keyed_from P kind place key (Ok default) (get_member key ms) x known (the_default P default x usual) gave
 
 -- a step over a value that may be missing
 then_gave : {A B : Type 0} (P : B → Type 0) (f : A → Option B) (o : Option A) (y : B)
@@ -77,7 +83,7 @@ name_of_valid text x is =
     let valid : IsName text = record { size = (leb-true 1 (length text) least, leb-true (length text) 16 most); bytes = bytes } in
     subst IsName same valid
 
-pub name_valid : (d : Data) (x : List ℕ) → name d ≡ Some x → IsName x
+pub name_valid : (d : Data) (x : List ℕ) → written name_of d ≡ Some x → IsName x
 name_valid d x is = then_gave IsName name_of (as_str d) x (λ text given. name_of_valid text x given) is
 
 -- a prefix
@@ -85,7 +91,7 @@ some_of : {A : Type 0} (P : A → Type 0) (o : Option A) (x : A) → IfSome o P 
 some_of P None x known is = absurd (cc)
 some_of P (Some y) x known is = let same : y ≡ x = cc in subst P same known
 
-pub prefix_kind_valid : (d : Data) (x : Prefix) → prefix d ≡ Some x → IsPrefix x
+pub prefix_kind_valid : (d : Data) (x : Prefix) → written prefix_of d ≡ Some x → IsPrefix x
 prefix_kind_valid d x is =
     then_gave IsPrefix prefix_of (as_str d) x (λ text given. some_of IsPrefix (prefix_of text) x (prefix_valid text) given) is
 
@@ -108,7 +114,7 @@ six_bytes (a ∷ b ∷ c ∷ d ∷ e ∷ f ∷ []) long small =
 six_bytes (a ∷ b ∷ c ∷ d ∷ e ∷ f ∷ g ∷ rest) long small = absurd (omega arith)
 
 decoded_from : (text : List ℕ) (r : Result (List ℕ) FromHexError) (n : ℕ) → decode_sized text 6 ≡ r
-    → option_map number_of_bytes (decoded r) ≡ Some n → n < 2 ^ 48
+    → option_map number_of_bytes (result_ok r) ≡ Some n → n < 2 ^ 48
 decoded_from text (Err e) n is gave = absurd (cc)
 decoded_from text (Ok bytes) n is gave =
     let twice : length text ≡ 2 * 6 = decode_sized-ok text 6 bytes is in
@@ -117,6 +123,6 @@ decoded_from text (Ok bytes) n is gave =
     let same : number_of_bytes bytes ≡ n = cc in
     subst (λ m. m < 2 ^ 48) same (six_bytes bytes six small)
 
-pub nonce_valid : (d : Data) (n : ℕ) → nonce d ≡ Some n → n < 2 ^ 48
+pub nonce_valid : (d : Data) (n : ℕ) → written nonce_of d ≡ Some n → n < 2 ^ 48
 nonce_valid d n is =
     then_gave (λ m. m < 2 ^ 48) nonce_of (as_str d) n (λ text given. decoded_from text (decode_sized text 6) n refl given) is

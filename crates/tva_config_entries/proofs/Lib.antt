@@ -10,4 +10,5 @@ pub mod Prefixes
 pub mod Ranges
 pub mod ReadingValid
 pub mod Seen
+pub mod Staged
 pub mod Turns

@@ -1,18 +1,20 @@
 -- What is read of a text as its entries keeps the ranges of its keys.
-use Rattle.std.proofs.Common.{◌≡◌, ◌≤◌, ℕ, ◌+◌, nat_lt, List, [], length, Ok, Option, Some, None, All, codes, refl, subst, arith}
+use Rattle.std.proofs.Common.{◌≡◌, ◌≤◌, ℕ, ◌+◌, nat_lt, List, [], length, Ok, All, codes, refl, ◌∙◌, subst, arith}
 use Rattle.std.proofs.lemmas.Bool.{ltb-false}
 use Rattle.toml.specs.Data.{Members}
 use Rattle.tva_base.specs.Versions.{IsVersion}
 use Rattle.tva_config_entries.specs.declared.faults.ConfigTable.TheVariants as table
 use Rattle.tva_config_entries.specs.declared.faults.ConfigRule.TheVariants as rule
-use Rattle.tva_config_entries.specs.Faults.{at, top, fault_at, unless}
+use Rattle.tva_config_entries.specs.Faults.{at, top, fault_at, found, unless}
 use Rattle.tva_config_entries.specs.Keys.{only_listed, required, optional}
 use Rattle.tva_config_entries.specs.Values as value
 use Rattle.tva_config_entries.specs.Entries.{router_of, host_of, link_of, route_of, restart_of, reroute_of}
-use Rattle.tva_config_entries.specs.Tables.{Top, top_keys, top_of, tables_of, counts_of, entry_step, entries_of, Entries, all_entries_of}
-use Rattle.tva_config_entries.specs.Reading.{members_read, document_of, document_read, entries_read}
+use Rattle.tva_config_entries.specs.Tables.{top_keys, entries_of, Entries}
+use Rattle.tva_config_entries.specs.Stages.{Top, top_of, tables_of, counts_of, entry_step, all_entries_of}
+use Rattle.tva_config_entries.specs.Reading.{members_read, document_of, entries_read}
 use Rattle.tva_config_entries.proofs.Ranges.{IsRouterEntry, IsHostEntry, IsLinkEntry, IsRouteEntry, AreEntries}
 use Rattle.tva_config_entries.proofs.EntriesValid.{number_needed, number_or, router_valid, host_valid, link_valid, route_valid, entries_valid}
+use Rattle.tva_config_entries.proofs.Staged.{members_staged}
 use Rattle.tva_config_entries.proofs.Turns.{first_gave, when_gave, gave_one, unless_gave, in_turn_long}
 
 abbrev AreTimes : Top → Type 0
@@ -88,9 +90,8 @@ all_read t e known gave =
     subst (AreRead t) same valid))))))
 
 members_valid : (ms : Members) (e : Entries) → members_read ms ≡ Ok e → AreEntries e
-unfolding members_read
 members_valid ms e gave =
-    when_gave AreEntries (top_of ms) _ e gave (λ t k1 g1.
+    when_gave AreEntries (top_of ms) _ e (members_staged ms ∙ gave) (λ t k1 g1.
     when_gave AreEntries (counts_of (length t.routers + length t.hosts) (length t.links) (length t.routes) (length t.restarts) (length t.reroutes)) _ e g1 (λ few k2 g2.
     let times = top_valid ms t k1 in
     let counts = counts_valid _ _ _ _ _ k2 in
@@ -111,10 +112,7 @@ members_valid ms e gave =
       routes = known.routes;
     }))
 
-document_valid : (o : Option Members) (e : Entries) → document_read o ≡ Ok e → AreEntries e
-document_valid None e gave = absurd (cc)
-document_valid (Some ms) e gave = members_valid ms e gave
-
 pub read_entries_valid : (text : List ℕ) (e : Entries) → entries_read text ≡ Ok e → AreEntries e
 unfolding entries_read
-read_entries_valid text e gave = document_valid (document_of text) e gave
+read_entries_valid text e gave =
+    when_gave AreEntries (found (document_of text) (fault_at top rule.Syntax (codes "-"))) members_read e gave (λ ms k1 g1. members_valid ms e g1)

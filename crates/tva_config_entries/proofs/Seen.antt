@@ -9,7 +9,8 @@ use Rattle.tva_config_entries.specs.declared.place.Place.{Place}
 use Rattle.tva_config_entries.specs.Faults.{Read, AnswersBy}
 use Rattle.std.proofs.lemmas.List.{length-map}
 use Rattle.tva_config_entries.specs.declared.top.TopTable.{TopTable}
-use Rattle.tva_config_entries.specs.Tables.{counts_of, entries_of}
+use Rattle.tva_config_entries.specs.Tables.{entries_of}
+use Rattle.tva_config_entries.specs.Stages.{counts_of}
 use Rattle.tva_config_entries.specs.Views.{seen_top}
 
 pub counts_seen : (t : TopTable) → counts_of (length t.routers.items + length t.hosts.items) (length t.links.items) (length t.routes.items) (length t.restarts.items) (length t.reroutes.items)

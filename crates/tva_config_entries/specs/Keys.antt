@@ -5,7 +5,7 @@ use Rattle.std.specs.Str.{bytes_eq}
 use Rattle.toml.specs.Data.{Data, Members, no_members, member, get_member}
 use Rattle.tva_config_entries.specs.declared.faults.ConfigRule.TheVariants as rule
 use Rattle.tva_config_entries.specs.declared.place.Place.{Place}
-use Rattle.tva_config_entries.specs.Faults.{Read, fault_at, unless}
+use Rattle.tva_config_entries.specs.Faults.{Read, fault_at, unless, found}
 
 abbrev pub is_listed : List (List ℕ) → List ℕ → Bool
 is_listed keys name = list_any (λ key. bytes_eq key name) keys
@@ -18,23 +18,15 @@ are_listed keys (member name d members) = is_listed keys name && are_listed keys
 abbrev pub only_listed : Place → List (List ℕ) → Members → Read (Unit {0})
 only_listed place keys members = unless (not (are_listed keys members)) (fault_at place rule.Unknown (codes "-"))
 
--- a value of the kind, or a fault
-abbrev pub value_or_fault : {A : Type 0} → Place → List ℕ → Option A → Read A
-value_or_fault place key None = Err (fault_at place rule.Value key)
-value_or_fault place key (Some x) = Ok x
+-- what stands at a key, if anything: a value of the kind, or a fault; and otherwise what is read of a missing key
+abbrev pub keyed : {A : Type 0} → Place → List ℕ → (Data → Option A) → Read A → Option Data → Read A
+keyed place key kind missing None = missing
+keyed place key kind missing (Some d) = found (kind d) (fault_at place rule.Value key)
 
 -- a key that must be there
-abbrev pub required_at : {A : Type 0} → Place → List ℕ → (Data → Option A) → Option Data → Read A
-required_at place key kind None = Err (fault_at place rule.Missing key)
-required_at place key kind (Some d) = value_or_fault place key (kind d)
-
 abbrev pub required : {A : Type 0} → Place → Members → List ℕ → (Data → Option A) → Read A
-required place members key kind = required_at place key kind (get_member key members)
+required place members key kind = keyed place key kind (Err (fault_at place rule.Missing key)) (get_member key members)
 
 -- a key with a default
-abbrev pub optional_at : {A : Type 0} → Place → List ℕ → (Data → Option A) → A → Option Data → Read A
-optional_at place key kind default None = Ok default
-optional_at place key kind default (Some d) = value_or_fault place key (kind d)
-
 abbrev pub optional : {A : Type 0} → Place → Members → List ℕ → (Data → Option A) → A → Read A
-optional place members key kind default = optional_at place key kind default (get_member key members)
+optional place members key kind default = keyed place key kind (Ok default) (get_member key members)

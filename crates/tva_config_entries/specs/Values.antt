@@ -1,18 +1,15 @@
 -- Product: the kinds of values of keys: what a value of the document is read as, or nothing where it isn't of the
 -- kind.
 use Rattle.std.specs.Prelude.{ℕ, ◌+◌, ◌*◌, ◌&&◌, pos, negsuc, ℤ, nat_le, if◌then◌else◌}
-use Rattle.std.specs.Prelude.{List, [], ◌∷◌, length, fold, codes, Result, Ok, Err, Option, Some, None, option_and_then}
+use Rattle.std.specs.Prelude.{List, [], ◌∷◌, length, fold, codes, Option, Some, None, option_and_then}
 use Rattle.std.specs.Option.{option_map}
+use Rattle.std.specs.Result.{result_ok}
 use Rattle.std.specs.List.{list_all}
 use Rattle.std.specs.Str.{bytes_eq}
 use Rattle.hex.specs.Hex.{decode_sized}
-use Rattle.hex.specs.declared.error.FromHexError.{FromHexError}
-use Rattle.toml.specs.Data.{Data, Items, no_items, item, Members, table, as_integer, as_str, as_array}
-use Rattle.tva_base.specs.declared.addresses.Address.{Address}
-use Rattle.tva_base.specs.declared.addresses.Prefix.{Prefix}
+use Rattle.toml.specs.Data.{Data, Items, no_items, item, Members, as_integer, as_str, as_array, as_table}
 use Rattle.tva_base.specs.declared.plan.PolicyKind as policies
 use Rattle.tva_base.specs.declared.plan.PolicyKind.TheVariants as policy
-use Rattle.tva_base.specs.Addresses.{address_of, prefix_of}
 use Rattle.tva_plan.specs.Names.{is_name_byte}
 
 -- a number from low to high
@@ -23,42 +20,26 @@ within low high (negsuc n) = None
 abbrev pub number : ℕ → ℕ → Data → Option ℕ
 number low high d = option_and_then (within low high) (as_integer d)
 
+-- a text that is written as the kind wants it
+abbrev pub written : {A : Type 0} → (List ℕ → Option A) → Data → Option A
+written kind d = option_and_then kind (as_str d)
+
 -- a name: 1 to 16 letters, digits, `_` and `-`
 abbrev pub name_of : List ℕ → Option (List ℕ)
 name_of text =
     if nat_le 1 (length text) && nat_le (length text) 16 && list_all is_name_byte text then Some text else None
 
-abbrev pub name : Data → Option (List ℕ)
-name d = option_and_then name_of (as_str d)
-
-abbrev pub address : Data → Option Address
-address d = option_and_then address_of (as_str d)
-
-abbrev pub prefix : Data → Option Prefix
-prefix d = option_and_then prefix_of (as_str d)
-
 -- so many bytes, each written as two hexadecimal digits
-abbrev pub decoded : Result (List ℕ) FromHexError → Option (List ℕ)
-decoded (Ok bytes) = Some bytes
-decoded (Err e) = None
-
 abbrev pub hex_bytes_of : ℕ → List ℕ → Option (List ℕ)
-hex_bytes_of count text = decoded (decode_sized text count)
-
--- 64 hexadecimal digits
-abbrev pub master : Data → Option (List ℕ)
-master d = option_and_then (hex_bytes_of 32) (as_str d)
+hex_bytes_of count text = result_ok (decode_sized text count)
 
 -- the number that bytes make, the highest first
 abbrev pub number_of_bytes : List ℕ → ℕ
 number_of_bytes bytes = fold (λ n b. n * 256 + b) 0 bytes
 
--- 12 hexadecimal digits
+-- a nonce: 12 hexadecimal digits
 abbrev pub nonce_of : List ℕ → Option ℕ
 nonce_of text = option_map number_of_bytes (hex_bytes_of 6 text)
-
-abbrev pub nonce : Data → Option ℕ
-nonce d = option_and_then nonce_of (as_str d)
 
 -- a word of a policy
 abbrev pub policy_of : List ℕ → Option policies.PolicyKind
@@ -67,9 +48,6 @@ policy_of text =
     else if bytes_eq text (codes "client") then Some policy.Client
     else if bytes_eq text (codes "server") then Some policy.Server
     else None
-
-abbrev pub policy_kind : Data → Option policies.PolicyKind
-policy_kind d = option_and_then policy_of (as_str d)
 
 -- the items of an array, each of the same kind
 abbrev pub and_first : {A : Type 0} → Option A → Option (List A) → Option (List A)
@@ -87,16 +65,6 @@ few xs = if nat_le (length xs) 1024 then Some xs else None
 abbrev pub few_items : {A : Type 0} → (Data → Option A) → Data → Option (List A)
 few_items kind d = option_and_then few (option_and_then (items kind) (as_array d))
 
-abbrev pub addresses : Data → Option (List Address)
-addresses d = few_items address d
-
-abbrev pub tags : Data → Option (List ℕ)
-tags d = few_items (number 1 65535) d
-
 -- an array of tables
-abbrev pub table_members : Data → Option Members
-table_members (table members) = Some members
-table_members _ = None
-
 abbrev pub tables : Data → Option (List Members)
-tables d = option_and_then (items table_members) (as_array d)
+tables d = option_and_then (items as_table) (as_array d)

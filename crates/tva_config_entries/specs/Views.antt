@@ -3,7 +3,8 @@ use Rattle.std.specs.Prelude.{map}
 use Rattle.toml.specs.View.{table_view}
 use Rattle.tva_config_entries.specs.declared.top.TopTable.{TopTable}
 use Rattle.tva_config_entries.specs.declared.entries.EntryLists.{EntryLists}
-use Rattle.tva_config_entries.specs.Tables.{Top, Entries}
+use Rattle.tva_config_entries.specs.Tables.{Entries}
+use Rattle.tva_config_entries.specs.Stages.{Top}
 
 abbrev pub seen_top : TopTable → Top
 seen_top t = record {

@@ -1,7 +1,8 @@
 // Values that are arrays, of one kind or of tables.
 ghost use Rattle.std.specs.Prelude.{◌≡◌, IfOk, map, option_map, option_and_then};
+ghost use Rattle.toml.specs.Data.{as_table};
 ghost use Rattle.toml.specs.View.{view, array_view, table_view};
-ghost use Rattle.tva_config_entries.specs.Values.{table_members, items, few, few_items, tables};
+ghost use Rattle.tva_config_entries.specs.Values.{items, few, few_items, tables};
 
 use crate::values::Kind;
 use std::alloc::{AllocError, Global};
@@ -58,7 +59,7 @@ pub fn tables(alloc: Global, value: &Value) -> Result<Option<Vec<&Table>>, Alloc
 }
 
 fn each_table(alloc: Global, array: &Array) -> Result<Option<Vec<&Table>>, AllocError>
-    ensures { IfOk result (λ found. option_map (λ v. map (λ t. table_view t.now) v.items) found ≡ items table_members (array_view array.now)) }
+    ensures { IfOk result (λ found. option_map (λ v. map (λ t. table_view t.now) v.items) found ≡ items as_table (array_view array.now)) }
 {
     let mut found = Vec::new(alloc);
     for value in array {

@@ -5,8 +5,8 @@ ghost use Rattle.std.specs.BTreeMap.{keys};
 ghost use Rattle.toml.specs.Data.{get_member};
 ghost use Rattle.toml.specs.View.{table_view, view};
 ghost use Rattle.tva_config_entries.specs.declared.faults.ConfigRule.TheVariants as rule;
-ghost use Rattle.tva_config_entries.specs.Faults.{fault_at, Answers, AnswersBy};
-ghost use Rattle.tva_config_entries.specs.Keys.{is_listed, are_listed, only_listed, value_or_fault, required, optional};
+ghost use Rattle.tva_config_entries.specs.Faults.{fault_at, found, Answers, AnswersBy};
+ghost use Rattle.tva_config_entries.specs.Keys.{is_listed, are_listed, only_listed, required, optional};
 ghost use Rattle.tva_config_entries.specs.Values as kind;
 
 use crate::faults::{ConfigError, ConfigFault, ConfigRule};
@@ -74,11 +74,11 @@ pub fn value_at<'a>(table: &'a Table, key: &str) -> Option<&'a Value>
 }
 
 /// A value of the kind, or a fault.
-pub fn value_or_fault<T: Drop>(place: Place, key: &str, found: Option<T>) -> Result<T, ConfigFault>
+pub fn value_or_fault<T: Drop>(place: Place, key: &str, given: Option<T>) -> Result<T, ConfigFault>
     requires { length key.now ≤ 24 }
-    ensures { result ≡ value_or_fault place key.now found }
+    ensures { result ≡ found given (fault_at place rule.Value key.now) }
 {
-    match found {
+    match given {
         Some(value) => Ok(value),
         None => Err(fault(place, ConfigRule::Value, key)),
     }
@@ -168,7 +168,7 @@ pub fn number_or<T: Number>(
 /// A nonce, or the default.
 pub fn nonce_or(place: Place, table: &Table, key: &str, default: u64) -> Result<u64, ConfigFault>
     requires { length key.now ≤ 24 }
-    ensures { result ≡ optional place (table_view table.now) key.now kind.nonce default }
+    ensures { result ≡ optional place (table_view table.now) key.now (kind.written kind.nonce_of) default }
 {
     match value_at(table, key) {
         None => Ok(default),

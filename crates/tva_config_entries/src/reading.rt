@@ -2,7 +2,7 @@
 ghost use Rattle.std.specs.Prelude.{◌≡◌, ◌≤◌, ◌+◌, IfOk, length, option_map};
 ghost use Rattle.toml.specs.View.{table_view};
 ghost use Rattle.tva_config_entries.specs.Faults.{AnswersBy};
-ghost use Rattle.tva_config_entries.specs.Tables.{all_entries_of};
+ghost use Rattle.tva_config_entries.specs.Stages.{all_entries_of};
 ghost use Rattle.tva_config_entries.specs.Views.{seen_top, seen_entries};
 ghost use Rattle.tva_config_entries.specs.Reading.{members_read, document_of, entries_read};
 
@@ -72,7 +72,7 @@ fn read_table(alloc: Global, table: &Table) -> Result<EntryLists, ConfigError>
 }
 
 // The entries of all tables, or the first fault in them.
-#[tactic(auto, unfolding(crate::specs::Tables::all_entries_of))]
+#[tactic(auto, unfolding(crate::specs::Stages::all_entries_of))]
 fn all_entries(alloc: Global, top: &TopTable) -> Result<EntryLists, ConfigError>
     requires nodes { length top.now.routers.items + length top.now.hosts.items ≤ 1024 }
     requires links { length top.now.links.items ≤ 4096 }

@@ -4,7 +4,7 @@ ghost use Rattle.toml.specs.Data.{Members};
 ghost use Rattle.toml.specs.View.{table_view};
 ghost use Rattle.tva_config_entries.specs.declared.place.Place.{Place};
 ghost use Rattle.tva_config_entries.specs.Faults.{Answers, Read};
-ghost use Rattle.tva_config_entries.specs.Entries.{router_of, rights_of, policy_plan_of, host_of, link_of, row, class_limits, behind_a_tag, inner_of, limits_of, route_of, restart_of, reroute_of};
+ghost use Rattle.tva_config_entries.specs.Entries.{router_of, policy_plan_of, host_of, link_of, row, class_limits, behind_a_tag, limits_of, route_of, restart_of, reroute_of};
 
 use crate::entries::{HostEntry, LinkEntry, RerouteEntry, RestartEntry, RouteEntry, RouterEntry};
 use crate::faults::{ConfigError, ConfigFault};
@@ -233,7 +233,8 @@ fn limits(place: Place, ns_per_byte: u64, table: &Table) -> Result<LinkLimits, C
         BYTES_MAX,
         262_144,
     )?;
-    let request_inner = inner_queues(place, table)?;
+    let levels = keys::number_or(place, table, "request_levels", 1, 2, 1)?;
+    let inner = keys::number_or(place, table, "request_inner", 1, 65_536, 4)?;
     Ok(LinkLimits {
         ns_per_byte,
         share,
@@ -242,19 +243,11 @@ fn limits(place: Place, ns_per_byte: u64, table: &Table) -> Result<LinkLimits, C
         regular: class_limits(queues.1, rings.1, queue_bytes.1, class_bytes.1, quantum),
         legacy_ring,
         legacy_bytes,
-        request_inner,
+        request_inner: behind_a_tag(levels, inner),
     })
 }
 
 // How many queues stand behind a tag, where the requests of a link have two levels.
-fn inner_queues(place: Place, table: &Table) -> Result<Option<u32>, ConfigFault>
-    ensures { result ≡ inner_of place (table_view table.now) }
-{
-    let levels = keys::number_or(place, table, "request_levels", 1, 2, 1)?;
-    let inner = keys::number_or(place, table, "request_inner", 1, 65_536, 4)?;
-    Ok(behind_a_tag(levels, inner))
-}
-
 fn behind_a_tag(levels: u32, inner: u32) -> Option<u32>
     ensures { result ≡ behind_a_tag levels inner }
 {
@@ -298,15 +291,6 @@ fn class_limits(
         quantum,
         max: LENGTH_MAX,
     }
-}
-
-// The rights that a host grants, within the version.
-fn rights(version: u8, place: Place, table: &Table) -> Result<Rights, ConfigFault>
-    ensures { result ≡ rights_of version place (table_view table.now) }
-{
-    let n = keys::number_or(place, table, "n", 0, units_max(version), 32)?;
-    let t = keys::number_or(place, table, "t", 0, seconds_max(version), 10)?;
-    Ok(Rights { n, t })
 }
 
 const HOST_KEYS: [&str; 11] = [
@@ -364,13 +348,14 @@ fn policy(
     ensures { Answers (policy_plan_of version place (table_view table.now)) result }
 {
     let kind = keys::optional(place, table, "policy", PolicyKind::DenyAll)?;
-    let rights = rights(version, place, table)?;
+    let n = keys::number_or(place, table, "n", 0, units_max(version), 32)?;
+    let t = keys::number_or(place, table, "t", 0, seconds_max(version), 10)?;
     let grants = keys::number_or(place, table, "grants", 0, 1_000_000, 1000)?;
     let deny = keys::few_items(alloc, place, table, "deny")?;
     let deny_tags = keys::few_items(alloc, place, table, "deny_tags")?;
     Ok(PolicyPlan {
         kind,
-        rights,
+        rights: Rights { n, t },
         grants,
         deny,
         deny_tags,

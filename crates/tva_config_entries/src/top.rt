@@ -3,7 +3,8 @@ ghost use Rattle.std.specs.Prelude.{◌≡◌, ◌≤◌, ◌+◌, IfOk, OnOk, l
 ghost use Rattle.toml.specs.View.{table_view};
 ghost use Rattle.tva_config_entries.specs.declared.faults.ConfigRule.TheVariants as rule;
 ghost use Rattle.tva_config_entries.specs.Faults.{AnswersBy, at, fault_at};
-ghost use Rattle.tva_config_entries.specs.Tables.{top_of, tables_of, counts_of, entries_of};
+ghost use Rattle.tva_config_entries.specs.Tables.{entries_of};
+ghost use Rattle.tva_config_entries.specs.Stages.{top_of, tables_of, counts_of};
 ghost use Rattle.tva_config_entries.specs.Views.{seen_top};
 
 use crate::faults::{ConfigError, ConfigFault, ConfigRule, ConfigTable};
@@ -47,7 +48,7 @@ const TOP_KEYS: [&str; 9] = [
 ];
 
 /// The top level, or its first fault.
-#[tactic(auto, unfolding(crate::specs::Tables::top_of))]
+#[tactic(auto, unfolding(crate::specs::Stages::top_of))]
 pub fn top<'a>(alloc: Global, table: &'a Table) -> Result<TopTable<'a>, ConfigError>
     ensures { AnswersBy seen_top (top_of (table_view table.now)) result }
 {
@@ -59,7 +60,7 @@ pub fn top<'a>(alloc: Global, table: &'a Table) -> Result<TopTable<'a>, ConfigEr
 }
 
 // The tables of the top level, behind its numbers, or the first fault in them.
-#[tactic(auto, unfolding(crate::specs::Tables::tables_of))]
+#[tactic(auto, unfolding(crate::specs::Stages::tables_of))]
 fn tables<'a>(
     alloc: Global,
     horizon: u64,
@@ -89,7 +90,7 @@ fn tables<'a>(
 }
 
 /// Refuses too many entries.
-#[tactic(auto, unfolding(crate::specs::Tables::counts_of))]
+#[tactic(auto, unfolding(crate::specs::Stages::counts_of))]
 pub fn counts(top: &TopTable) -> Result<(), ConfigFault>
     ensures answer { result ≡ counts_of (length top.now.routers.items + length top.now.hosts.items) (length top.now.links.items) (length top.now.routes.items) (length top.now.restarts.items) (length top.now.reroutes.items) }
     ensures nodes { OnOk result (length top.now.routers.items + length top.now.hosts.items ≤ 1024) }

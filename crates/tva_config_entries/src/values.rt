@@ -4,7 +4,8 @@ ghost use Rattle.std.specs.List.{list_all};
 ghost use Rattle.std.specs.declared.option.Option.{Option};
 ghost use Rattle.toml.specs.Data.{Data};
 ghost use Rattle.toml.specs.View.{view};
-ghost use Rattle.tva_config_entries.specs.Values.{within, number, name_of, name, address, prefix, hex_bytes_of, master, nonce_of, nonce, number_of_bytes, policy_of, policy_kind};
+ghost use Rattle.tva_base.specs.Addresses.{address_of, prefix_of};
+ghost use Rattle.tva_config_entries.specs.Values.{within, number, written, name_of, hex_bytes_of, nonce_of, number_of_bytes, policy_of};
 ghost use Rattle.tva_plan.specs.Names.{is_name_byte};
 
 use toml::Value;
@@ -100,7 +101,7 @@ impl Kind for u16 {
 
 /// A name: 1 to 16 ASCII letters, digits, `_` and `-`.
 impl Kind for Name {
-    ghost kind = { name };
+    ghost kind = { written name_of };
 
     fn of(value: &Value) -> Option<Name> {
         match value.as_str() {
@@ -137,7 +138,7 @@ fn is_name_byte(byte: u8) -> bool
 
 /// 64 hexadecimal digits, of either case.
 impl Kind for [u8; 32] {
-    ghost kind = { master };
+    ghost kind = { written (hex_bytes_of 32) };
 
     fn of(value: &Value) -> Option<[u8; 32]> {
         match value.as_str() {
@@ -159,7 +160,7 @@ fn master_of(text: &str) -> Option<[u8; 32]>
 
 /// 12 hexadecimal digits, of either case, as a number.
 pub fn nonce(value: &Value) -> Option<u64>
-    ensures { result ≡ nonce (view value.now) }
+    ensures { result ≡ written nonce_of (view value.now) }
 {
     match value.as_str() {
         Some(text) => nonce_of(text),
@@ -200,7 +201,7 @@ fn number_of_bytes(bytes: &[u8]) -> u64
 
 /// A word of a policy.
 impl Kind for PolicyKind {
-    ghost kind = { policy_kind };
+    ghost kind = { written policy_of };
 
     fn of(value: &Value) -> Option<PolicyKind> {
         match value.as_str() {
@@ -227,7 +228,7 @@ fn policy_of(text: &str) -> Option<PolicyKind>
 
 /// An address of four numbers.
 impl Kind for Address {
-    ghost kind = { address };
+    ghost kind = { written address_of };
 
     fn of(value: &Value) -> Option<Address> {
         match value.as_str() {
@@ -239,7 +240,7 @@ impl Kind for Address {
 
 /// A prefix: an address, a slash and a length.
 impl Kind for Prefix {
-    ghost kind = { prefix };
+    ghost kind = { written prefix_of };
 
     fn of(value: &Value) -> Option<Prefix> {
         match value.as_str() {

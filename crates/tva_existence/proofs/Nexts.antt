@@ -28,12 +28,11 @@ use Rattle.tva_log.specs.Entries.{Content, Entry, Took, Started, input_time, inp
 use Rattle.tva_log.specs.Parts.{port_entry, port_logs}
 use Rattle.tva_log.specs.Contents.{arrived, content, content_by, hosted, next_id, packet_of_row}
 use Rattle.tva_log.specs.NodeLog.{IsNodeLog, due, start_after, starts}
+use Rattle.tva_log.specs.AtTime.{IsAt}
 use Rattle.tva_log.proofs.Ports.{busy_starts_none}
+use Rattle.tva_log.proofs.Steps.{begins, ends, rest_late, rests, starts_one, takes}
 use Rattle.tva_run.proofs.Next.{limits_valid}
 use Rattle.tva_run.proofs.Reports.{begins_cut}
-use Rattle.tva_node.specs.AtTime.{IsAt}
-use Rattle.tva_node.proofs.Left.{rest_late}
-use Rattle.tva_node.proofs.Steps.{begins, ends, rests, starts_one, takes}
 
 -- ## inputs
 

@@ -36,7 +36,7 @@ use Rattle.tva_run.specs.Windows.{least_delay, window_length}
 use Rattle.tva_run.proofs.Going.{run_goes_on}
 use Rattle.tva_run.proofs.Runs.{are_delayed, source_due}
 use Rattle.tva_run.proofs.Sites.{site_is, site_number}
-use Rattle.tva_net.proofs.Rises.{reaches_rise}
+use Rattle.tva_run.proofs.Reaches.{reaches_rise}
 use Rattle.tva_existence.proofs.Joining.{joined}
 use Rattle.tva_existence.proofs.Nexts.{IsInjected, IsTakable, next_log}
 

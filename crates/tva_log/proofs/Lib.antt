@@ -3,6 +3,7 @@ pub mod Putting
 pub mod Joined
 pub mod Places
 pub mod Logs
+pub mod Steps
 pub mod Ports
 pub mod Links
 pub mod Legal

@@ -36,10 +36,8 @@ use Rattle.tva_log.specs.Parts.{charges, port_logs, rows_in, calls, files}
 
 -- the packet of a row; a router takes no row that sends
 abbrev pub packet_of_row : PacketId → RowWhat → Option PacketData
-packet_of_row id (Send dst payload) = None
 packet_of_row id (Inject flow payload carried) = Some (made_packet id flow payload carried)
-packet_of_row id (File dst size segment) = None
-packet_of_row id (Tick dst) = None
+packet_of_row id _ = None
 
 -- the next packet from the trace: they are numbered from 1 on, and those of links are not counted
 abbrev pub next_id : ℕ → List Entry → PacketId

@@ -7,3 +7,4 @@ pub mod NodeLog
 pub mod Told
 pub mod Next
 pub mod Legal
+pub mod AtTime

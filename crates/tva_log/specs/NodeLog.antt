@@ -7,7 +7,7 @@ use Rattle.tva_base.specs.declared.packet.Class.{Class}
 use Rattle.tva_shim.specs.Packets.{PacketData}
 use Rattle.tva_port.specs.Log as port
 use Rattle.tva_port.specs.declared.decision.Decision as decided
-use Rattle.tva_port.specs.declared.decision.Decision.TheVariants.{Start, WaitUntil, Idle}
+use Rattle.tva_port.specs.declared.decision.Decision.TheVariants.{Start}
 use Rattle.tva_port.specs.Decide.{decision}
 use Rattle.tva_log.specs.Joins.{IsInOrder, cut, sorted}
 use Rattle.tva_log.specs.declared.kinds.Input.{Input}
@@ -20,8 +20,7 @@ use Rattle.tva_log.specs.Contents.{content}
 
 abbrev pub start_of : decided.Decision → Option (Class × PacketData)
 start_of (Start class packet) = Some (class, packet)
-start_of (WaitUntil time) = None
-start_of Idle = None
+start_of _ = None
 
 -- what a link with these limits starts at a time, after that log of its port: a busy link nothing, a free one what it
 -- decides
@@ -46,17 +45,13 @@ due until inputs = cut input_time until inputs
 -- after the entries before, the rest takes just these inputs in their order, each with what the node makes of it there,
 -- and each start is what its link starts there
 abbrev pub GoesOn : Site → List Entry → List Input → List Entry → Type 0
-GoesOn site before [] [] = Unit {0}
-GoesOn site before (i ∷ is) [] = ⊥
-GoesOn site before [] (Took input made ∷ es) = ⊥
+GoesOn site before is (Started time link class packet ∷ es) =
+    (starts site before link time ≡ Some (class, packet))
+    × GoesOn site (before ++ Started time link class packet ∷ []) is es
 GoesOn site before (i ∷ is) (Took input made ∷ es) =
     (input ≡ i) × (content site before i ≡ Some made) × GoesOn site (before ++ Took input made ∷ []) is es
-GoesOn site before [] (Started time link class packet ∷ es) =
-    (starts site before link time ≡ Some (class, packet))
-    × GoesOn site (before ++ Started time link class packet ∷ []) [] es
-GoesOn site before (i ∷ is) (Started time link class packet ∷ es) =
-    (starts site before link time ≡ Some (class, packet))
-    × GoesOn site (before ++ Started time link class packet ∷ []) (i ∷ is) es
+GoesOn site before [] [] = Unit {0}
+GoesOn site before is es = ⊥
 
 -- no start was left out: after all entries up to each earlier time, no link starts anything then
 abbrev pub LeavesNone : Site → ℕ → List Entry → Type 0

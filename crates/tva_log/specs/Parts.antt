@@ -64,10 +64,7 @@ charged time packet grant = charge time grant (nonce_in packet.carried) (packet_
 abbrev pub charge_of : Entry → Option Charge
 charge_of (Took input (entry.Arrived from packet fate onward)) =
     option_map (charged (input_time input) packet) fate.charge
-charge_of (Took input (entry.Sent made outcome)) = None
-charge_of (Took input entry.Ticked) = None
-charge_of (Took input (entry.Received from packet receipt went range)) = None
-charge_of (Started time link class packet) = None
+charge_of _ = None
 
 abbrev pub charges : List Entry → List Charge
 charges log = filter_map charge_of log
@@ -76,8 +73,7 @@ charges log = filter_map charge_of log
 
 abbrev pub is_row : Entry → Bool
 is_row (Took (FromTrace row) content) = true
-is_row (Took (Arrival time link packet) content) = false
-is_row (Started time link class packet) = false
+is_row _ = false
 
 abbrev pub rows_in : List Entry → ℕ
 rows_in log = count_by is_row log
@@ -93,16 +89,12 @@ call_of_row time (Tick dst) packet = Intended time dst packet.payload packet.upp
 
 -- the packet that a host made for a row, and what it answered to one that came in
 abbrev pub packet_sent : Content → Option PacketData
-packet_sent (entry.Arrived from packet fate onward) = None
 packet_sent (entry.Sent made outcome) = Some made.packet
-packet_sent entry.Ticked = None
-packet_sent (entry.Received from packet receipt went range) = None
+packet_sent _ = None
 
 abbrev pub answer_in : Content → Upper
-answer_in (entry.Arrived from packet fate onward) = upper.Nothing
-answer_in (entry.Sent made outcome) = upper.Nothing
-answer_in entry.Ticked = upper.Nothing
 answer_in (entry.Received from packet receipt went range) = upper_of receipt.reply
+answer_in _ = upper.Nothing
 
 abbrev pub call_of_input : Input → Content → Option Call
 call_of_input (FromTrace row) content = option_map (call_of_row row.time.0 row.what) (packet_sent content)
@@ -119,10 +111,9 @@ calls log = filter_map call_of log
 -- ## the transfers of a host
 
 abbrev pub act_of_row : RowWhat → Option Act
-act_of_row (Send dst payload) = None
-act_of_row (Inject flow payload carried) = None
 act_of_row (File dst size segment) = Some (Filed dst size segment)
 act_of_row (Tick dst) = Some (Ticked dst)
+act_of_row _ = None
 
 abbrev pub act_of_input : Input → Option Act
 act_of_input (FromTrace row) = act_of_row row.what

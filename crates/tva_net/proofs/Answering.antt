@@ -7,18 +7,21 @@ use Rattle.tva_trace.specs.declared.rows.Row.{Row}
 use Rattle.tva_run.specs.Report.{totals_of}
 use Rattle.tva_run.specs.Windows.{Window, given}
 use Rattle.tva_net.specs.Sums.{AreWithin}
-use Rattle.tva_net.specs.Nets.{HasGiven, IsSound, NetState, StandsFor}
+use Rattle.tva_net.specs.Nets.{HasGiven, NetState}
+use Rattle.tva_net.specs.Kept.{WorksFor}
+use Rattle.tva_net.specs.Steps.{Gives, GoesOn, HasEnded, IsSound, PassesLimit, Refuses, StandsFor}
 use Rattle.tva_net.specs.declared.kinds.NetError.{NetError}
 use Rattle.tva_net.specs.declared.kinds.NetError.TheVariants.{EventLimit}
 use Rattle.tva_net.specs.declared.kinds.Window as answers
 use Rattle.tva_net.specs.declared.kinds.Window.TheVariants.{Events}
-use Rattle.tva_net.specs.Steps.{Gives, GoesOn, HasEnded, PassesLimit, Refuses}
 use Rattle.tva_net.specs.Work.{CanWork, WorksUpTo}
 use Rattle.tva_net.proofs.Given.{if_some_is}
-use Rattle.tva_net.proofs.Standing.{so_far}
+
+works_of : (config : Config) (rows : List Row) (windows : List Window) (told : List Event) (net : NetState) → StandsFor config rows windows told net → WorksFor config rows windows told net.work
+works_of config rows windows told net h = record { way = h.tells.way; kept = h.kept }
 
 pub can_of : (net : NetState) → IsSound net → net.failed ≡ None → CanWork net.work
-can_of net s e = let (config, rows, windows, told, h) = s e in (config, rows, windows, told, h.work)
+can_of net s e = let (config, rows, windows, told, h) = s e in (config, rows, windows, told, works_of config rows windows told net h)
 
 total_events : (told : List Event) → (totals_of told).events ≡ length told
 unfolding totals_of
@@ -31,28 +34,31 @@ given_events config told limit totals g = ap (λ (t : Totals). t.events) g.sums 
 pub has_room : (net : NetState) → IsSound net → net.failed ≡ None → (net.totals.events ≤ net.limit) × (net.limit ≤ 4000000) × AreWithin net.totals
 has_room net s e =
     let (config, rows, windows, told, h) = s e in
-    let g = h.given in
-    let most = h.work.valid.max_events.1 in
+    let g = h.tells.given in
+    let most = h.tells.way.valid.max_events.1 in
     (omega (arith, given_events config told net.limit net.totals g, g.few, g.most), omega (arith, g.most, most), g.within)
 
 module _ (config : Config) (rows : List Row) (windows : List Window) (told : List Event) (old new : NetState) (h : StandsFor config rows windows told old) where
   pub goes_on : (list : List Event) → WorksUpTo old.work (Some list) new.work → new.limit ≡ old.limit → new.failed ≡ None → old.totals.events + length list ≤ old.limit → AreWithin new.totals
       → ((before : List Event) → old.totals ≡ totals_of before → new.totals ≡ totals_of (before ++ list)) → (0 < length list) × GoesOn config rows windows told list new
   goes_on list works limit sound room within sums =
-      let a = works.1 config rows windows told h.work in
-      let g = h.given in (
+      let a = works.1 config rows windows told (works_of config rows windows told old h) in
+      let g = h.tells.given in (
         works.0,
         record {
           more = a.more;
           stands = record {
-            work = a.works;
-            given = record {
-              most = limit ∙ g.most;
-              few = omega (arith, length-append told list, given_events config told old.limit old.totals g, room, g.most);
-              sums = sums told g.sums;
-              within = within;
+            tells = record {
+              way = a.works.way;
+              given = record {
+                most = limit ∙ g.most;
+                few = omega (arith, length-append told list, given_events config told old.limit old.totals g, room, g.most);
+                sums = sums told g.sums;
+                within = within;
+              };
+              sound = sound;
             };
-            sound = sound;
+            kept = a.works.kept;
           };
           given = a.given ∙ ap (λ (xss : List (List Event)). given told windows ++ xss) (if_some_is list works.0);
         },
@@ -60,13 +66,16 @@ module _ (config : Config) (rows : List Row) (windows : List Window) (told : Lis
 
   pub has_ended : WorksUpTo old.work None new.work → new.limit ≡ old.limit → new.totals ≡ old.totals → new.failed ≡ None → HasEnded config rows windows told new
   has_ended works limit totals sound =
-      let a = works config rows windows told h.work in
+      let a = works config rows windows told (works_of config rows windows told old h) in
       record {
         more = a.0.more;
         stands = record {
-          work = a.0.works;
-          given = subst (HasGiven config told new.limit) (sym totals) (subst (λ (n : ℕ). HasGiven config told n old.totals) (sym limit) h.given);
-          sound = sound;
+          tells = record {
+            way = a.0.works.way;
+            given = subst (HasGiven config told new.limit) (sym totals) (subst (λ (n : ℕ). HasGiven config told n old.totals) (sym limit) h.tells.given);
+            sound = sound;
+          };
+          kept = a.0.works.kept;
         };
         given = a.0.given;
         whole = a.1;
@@ -74,12 +83,12 @@ module _ (config : Config) (rows : List Row) (windows : List Window) (told : Lis
 
   pub passes_limit : (list : List Event) → WorksUpTo old.work (Some list) new.work → old.limit < old.totals.events + length list → PassesLimit config rows windows told new
   passes_limit list works many =
-      let a = works.1 config rows windows told h.work in
-      let g = h.given in
+      let a = works.1 config rows windows told (works_of config rows windows told old h) in
+      let g = h.tells.given in
       record {
         more = a.more;
         list = list;
-        run = so_far config rows (windows ++ a.more) (told ++ list) new.work a.works;
+        run = a.works.way.run;
         given = a.given ∙ ap (λ (xss : List (List Event)). given told windows ++ xss) (if_some_is list works.0);
         many = omega (arith, length-append told list, given_events config told old.limit old.totals g, many, g.most);
       }
@@ -108,7 +117,7 @@ module _ (old new : NetState) (events : Vec Event Global) (works : WorksUpTo old
       → IfErr r (λ error. (config : Config) (rows : List Row) (windows : List Window) (told : List Event) → StandsFor config rows windows told old → Refuses config rows windows told error old new)
   answer_refuses (Ok window) g = tt
   answer_refuses (Err error) g = λ config rows windows told h.
-      subst (λ (a : NetError). Refuses config rows windows told a old new) (sym g.0) (h.given.most, g.3, passes_limit config rows windows told old new h events.items works g.2)
+      subst (λ (a : NetError). Refuses config rows windows told a old new) (sym g.0) (h.tells.given.most, g.3, passes_limit config rows windows told old new h events.items works g.2)
 
   pub answer_sound : (r : Result answers.Window NetError) → IsSound old → old.failed ≡ None → IfOk r (IsGiven old events new) → IfErr r (IsRefused old events new) → IsSound new
   answer_sound (Ok window) s none g f e =

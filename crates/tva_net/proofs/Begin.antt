@@ -25,9 +25,11 @@ use Rattle.tva_run.specs.Reaching.{Logs, log_at, arrivals, arrivals_at, reaches,
 use Rattle.tva_run.specs.Report.{AreEvents, totals_of}
 use Rattle.tva_run.specs.Run.{HasLog, IsRunTo}
 use Rattle.tva_run.specs.Windows.{window_length}
-use Rattle.tva_net.specs.Mail.{AreFirstNodes}
-use Rattle.tva_net.specs.Nets.{HasGiven, IsNodeAt, WorksFor}
-use Rattle.tva_net.proofs.Lists.{each_map}
+use Rattle.tva_net.specs.Built.{AreFirstNodes}
+use Rattle.tva_net.specs.Kept.{IsNodeAt, WorksFor}
+use Rattle.tva_net.specs.Nets.{HasGiven}
+use Rattle.tva_mail.proofs.Lists.{each_map}
+use Rattle.tva_net.proofs.Standing.{tell_of}
 
 -- ## logs with nothing in them
 
@@ -128,21 +130,29 @@ module _ (config : Config) (rows : List Row) (nodes : List NodeState) (valid : I
   pub begins : (horizon span : ℕ) (links : List LinkPlan) (posted shown : List ℕ) → horizon ≡ config.horizon.0 → links ≡ config.links → span ≡ window_length config → posted ≡ replicate (length nodes) 0 → shown ≡ replicate (length nodes) 0
       → WorksFor config rows [] [] (record { horizon = horizon; links = links; span = span; nodes = nodes; posted = posted; shown = shown; worked_to = 0 })
   begins horizon span links posted shown horizon_is links_are span_is posted_are shown_are = record {
-    valid = valid;
-    trace = trace;
-    horizon = horizon_is;
-    links = links_are;
-    span = span_is;
-    logs = logs;
-    run = nothing_run;
-    count = first.count;
-    nodes = first_at;
-    posted = posted_are ∙ zeros (λ (v : NodeState). length v.sendings) nodes (λ n d l. ap length (first.each n d l).nothing.1);
-    shown = shown_are ∙ zeros (λ (v : NodeState). length v.events) nodes (λ n d l. ap length (first.each n d l).nothing.0);
-    gone = λ n d l. (first.each n d l).gone;
-    events = nothing_told;
-    begins = λ later longer l run. refl;
-    held = refl;
+    way = record {
+      valid = valid;
+      trace = trace;
+      sites = λ n d l. (first_at n d l).site;
+      run = record {
+        logs = logs;
+        run = nothing_run;
+        tell = tell_of config rows logs 0 nodes first.count first_at;
+        events = nothing_told;
+        begins = λ later longer l run. refl;
+      };
+      held = refl;
+    };
+    kept = record {
+      horizon = horizon_is;
+      links = links_are;
+      span = span_is;
+      count = first.count;
+      nodes = first_at;
+      posted = posted_are ∙ zeros (λ (v : NodeState). length v.sendings) nodes (λ n d l. ap length (first.each n d l).nothing.1);
+      shown = shown_are ∙ zeros (λ (v : NodeState). length v.events) nodes (λ n d l. ap length (first.each n d l).nothing.0);
+      gone = λ n d l. (first.each n d l).gone;
+    };
   }
 
 pub nothing_given : (config : Config) (totals : Totals) → totals ≡ record { events = 0; routed = 0; authorised = 0; demoted = 0; dropped = 0; started = 0; received = 0; bytes = 0 } → HasGiven config [] config.max_events totals

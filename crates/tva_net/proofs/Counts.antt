@@ -9,7 +9,7 @@ use Rattle.tva_trace.specs.declared.rows.Row.{Row}
 use Rattle.tva_log.specs.declared.kinds.Input.{Input}
 use Rattle.tva_log.specs.declared.kinds.Input.TheVariants.{FromTrace}
 use Rattle.tva_run.specs.Reaching.{rows_at}
-use Rattle.tva_net.specs.Mail.{AreRowCounts, carries}
+use Rattle.tva_net.specs.Built.{AreRowCounts, carries}
 
 one_row : (row : Row) (b : Bool) → length (map FromTrace (cond b (row ∷ []) [])) ≡ cond b 1 0
 one_row row true = refl

@@ -12,12 +12,14 @@ use Rattle.tva_node.specs.States.{Keeps, NodeState, Stands}
 use Rattle.tva_node.proofs.Zips.{begins_more, begins_same}
 use Rattle.tva_run.specs.Reaching.{log_at}
 use Rattle.tva_run.specs.Windows.{Window, given}
-use Rattle.tva_net.specs.Mail.{IsPostable, KeepsWork}
-use Rattle.tva_net.specs.News.{IsFirstTime, since}
-use Rattle.tva_net.specs.Nets.{GrowsFrom, IsWholeRun, WorkState, WorksFor}
-use Rattle.tva_net.specs.Places.{AreKnownElsewhere, IsElsewhere}
+use Rattle.tva_mail.specs.Mail.{IsPostable, KeepsWork}
+use Rattle.tva_mail.specs.News.{IsFirstTime, since}
+use Rattle.tva_net.specs.Kept.{WorksFor}
+use Rattle.tva_net.specs.Nets.{GrowsFrom, IsWholeRun, WorkState}
+use Rattle.tva_mail.specs.Places.{AreKnownElsewhere, IsElsewhere}
 use Rattle.tva_net.specs.Work.{AddsNothing, AddsWindow, AddsWindows, AreWorked, CanGoTo, CanWork, EndsWindow, IsThrough, OfEachRun, WorksOn, WorksUpTo, if_some}
-use Rattle.tva_net.proofs.Lists.{zip_both, zip_length, zip_same, zip_weaker}
+use Rattle.tva_mail.proofs.Lists.{zip_length, zip_same, zip_weaker}
+use Rattle.tva_net.proofs.Lists.{zip_both}
 use Rattle.tva_net.proofs.Standing.{start_few, start_later, start_within, whole_run}
 use Rattle.tva_net.proofs.Windows as spans
 
@@ -52,17 +54,17 @@ told_posted olds news h = zip_weaker KeepsWork GrowsFrom posted_grows olds news 
 
 module _ (w : WorkState) (until : ℕ) (e : EndsWindow w until) where
   pub all_stand : AllByRecursion Stands w.nodes
-  all_stand = recursion_from_All Stands w.nodes (λ n d l. (log_at e.works.logs n, (e.works.nodes n d l).stands))
+  all_stand = recursion_from_All Stands w.nodes (λ n d l. (log_at e.works.way.run.logs n, (e.works.kept.nodes n d l).stands))
 
   pub few : length w.nodes ≤ 1024
-  few = let few = e.works.valid.few_nodes in let count = e.works.count in omega (arith, few, count)
+  few = let few = e.works.way.valid.few_nodes in let count = e.works.kept.count in omega (arith, few, count)
 
   pub reach : All (CanGoTo until) w.nodes
   reach n d l =
-      let a = e.works.nodes n d l in
+      let a = e.works.kept.nodes n d l in
       let from = a.worked_to in
       let same = a.horizon in
-      let horizon = e.works.horizon in
+      let horizon = e.works.kept.horizon in
       let ends = e.ends in
       let later = start_later e.config e.rows e.windows e.told w e.works e.start e.first in
       let within = start_within e.config e.rows e.windows e.told w e.works e.start e.first in
@@ -100,12 +102,12 @@ module _ (w : WorkState) (until : ℕ) (e : EndsWindow w until) where
 
       pub shown_elsewhere : AreKnownElsewhere (λ v. v.events) mids w.shown places
       shown_elsewhere n d l k =
-          ap (λ (ns : List ℕ). get_or ns n 0) e.works.shown
+          ap (λ (ns : List ℕ). get_or ns n 0) e.works.kept.shown
           ∙ (get_or-map (λ (v : NodeState). length v.events) w.nodes n d 0 (old_within n l) ∙ ap (λ (v : NodeState). length v.events) (sym (others n d l k)))
 
       pub posted_elsewhere : AreKnownElsewhere (λ v. v.sendings) mids w.posted places
       posted_elsewhere n d l k =
-          ap (λ (ns : List ℕ). get_or ns n 0) e.works.posted
+          ap (λ (ns : List ℕ). get_or ns n 0) e.works.kept.posted
           ∙ (get_or-map (λ (v : NodeState). length v.sendings) w.nodes n d 0 (old_within n l) ∙ ap (λ (v : NodeState). length v.sendings) (sym (others n d l k)))
 
 -- ## the next window
@@ -146,7 +148,7 @@ pub room_in_time : (w : WorkState) (start : Time) → CanWork w → IsFirstTime 
 room_in_time w start (config, rows, before, told, h) first = start_few config rows before told w h start first
 
 pub can_stand : (w : WorkState) → CanWork w → AllByRecursion Stands w.nodes
-can_stand w (config, rows, before, told, h) = recursion_from_All Stands w.nodes (λ n d l. (log_at h.logs n, (h.nodes n d l).stands))
+can_stand w (config, rows, before, told, h) = recursion_from_All Stands w.nodes (λ n d l. (log_at h.way.run.logs n, (h.kept.nodes n d l).stands))
 
 -- ## several windows
 

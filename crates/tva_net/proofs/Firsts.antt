@@ -20,11 +20,12 @@ use Rattle.tva_shim.proofs.Lengths.{carried_fits}
 use Rattle.tva_log.specs.declared.kinds.Input.{Input}
 use Rattle.tva_log.specs.declared.kinds.Input.TheVariants.{FromTrace}
 use Rattle.tva_log.specs.Sites.{IsSite, Site, site_of}
-use Rattle.tva_node.specs.declared.memory.Memory.{Memory}
+use Rattle.tva_waiting.specs.declared.memory.Memory.{Memory}
 use Rattle.tva_node.specs.States.{FitsRow, NodeState}
 use Rattle.tva_run.specs.Reaching.{links_out, rows_at, site_at}
 use Rattle.tva_run.proofs.Sites.{site_valid}
-use Rattle.tva_net.specs.Mail.{AreFirstNodes, CanDeliver, GotMails, IsFirstNode, mail_at}
+use Rattle.tva_mail.specs.Mail.{CanDeliver, GotMails, mail_at}
+use Rattle.tva_net.specs.Built.{AreFirstNodes, IsFirstNode}
 
 -- ## a node
 

@@ -1,5 +1,4 @@
 pub mod Lists
-pub mod Rises
 pub mod Nodes
 pub mod Resting
 pub mod Senders
@@ -9,15 +8,9 @@ pub mod Windows
 pub mod Ends
 pub mod Begin
 pub mod Answering
-pub mod Mails
-pub mod Forgotten
-pub mod Orders
-pub mod News
 pub mod Places
-pub mod Noted
 pub mod Delays
 pub mod Worked
 pub mod Firsts
 pub mod Adding
-pub mod Sorting
 pub mod Counts

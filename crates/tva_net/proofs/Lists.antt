@@ -38,18 +38,6 @@ zip_from R [] (y ∷ ys) e n h = absurd (omega (arith, n))
 zip_from R (x ∷ xs) [] e n h = absurd (omega (arith, n))
 zip_from R (x ∷ xs) (y ∷ ys) e n h = (h 0 x (omega arith), zip_from R xs ys e (omega (arith, n)) (λ i d l. h (suc i) d (omega (arith, l))))
 
-pub zip_length : {X Y : Type 0} (R : X → Y → Type 0) (xs : List X) (ys : List Y) → AllZip R xs ys → length ys ≡ length xs
-zip_length R [] [] h = refl
-zip_length R [] (y ∷ ys) h = absurd h
-zip_length R (x ∷ xs) [] h = absurd h
-zip_length R (x ∷ xs) (y ∷ ys) h = ap suc (zip_length R xs ys h.1)
-
-pub zip_weaker : {X Y : Type 0} (R S : X → Y → Type 0) → ((x : X) (y : Y) → R x y → S x y) → (xs : List X) (ys : List Y) → AllZip R xs ys → AllZip S xs ys
-zip_weaker R S w [] [] h = tt
-zip_weaker R S w [] (y ∷ ys) h = absurd h
-zip_weaker R S w (x ∷ xs) [] h = absurd h
-zip_weaker R S w (x ∷ xs) (y ∷ ys) h = (w x y h.0, zip_weaker R S w xs ys h.1)
-
 pub zip_both : {X Y Z : Type 0} (R : X → Y → Type 0) (S : Y → Z → Type 0) (T : X → Z → Type 0) → ((x : X) (y : Y) (z : Z) → R x y → S y z → T x z) → (xs : List X) (ys : List Y) (zs : List Z) → AllZip R xs ys → AllZip S ys zs → AllZip T xs zs
 zip_both R S T w [] [] [] a b = tt
 zip_both R S T w [] [] (z ∷ zs) a b = absurd b
@@ -58,15 +46,7 @@ zip_both R S T w (x ∷ xs) [] zs a b = absurd a
 zip_both R S T w (x ∷ xs) (y ∷ ys) [] a b = absurd b
 zip_both R S T w (x ∷ xs) (y ∷ ys) (z ∷ zs) a b = (w x y z a.0 b.0, zip_both R S T w xs ys zs a.1 b.1)
 
-pub zip_same : {X : Type 0} (R : X → X → Type 0) → ((x : X) → R x x) → (xs : List X) → AllZip R xs xs
-zip_same R r [] = tt
-zip_same R r (x ∷ xs) = (r x, zip_same R r xs)
-
 -- ## filters
-
-pub each_map : {X Y : Type 0} (f : X → Y) (P : Y → Type 0) (xs : List X) → AllByRecursion (λ x. P (f x)) xs → AllByRecursion P (map f xs)
-each_map f P [] h = tt
-each_map f P (x ∷ xs) h = (h.0, each_map f P xs h.1)
 
 pub drop_none : {X : Type 0} (p : X → Bool) (n : ℕ) (xs : List X) → filter p xs ≡ [] → filter p (drop n xs) ≡ []
 drop_none p zero xs h = h

@@ -25,8 +25,8 @@ use Rattle.tva_log.specs.Parts.{port_logs}
 use Rattle.tva_log.specs.Told.{sendings}
 use Rattle.tva_node.specs.States.{NodeState}
 use Rattle.tva_run.specs.Reaching.{arrival, link_from, links_out, site_at}
-use Rattle.tva_net.specs.Mail.{goes_to, mail_to}
-use Rattle.tva_net.specs.News.{since}
+use Rattle.tva_mail.specs.Mail.{goes_to, mail_to}
+use Rattle.tva_mail.specs.News.{since}
 use Rattle.tva_net.proofs.Lists.{drop_none, some_same}
 
 -- ## the links out of a node

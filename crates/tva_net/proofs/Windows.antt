@@ -36,17 +36,19 @@ use Rattle.tva_run.proofs.Holding.{HappensAt, events_work}
 use Rattle.tva_run.proofs.Next.{window_next}
 use Rattle.tva_run.proofs.Runs.{log_at-before}
 use Rattle.tva_run.proofs.Sites.{link_out_is, sent_arrives, site_number}
-use Rattle.tva_net.specs.Mail.{CanDeliver, GotMail, GotMails, IsPostable, goes_to, mail_to}
-use Rattle.tva_net.specs.News.{IsFirstTime, since, told_since}
-use Rattle.tva_net.specs.Nets.{HadGone, IsNodeAt, WorkState, WorksFor}
+use Rattle.tva_mail.specs.Mail.{CanDeliver, GotMail, GotMails, HadGone, IsPostable, goes_to, mail_to}
+use Rattle.tva_mail.specs.News.{IsFirstTime, since, told_since}
+use Rattle.tva_net.specs.Kept.{IsNodeAt, WorksFor}
+use Rattle.tva_net.specs.Nets.{WorkState}
+use Rattle.tva_run.proofs.Reaches.{reaches_rise}
 use Rattle.tva_net.specs.Work.{IsThrough, if_some}
-use Rattle.tva_net.proofs.Lists.{each_map, map_same, some_same, split_at, zip_from, zip_length}
+use Rattle.tva_mail.proofs.Lists.{each_map, zip_length}
+use Rattle.tva_net.proofs.Lists.{map_same, some_same, split_at, zip_from}
 use Rattle.tva_net.proofs.Given.{given_more, held_more}
 use Rattle.tva_net.proofs.Nodes.{has_log}
 use Rattle.tva_net.proofs.Resting.{comes_early, log_then}
-use Rattle.tva_net.proofs.Rises.{reaches_rise}
 use Rattle.tva_net.proofs.Senders.{HasLink, IsSentFrom, arrive_no_rows, each_since, goes_linked, mail_none, mail_on, out_is, sends_none, sent_from, since_one}
-use Rattle.tva_net.proofs.Standing.{events_there, first_ends, first_push, length_some, place_of, rest_start, run_start, short_logs, start_later, start_within, work_starts}
+use Rattle.tva_net.proofs.Standing.{events_there, first_ends, first_push, length_some, place_of, rest_start, run_start, short_logs, start_later, start_within, tell_of, work_starts}
 
 -- ## the nodes' logs once they are worked
 
@@ -100,7 +102,7 @@ module _ (config : Config) (rows : List Row) (windows : List Window) (told : Lis
   -- ## the window
 
   ends_is : until ≡ min (start.0 + window_length config) (config.horizon.0 + 1)
-  ends_is = ends ∙ ap₂ (λ (a b : ℕ). min (start.0 + a) (b + 1)) h.span h.horizon
+  ends_is = ends ∙ ap₂ (λ (a b : ℕ). min (start.0 + a) (b + 1)) h.kept.span h.kept.horizon
 
   later : w.worked_to ≤ start.0
   later = start_later config rows windows told w h start first
@@ -126,15 +128,15 @@ module _ (config : Config) (rows : List Row) (windows : List Window) (told : Lis
   mid_count = zip_length Keeps w.nodes mids kept
 
   config_count : length mids ≡ length config.nodes
-  config_count = mid_count ∙ h.count
+  config_count = mid_count ∙ h.kept.count
 
   long_count : length longer ≡ length config.nodes
   long_count = through_count until mids through ∙ config_count
 
-  pub mid_at : (n : ℕ) (d : NodeState) → n < length mids → IsMid config rows h.logs longer until n (get_or mids n d)
+  pub mid_at : (n : ℕ) (d : NodeState) → n < length mids → IsMid config rows h.way.run.logs longer until n (get_or mids n d)
   mid_at n d l =
       let k : n < length w.nodes = omega (arith, l, mid_count) in
-      let a = h.nodes n d k in
+      let a = h.kept.nodes n d k in
       let keeps : Keeps (get_or w.nodes n d) (get_or mids n d) = AllZip-get_or Keeps w.nodes mids n d d kept k in
       let done : IsThrough until (get_or mids n d) = All-from_recursion (IsThrough until) mids through n d l in
       let stands : StandsFor (get_or mids n d) (log_at longer n) = through_at until mids through n d l in
@@ -157,52 +159,52 @@ module _ (config : Config) (rows : List Row) (windows : List Window) (told : Lis
       let l : n < length mids = omega (arith, k, mid_count) in
       (d, l, some_same (get_or mids n d).site site (sym (mid_at n d l).site ∙ e))
 
-  has : (n : ℕ) (site : Site) → site_at config n ≡ Some site → HasLog config rows h.logs until site (log_at longer n)
+  has : (n : ℕ) (site : Site) → site_at config n ≡ Some site → HasLog config rows h.way.run.logs until site (log_at longer n)
   has n site e =
       let (d, l, same) = mid_of n site e in
       let v = get_or mids n d in
       let m = mid_at n d l in
-      subst (λ (s : Site). HasLog config rows h.logs until s (log_at longer n)) same
-      (has_log config rows h.logs n v m.site m.mail (reaches_rise config rows w.worked_to h.logs h.valid h.trace.order h.run n) (log_at longer n) until whole
+      subst (λ (s : Site). HasLog config rows h.way.run.logs until s (log_at longer n)) same
+      (has_log config rows h.way.run.logs n v m.site m.mail (reaches_rise config rows w.worked_to h.way.run.logs h.way.valid h.way.trace.order h.way.run.run n) (log_at longer n) until whole
       (log_then v (log_at longer n) m.stands until (mid_bound n d l) m.worked_to m.rests))
 
-  starts : IsRunTo config rows start.0 h.logs
+  starts : IsRunTo config rows start.0 h.way.run.logs
   starts = run_start config rows windows told w h start first
 
   pub run_on : IsRunTo config rows until longer
-  run_on = run_goes_on config rows start.0 until h.logs longer ordered starts has long_count short whole
+  run_on = run_goes_on config rows start.0 until h.way.run.logs longer ordered starts has long_count short whole
 
-  before : (n : ℕ) → cut entry_time start.0 (log_at longer n) ≡ log_at h.logs n
-  before = same_before config rows start.0 until h.logs longer ordered starts has long_count
+  before : (n : ℕ) → cut entry_time start.0 (log_at longer n) ≡ log_at h.way.run.logs n
+  before = same_before config rows start.0 until h.way.run.logs longer ordered starts has long_count
 
-  further : (n : ℕ) (d : NodeState) → n < length mids → (rest : List Entry) × IsFurther h.logs longer start.0 n rest
+  further : (n : ℕ) (d : NodeState) → n < length mids → (rest : List Entry) × IsFurther h.way.run.logs longer start.0 n rest
   further n d l =
       let (rest, e, late) = split_at entry_time entry_rank start.0 (log_at longer n) (mid_at n d l).stands.whole.in_order in
       (rest, record { log = e ∙ ap (λ (es : List Entry). es ++ rest) (before n); late = late })
 
   -- ## what they tell
 
-  shown_at : (n : ℕ) (d : NodeState) → n < length mids → get_or w.shown n 0 ≡ length (events (get_or mids n d).site (log_at h.logs n))
+  shown_at : (n : ℕ) (d : NodeState) → n < length mids → get_or w.shown n 0 ≡ length (events (get_or mids n d).site (log_at h.way.run.logs n))
   shown_at n d l =
       let k : n < length w.nodes = omega (arith, l, mid_count) in
-      let a = h.nodes n d k in
+      let a = h.kept.nodes n d k in
       let same : (get_or w.nodes n d).site ≡ (get_or mids n d).site = some_same (get_or w.nodes n d).site (get_or mids n d).site (sym a.site ∙ (mid_at n d l).site) in
-      ap (λ (ns : List ℕ). get_or ns n 0) h.shown
+      ap (λ (ns : List ℕ). get_or ns n 0) h.kept.shown
       ∙ (get_or-map (λ (v : NodeState). length v.events) w.nodes n d 0 k
-      ∙ (ap length a.stands.events ∙ ap (λ (s : Site). length (events s (log_at h.logs n))) same))
+      ∙ (ap length a.stands.events ∙ ap (λ (s : Site). length (events s (log_at h.way.run.logs n))) same))
 
-  events_both : (n : ℕ) (d : NodeState) (l : n < length mids) (rest : List Entry) → IsFurther h.logs longer start.0 n rest
-      → (get_or mids n d).events ≡ events (get_or mids n d).site (log_at h.logs n) ++ events (get_or mids n d).site rest
+  events_both : (n : ℕ) (d : NodeState) (l : n < length mids) (rest : List Entry) → IsFurther h.way.run.logs longer start.0 n rest
+      → (get_or mids n d).events ≡ events (get_or mids n d).site (log_at h.way.run.logs n) ++ events (get_or mids n d).site rest
   events_both n d l rest f =
       let site = (get_or mids n d).site in
-      (mid_at n d l).stands.events ∙ (ap (events site) f.log ∙ map-append (event_of site) (log_at h.logs n) rest)
+      (mid_at n d l).stands.events ∙ (ap (events site) f.log ∙ map-append (event_of site) (log_at h.way.run.logs n) rest)
 
-  told_there : (n : ℕ) (d : NodeState) (l : n < length mids) (rest : List Entry) → IsFurther h.logs longer start.0 n rest → told_since mids w.shown n ≡ events (get_or mids n d).site rest
+  told_there : (n : ℕ) (d : NodeState) (l : n < length mids) (rest : List Entry) → IsFurther h.way.run.logs longer start.0 n rest → told_since mids w.shown n ≡ events (get_or mids n d).site rest
   told_there n d l rest f =
       let site = (get_or mids n d).site in
       ap (λ (o : Option NodeState). option_map_or (λ v. drop (get_or w.shown n 0) v.events) o []) (slice_get-get_or mids n d l)
       ∙ (ap (drop (get_or w.shown n 0)) (events_both n d l rest f)
-      ∙ drop_at (events site (log_at h.logs n)) (events site rest) (get_or w.shown n 0) (sym (shown_at n d l)))
+      ∙ drop_at (events site (log_at h.way.run.logs n)) (events site rest) (get_or w.shown n 0) (sym (shown_at n d l)))
 
   told_past : (n : ℕ) → length mids ≤ n → told_since mids w.shown n ≡ []
   told_past n l = ap (λ (o : Option NodeState). option_map_or (λ v. drop (get_or w.shown n 0) v.events) o []) (slice_get_past mids n l)
@@ -210,10 +212,10 @@ module _ (config : Config) (rows : List Row) (windows : List Window) (told : Lis
   no_site : (n : ℕ) → length mids ≤ n → site_at config n ≡ None
   no_site n l = ap (option_map (λ (p : NodePlan). site_of n p (links_out n config.links))) (slice_get_past config.nodes n (omega (arith, l, config_count)))
 
-  before_is : (n : ℕ) → log_at (logs_before start.0 longer) n ≡ log_at h.logs n
+  before_is : (n : ℕ) → log_at (logs_before start.0 longer) n ≡ log_at h.way.run.logs n
   before_is n = log_at-before start.0 longer n ∙ before n
 
-  events_before : (n : ℕ) → events_at config h.logs n ≡ events_at config (logs_before start.0 longer) n
+  events_before : (n : ℕ) → events_at config h.way.run.logs n ≡ events_at config (logs_before start.0 longer) n
   events_before n = ap (λ (log : List Entry). option_map_or (λ site. events site log) (site_at config n) []) (sym (before_is n))
 
   events_more : (n : ℕ) → events_at config longer n ≡ events_at config (logs_before start.0 longer) n ++ told_since mids w.shown n
@@ -227,9 +229,9 @@ module _ (config : Config) (rows : List Row) (windows : List Window) (told : Lis
             let (rest, f) = further n d l in
             events_there config longer n site there
             ∙ (ap (events site) f.log
-            ∙ (map-append (event_of site) (log_at h.logs n) rest
+            ∙ (map-append (event_of site) (log_at h.way.run.logs n) rest
             ∙ ap₂ (λ (xs ys : List Event). xs ++ ys)
-            (sym (events_there config h.logs n site there) ∙ events_before n) (sym (told_there n d l rest f))))
+            (sym (events_there config h.way.run.logs n site there) ∙ events_before n) (sym (told_there n d l rest f))))
         | inr past ↦
             let l = past.0 in
             let none = no_site n l in
@@ -239,7 +241,7 @@ module _ (config : Config) (rows : List Row) (windows : List Window) (told : Lis
       ]
 
   told_before : AreEvents config (logs_before start.0 longer) told
-  told_before = record { in_order = h.events.in_order; each = λ n. h.events.each n ∙ events_before n }
+  told_before = record { in_order = h.way.run.events.in_order; each = λ n. h.way.run.events.each n ∙ events_before n }
 
   pub events_on : (list : List Event) → IsJoin event_time event_node (told_since mids w.shown) list → AreEvents config longer (told ++ list)
   events_on list join = events_added config start.0 longer told list (told_since mids w.shown) told_before events_more join
@@ -260,27 +262,27 @@ module _ (config : Config) (rows : List Row) (windows : List Window) (told : Lis
 
   -- ## what they sent
 
-  posted_at : (n : ℕ) (d : NodeState) → n < length mids → get_or w.posted n 0 ≡ length (sendings (get_or mids n d).site (log_at h.logs n))
+  posted_at : (n : ℕ) (d : NodeState) → n < length mids → get_or w.posted n 0 ≡ length (sendings (get_or mids n d).site (log_at h.way.run.logs n))
   posted_at n d l =
       let k : n < length w.nodes = omega (arith, l, mid_count) in
-      let a = h.nodes n d k in
+      let a = h.kept.nodes n d k in
       let same : (get_or w.nodes n d).site ≡ (get_or mids n d).site = some_same (get_or w.nodes n d).site (get_or mids n d).site (sym a.site ∙ (mid_at n d l).site) in
-      ap (λ (ns : List ℕ). get_or ns n 0) h.posted
+      ap (λ (ns : List ℕ). get_or ns n 0) h.kept.posted
       ∙ (get_or-map (λ (v : NodeState). length v.sendings) w.nodes n d 0 k
-      ∙ (ap length a.stands.sendings ∙ ap (λ (s : Site). length (sendings s (log_at h.logs n))) same))
+      ∙ (ap length a.stands.sendings ∙ ap (λ (s : Site). length (sendings s (log_at h.way.run.logs n))) same))
 
-  sendings_both : (n : ℕ) (d : NodeState) (l : n < length mids) (rest : List Entry) → IsFurther h.logs longer start.0 n rest
-      → (get_or mids n d).sendings ≡ sendings (get_or mids n d).site (log_at h.logs n) ++ sendings (get_or mids n d).site rest
+  sendings_both : (n : ℕ) (d : NodeState) (l : n < length mids) (rest : List Entry) → IsFurther h.way.run.logs longer start.0 n rest
+      → (get_or mids n d).sendings ≡ sendings (get_or mids n d).site (log_at h.way.run.logs n) ++ sendings (get_or mids n d).site rest
   sendings_both n d l rest f =
       let site = (get_or mids n d).site in
-      (mid_at n d l).stands.sendings ∙ (ap (sendings site) f.log ∙ filter_map-append (sending_of site) (log_at h.logs n) rest)
+      (mid_at n d l).stands.sendings ∙ (ap (sendings site) f.log ∙ filter_map-append (sending_of site) (log_at h.way.run.logs n) rest)
 
-  sent_there : (n : ℕ) (d : NodeState) (l : n < length mids) (rest : List Entry) → IsFurther h.logs longer start.0 n rest
+  sent_there : (n : ℕ) (d : NodeState) (l : n < length mids) (rest : List Entry) → IsFurther h.way.run.logs longer start.0 n rest
       → drop (get_or w.posted n 0) (get_or mids n d).sendings ≡ sendings (get_or mids n d).site rest
   sent_there n d l rest f =
       let site = (get_or mids n d).site in
       ap (drop (get_or w.posted n 0)) (sendings_both n d l rest f)
-      ∙ drop_at (sendings site (log_at h.logs n)) (sendings site rest) (get_or w.posted n 0) (sym (posted_at n d l))
+      ∙ drop_at (sendings site (log_at h.way.run.logs n)) (sendings site rest) (get_or w.posted n 0) (sym (posted_at n d l))
 
   linked : (n : ℕ) (d : NodeState) (l : n < length mids) → AllByRecursion (HasLink (get_or mids n d).site) (log_at longer n)
   linked n d l =
@@ -288,11 +290,11 @@ module _ (config : Config) (rows : List Row) (windows : List Window) (told : Lis
       let m = mid_at n d l in
       goes_linked v.site [] (due v.worked_to (in_turn v.inbox)) (log_at longer n) m.stands.whole.steps
 
-  going : (n : ℕ) (d : NodeState) (l : n < length mids) (rest : List Entry) → IsFurther h.logs longer start.0 n rest → AllByRecursion (IsGoing config until) (sendings (get_or mids n d).site rest)
+  going : (n : ℕ) (d : NodeState) (l : n < length mids) (rest : List Entry) → IsFurther h.way.run.logs longer start.0 n rest → AllByRecursion (IsGoing config until) (sendings (get_or mids n d).site rest)
   going n d l rest f =
       let site = (get_or mids n d).site in
       let there = (mid_at n d l).site in
-      let links : AllByRecursion (HasLink site) (log_at h.logs n ++ rest) = subst (λ (es : List Entry). AllByRecursion (HasLink site) es) f.log (linked n d l) in
+      let links : AllByRecursion (HasLink site) (log_at h.way.run.logs n ++ rest) = subst (λ (es : List Entry). AllByRecursion (HasLink site) es) f.log (linked n d l) in
       each-weaker (IsSentFrom site start.0) (IsGoing config until)
       (λ s g.
       let o = g.0 in
@@ -301,7 +303,7 @@ module _ (config : Config) (rows : List Row) (windows : List Window) (told : Lis
       let lag = g.2 in
       record { link = o.1; here = at.0; late = omega (arith, least, lag, short) })
       (sendings site rest)
-      (sent_from site start.0 rest (each_right (HasLink site) (log_at h.logs n) rest links) f.late)
+      (sent_from site start.0 rest (each_right (HasLink site) (log_at h.way.run.logs n) rest links) f.late)
 
   abbrev pub sent : List Sending
   sent = since (λ v. v.sendings) mids w.posted
@@ -314,7 +316,7 @@ module _ (config : Config) (rows : List Row) (windows : List Window) (told : Lis
   can_post : (s : Sending) → IsGoing config until s → IsPostable config.horizon.0 config.links mids s
   can_post s g =
       let link = g.link in
-      let plan : IsLinkPlan (length config.nodes) link = all_here (IsLinkPlan (length config.nodes)) config.links s.link link h.valid.links g.here in
+      let plan : IsLinkPlan (length config.nodes) link = all_here (IsLinkPlan (length config.nodes)) config.links s.link link h.way.valid.links g.here in
       let to : link.to < length mids = omega (arith, plan.to, config_count) in
       record {
         link = slice_get_within config.links s.link link g.here;
@@ -329,24 +331,24 @@ module _ (config : Config) (rows : List Row) (windows : List Window) (told : Lis
   pub postable : All (IsPostable w.horizon w.links mids) sent
   postable =
       let there : AllByRecursion (IsPostable config.horizon.0 config.links mids) sent = each-weaker (IsGoing config until) (IsPostable config.horizon.0 config.links mids) can_post sent all_going in
-      rw (h.horizon, h.links) (All-from_recursion (IsPostable config.horizon.0 config.links mids) sent there)
+      rw (h.kept.horizon, h.kept.links) (All-from_recursion (IsPostable config.horizon.0 config.links mids) sent there)
 
   pub shown_known : AllZip (λ (v : NodeState) (n : ℕ). n ≤ length v.events) mids w.shown
   shown_known = zip_from (λ (v : NodeState) (n : ℕ). n ≤ length v.events) mids w.shown 0
-      (mid_count ∙ sym (ap length h.shown ∙ length-map w.nodes (λ (v : NodeState). length v.events)))
+      (mid_count ∙ sym (ap length h.kept.shown ∙ length-map w.nodes (λ (v : NodeState). length v.events)))
       (λ n d l.
       let site = (get_or mids n d).site in
       let (rest, f) = further n d l in
-      let whole_length = ap length (events_both n d l rest f) ∙ length-append (events site (log_at h.logs n)) (events site rest) in
+      let whole_length = ap length (events_both n d l rest f) ∙ length-append (events site (log_at h.way.run.logs n)) (events site rest) in
       omega (arith, whole_length, shown_at n d l))
 
   pub posted_known : AllZip (λ (v : NodeState) (n : ℕ). n ≤ length v.sendings) mids w.posted
   posted_known = zip_from (λ (v : NodeState) (n : ℕ). n ≤ length v.sendings) mids w.posted 0
-      (mid_count ∙ sym (ap length h.posted ∙ length-map w.nodes (λ (v : NodeState). length v.sendings)))
+      (mid_count ∙ sym (ap length h.kept.posted ∙ length-map w.nodes (λ (v : NodeState). length v.sendings)))
       (λ n d l.
       let site = (get_or mids n d).site in
       let (rest, f) = further n d l in
-      let whole_length = ap length (sendings_both n d l rest f) ∙ length-append (sendings site (log_at h.logs n)) (sendings site rest) in
+      let whole_length = ap length (sendings_both n d l rest f) ∙ length-append (sendings site (log_at h.way.run.logs n)) (sendings site rest) in
       omega (arith, whole_length, posted_at n d l))
 
   -- ## what memory holds
@@ -355,7 +357,7 @@ module _ (config : Config) (rows : List Row) (windows : List Window) (told : Lis
   mids_gone n d l =
       let k : n < length w.nodes = omega (arith, l, mid_count) in
       let keeps : Keeps (get_or w.nodes n d) (get_or mids n d) = AllZip-get_or Keeps w.nodes mids n d d kept k in
-      let had = h.gone n d k in
+      let had = h.kept.gone n d k in
       let more_events : length (get_or w.nodes n d).events ≤ length (get_or mids n d).events =
       let both = ap length keeps.events.1 ∙ length-append (get_or w.nodes n d).events keeps.events.0 in omega (arith, both) in
       let more_sendings : length (get_or w.nodes n d).sendings ≤ length (get_or mids n d).sendings =
@@ -367,22 +369,22 @@ module _ (config : Config) (rows : List Row) (windows : List Window) (told : Lis
 
   pub shown_held : AllZip (λ (v : NodeState) (n : ℕ). v.gone.events ≤ n) mids w.shown
   shown_held = zip_from (λ (v : NodeState) (n : ℕ). v.gone.events ≤ n) mids w.shown 0
-      (mid_count ∙ sym (ap length h.shown ∙ length-map w.nodes (λ (v : NodeState). length v.events)))
+      (mid_count ∙ sym (ap length h.kept.shown ∙ length-map w.nodes (λ (v : NodeState). length v.events)))
       (λ n d l.
       let k : n < length w.nodes = omega (arith, l, mid_count) in
       let keeps : Keeps (get_or w.nodes n d) (get_or mids n d) = AllZip-get_or Keeps w.nodes mids n d d kept k in
-      let few = (h.gone n d k).events in
-      let known = ap (λ (ns : List ℕ). get_or ns n 0) h.shown ∙ get_or-map (λ (v : NodeState). length v.events) w.nodes n d 0 k in
+      let few = (h.kept.gone n d k).events in
+      let known = ap (λ (ns : List ℕ). get_or ns n 0) h.kept.shown ∙ get_or-map (λ (v : NodeState). length v.events) w.nodes n d 0 k in
       subst (λ (g : Gone). g.events ≤ get_or w.shown n 0) (sym keeps.gone) (omega (arith, few, known)))
 
   pub posted_held : AllZip (λ (v : NodeState) (n : ℕ). v.gone.sendings ≤ n) mids w.posted
   posted_held = zip_from (λ (v : NodeState) (n : ℕ). v.gone.sendings ≤ n) mids w.posted 0
-      (mid_count ∙ sym (ap length h.posted ∙ length-map w.nodes (λ (v : NodeState). length v.sendings)))
+      (mid_count ∙ sym (ap length h.kept.posted ∙ length-map w.nodes (λ (v : NodeState). length v.sendings)))
       (λ n d l.
       let k : n < length w.nodes = omega (arith, l, mid_count) in
       let keeps : Keeps (get_or w.nodes n d) (get_or mids n d) = AllZip-get_or Keeps w.nodes mids n d d kept k in
-      let few = (h.gone n d k).sendings in
-      let known = ap (λ (ns : List ℕ). get_or ns n 0) h.posted ∙ get_or-map (λ (v : NodeState). length v.sendings) w.nodes n d 0 k in
+      let few = (h.kept.gone n d k).sendings in
+      let known = ap (λ (ns : List ℕ). get_or ns n 0) h.kept.posted ∙ get_or-map (λ (v : NodeState). length v.sendings) w.nodes n d 0 k in
       subst (λ (g : Gone). g.sendings ≤ get_or w.posted n 0) (sym keeps.gone) (omega (arith, few, known)))
 
   pub mids_stand : All Stands mids
@@ -416,10 +418,10 @@ module _ (config : Config) (rows : List Row) (windows : List Window) (told : Lis
 
   -- what is sent on a link arrives
   on_link : (n k : ℕ) (link : LinkPlan) → slice_get config.links k ≡ Some link → (link.to == n) ≡ true
-      → due (config.horizon.0 + 1) (arrivals k link (log_at h.logs link.from)) ++ from_source input_source (suc k) (mail n) ≡ due (config.horizon.0 + 1) (arrivals k link (log_at longer link.from))
+      → due (config.horizon.0 + 1) (arrivals k link (log_at h.way.run.logs link.from)) ++ from_source input_source (suc k) (mail n) ≡ due (config.horizon.0 + 1) (arrivals k link (log_at longer link.from))
   on_link n k link here there =
       let m = link.from in
-      let plan : IsLinkPlan (length config.nodes) link = all_here (IsLinkPlan (length config.nodes)) config.links k link h.valid.links here in
+      let plan : IsLinkPlan (length config.nodes) link = all_here (IsLinkPlan (length config.nodes)) config.links k link h.way.valid.links here in
       let l : m < length mids = omega (arith, plan.from, config_count) in
       elim (slice_get_cases mids m).1 [
         | inl in' ↦
@@ -428,30 +430,30 @@ module _ (config : Config) (rows : List Row) (windows : List Window) (told : Lis
             let (rest, f) = further m d l in
             let out : link_out v.site k ≡ Some (k, link) = link_out_is config k link v.site here (mid_at m d l).site in
             let end : option_map_or (λ (x : LinkPlan). x.to == n) (slice_get config.links k) false ≡ true = ap (λ (o : Option LinkPlan). option_map_or (λ (x : LinkPlan). x.to == n) o false) here ∙ there in
-            let counts : length w.posted ≡ length mids = ap length h.posted ∙ (length-map w.nodes (λ (x : NodeState). length x.sendings) ∙ sym mid_count) in
+            let counts : length w.posted ≡ length mids = ap length h.kept.posted ∙ (length-map w.nodes (λ (x : NodeState). length x.sendings) ∙ sym mid_count) in
             let from_here : filter (λ (s : Sending). s.link == k) sent ≡ filter (λ (s : Sending). s.link == k) (sendings v.site rest) =
             since_one (λ s. s.link == k) mids w.posted m d counts l (sends_alone k link here) ∙ ap (filter (λ (s : Sending). s.link == k)) (sent_there m d l rest f) in
             let arrived : from_source input_source (suc k) (mail n) ≡ due (config.horizon.0 + 1) (arrivals k link rest) =
             mail_on config.horizon.0 config.links n k end sent
             ∙ ap (due (config.horizon.0 + 1)) (ap (map arrival) from_here ∙ sym (sent_arrives k link v.site out rest)) in
-            ap (λ (is : List Input). due (config.horizon.0 + 1) (arrivals k link (log_at h.logs m)) ++ is) arrived
+            ap (λ (is : List Input). due (config.horizon.0 + 1) (arrivals k link (log_at h.way.run.logs m)) ++ is) arrived
             ∙ sym (ap (λ (es : List Entry). due (config.horizon.0 + 1) (arrivals k link es)) f.log
-            ∙ (ap (due (config.horizon.0 + 1)) (filter_map-append (arrival_of k link) (log_at h.logs m) rest)
-            ∙ filter-append (λ i. nat_lt (input_time i) (config.horizon.0 + 1)) (arrivals k link (log_at h.logs m)) (arrivals k link rest)))
+            ∙ (ap (due (config.horizon.0 + 1)) (filter_map-append (arrival_of k link) (log_at h.way.run.logs m) rest)
+            ∙ filter-append (λ i. nat_lt (input_time i) (config.horizon.0 + 1)) (arrivals k link (log_at h.way.run.logs m)) (arrivals k link rest)))
         | inr past ↦ absurd (omega (arith, past.0, l))
       ]
 
   by_end : (n k : ℕ) (link : LinkPlan) (b : Bool) → slice_get config.links k ≡ Some link → (link.to == n) ≡ b
-      → due (config.horizon.0 + 1) (cond b (arrivals k link (log_at h.logs link.from)) []) ++ from_source input_source (suc k) (mail n) ≡ due (config.horizon.0 + 1) (cond b (arrivals k link (log_at longer link.from)) [])
+      → due (config.horizon.0 + 1) (cond b (arrivals k link (log_at h.way.run.logs link.from)) []) ++ from_source input_source (suc k) (mail n) ≡ due (config.horizon.0 + 1) (cond b (arrivals k link (log_at longer link.from)) [])
   by_end n k link false here there = mail_none config.horizon.0 config.links n k (ap (λ (o : Option LinkPlan). option_map_or (λ (x : LinkPlan). x.to == n) o false) here ∙ there) sent
   by_end n k link true here there = on_link n k link here there
 
   by_link : (n k : ℕ) (o : Option LinkPlan) → slice_get config.links k ≡ o
-      → due (config.horizon.0 + 1) (option_map_or (arrivals_at h.logs n k) o []) ++ from_source input_source (suc k) (mail n) ≡ due (config.horizon.0 + 1) (option_map_or (arrivals_at longer n k) o [])
+      → due (config.horizon.0 + 1) (option_map_or (arrivals_at h.way.run.logs n k) o []) ++ from_source input_source (suc k) (mail n) ≡ due (config.horizon.0 + 1) (option_map_or (arrivals_at longer n k) o [])
   by_link n k None here = mail_none config.horizon.0 config.links n k (ap (λ (o : Option LinkPlan). option_map_or (λ (x : LinkPlan). x.to == n) o false) here) sent
   by_link n k (Some link) here = by_end n k link (link.to == n) here refl
 
-  reached : (n source : ℕ) → due (config.horizon.0 + 1) (reaches config rows h.logs n source) ++ from_source input_source source (mail n) ≡ due (config.horizon.0 + 1) (reaches config rows longer n source)
+  reached : (n source : ℕ) → due (config.horizon.0 + 1) (reaches config rows h.way.run.logs n source) ++ from_source input_source source (mail n) ≡ due (config.horizon.0 + 1) (reaches config rows longer n source)
   reached n zero =
       ap (λ (is : List Input). due (config.horizon.0 + 1) (rows_at rows n) ++ is) (arrive_no_rows (filter (goes_to config.horizon.0 config.links n) sent))
       ∙ append-nil (due (config.horizon.0 + 1) (rows_at rows n))
@@ -465,8 +467,8 @@ module _ (config : Config) (rows : List Row) (windows : List Window) (told : Lis
   windows_on : EachBeginsWith config rows (windows ++ window ∷ []) until
   windows_on far logs l run =
       let near : w.worked_to ≤ far = omega (arith, later, ordered, l) in
-      let next = window_next config rows w.worked_to start.0 far h.logs logs h.valid h.run run later (omega (arith, ordered, l)) (rest_start config rows windows told w h start first) within (short_logs config rows windows told w h) (work_starts config rows windows told w h start first) in
-      first_push config rows logs 0 windows w.worked_to window (h.begins far logs near run)
+      let next = window_next config rows w.worked_to start.0 far h.way.run.logs logs h.way.valid h.way.run.run run later (omega (arith, ordered, l)) (rest_start config rows windows told w h start first) within (short_logs config rows windows told w h) (work_starts config rows windows told w h start first) in
+      first_push config rows logs 0 windows w.worked_to window (h.way.run.begins far logs near run)
       (subst (λ (t : ℕ). let x : Window = (start.0, t) in IsNextWindow config rows logs w.worked_to x) (sym ends_is) next)
 
   list_late : (list : List Event) → IsJoin event_time event_node (told_since mids w.shown) list → AllByRecursion (λ e. start.0 ≤ event_time e) list
@@ -481,19 +483,19 @@ module _ (config : Config) (rows : List Row) (windows : List Window) (told : Lis
       (events_work config rows until longer (told ++ list) run_on (events_on list join)))
 
   told_early : AllByRecursion (λ e. event_time e < w.worked_to) told
-  told_early = each-weaker (λ e. HappensAt config rows h.logs w.worked_to (event_time e)) (λ e. event_time e < w.worked_to) (λ e k. k.1) told
-      (events_work config rows w.worked_to h.logs told h.run h.events)
+  told_early = each-weaker (λ e. HappensAt config rows h.way.run.logs w.worked_to (event_time e)) (λ e. event_time e < w.worked_to) (λ e k. k.1) told
+      (events_work config rows w.worked_to h.way.run.logs told h.way.run.run h.way.run.events)
 
   pub given_on : (list : List Event) → IsJoin event_time event_node (told_since mids w.shown) list → given (told ++ list) (windows ++ window ∷ []) ≡ given told windows ++ if_some list
   given_on list join =
       given_more w.worked_to start.0 until told list later told_early (list_late list join) (list_early list join) windows
-      (first_ends config rows h.logs 0 windows w.worked_to (h.begins w.worked_to h.logs (omega arith) h.run)).0
+      (first_ends config rows h.way.run.logs 0 windows w.worked_to (h.way.run.begins w.worked_to h.way.run.logs (omega arith) h.way.run.run)).0
 
   module _ (news : List NodeState) (posting : GotMails (mail_to w.horizon w.links sent) mids news) where
     got : GotMails mail mids news
     got =
-        subst (λ (t : ℕ). GotMails (λ n. mail_to t config.links sent n) mids news) h.horizon
-        (subst (λ (ls : List LinkPlan). GotMails (λ n. mail_to w.horizon ls sent n) mids news) h.links posting)
+        subst (λ (t : ℕ). GotMails (λ n. mail_to t config.links sent n) mids news) h.kept.horizon
+        (subst (λ (ls : List LinkPlan). GotMails (λ n. mail_to w.horizon ls sent n) mids news) h.kept.links posting)
 
     new_at : (n : ℕ) (d : NodeState) → n < length news → IsNodeAt config rows longer until n (get_or news n d)
     new_at n d l =
@@ -531,19 +533,27 @@ module _ (config : Config) (rows : List Row) (windows : List Window) (told : Lis
     pub works_on : (list : List Event) (posts shows : List ℕ) → IsJoin event_time event_node (told_since mids w.shown) list → posts ≡ map (λ (v : NodeState). length v.sendings) mids → shows ≡ map (λ (v : NodeState). length v.events) mids
         → WorksFor config rows (windows ++ window ∷ []) (told ++ list) (record { horizon = w.horizon; links = w.links; span = w.span; nodes = news; posted = posts; shown = shows; worked_to = until })
     works_on list posts shows join posts_are shows_are = record {
-      valid = h.valid;
-      trace = h.trace;
-      horizon = h.horizon;
-      links = h.links;
-      span = h.span;
-      logs = longer;
-      run = run_on;
-      count = got.count ∙ config_count;
-      nodes = new_at;
-      posted = posts_are ∙ sym (map_same (λ (v : NodeState). length v.sendings) mids news got.count (λ n d l. ap length (got.each n d l).keeps.sendings));
-      shown = shows_are ∙ sym (map_same (λ (v : NodeState). length v.events) mids news got.count (λ n d l. ap length (got.each n d l).keeps.events));
-      gone = λ n d l. let k : n < length mids = omega (arith, l, got.count) in (got.each n d k).keeps.gone (mids_gone n d k);
-      events = events_on list join;
-      begins = windows_on;
-      held = held_more told list (given told windows) (given (told ++ list) (windows ++ window ∷ [])) h.held (given_on list join);
+      way = record {
+        valid = h.way.valid;
+        trace = h.way.trace;
+        sites = λ n d l. (new_at n d l).site;
+        run = record {
+          logs = longer;
+          run = run_on;
+          tell = tell_of config rows longer until news (got.count ∙ config_count) new_at;
+          events = events_on list join;
+          begins = windows_on;
+        };
+        held = held_more told list (given told windows) (given (told ++ list) (windows ++ window ∷ [])) h.way.held (given_on list join);
+      };
+      kept = record {
+        horizon = h.kept.horizon;
+        links = h.kept.links;
+        span = h.kept.span;
+        count = got.count ∙ config_count;
+        nodes = new_at;
+        posted = posts_are ∙ sym (map_same (λ (v : NodeState). length v.sendings) mids news got.count (λ n d l. ap length (got.each n d l).keeps.sendings));
+        shown = shows_are ∙ sym (map_same (λ (v : NodeState). length v.events) mids news got.count (λ n d l. ap length (got.each n d l).keeps.events));
+        gone = λ n d l. let k : n < length mids = omega (arith, l, got.count) in (got.each n d k).keeps.gone (mids_gone n d k);
+      };
     }

@@ -6,12 +6,13 @@ use Rattle.std.proofs.lemmas.List.Elements.{All-from_recursion, All-head, All-se
 use Rattle.std.proofs.lemmas.List.Sums.{sum_by-set}
 use Rattle.tva_node.specs.States.{IsAdvanced, Keeps, NodeState, Stands}
 use Rattle.tva_node.proofs.Zips.{keeps_on, keeps_same}
-use Rattle.tva_net.specs.News.{HasNoneBefore}
-use Rattle.tva_net.specs.Places.{AreAllPlaces, IsElsewhere, IsPutAmong, Rises}
-use Rattle.tva_net.specs.Times.{HasWorkBefore}
-use Rattle.tva_net.specs.Work.{AreThrough, CanGoTo, IsThrough, IsWorkedAt}
-use Rattle.tva_net.proofs.Lists.{zip_both, zip_same}
-use Rattle.tva_net.proofs.Mails.{zip_set}
+use Rattle.tva_mail.specs.News.{HasNoneBefore}
+use Rattle.tva_mail.specs.Places.{IsElsewhere, Rises}
+use Rattle.tva_net.specs.Work.{AreAllPlaces, AreThrough, CanGoTo, IsPutAmong, IsThrough, IsWorkedAt}
+use Rattle.tva_mail.specs.Times.{HasWorkBefore}
+use Rattle.tva_mail.proofs.Lists.{zip_same}
+use Rattle.tva_net.proofs.Lists.{zip_both}
+use Rattle.tva_mail.proofs.Mails.{zip_set}
 
 -- ## what is kept
 

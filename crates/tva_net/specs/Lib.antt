@@ -1,8 +1,6 @@
 pub mod Nets
 pub mod Steps
 pub mod Sums
-pub mod Mail
-pub mod News
-pub mod Places
-pub mod Times
+pub mod Built
+pub mod Kept
 pub mod Work

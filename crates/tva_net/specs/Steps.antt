@@ -1,5 +1,5 @@
--- Crate: what a call of a network answers, and what it leaves.
-use Rattle.std.specs.Prelude.{◌≡◌, ◌<◌, List, ◌∷◌, [], ◌++◌, length}
+-- Crate: for which run a network stands, what a call of it answers, and what it leaves.
+use Rattle.std.specs.Prelude.{◌≡◌, ◌<◌, List, ◌∷◌, [], ◌++◌, length, None}
 use Rattle.tva_base.specs.declared.event.Event.{Event}
 use Rattle.tva_plan.specs.declared.config.Config.{Config}
 use Rattle.tva_trace.specs.declared.rows.Row.{Row}
@@ -8,7 +8,22 @@ use Rattle.tva_net.specs.declared.kinds.NetError.{NetError}
 use Rattle.tva_net.specs.declared.kinds.NetError.TheVariants.{EventLimit, OutOfMemory}
 use Rattle.tva_net.specs.declared.kinds.Window as answers
 use Rattle.tva_net.specs.declared.kinds.Window.TheVariants.{Events, Ended}
-use Rattle.tva_net.specs.Nets.{IsRunSoFar, IsWholeRun, NetState, StandsFor}
+use Rattle.tva_net.specs.Nets.{IsRunSoFar, IsWholeRun, NetState, TellsRun}
+use Rattle.tva_net.specs.Kept.{IsAtWork}
+
+-- the network stands for the run of a configuration and a trace over these windows, in which this was told: it tells
+-- that run, and keeps what goes on with it
+pub record StandsFor (config : Config) (rows : List Row) (windows : List Window) (told : List Event) (net : NetState)
+    : Type 0 where
+  pub tells : TellsRun config rows windows told net
+  pub kept : IsAtWork config rows tells.way.run.logs net.work
+
+-- it stands for some run, or has come to an error
+abbrev pub IsSound : NetState → Type 0
+IsSound net =
+    net.failed ≡ None
+    → (config : Config) × (rows : List Row) × (windows : List Window) × (told : List Event)
+    × StandsFor config rows windows told net
 
 -- the network goes on over further windows: this happens in the last of them, and nothing in the others
 pub record GoesOn (config : Config) (rows : List Row) (windows : List Window) (told list : List Event) (net : NetState)

@@ -11,10 +11,11 @@ use Rattle.tva_log.specs.Joins.{IsJoin}
 use Rattle.tva_run.specs.Report.{event_time, event_node}
 use Rattle.tva_run.specs.Windows.{Window, given}
 use Rattle.tva_node.specs.States.{IsAdvanced, Keeps, NodeState, Stands}
-use Rattle.tva_net.specs.Mail.{GotMails, mail_to}
-use Rattle.tva_net.specs.News.{HasNoneBefore, IsFirstTime, since, told_since}
-use Rattle.tva_net.specs.Places.{ArePlaces, IsElsewhere}
-use Rattle.tva_net.specs.Nets.{IsWholeRun, WorksFor, WorkState}
+use Rattle.tva_mail.specs.Mail.{GotMails, mail_to}
+use Rattle.tva_mail.specs.News.{HasNoneBefore, IsFirstTime, since, told_since}
+use Rattle.tva_mail.specs.Places.{ArePlaces, IsElsewhere, Rises}
+use Rattle.tva_net.specs.Kept.{WorksFor}
+use Rattle.tva_net.specs.Nets.{IsWholeRun, WorkState}
 
 -- ## how the work goes on
 
@@ -113,6 +114,18 @@ pub record IsWorkedAt (until place : ℕ) (olds news : List NodeState) : Type 0 
   pub written : news ≡ slice_set olds place node
   pub advanced : (d : NodeState) → IsAdvanced until (slice_index_or olds place d) node
   pub keeps : (d : NodeState) → Keeps (slice_index_or olds place d) node
+
+-- all places of so many nodes
+pub record AreAllPlaces (count : ℕ) (places : List ℕ) : Type 0 where
+  pub placed : ArePlaces count places
+  pub all : (place : ℕ) → place < count → IsElsewhere places place → ⊥
+
+-- a place is put among others
+pub record IsPutAmong (place : ℕ) (old new : List ℕ) : Type 0 where
+  pub rises : Rises new
+  pub within : (count : ℕ) → place < count → AllByRecursion (λ other. other < count) old
+      → AllByRecursion (λ other. other < count) new
+  pub elsewhere : (other : ℕ) → IsElsewhere new other → (place ≡ other → ⊥) × IsElsewhere old other
 
 -- nothing is left to be done before a time at any node, and nothing happened to nodes that aren't in these places
 pub record AreThrough (until : ℕ) (olds news : List NodeState) (places : List ℕ) : Type 0 where

@@ -5,12 +5,13 @@ ghost use Rattle.tva_plan.specs.Valid.{IsConfig};
 ghost use Rattle.tva_trace.specs.Valid.{AreTraceRows};
 ghost use Rattle.tva_log.specs.declared.kinds.Input.TheVariants.{FromTrace};
 ghost use Rattle.tva_run.specs.Reaching.{links_out, rows_at};
-ghost use Rattle.tva_net.specs.Mail.{AreFirstNodes, AreRowCounts, CanDeliver, GotMails, IsFirstNode, KeepsWork, carries};
+ghost use Rattle.tva_mail.specs.Mail.{CanDeliver, GotMails, KeepsWork};
+ghost use Rattle.tva_net.specs.Built.{AreFirstNodes, AreRowCounts, IsFirstNode, carries};
 
-use crate::posting::deliver;
 use std::alloc::{AllocError, Global};
 use tva_base::LinkPlan;
 use tva_log::Input;
+use tva_mail::deliver;
 use tva_node::{Memory, Node};
 use tva_plan::Config;
 use tva_trace::PackedRows;

@@ -8,15 +8,11 @@
 
 mod building;
 mod due;
-mod forgetting;
-mod gathering;
 mod kinds;
 mod net;
 mod pace;
 mod parts;
-mod posting;
 mod sums;
-mod times;
 mod timing;
 mod works;
 

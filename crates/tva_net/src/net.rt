@@ -7,8 +7,8 @@ ghost use Rattle.tva_plan.specs.Valid.{IsConfig};
 ghost use Rattle.tva_trace.specs.declared.rows.Row.{Row};
 ghost use Rattle.tva_trace.specs.Valid.{AreTraceRows};
 ghost use Rattle.tva_run.specs.Windows.{Window as Span};
-ghost use Rattle.tva_net.specs.Nets.{GrowsFrom, StandsFor};
-ghost use Rattle.tva_net.specs.Steps.{Gives, Refuses};
+ghost use Rattle.tva_net.specs.Nets.{GrowsFrom};
+ghost use Rattle.tva_net.specs.Steps.{Gives, Refuses, StandsFor};
 
 use crate::kinds::{NetError, Window};
 use crate::parts::Parts;
@@ -29,11 +29,11 @@ pub struct Net {
 }
 
 impl Model for Net {
-    ghost use Rattle.tva_net.specs.Nets.{IsSound, NetState, state_of};
+    ghost use Rattle.tva_net.specs.Kept.{KnowsTimes, state_of};
+    ghost use Rattle.tva_net.specs.Nets.{NetState};
+    ghost use Rattle.tva_net.specs.Steps.{IsSound};
 
     ghost Value = { NetState };
-
-    ghost use Rattle.tva_net.specs.Times.{KnowsTimes};
 
     ghost view = { λ n. state_of n.parts };
 

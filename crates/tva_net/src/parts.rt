@@ -8,10 +8,10 @@ ghost use Rattle.tva_trace.specs.declared.rows.Row.{Row};
 ghost use Rattle.tva_trace.specs.Valid.{AreTraceRows};
 ghost use Rattle.tva_run.specs.Report.{totals_of};
 ghost use Rattle.tva_run.specs.Windows.{Window as Span};
-ghost use Rattle.tva_net.specs.Nets.{GrowsFrom, IsSound, StandsFor, state_of};
-ghost use Rattle.tva_net.specs.Steps.{Gives, Refuses};
+ghost use Rattle.tva_net.specs.Kept.{KnowsTimes, state_of};
+ghost use Rattle.tva_net.specs.Nets.{GrowsFrom};
+ghost use Rattle.tva_net.specs.Steps.{Gives, IsSound, Refuses, StandsFor};
 ghost use Rattle.tva_net.specs.Sums.{AreWithin};
-ghost use Rattle.tva_net.specs.Times.{KnowsTimes};
 
 use crate::kinds::{NetError, Window};
 use crate::sums::add_up;

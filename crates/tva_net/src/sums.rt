@@ -1,7 +1,9 @@
 // The sums of what was told.
-ghost use Rattle.std.specs.Prelude.{◌≡◌, ◌+◌, ◌<◌, ◌≤◌, ◌++◌, List, length};
+ghost use Rattle.std.specs.Prelude.{◌≡◌, ◌+◌, ◌<◌, ◌≤◌, ◌++◌, List, length, false};
+ghost use Rattle.std.specs.Option.{option_map_or};
 ghost use Rattle.tva_base.specs.declared.event.Event.{Event};
-ghost use Rattle.tva_run.specs.Report.{is_routed, is_charged, is_demoted, is_dropped, is_started, is_received, received_bytes, marks, drops, reply_drops, payload_of, totals_of};
+ghost use Rattle.tva_run.specs.Report.{is_routed, is_charged, is_demoted, is_dropped, is_started, is_received, received_bytes, drops, totals_of};
+ghost use Rattle.tva_router.specs.Marks.{calls_for_mark};
 ghost use Rattle.tva_net.specs.Sums.{AreWithin, with_event};
 
 use tva_base::{Cause, Event, Happened, Outcome, ReplyLine, Totals, WhatKind};
@@ -56,13 +58,13 @@ fn is_demoted(happened: &Happened) -> bool
     ensures { result ≡ is_demoted happened.now }
 {
     match happened {
-        Happened::Arrived { fate, .. } => marks(fate.cause),
+        Happened::Arrived { fate, .. } => calls_for_mark(fate.cause),
         _ => false,
     }
 }
 
-fn marks(cause: Option<Cause>) -> bool
-    ensures { result ≡ marks cause }
+fn calls_for_mark(cause: Option<Cause>) -> bool
+    ensures { result ≡ calls_for_mark cause }
 {
     match cause {
         None | Some(Cause::Malformed) => false,
@@ -88,7 +90,7 @@ fn drops(outcome: Outcome) -> bool
 }
 
 fn reply_drops(reply: Option<ReplyLine>) -> bool
-    ensures { result ≡ reply_drops reply }
+    ensures { result ≡ option_map_or (λ r. drops r.outcome) reply false }
 {
     match reply {
         Some(reply) => drops(reply.outcome),
@@ -113,17 +115,11 @@ fn received_bytes(happened: &Happened) -> u64
     ensures few { result < 65536 }
 {
     match happened {
-        Happened::Received { payload, what, .. } => payload_of(*payload, *what),
+        Happened::Received {
+            what: WhatKind::Stray,
+            ..
+        } => 0,
+        Happened::Received { payload, .. } => u64::from(*payload),
         _ => 0,
-    }
-}
-
-fn payload_of(payload: u16, what: WhatKind) -> u64
-    ensures bytes { result ≡ payload_of payload what }
-    ensures few { result < 65536 }
-{
-    match what {
-        WhatKind::Stray => 0,
-        _ => u64::from(payload),
     }
 }

@@ -13,7 +13,8 @@ use Rattle.tva_log.proofs.Quiet.{late_on}
 use Rattle.tva_node.specs.declared.links.Link.{Link}
 use Rattle.tva_node.specs.Links.{AreKeys, AreNoKeys, IsFirstAsked, IsKey, IsRankOf, asked_by, first_link, is_asked, least_next, sooner, with_next}
 use Rattle.tva_node.specs.Pairs.{link_pair}
-use Rattle.tva_node.specs.States.{NodeState, KnowsNext}
+use Rattle.tva_node.specs.Besides.{KnowsNext}
+use Rattle.tva_node.specs.States.{NodeState}
 use Rattle.tva_node.specs.Work.{DecidesAt}
 use Rattle.tva_node.proofs.Works.{passed}
 use Rattle.tva_node.proofs.Waits.{some_is}

@@ -5,9 +5,9 @@ use Rattle.tva_base.proofs.event.Event.TheSendSync as Event
 use Rattle.tva_log.proofs.kinds.Input.TheSendSync as Input
 use Rattle.tva_log.proofs.kinds.Sending.TheSendSync as Sending
 use Rattle.tva_node.proofs.links.Links.TheSendSync as Links
-use Rattle.tva_node.proofs.memory.Memory.TheSendSync as Memory
 use Rattle.tva_node.proofs.role.Role.TheSendSync as Role
-use Rattle.tva_node.proofs.waiting.Waiting.TheSendSync as Waiting
+use Rattle.tva_waiting.proofs.memory.Memory.TheSendSync as Memory
+use Rattle.tva_waiting.proofs.waiting.Waiting.TheSendSync as Waiting
 use Rattle.tva_node.specs.contracts.node.Node as Node
 
 ruleset held_send = (Event.the_send, Event.the_field_send, Input.the_send, Input.the_field_send, Sending.the_send, Sending.the_field_send, Links.the_send, Memory.the_send, Memory.the_field_send, Role.the_send, Role.the_field_send, Waiting.the_send)

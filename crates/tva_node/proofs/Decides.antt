@@ -31,10 +31,11 @@ use Rattle.tva_log.proofs.Ports.{busy_starts_none, free_starts, next_busy, next_
 use Rattle.tva_node.specs.declared.links.Link.{Link}
 use Rattle.tva_node.specs.declared.parts.Parts.{Parts}
 use Rattle.tva_node.specs.declared.role.Role.{Role}
-use Rattle.tva_node.specs.declared.memory.Memory.{Memory}
+use Rattle.tva_waiting.specs.declared.memory.Memory.{Memory}
 use Rattle.tva_node.specs.Links.{with_next}
 use Rattle.tva_node.specs.Pairs.{link_pair}
-use Rattle.tva_node.specs.States.{Gone, NodeState, RoleStands, IsBy, role_plan, site_at, state_of}
+use Rattle.tva_node.specs.Besides.{RoleStands, IsBy}
+use Rattle.tva_node.specs.States.{Gone, NodeState, role_plan, site_at, state_of}
 use Rattle.tva_node.specs.Steps.{StandsAt, Decides, started_by}
 use Rattle.tva_node.specs.Work.{IsRank, AwaitsAt, DecidesAt, IsStartable, all_taken, end_on, start_event, start_sending}
 use Rattle.tva_node.proofs.Finding.{find-at, link_valid}

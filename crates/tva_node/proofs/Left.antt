@@ -1,17 +1,17 @@
 -- The inputs of a node that wait.
-use Rattle.std.proofs.Common.{◌≡◌, ℕ, ◌+◌, ◌<◌, ◌≤◌, List, [], ◌∷◌, ◌++◌, Some, sym, subst, ◌∙◌, ap, arith, inl, inr, false, true, append-nil, append_assoc}
+use Rattle.std.proofs.Common.{◌≡◌, ℕ, ◌+◌, ◌<◌, ◌≤◌, List, [], ◌∷◌, ◌++◌, Some, sym, subst, ◌∙◌, ap, arith, false, true, append-nil, append_assoc}
 use Rattle.std.specs.Prelude.{All, nat_lt, ◌==◌}
 use Rattle.std.specs.List.{AllByRecursion}
-use Rattle.std.proofs.lemmas.Bool.{lt-ltb, le-ltb, cases_lt, eqb-true}
+use Rattle.std.proofs.lemmas.Bool.{eqb-true}
 use Rattle.std.proofs.lemmas.Bool.Decides.{nat_tests}
-use Rattle.std.proofs.lemmas.List.{append_cancel_left}
 use Rattle.std.proofs.lemmas.List.Elements.{filter-append, recursion_from_All}
 use Rattle.tva_log.specs.Joins.{IsInOrder}
-use Rattle.tva_log.proofs.Joins.{filter-true, filter-false, cut-early, cut-late, each-cut, each_later}
+use Rattle.tva_log.proofs.Joins.{cut-early, cut-late, each_later}
 use Rattle.tva_log.proofs.Putting.{each-put_all, in_order-put_all}
 use Rattle.tva_log.specs.declared.kinds.Input.{Input}
 use Rattle.tva_log.specs.Entries.{input_time, input_source}
 use Rattle.tva_log.specs.NodeLog.{in_turn, due}
+use Rattle.tva_log.proofs.Steps.{rest_late}
 use Rattle.tva_node.specs.States.{AreLeft}
 use Rattle.tva_node.specs.Work.{IsNoneBefore, first_time, is_due}
 
@@ -21,20 +21,6 @@ in_turn-ordered xs = in_order-put_all input_time input_source xs [] tt
 in_order-back : (xs ys : List Input) → IsInOrder input_time input_source (xs ++ ys) → IsInOrder input_time input_source ys
 in_order-back [] ys h = h
 in_order-back (x ∷ xs) ys h = in_order-back xs ys h.1
-
-late_from : (w : ℕ) (xs : List Input) → due w xs ≡ [] → AllByRecursion (λ i. w ≤ input_time i) xs
-late_from w [] h = tt
-late_from w (x ∷ xs) h = elim (cases_lt (input_time x) w) [
-  | inl a ↦ absurd (let e = sym (filter-true (λ i. nat_lt (input_time i) w) x xs (lt-ltb (input_time x) w a)) ∙ h in cc)
-  | inr a ↦ (a, late_from w xs (sym (filter-false (λ i. nat_lt (input_time i) w) x xs (le-ltb (input_time x) w a)) ∙ h))
-]
-
--- what stands behind all inputs before a time is no earlier
-pub rest_late : (w : ℕ) (xs rest : List Input) → xs ≡ due w xs ++ rest → AllByRecursion (λ i. w ≤ input_time i) rest
-rest_late w xs rest e =
-    let early : due w (due w xs) ≡ due w xs = cut-early input_time input_source w (due w xs) (each-cut input_time input_source w xs) in
-    let split : due w xs ≡ due w xs ++ due w rest = ap (due w) e ∙ (filter-append (λ i. nat_lt (input_time i) w) (due w xs) rest ∙ ap (λ (ys : List Input). ys ++ due w rest) early) in
-    late_from w rest (sym (append_cancel_left (due w xs) [] (due w rest) (append-nil (due w xs) ∙ split)))
 
 -- where the next is late, all that wait are
 first_late : (n : ℕ) (waiting : List Input) → IsInOrder input_time input_source waiting → IsNoneBefore n (first_time waiting) → AllByRecursion (λ i. n ≤ input_time i) waiting

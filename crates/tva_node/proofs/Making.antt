@@ -29,7 +29,7 @@ use Rattle.tva_log.proofs.Boots.{charges_none}
 use Rattle.tva_node.specs.declared.changes.Changes.{Changes}
 use Rattle.tva_node.specs.declared.role.Routed.{Routed}
 use Rattle.tva_node.specs.Changes.{AreByTime, AreMade, move_time, plan_after, restart_time, route_after}
-use Rattle.tva_node.specs.States.{IsRoutedBy}
+use Rattle.tva_node.specs.Besides.{IsRoutedBy}
 use Rattle.tva_node.specs.Making.{IsNextLater, IsRestarted, IsUpTo, StandsOn}
 use Rattle.tva_node.proofs.Sorting.{falls_from, order_of, rising_falls, ties_from}
 

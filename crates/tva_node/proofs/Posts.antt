@@ -27,8 +27,9 @@ use Rattle.tva_node.specs.declared.links.Link.{Link}
 use Rattle.tva_node.specs.declared.role.Role.{Role}
 use Rattle.tva_node.specs.Links.{first_link, least_next}
 use Rattle.tva_node.specs.Pairs.{link_pair}
-use Rattle.tva_node.specs.declared.memory.Memory.{Memory}
-use Rattle.tva_node.specs.States.{AreLeft, Gone, NodeState, Fits, IsBy, IsFirstWork, KnowsNext, RoleStands, Stands, StandsFor, role_plan}
+use Rattle.tva_waiting.specs.declared.memory.Memory.{Memory}
+use Rattle.tva_node.specs.Besides.{IsBy, KnowsNext, RoleStands}
+use Rattle.tva_node.specs.States.{AreLeft, Gone, NodeState, Fits, IsFirstWork, Stands, StandsFor, role_plan}
 use Rattle.tva_node.specs.Work.{IsNoneBefore, first_time, work_time}
 use Rattle.tva_node.proofs.Works.{any_link, either, none_sooner, quiet, work_late}
 
@@ -61,21 +62,23 @@ posted v i gone late within fits (log, h) =
     let taken = due v.worked_to (in_turn v.inbox) in
     let early : AllByRecursion (λ x. input_time x < input_time i) taken = each-weaker (λ x. input_time x < v.worked_to) (λ x. input_time x < input_time i) (λ x a. omega arith) taken (each-cut input_time input_source v.worked_to (in_turn v.inbox)) in
     let left : AreLeft (v.inbox ++ i ∷ []) taken (put_in input_time input_source i v.waiting) =
-    in_turn_more v.inbox i ∙ (ap (put_in input_time input_source i) h.left ∙ put_behind i taken v.waiting early) in (
+    in_turn_more v.inbox i ∙ (ap (put_in input_time input_source i) h.besides.left ∙ put_behind i taken v.waiting early) in (
       log,
       record {
         site = h.site;
-        plan = h.plan;
-        out = h.out;
         horizon = h.horizon;
         whole = IsNodeLog-same v.site (in_turn v.inbox) (in_turn (v.inbox ++ i ∷ [])) v.worked_to log (sym same) h.whole;
         events = h.events;
         sendings = h.sendings;
-        role = h.role;
-        past = h.past;
-        links = h.links;
-        fits = All-push (λ x. (input_time x ≤ v.horizon) × Fits v.site.plan x) v.inbox i h.fits (within, fits);
-        left = subst (λ (is : List Input). AreLeft (v.inbox ++ i ∷ []) is (put_in input_time input_source i v.waiting)) (sym same) left;
+        besides = record {
+          plan = h.besides.plan;
+          out = h.besides.out;
+          role = h.besides.role;
+          past = h.besides.past;
+          links = h.besides.links;
+          fits = All-push (λ x. (input_time x ≤ v.horizon) × Fits v.site.plan x) v.inbox i h.besides.fits (within, fits);
+          left = subst (λ (is : List Input). AreLeft (v.inbox ++ i ∷ []) is (put_in input_time input_source i v.waiting)) (sym same) left;
+        };
       },
     )
 
@@ -119,17 +122,19 @@ built number horizon keeps role links ls h e s r b =
       [],
       record {
         site = s;
-        plan = refl;
-        out = sym (pairs_first links);
         horizon = (h, omega arith);
         whole = record { in_order = tt; early = tt; steps = tt; none_left = λ time link l. absurd (omega arith) };
         events = refl;
         sendings = refl;
-        role = r;
-        past = b;
-        links = none_known links;
-        fits = All-nil (λ x. (input_time x ≤ horizon) × Fits (role_plan role) x);
-        left = refl;
+        besides = record {
+          plan = refl;
+          out = sym (pairs_first links);
+          role = r;
+          past = b;
+          links = none_known links;
+          fits = All-nil (λ x. (input_time x ≤ horizon) × Fits (role_plan role) x);
+          left = refl;
+        };
       },
     )
 
@@ -150,8 +155,8 @@ pub work_some : (v : NodeState) (log : List Entry) (t : ℕ) → StandsFor v log
 work_some v log t h e = (
   work_late v log h t e,
   elim (either (first_time v.waiting) (least_next v.links) t e) [
-    | inl a ↦ inl (next_comes v.inbox (due v.worked_to (in_turn v.inbox)) v.waiting t h.left a)
-    | inr a ↦ let l = any_link (KnowsNext v.site log v.worked_to) v.links t h.links a in inr (l.0.number, sym l.1.0 ∙ l.1.1)
+    | inl a ↦ inl (next_comes v.inbox (due v.worked_to (in_turn v.inbox)) v.waiting t h.besides.left a)
+    | inr a ↦ let l = any_link (KnowsNext v.site log v.worked_to) v.links t h.besides.links a in inr (l.0.number, sym l.1.0 ∙ l.1.1)
   ],
 )
 

@@ -72,7 +72,8 @@ use Rattle.tva_node.specs.declared.role.Role.{Role}
 use Rattle.tva_node.specs.declared.role.Role.TheVariants as roles
 use Rattle.tva_node.specs.declared.role.Routed.{Routed}
 use Rattle.tva_node.specs.declared.role.Hosted.{Hosted}
-use Rattle.tva_node.specs.States.{RoleStands, StandsAsRouter, StandsAsHost, IsBy, role_plan}
+use Rattle.tva_node.specs.Besides.{RoleStands, StandsAsRouter, StandsAsHost, IsBy}
+use Rattle.tva_node.specs.States.{role_plan}
 use Rattle.tva_node.specs.Making.{IsUpTo}
 use Rattle.tva_node.specs.Steps.{HostTook, RouterTook, Takes, reply_went, started_by, went_out}
 use Rattle.tva_node.proofs.Making.{routed_later, same_links}

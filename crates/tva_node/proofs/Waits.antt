@@ -22,7 +22,7 @@ use Rattle.tva_log.specs.Next.{next_decision}
 use Rattle.tva_node.specs.declared.links.Link.{Link}
 use Rattle.tva_node.specs.Links.{asked_by, is_asked}
 use Rattle.tva_node.specs.Pairs.{link_pair}
-use Rattle.tva_node.specs.States.{KnowsNext}
+use Rattle.tva_node.specs.Besides.{KnowsNext}
 use Rattle.tva_node.specs.Work.{link_of, queued_on, Waits}
 
 pub some_is : (a b : ℕ) → Some a ≡ Some b → a ≡ b

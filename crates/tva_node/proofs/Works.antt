@@ -21,21 +21,22 @@ use Rattle.tva_log.specs.Sites.{Site, limits_out, AreRising}
 use Rattle.tva_log.specs.Entries.{Entry, Took, Started, input_time, input_source}
 use Rattle.tva_log.specs.Parts.{port_logs}
 use Rattle.tva_log.specs.NodeLog.{IsNodeLog, in_turn, due, starts, start_after}
+use Rattle.tva_log.specs.AtTime.{IsAt}
 use Rattle.tva_log.specs.Told.{sendings, event_of, sending_of, at_time}
 use Rattle.tva_log.specs.Next.{next_decision, next_on, IsQuiet}
 use Rattle.tva_log.proofs.Legal.{AreLegal}
 use Rattle.tva_log.proofs.Logs.{logs-other}
 use Rattle.tva_log.proofs.Ports.{next_again, quiet_starts_none}
 use Rattle.tva_log.proofs.Quiet.{due_same, quiet_log, late_on}
+use Rattle.tva_log.proofs.Steps.{begins, takes, rests, starts_one, ends}
 use Rattle.tva_node.specs.declared.links.Link.{Link}
 use Rattle.tva_node.specs.declared.role.Role.{Role}
 use Rattle.tva_node.specs.Links.{asked_by, is_asked, least_next, sooner}
 use Rattle.tva_node.specs.Pairs.{link_pair}
-use Rattle.tva_node.specs.AtTime.{IsAt}
-use Rattle.tva_node.specs.States.{AreLeft, NodeState, StandsFor, Stands, KnowsNext, Fits, RoleStands, IsBy, role_plan}
+use Rattle.tva_node.specs.Besides.{KnowsNext, RoleStands, IsBy}
+use Rattle.tva_node.specs.States.{AreLeft, NodeState, StandsFor, Stands, Fits, role_plan}
 use Rattle.tva_node.specs.Steps.{StandsAt, Takes}
 use Rattle.tva_node.specs.Work.{IsNoneBefore, first_time, work_time, is_due, queued_on, Waits, AwaitsAt, TakesAt, IsRank, DecidesAt, all_taken}
-use Rattle.tva_node.proofs.Steps.{begins, takes, rests, starts_one, ends}
 use Rattle.tva_node.proofs.Finding.{find-none, find-some, find-at, link_valid}
 use Rattle.tva_node.proofs.Left.{left_late, next_late, next_left, none_due, taken_due, waiting_each}
 use Rattle.tva_node.proofs.Roles.{by-later, role_legal}
@@ -100,14 +101,14 @@ next_out (Some x) f t e = (x, refl)
 
 module _ (v : NodeState) (log : List Entry) (h : StandsFor v log) where
   pub legal : AreLegal v.site v.worked_to log
-  legal = role_legal v.site v.role log v.worked_to h.site h.plan h.role h.past
+  legal = role_legal v.site v.role log v.worked_to h.site h.besides.plan h.besides.role h.besides.past
 
   -- work comes no earlier than what is worked
   pub work_late : (t : ℕ) → work_time v.waiting v.links ≡ Some t → v.worked_to ≤ t
   work_late t e = elim (either (first_time v.waiting) (least_next v.links) t e) [
-    | inl a ↦ next_late v.worked_to v.inbox v.waiting t h.left a
+    | inl a ↦ next_late v.worked_to v.inbox v.waiting t h.besides.left a
     | inr a ↦
-        let l = any_link (KnowsNext v.site log v.worked_to) v.links t h.links a in
+        let l = any_link (KnowsNext v.site log v.worked_to) v.links t h.besides.links a in
         late_on v.site log v.worked_to t l.0.number (limits_out v.site l.0.number) (sym l.1.0 ∙ l.1.1)
   ]
 
@@ -117,8 +118,8 @@ module _ (v : NodeState) (log : List Entry) (h : StandsFor v log) where
       let Q : Input → Type 0 = λ i. P (input_time i) in
       let taken = due v.worked_to (in_turn v.inbox) in
       let early : AllByRecursion Q taken = each-weaker (λ i. input_time i < v.worked_to) Q (λ i a. inl a) taken (each-cut input_time input_source v.worked_to (in_turn v.inbox)) in
-      let late : AllByRecursion Q v.waiting = each-weaker (λ i. end ≤ input_time i) Q (λ i a. inr a) v.waiting (left_late v.inbox taken v.waiting h.left end n) in
-      let all : AllByRecursion Q (in_turn v.inbox) = subst (AllByRecursion Q) (sym h.left) (each-append Q taken v.waiting early late) in
+      let late : AllByRecursion Q v.waiting = each-weaker (λ i. end ≤ input_time i) Q (λ i a. inr a) v.waiting (left_late v.inbox taken v.waiting h.besides.left end n) in
+      let all : AllByRecursion Q (in_turn v.inbox) = subst (AllByRecursion Q) (sym h.besides.left) (each-append Q taken v.waiting early late) in
       elim (All-contains P (map input_time (in_turn v.inbox)) t (All-map P input_time (in_turn v.inbox) (All-from_recursion Q (in_turn v.inbox) all)) c) [
         | inl a ↦ omega arith
         | inr a ↦ omega arith
@@ -129,7 +130,7 @@ module _ (v : NodeState) (log : List Entry) (h : StandsFor v log) where
       let o = next_out (limits_out v.site link) (λ o. next_decision o.1 (port_logs log link) v.worked_to) t e in
       let P : Link → Type 0 = λ l. IsNoneBefore end l.next in
       let Q : Link → Type 0 = λ l. P l × KnowsNext v.site log v.worked_to l in
-      let l = out_link Q v.site v.links link o.0 h.out (both v.links (no_link end v.links n) h.links) o.1 in
+      let l = out_link Q v.site v.links link o.0 h.besides.out (both v.links (no_link end v.links n) h.besides.links) o.1 in
       let same : l.0.next ≡ Some t = l.1.0.1 ∙ subst (λ k. next_on v.site log v.worked_to k ≡ Some t) (sym l.1.1) e in
       let late : end ≤ t = subst (IsNoneBefore end) same l.1.0.0 in
       omega arith
@@ -174,17 +175,19 @@ module _ (v : NodeState) (log : List Entry) (h : StandsFor v log) where
   pub rests_until : (end : ℕ) → end ≤ v.horizon + 1 → v.worked_to ≤ end → IsNoneBefore end (work_time v.waiting v.links) → StandsFor (record v { worked_to = end }) log
   rests_until end b l n = record {
     site = h.site;
-    plan = h.plan;
-    out = h.out;
     horizon = (h.horizon.0, b);
     whole = log_then end l n;
     events = h.events;
     sendings = h.sendings;
-    role = h.role;
-    past = by-later v.worked_to end v.role l h.past;
-    links = knows end v.links l (no_link end v.links (none_left end (first_time v.waiting) (least_next v.links) n).1) h.links;
-    fits = h.fits;
-    left = subst (λ (taken : List Input). AreLeft v.inbox taken v.waiting) (sym (due_then end l n)) h.left;
+    besides = record {
+      plan = h.besides.plan;
+      out = h.besides.out;
+      role = h.besides.role;
+      past = by-later v.worked_to end v.role l h.besides.past;
+      links = knows end v.links l (no_link end v.links (none_left end (first_time v.waiting) (least_next v.links) n).1) h.besides.links;
+      fits = h.besides.fits;
+      left = subst (λ (taken : List Input). AreLeft v.inbox taken v.waiting) (sym (due_then end l n)) h.besides.left;
+    };
   }
 
   -- a time begins at which there is work
@@ -193,26 +196,26 @@ module _ (v : NodeState) (log : List Entry) (h : StandsFor v log) where
       let n = none_sooner now (work_time v.waiting v.links) w in
       let l = work_late now w in
       let taken = due now (in_turn v.inbox) in
-      let left : AreLeft v.inbox taken v.waiting = subst (λ (is : List Input). AreLeft v.inbox is v.waiting) (sym (due_then now l n)) h.left in (
+      let left : AreLeft v.inbox taken v.waiting = subst (λ (is : List Input). AreLeft v.inbox is v.waiting) (sym (due_then now l n)) h.besides.left in (
         taken,
         log,
         record {
           site = h.site;
-          plan = h.plan;
-          out = h.out;
+          plan = h.besides.plan;
+          out = h.besides.out;
           horizon = (h.horizon.0, b);
           worked = begins v.site (in_turn v.inbox) now log (log_then now l n);
           events = h.events;
           sendings = h.sendings;
-          role = h.role;
-          past = by-later v.worked_to now v.role l h.past;
+          role = h.besides.role;
+          past = by-later v.worked_to now v.role l h.besides.past;
           links = no_rank v.links;
-          fits = h.fits;
+          fits = h.besides.fits;
           early = each-weaker (λ i. input_time i < now) (λ i. input_time i ≤ now) (λ i a. omega arith) taken (each-cut input_time input_source now (in_turn v.inbox));
           late = left_late v.inbox taken v.waiting left now (none_left now (first_time v.waiting) (least_next v.links) n).0;
           left = left;
         },
-        all_wait v.site log now v.links (knows now v.links l (no_link now v.links (none_left now (first_time v.waiting) (least_next v.links) n).1) h.links),
+        all_wait v.site log now v.links (knows now v.links l (no_link now v.links (none_left now (first_time v.waiting) (least_next v.links) n).1) h.besides.links),
       )
     where
       no_rank : (ls : List Link) → All (λ (x : Link). x.number < 0 → KnowsNext v.site log (now + 1) x) ls
@@ -460,8 +463,6 @@ worked_one v now (rank, log, ranked, st, waits) =
       log,
       record {
         site = st.site;
-        plan = st.plan;
-        out = st.out;
         horizon = (st.horizon.0, (let a = st.horizon.1 in omega arith));
         whole = subst (λ t. IsNodeLog v.site (in_turn v.inbox) t log) (let e : suc now ≡ now + 1 = omega arith in e)
             (ends v.site (in_turn v.inbox) now rank log
@@ -469,11 +470,15 @@ worked_one v now (rank, log, ranked, st, waits) =
             (subst (λ t. IsAt v.site now rank (due t (in_turn v.inbox)) log) (let e : now + 1 ≡ suc now = omega arith in e) st.worked));
         events = st.events;
         sendings = st.sendings;
-        role = st.role;
-        past = by-later now (now + 1) v.role (omega arith) st.past;
-        links = all_know v.links low st.links;
-        fits = st.fits;
-        left = st.left;
+        besides = record {
+          plan = st.plan;
+          out = st.out;
+          role = st.role;
+          past = by-later now (now + 1) v.role (omega arith) st.past;
+          links = all_know v.links low st.links;
+          fits = st.fits;
+          left = st.left;
+        };
       },
     )
   where

@@ -10,9 +10,9 @@ AllZip-append R [] zs (y ∷ ys) ws a b = absurd a
 AllZip-append R (x ∷ xs) zs [] ws a b = absurd a
 AllZip-append R (x ∷ xs) zs (y ∷ ys) ws a b = (a.0, AllZip-append R xs zs ys ws a.1 b)
 
--- what holds of both halves holds of the whole
-pub all_zip_halves : {X Y : Type 0} (R : X → Y → Type 0) (whole front back : List X) (ys ws : List Y) → whole ≡ front ++ back → AllZip R front ys → AllZip R back ws → AllZip R whole (ys ++ ws)
-all_zip_halves R whole front back ys ws e a b = rw e (AllZip-append R front back ys ws a b)
+-- what holds of two parts holds of the whole
+pub all_zip_parts : {X Y : Type 0} (R : X → Y → Type 0) (whole front back : List X) (ys ws : List Y) → whole ≡ front ++ back → AllZip R front ys → AllZip R back ws → AllZip R whole (ys ++ ws)
+all_zip_parts R whole front back ys ws e a b = rw e (AllZip-append R front back ys ws a b)
 
 pub AllZip-same : {X : Type 0} (R : X → X → Type 0) → ((x : X) → R x x) → (xs : List X) → AllZip R xs xs
 AllZip-same R r [] = tt

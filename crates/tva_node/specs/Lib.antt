@@ -1,10 +1,10 @@
 pub mod Changes
 pub mod Pairs
 pub mod Links
+pub mod Nodes
 pub mod States
+pub mod Besides
 pub mod Keeping
-pub mod Waiting
-pub mod AtTime
 pub mod Making
 pub mod Steps
 pub mod Work

@@ -7,7 +7,7 @@ use Rattle.tva_base.specs.Changes.{boot_at, in_force, last_of}
 use Rattle.tva_node.specs.declared.changes.Changes.{Changes}
 use Rattle.tva_node.specs.declared.role.Routed.{Routed}
 use Rattle.tva_node.specs.Changes.{restart_time}
-use Rattle.tva_node.specs.States.{IsRoutedBy, StandsAsRouter}
+use Rattle.tva_node.specs.Besides.{IsRoutedBy, StandsAsRouter}
 use Rattle.tva_log.specs.Entries.{Entry}
 
 -- the change behind the first so many is later than a time, where there is one

@@ -21,14 +21,16 @@ use Rattle.tva_log.specs.Entries.{Content, Entry, Took, Started, input_time}
 use Rattle.tva_log.specs.Parts.{port_logs}
 use Rattle.tva_log.specs.Contents.{content, routed, hosted}
 use Rattle.tva_log.specs.Told.{events, sendings, content_told}
+use Rattle.tva_log.specs.AtTime.{IsAt}
 use Rattle.tva_node.specs.declared.role.Role.{Role}
 use Rattle.tva_node.specs.declared.role.Role.TheVariants as roles
 use Rattle.tva_node.specs.declared.role.Routed.{Routed}
 use Rattle.tva_node.specs.declared.role.Hosted.{Hosted}
 use Rattle.tva_node.specs.Pairs.{link_pair}
-use Rattle.tva_node.specs.AtTime.{IsAt}
-use Rattle.tva_node.specs.States.{AreLeft, role_plan, StandsAsRouter, StandsAsHost, RoleStands, IsBy}
-use Rattle.tva_node.specs.States.{Fits, NodeState, KnowsNext}
+use Rattle.tva_node.specs.Besides.{StandsAsRouter, StandsAsHost, RoleStands, IsBy}
+use Rattle.tva_node.specs.States.{AreLeft, role_plan}
+use Rattle.tva_node.specs.Besides.{KnowsNext}
+use Rattle.tva_node.specs.States.{Fits, NodeState}
 
 -- when a link out is free
 abbrev pub role_free : Role → ℕ → ℕ

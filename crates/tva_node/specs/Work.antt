@@ -15,17 +15,14 @@ use Rattle.tva_log.specs.declared.kinds.Input.{Input}
 use Rattle.tva_log.specs.Entries.{Entry, input_time}
 use Rattle.tva_log.specs.Sites.{Site}
 use Rattle.tva_log.specs.NodeLog.{in_turn, due}
+pub use Rattle.tva_waiting.specs.Inputs.{first_time}
 use Rattle.tva_node.specs.declared.links.Link.{Link}
 use Rattle.tva_node.specs.Links.{least_next, sooner}
-use Rattle.tva_node.specs.States.{NodeState, KnowsNext}
+use Rattle.tva_node.specs.Besides.{KnowsNext}
+use Rattle.tva_node.specs.States.{NodeState}
 use Rattle.tva_node.specs.Steps.{StandsAt}
 
 -- ## the next time
-
--- the time of the next input that is not taken
-abbrev pub first_time : List Input → Option ℕ
-first_time [] = None
-first_time (input ∷ inputs) = Some (input_time input)
 
 -- the next time at which there is work
 abbrev pub work_time : List Input → List Link → Option ℕ

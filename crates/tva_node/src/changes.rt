@@ -3,7 +3,7 @@ ghost use Rattle.std.specs.Prelude.{◌≡◌, ◌≤◌, ◌<◌, ◌+◌, true
 ghost use Rattle.tva_base.specs.Plan.{AreRising};
 ghost use Rattle.tva_base.specs.Changes.{of_prefix};
 ghost use Rattle.tva_node.specs.Changes.{AreByTime, move_time, restart_time};
-ghost use Rattle.tva_node.specs.States.{IsRoutedBy};
+ghost use Rattle.tva_node.specs.Besides.{IsRoutedBy};
 ghost use Rattle.tva_node.specs.Making.{IsMoved, IsNextLater, IsRestarted, IsUpTo, StandsOn};
 
 use crate::role::Routed;

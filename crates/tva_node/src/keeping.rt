@@ -3,10 +3,10 @@ ghost use Rattle.std.specs.Prelude.{◌≡◌, ◌≤◌, drop, length, IfOk};
 ghost use Rattle.tva_node.specs.States.{gone_after, state_of};
 ghost use Rattle.tva_node.specs.Keeping.{HoldsSome, IsButGone};
 
-use crate::memory::{Memory, copied_sending};
 use crate::parts::Parts;
 use std::alloc::{AllocError, Global};
 use tva_log::Sending;
+use tva_waiting::Memory;
 
 impl Parts {
     /// Hands out what the links sent behind the first so many.
@@ -60,4 +60,14 @@ fn copies_of(alloc: Global, sendings: &[Sending]) -> Result<Vec<Sending>, AllocE
         list.push(copied_sending(sending))?;
     }
     Ok(list)
+}
+
+fn copied_sending(sending: &Sending) -> Sending
+    ensures { result ≡ sending.now }
+{
+    Sending {
+        link: sending.link,
+        arrive: sending.arrive,
+        packet: sending.packet.copied(),
+    }
 }

@@ -9,16 +9,14 @@
 //! their time.
 #![tactic(auto)]
 
+mod at_once;
 mod changes;
-mod halves;
 mod keeping;
 mod links;
-mod memory;
 mod node;
 mod parts;
 mod role;
-mod waiting;
 
-pub use halves::{advance_all, advance_each, processors, work_parts};
-pub use memory::Memory;
+pub use at_once::{advance_all, advance_each, processors, work_parts};
 pub use node::{Node, node_crosses};
+pub use tva_waiting::Memory;

@@ -4,15 +4,14 @@ ghost use Rattle.tva_base.specs.Plan.{AreRising};
 ghost use Rattle.tva_log.specs.Entries.{Entry, input_time};
 ghost use Rattle.tva_log.specs.NodeLog.{in_turn};
 ghost use Rattle.tva_log.specs.Sites.{IsSite, site_of};
-ghost use Rattle.tva_node.specs.declared.memory.Memory.TheVariants as memory;
-ghost use Rattle.tva_node.specs.States.{Fits, IsBy, IsFirstWork, Keeps, KeepsAll, KeepsEvents, RoleStands, Stands, StandsFor, gone_after, restarts_in, role_plan, router_in};
+ghost use Rattle.tva_waiting.specs.declared.memory.Memory.TheVariants as memory;
+ghost use Rattle.tva_node.specs.Besides.{IsBy, RoleStands};
+ghost use Rattle.tva_node.specs.States.{Fits, IsFirstWork, Keeps, KeepsAll, KeepsEvents, Stands, StandsFor, gone_after, restarts_in, role_plan, router_in};
 
 use crate::changes::Changes;
 use crate::links::Links;
-use crate::memory::Memory;
 use crate::parts::Parts;
 use crate::role::{Hosted, Role, Routed};
-use crate::waiting::Waiting;
 use std::alloc::{AllocError, Global};
 use std::marker::Model;
 use tva_base::{Event, LinkPlan, Time};
@@ -22,6 +21,7 @@ use tva_plan::NodePlan;
 use tva_port::Port;
 use tva_router::Router;
 use tva_transfer::Courier;
+use tva_waiting::{Memory, Waiting};
 
 // An event at a router costs about as much as so many at a host.
 const ROUTER_EVENT: u64 = 3;

@@ -6,9 +6,7 @@ ghost use Rattle.tva_node.specs.States.{BeginsWith, Keeps, Stands, state_of};
 ghost use Rattle.tva_node.specs.Work.{DecidesAt, IsNoneBefore, IsStartable, TakesAt, end_on, is_due, link_of, queued_on, start_event, start_sending, work_time};
 
 use crate::links::Links;
-use crate::memory::Memory;
 use crate::role::Role;
-use crate::waiting::Waiting;
 use std::alloc::{AllocError, Global};
 use std::cmp;
 use tva_base::{Class, Event, Happened, LinkPlan, Outcome, Time};
@@ -16,6 +14,7 @@ use tva_log::{Input, Sending};
 use tva_past::Kept;
 use tva_port::Decision;
 use tva_shim::{Packet, length};
+use tva_waiting::{Memory, Waiting};
 
 /// A node's inputs, its sendings and its events; its inputs that are not taken yet, and its links out by
 /// their numbers; the time up to which it is worked and the horizon, in nanoseconds; its number, what it

@@ -21,7 +21,8 @@ ghost use Rattle.tva_log.specs.Parts.{act_of_row, call_of_row, port_logs, reply_
 ghost use Rattle.tva_log.specs.Contents.{made_for, packet_of_row};
 ghost use Rattle.tva_log.specs.Told.{brings, reply_told};
 ghost use Rattle.tva_log.specs.declared.kinds.Input.TheVariants as inputs;
-ghost use Rattle.tva_node.specs.States.{Fits, FitsRow, IsBy, IsRoutedBy, RoleStands, StandsAsHost, StandsAsRouter, role_plan};
+ghost use Rattle.tva_node.specs.Besides.{IsBy, IsRoutedBy, RoleStands, StandsAsHost, StandsAsRouter};
+ghost use Rattle.tva_node.specs.States.{Fits, FitsRow, role_plan};
 ghost use Rattle.tva_node.specs.Steps.{Decides, HostTook, RouterTook, Takes, reply_went, role_free, went_out};
 
 use crate::changes::Changes;

@@ -1,8 +1,8 @@
 -- Nodes that were worked stand.
 use Rattle.std.proofs.Common.{◌≡◌, ℕ, ◌≤◌, List, [], ◌∷◌, ◌++◌, length, sym, subst, arith}
 use Rattle.std.specs.List.{AllByRecursion, AllZip}
-use Rattle.tva_node.specs.declared.memory.Memory.{Memory}
-use Rattle.tva_node.specs.declared.memory.Memory.TheVariants as memory
+use Rattle.tva_waiting.specs.declared.memory.Memory.{Memory}
+use Rattle.tva_waiting.specs.declared.memory.Memory.TheVariants as memory
 use Rattle.tva_node.specs.States.{NodeState, IsAdvanced, Stands, gone_after, gone_by}
 use Rattle.tva_node_tests.specs.Ready.{IsHeld}
 

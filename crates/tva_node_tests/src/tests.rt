@@ -1,8 +1,8 @@
-// Nodes of a small network one by one, and halves at once.
+// Nodes of a small network one by one, and in parts at once.
+mod at_once;
 mod changes;
 mod edges;
 mod files;
-mod halves;
 mod keeping;
 mod makers;
 mod notice;

@@ -1,4 +1,1 @@
 pub mod Origins
-pub mod Deals
-pub mod Paths
-pub mod Walk

@@ -6,5 +6,6 @@ pub mod Sites
 pub mod Next
 pub mod Holding
 pub mod Rising
+pub mod Reaches
 pub mod Queued
 pub mod Names

@@ -1,22 +1,18 @@
 -- Product: the report of a run: the lines of its events, and the total line.
 use Rattle.std.specs.Prelude.{◌≡◌, ℕ, ◌+◌, Bool, true, false, List, [], ◌++◌, length, count_by, sum_by, is_some}
-use Rattle.std.specs.Prelude.{Option, Some, None}
 use Rattle.std.specs.Option.{option_map_or}
 use Rattle.std.specs.List.{flat_map}
-use Rattle.tva_base.specs.declared.packet.Cause as causes
-use Rattle.tva_base.specs.declared.packet.Cause.TheVariants as cause
 use Rattle.tva_base.specs.declared.packet.Outcome as outcomes
 use Rattle.tva_base.specs.declared.packet.Outcome.TheVariants.{Queued, Dropped}
 use Rattle.tva_base.specs.declared.event.Event.{Event}
 use Rattle.tva_base.specs.declared.event.Happened as happened
-use Rattle.tva_base.specs.declared.event.Happened.TheVariants.{Arrived, Sent, Received, Started, Ticked}
-use Rattle.tva_base.specs.declared.event.ReplyLine.{ReplyLine}
-use Rattle.tva_base.specs.declared.event.WhatKind as whats
+use Rattle.tva_base.specs.declared.event.Happened.TheVariants.{Arrived, Sent, Received, Started}
 use Rattle.tva_base.specs.declared.event.WhatKind.TheVariants as what
 use Rattle.tva_base.specs.declared.event.Totals.{Totals}
+use Rattle.tva_router.specs.Marks.{calls_for_mark}
 use Rattle.tva_plan.specs.declared.config.Config.{Config}
 use Rattle.tva_trace.specs.declared.rows.Row.{Row}
-use Rattle.tva_trace.specs.Lines.{line_of, summary_of}
+use Rattle.tva_lines.specs.Lines.{line_of, summary_of}
 use Rattle.tva_log.specs.Joins.{IsJoin}
 use Rattle.tva_log.specs.Told.{events}
 use Rattle.tva_run.specs.Reaching.{Logs, log_at, site_at}
@@ -54,30 +50,19 @@ abbrev pub is_charged : happened.Happened → Bool
 is_charged (Arrived id bytes from fate) = is_some fate.charge
 is_charged _ = false
 
--- a cause that sets the mark: any but malformed
-abbrev pub marks : Option causes.Cause → Bool
-marks None = false
-marks (Some cause.Malformed) = false
-marks (Some _) = true
-
 abbrev pub is_demoted : happened.Happened → Bool
-is_demoted (Arrived id bytes from fate) = marks fate.cause
+is_demoted (Arrived id bytes from fate) = calls_for_mark fate.cause
 is_demoted _ = false
 
 abbrev pub drops : outcomes.Outcome → Bool
 drops (Queued link) = false
 drops (Dropped why) = true
 
-abbrev pub reply_drops : Option ReplyLine → Bool
-reply_drops None = false
-reply_drops (Some reply) = drops reply.outcome
-
 abbrev pub is_dropped : happened.Happened → Bool
 is_dropped (Arrived id bytes from fate) = drops fate.outcome
 is_dropped (Sent id bytes shape outcome) = drops outcome
-is_dropped (Received id bytes from payload w back reply range) = reply_drops reply
-is_dropped (Started id bytes link class end) = false
-is_dropped Ticked = false
+is_dropped (Received id bytes from payload w back reply range) = option_map_or (λ r. drops r.outcome) reply false
+is_dropped _ = false
 
 abbrev pub is_started : happened.Happened → Bool
 is_started (Started id bytes link class end) = true
@@ -88,12 +73,9 @@ is_received (Received id bytes from payload w back reply range) = true
 is_received _ = false
 
 -- the payload of a receipt that isn't stray
-abbrev pub payload_of : ℕ → whats.WhatKind → ℕ
-payload_of payload what.Stray = 0
-payload_of payload _ = payload
-
 abbrev pub received_bytes : happened.Happened → ℕ
-received_bytes (Received id bytes from payload w back reply range) = payload_of payload w
+received_bytes (Received id bytes from payload what.Stray back reply range) = 0
+received_bytes (Received id bytes from payload w back reply range) = payload
 received_bytes _ = 0
 
 unfoldable pub totals_of : List Event → Totals

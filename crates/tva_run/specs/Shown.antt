@@ -5,15 +5,13 @@ use Rattle.std.specs.List.{flat_map}
 use Rattle.tva_base.specs.declared.event.Event.{Event}
 use Rattle.tva_plan.specs.declared.config.Config.{Config}
 use Rattle.tva_trace.specs.declared.rows.Row.{Row}
-use Rattle.tva_run.specs.Report.{AreEventsTo, IsReport, lines_of, report_of}
+use Rattle.tva_run.specs.Report.{AreEventsTo, IsReport, lines_of}
 use Rattle.tva_run.specs.Windows.{EachBeginsWith, Window, given}
 
--- the run up to the horizon has no more events than it may have, and this is its report
+-- this is the report of the run, which has no more events than it may have
 pub record HasReport (config : Config) (rows : List Row) (text : List ℕ) : Type 0 where
-  pub told : List Event
-  pub events : AreEventsTo config rows (config.horizon.0 + 1) told
-  pub few : length told ≤ config.max_events
-  pub whole : text ≡ report_of config told
+  pub report : IsReport config rows text
+  pub few : length report.told ≤ config.max_events
 
 -- these are the lines of the events of the run up to some time
 pub record AreLines (config : Config) (rows : List Row) (text : List ℕ) : Type 0 where

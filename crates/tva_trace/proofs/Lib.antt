@@ -2,11 +2,8 @@ pub mod Digits
 pub mod FewFiles
 pub mod FileCounts
 pub mod ItemLists
-pub mod Joins
-pub mod Printables
 pub mod OneList
 pub mod Packing
 pub mod Reading
 pub mod RecordsLeft
 pub mod RowsThere
-pub mod Widths

@@ -1,12 +1,11 @@
--- A text that is read has rows, and bytes have one text.
-use Rattle.std.proofs.Common.{◌≡◌, ◌⊎◌, inl, inr, ℕ, List, [], ◌∷◌, length, refl, sym, ap, ◌∙◌, Ok}
-use Rattle.std.specs.Prelude.{codes}
+-- A text that is read has rows.
+use Rattle.std.proofs.Common.{◌≡◌, ◌⊎◌, inl, inr, ℕ, List, [], ◌∷◌, length, refl, Ok}
 use Rattle.std.specs.List.{AllZip}
 use Rattle.tva_shim.specs.declared.packets.Carried.{Carried}
 use Rattle.tva_shim.specs.declared.packets.Carried.TheVariants as carried
 use Rattle.tva_shim.specs.Shims.{ShimData, IsShim}
 use Rattle.tva_shim.specs.Layout.{HaveNoShim, layout}
-use Rattle.tva_shim.proofs.Readable.{one_shim, shim_or_none}
+use Rattle.tva_shim.proofs.Readable.{shim_or_none}
 use Rattle.tva_plan.specs.declared.config.Config.{Config}
 use Rattle.tva_trace.specs.declared.rows.Row.{Row}
 use Rattle.tva_trace.specs.declared.rows.RowWhat.{RowWhat}
@@ -18,9 +17,6 @@ use Rattle.tva_trace.specs.declared.said.SaidWhat.{SaidWhat}
 use Rattle.tva_trace.specs.declared.said.SaidWhat.TheVariants as say
 use Rattle.tva_trace.specs.Rows.{rows_of}
 use Rattle.tva_trace.specs.Meaning.{AreRows, CarriedBy, CarriedByBytes, Means, MeansWhat}
-use Rattle.tva_trace.specs.ShimText.{IsTextOf, shim_line}
-
--- ---- rows
 
 carried_if : (b : ℕ) (bs : List ℕ) → ((s : ShimData) × IsShim s × (layout s ≡ b ∷ bs)) ⊎ HaveNoShim (b ∷ bs)
     → (c : Carried) × CarriedByBytes (b ∷ bs) c
@@ -60,18 +56,3 @@ pub rows_there : (config : Config) (text : List ℕ) (said : List SaidRow) → r
 rows_there config text said is =
     let rows = rows_meant said in
     (rows.0, (said, is, rows.1))
-
--- ---- texts of bytes
-
-pub text_is_one : (bytes text other : List ℕ) → IsTextOf bytes text → IsTextOf bytes other → text ≡ other
-text_is_one bytes text other (inl s) (inl t) = s.3 ∙ ap shim_line (one_shim s.0 t.0 s.1 t.1 (s.2 ∙ sym t.2)) ∙ sym t.3
-text_is_one bytes text other (inl s) (inr n) = absurd (n.0 s.0 s.1 s.2)
-text_is_one bytes text other (inr n) (inl t) = absurd (n.0 t.0 t.1 t.2)
-text_is_one bytes text other (inr n) (inr m) = n.1 ∙ sym m.1
-
-text_if : (bytes : List ℕ) → ((s : ShimData) × IsShim s × (layout s ≡ bytes)) ⊎ HaveNoShim bytes → (text : List ℕ) × IsTextOf bytes text
-text_if bytes (inl s) = (shim_line s.0, inl (s.0, s.1, s.2, refl))
-text_if bytes (inr none) = (codes "malformed", inr (none, refl))
-
-pub text_there : (bytes : List ℕ) → (text : List ℕ) × IsTextOf bytes text
-text_there bytes = text_if bytes (shim_or_none bytes)

@@ -1,9 +1,7 @@
 pub mod Items
-pub mod Lines
 pub mod Meaning
 pub mod Names
 pub mod Rows
-pub mod ShimText
 pub mod Valid
 pub mod Words
 pub mod Packed

@@ -1,4 +1,4 @@
-// Which files a command loads and in which order, which nodes the gate is told of, and that both halves of
+// Which files a command loads and in which order, which nodes the gate is told of, and that the parts of
 // a network run at once.
 ghost use Rattle.std.specs.Prelude.{Some};
 
@@ -68,7 +68,7 @@ impl Starts {
         self.late.fetch_add(1, Ordering::SeqCst);
     }
 
-    // How often halves did not meet, and how often the first node, the second and others were told.
+    // How often parts did not meet, and how often the first node, the second and others were told.
     fn counts(&self) -> [u64; 4] {
         [
             self.late.load(Ordering::SeqCst),
@@ -140,7 +140,7 @@ fn files_are_loaded_in_order_and_nodes_told(rt: HostRuntime) -> Result<(), Fail>
 
 // The router and the hosts of a walk are worked at once, each once in each of the ten windows.
 #[test]
-fn halves_run_at_once(rt: HostRuntime) -> Result<(), Fail> {
+fn parts_run_at_once(rt: HostRuntime) -> Result<(), Fail> {
     let gate = Starts::new(true);
     let mut out = MemorySink::new(rt.alloc(), 4096);
     assert_eq!(rt; replay(&rt, 0, &mut out, &gate)?, 0);

@@ -1,7 +1,7 @@
 // The longest lines, and those of ticks and of ranges. Other lines are shown by `tests/replays`.
 ghost use Rattle.std.specs.Prelude.{◌≡◌, IfOk, length};
 ghost use Rattle.tva_plan.specs.declared.config.Config.{Config};
-ghost use Rattle.tva_trace.specs.Lines.{HasEvent, LinksJoinNodes};
+ghost use Rattle.tva_lines.specs.Lines.{HasEvent, LinksJoinNodes};
 
 use super::{expect_same, host, link, network, router};
 use arrayvec::ArrayString;
@@ -11,8 +11,8 @@ use std::test::Fail;
 use tva_base::{
     BackKind, DataLine, Event, Happened, Outcome, PacketId, ReplyLine, ShapeKind, Time, WhatKind,
 };
+use tva_lines::line_text;
 use tva_plan::Config;
-use tva_trace::line_text;
 
 // The line of a receipt with the longest names and words and the greatest numbers.
 const LONGEST: &str =

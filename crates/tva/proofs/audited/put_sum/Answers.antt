@@ -1,5 +1,5 @@
 use Rattle.std.proofs.Common.{List, ℕ, ◌++◌, ap, ◌∙◌, decimal}
-use Rattle.tva_trace.specs.Lines.{name_of}
+use Rattle.tva_lines.specs.Lines.{name_of}
 use Rattle.tva.specs.Audit.{worst_word}
 use Rattle.tva.proofs.SumLines.{line_put}
 use Rattle.tva.proofs.audited.put_sum.Goals as goal

@@ -2,7 +2,7 @@ use Rattle.std.proofs.Common.{◌≡◌, ℕ, List, All, Result, OnOk, sym, subs
 use Rattle.tva_outside.specs.Faults.{Rose}
 use Rattle.tva_base.specs.declared.event.Event.{Event}
 use Rattle.tva_plan.specs.declared.config.Config.{Config}
-use Rattle.tva_trace.specs.Lines.{HasEvent}
+use Rattle.tva_lines.specs.Lines.{HasEvent}
 use Rattle.tva_run.specs.Report.{lines_of}
 use Rattle.tva_net.specs.declared.kinds.Window as answers
 use Rattle.tva_net.specs.Steps.{Gives}

@@ -1,6 +1,6 @@
 use Rattle.std.proofs.Common.{List, All, Err, sym, subst, ◌∙◌}
 use Rattle.tva_base.specs.declared.event.Event.{Event}
-use Rattle.tva_trace.specs.Lines.{HasEvent}
+use Rattle.tva_lines.specs.Lines.{HasEvent}
 use Rattle.tva_net.specs.declared.kinds.Window as answers
 use Rattle.tva_net.specs.Steps.{Gives}
 use Rattle.tva_audit.specs.declared.audits.AuditError.{AuditError}

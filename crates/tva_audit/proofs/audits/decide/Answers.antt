@@ -1,7 +1,7 @@
 use Rattle.std.proofs.Common.{[], ◌∷◌, ◌++◌, sym, subst, ap, ◌∙◌}
 use Rattle.tva_base.specs.Printable.{IsLine}
 use Rattle.tva_base.specs.declared.event.Totals.{Totals}
-use Rattle.tva_trace.specs.Lines.{text_of_totals}
+use Rattle.tva_lines.specs.Lines.{text_of_totals}
 use Rattle.tva_report.specs.Compared as compared
 use Rattle.tva_audit.specs.Sums.{sums_told}
 use Rattle.tva_audit.proofs.audits.decide.Goals as goal

@@ -1,5 +1,5 @@
 use Rattle.std.proofs.Common.{◌≡◌, ℕ, List, ◌++◌, None, sym, subst, ap, ◌∙◌}
-use Rattle.tva_trace.specs.Lines.{text_of_totals}
+use Rattle.tva_lines.specs.Lines.{text_of_totals}
 use Rattle.tva_report.specs.Lines.{first_bad, report_lines}
 use Rattle.tva_report.specs.Compared as compared
 use Rattle.tva_audit.proofs.Texts.{one_line}

@@ -1,6 +1,7 @@
 use Rattle.std.proofs.Common.{◌∙◌, ap, sym, drop}
 use Rattle.std.proofs.lemmas.List.{drop_all}
-use Rattle.tva_config.specs.Links.{uplink_of, uplink_step, uplinks_of}
+use Rattle.tva_config.specs.Links.{uplink_step}
+use Rattle.tva_config.specs.Stages.{uplink_of, uplinks_of}
 use Rattle.tva_config_entries.proofs.InTurn.{next_at, continues_more, continues_ends, one_longer}
 use Rattle.tva_config.proofs.links.uplinks.Goals as goal
 

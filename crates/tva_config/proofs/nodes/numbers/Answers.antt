@@ -4,7 +4,8 @@ use Rattle.std.specs.List.{list_any}
 use Rattle.std.specs.Str.{bytes_eq}
 use Rattle.tva_config_entries.specs.declared.faults.ConfigRule.TheVariants as rule
 use Rattle.tva_config_entries.specs.Faults.{fault_at}
-use Rattle.tva_config.specs.Nodes.{node_names, name_step, names_of}
+use Rattle.tva_config.specs.Nodes.{node_names, name_step}
+use Rattle.tva_config.specs.Stages.{names_of}
 use Rattle.tva_config.specs.Views.{Numbers}
 use Rattle.tva_config_entries.proofs.Answered.{fault_made}
 use Rattle.tva_config_entries.proofs.InTurn.{continues_ends}

@@ -1,5 +1,5 @@
 use Rattle.std.proofs.Common.{rules}
-use Rattle.tva_config.specs.Nodes.{slots_of}
+use Rattle.tva_config.specs.Stages.{slots_of}
 use Rattle.tva_config.proofs.nodes.slots.Goals as goal
 
 pub returns : goal.returns

@@ -2,7 +2,7 @@ use Rattle.std.proofs.Common.{◌∙◌, ◌+◌, ◌<◌, ◌∷◌, length, dr
 use Rattle.std.proofs.lemmas.List.{drop_more}
 use Rattle.std.specs.Vec.Iter.{into_iter_items}
 use Rattle.tva_plan.specs.declared.config.NodePlan.TheVariants as node
-use Rattle.tva_config.specs.Read.{host_plans}
+use Rattle.tva_config.specs.Stages.{host_plans}
 use Rattle.tva_config.proofs.Longer.{longer}
 use Rattle.tva_config.proofs.plans.add_hosts.Goals as goal
 

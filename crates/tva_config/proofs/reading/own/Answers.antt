@@ -3,9 +3,7 @@ use Rattle.std.specs.HashMap.{get_by_text}
 use Rattle.tva_config.specs.declared.joined.OwnedRestart.{OwnedRestart}
 use Rattle.tva_config.specs.declared.joined.OwnedReroute.{OwnedReroute}
 use Rattle.tva_config.specs.declared.routes.NumberedRoutes.{NumberedRoutes}
-use Rattle.tva_config.specs.Routes.{routes_of}
-use Rattle.tva_config.specs.Changes.{restarts_of, reroutes_of}
-use Rattle.tva_config.specs.Read.{owned_of}
+use Rattle.tva_config.specs.Stages.{routes_of, restarts_of, reroutes_of, owned_of}
 use Rattle.tva_config.specs.Views.{link_at, seen_owned}
 use Rattle.tva_config_entries.specs.Views.{seen_entries}
 use Rattle.tva_config_entries.proofs.Answered.{answered_there, error_told, given}

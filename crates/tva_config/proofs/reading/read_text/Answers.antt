@@ -1,7 +1,8 @@
-use Rattle.std.proofs.Common.{refl}
+use Rattle.std.proofs.Common.{◌∙◌, refl, sym}
 use Rattle.tva_config.specs.Read.{read_of}
 use Rattle.tva_config_entries.specs.Views.{seen_entries}
 use Rattle.tva_config_entries.proofs.Answered.{answered_there, error_told, given}
+use Rattle.tva_config.proofs.Staged.{plan_staged}
 use Rattle.tva_config.proofs.reading.read_text.Goals as goal
 
 pub returns-in_err-entries : goal.returns-in_err-entries
@@ -12,4 +13,6 @@ returns-in_err-entries c =
 
 pub returns : goal.returns
 unfolding read_of
-returns c = answered_there (λ x. x) (read_of c.args.text.now) _ c.plan.result (given _ _ _ c.in_ok-entries.ensures.answer) c.plan.ensures
+returns c =
+    answered_there (λ x. x) (read_of c.args.text.now) _ c.plan.result
+    (given _ _ _ c.in_ok-entries.ensures.answer ∙ sym (plan_staged (seen_entries c.in_ok-entries.entries))) c.plan.ensures

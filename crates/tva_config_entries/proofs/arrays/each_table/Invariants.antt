@@ -1,8 +1,8 @@
 use Rattle.std.proofs.Common.{map}
 use Rattle.toml.specs.View.{table_view}
 use Rattle.tva_config_entries.proofs.Items.{Collects}
-use Rattle.tva_config_entries.specs.Values.{table_members}
+use Rattle.toml.specs.Data.{as_table}
 use Rattle.tva_config_entries.proofs.arrays.each_table.Given as goal
 
 abbrev pub invariant-loop-value : goal.invariant-loop-value
-invariant-loop-value l = Collects table_members (map (λ t. table_view t.now) l.found.items) l.array.items l.value-index
+invariant-loop-value l = Collects as_table (map (λ t. table_view t.now) l.found.items) l.array.items l.value-index

@@ -1,4 +1,4 @@
-use Rattle.std.proofs.Common.{◌∙◌, sym, ap, Ok}
+use Rattle.std.proofs.Common.{◌∙◌, ℕ, Option, sym, ap, Ok}
 use Rattle.toml.specs.View.{table_view}
 use Rattle.tva_config_entries.specs.Entries.{limits_of}
 use Rattle.tva_config_entries.specs.Entries.{class_limits}
@@ -97,10 +97,10 @@ returns-in_err-legacy_bytes c =
     ∙ given _ _ _ (sym c.in_ok-legacy_ring.ensures)
     ∙ refused _ _ _ (sym c.in_err-legacy_bytes.ensures))
 
-pub returns-in_err-request_inner : goal.returns-in_err-request_inner
+pub returns-in_err-levels : goal.returns-in_err-levels
 unfolding limits_of
-returns-in_err-request_inner c =
-    fault_kept (limits_of c.args.place c.args.ns_per_byte (table_view c.args.table.now)) c.from_residual-in_err-request_inner.result c.in_err-request_inner.field-0.0 c.from_residual-in_err-request_inner.ensures.1
+returns-in_err-levels c =
+    fault_kept (limits_of c.args.place c.args.ns_per_byte (table_view c.args.table.now)) c.from_residual-in_err-levels.result c.in_err-levels.field-0.0 c.from_residual-in_err-levels.ensures.1
     (given _ _ _ (sym c.in_ok-share.ensures)
     ∙ given _ _ _ (sym c.in_ok-burst.ensures)
     ∙ given _ _ _ (sym c.in_ok-quantum.ensures)
@@ -110,14 +110,33 @@ returns-in_err-request_inner c =
     ∙ given _ _ _ (sym c.in_ok-class_bytes.ensures)
     ∙ given _ _ _ (sym c.in_ok-legacy_ring.ensures)
     ∙ given _ _ _ (sym c.in_ok-legacy_bytes.ensures)
-    ∙ refused _ _ _ (sym c.in_err-request_inner.ensures))
+    ∙ refused _ _ _ (sym c.in_err-levels.ensures))
+
+pub returns-in_err-inner : goal.returns-in_err-inner
+unfolding limits_of
+returns-in_err-inner c =
+    fault_kept (limits_of c.args.place c.args.ns_per_byte (table_view c.args.table.now)) c.from_residual-in_err-inner.result c.in_err-inner.field-0.0 c.from_residual-in_err-inner.ensures.1
+    (given _ _ _ (sym c.in_ok-share.ensures)
+    ∙ given _ _ _ (sym c.in_ok-burst.ensures)
+    ∙ given _ _ _ (sym c.in_ok-quantum.ensures)
+    ∙ given _ _ _ (sym c.in_ok-queues.ensures)
+    ∙ given _ _ _ (sym c.in_ok-rings.ensures)
+    ∙ given _ _ _ (sym c.in_ok-queue_bytes.ensures)
+    ∙ given _ _ _ (sym c.in_ok-class_bytes.ensures)
+    ∙ given _ _ _ (sym c.in_ok-legacy_ring.ensures)
+    ∙ given _ _ _ (sym c.in_ok-legacy_bytes.ensures)
+    ∙ given _ _ _ (sym c.in_ok-levels.ensures)
+    ∙ refused _ _ _ (sym c.in_err-inner.ensures))
 
 pub returns : goal.returns
 unfolding limits_of
 returns c =
-    let made : DrrLimits → DrrLimits → LinkLimits = λ a b. record { ns_per_byte = c.args.ns_per_byte; share = c.in_ok-share.share; burst = c.in_ok-burst.burst; request = a; regular = b; legacy_ring = c.in_ok-legacy_ring.legacy_ring; legacy_bytes = c.in_ok-legacy_bytes.legacy_bytes; request_inner = c.in_ok-request_inner.request_inner } in
-    ap (λ a. Ok (made a c.class_limits-2.result)) c.class_limits.ensures
-    ∙ ap (λ b. Ok (made (class_limits c.in_ok-queues.queues.0 c.in_ok-rings.rings.0 c.in_ok-queue_bytes.queue_bytes.0 c.in_ok-class_bytes.class_bytes.0 c.in_ok-quantum.quantum) b)) c.class_limits-2.ensures
+    let made : DrrLimits → DrrLimits → Option ℕ → LinkLimits = λ a b i. record { ns_per_byte = c.args.ns_per_byte; share = c.in_ok-share.share; burst = c.in_ok-burst.burst; request = a; regular = b; legacy_ring = c.in_ok-legacy_ring.legacy_ring; legacy_bytes = c.in_ok-legacy_bytes.legacy_bytes; request_inner = i } in
+    let request : DrrLimits = class_limits c.in_ok-queues.queues.0 c.in_ok-rings.rings.0 c.in_ok-queue_bytes.queue_bytes.0 c.in_ok-class_bytes.class_bytes.0 c.in_ok-quantum.quantum in
+    let regular : DrrLimits = class_limits c.in_ok-queues.queues.1 c.in_ok-rings.rings.1 c.in_ok-queue_bytes.queue_bytes.1 c.in_ok-class_bytes.class_bytes.1 c.in_ok-quantum.quantum in
+    ap (λ a. Ok (made a c.class_limits-2.result c.behind_a_tag.result)) c.class_limits.ensures
+    ∙ ap (λ b. Ok (made request b c.behind_a_tag.result)) c.class_limits-2.ensures
+    ∙ ap (λ i. Ok (made request regular i)) c.behind_a_tag.ensures
     ∙ sym (given _ _ _ (sym c.in_ok-share.ensures)
     ∙ given _ _ _ (sym c.in_ok-burst.ensures)
     ∙ given _ _ _ (sym c.in_ok-quantum.ensures)
@@ -127,4 +146,5 @@ returns c =
     ∙ given _ _ _ (sym c.in_ok-class_bytes.ensures)
     ∙ given _ _ _ (sym c.in_ok-legacy_ring.ensures)
     ∙ given _ _ _ (sym c.in_ok-legacy_bytes.ensures)
-    ∙ given _ _ _ (sym c.in_ok-request_inner.ensures))
+    ∙ given _ _ _ (sym c.in_ok-levels.ensures)
+    ∙ given _ _ _ (sym c.in_ok-inner.ensures))

@@ -2,7 +2,8 @@ use Rattle.std.proofs.Common.{◌∙◌, ap, drop, map}
 use Rattle.std.proofs.lemmas.List.{drop_all}
 use Rattle.toml.specs.View.{table_view}
 use Rattle.tva_config_entries.specs.Faults.{at}
-use Rattle.tva_config_entries.specs.Tables.{entry_step, entries_of}
+use Rattle.tva_config_entries.specs.Tables.{entries_of}
+use Rattle.tva_config_entries.specs.Stages.{entry_step}
 use Rattle.tva_config_entries.proofs.InTurn.{next_at, continues_more, continues_ends, one_longer}
 use Rattle.tva_config_entries.proofs.top.entries.Goals as goal
 

@@ -2,9 +2,10 @@ use Rattle.std.proofs.Common.{◌≡◌, ◌+◌, ◌∷◌, [], List, drop, sym
 use Rattle.tva_trace.specs.declared.rows.Row.{Row}
 use Rattle.tva_log.specs.declared.kinds.Input.TheVariants.{FromTrace}
 use Rattle.tva_run.specs.Reaching.{rows_at}
-use Rattle.tva_net.specs.Mail.{CanDeliver, GotMails, KeepsWork, mail_at}
+use Rattle.tva_mail.specs.Mail.{CanDeliver, GotMails, KeepsWork, mail_at}
 use Rattle.tva_net.proofs.Firsts.{row_first, row_left}
-use Rattle.tva_net.proofs.Mails.{all_keep, going_first, going_more, keeps_same, still_delivers, zip_same}
+use Rattle.tva_mail.proofs.Lists.{zip_same}
+use Rattle.tva_mail.proofs.Mails.{all_keep, going_first, going_more, keeps_same, still_delivers}
 use Rattle.tva_net.proofs.building.file_rows.Goals as goal
 
 pub loop-place-init : goal.loop-place-init

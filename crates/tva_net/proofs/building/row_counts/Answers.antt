@@ -2,7 +2,7 @@ use Rattle.std.proofs.Common.{◌≡◌, ℕ, ◌+◌, ◌<◌, Bool, List, filt
 use Rattle.std.specs.Int.{from_bool}
 use Rattle.std.proofs.lemmas.List.{get_or_default}
 use Rattle.tva_run.specs.Reaching.{rows_at}
-use Rattle.tva_net.specs.Mail.{AreRowCounts, carries}
+use Rattle.tva_net.specs.Built.{AreRowCounts, carries}
 use Rattle.tva_net.proofs.Counts.{all_more, carrying_more, few_carry, from_bool_few}
 use Rattle.tva_net.proofs.Firsts.{rows_few, some_row}
 use Rattle.tva_net.proofs.building.row_counts.Goals as goal

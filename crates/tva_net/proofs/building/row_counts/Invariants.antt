@@ -1,5 +1,5 @@
 use Rattle.std.proofs.Common.{filter, take}
-use Rattle.tva_net.specs.Mail.{AreRowCounts, carries}
+use Rattle.tva_net.specs.Built.{AreRowCounts, carries}
 use Rattle.tva_net.proofs.building.row_counts.Given as goal
 
 abbrev pub invariant-loop-place : goal.invariant-loop-place

@@ -1,5 +1,5 @@
 use Rattle.std.proofs.Common.{ℕ, List, length, subst, sym}
-use Rattle.tva_net.specs.Places.{AreKnownElsewhere, ArePlaces}
+use Rattle.tva_mail.specs.Places.{AreKnownElsewhere, ArePlaces}
 use Rattle.tva_net.proofs.Ends.{all_stand, few, mids_few, mids_numbered, mids_stand, postable, posted_elsewhere, posted_held, posted_known, reach, shown_elsewhere, shown_held, shown_known, told_kept, told_more, told_posted}
 use Rattle.tva_net.proofs.works.work_nodes.Goals as goal
 

@@ -1,6 +1,6 @@
 use Rattle.std.proofs.Common.{◌∙◌, ap}
 use Rattle.std.proofs.lemmas.Grind.{flat_map-append}
-use Rattle.tva_trace.specs.Lines.{line_of}
+use Rattle.tva_lines.specs.Lines.{line_of}
 use Rattle.tva_run.specs.Report.{lines_of}
 use Rattle.tva_run.proofs.Runs.{are_delayed}
 use Rattle.tva_run.proofs.Reports.{events_begin}

@@ -1,13 +1,16 @@
 use Rattle.std.proofs.Common.{Some, None, refl, sym, subst}
 use Rattle.tva_net.specs.declared.works.Works.{Works}
-use Rattle.tva_net.specs.Nets.{state_of, work_of}
+use Rattle.tva_net.specs.Kept.{state_of, work_of}
 use Rattle.tva_net.specs.Work.{WorksUpTo}
-use Rattle.tva_net.proofs.Answering.{answer_gives, answer_refuses, answer_sound, ended_sound, has_ended, has_room}
+use Rattle.tva_net.proofs.Answering.{answer_gives, answer_refuses, answer_sound, can_of, ended_sound, has_ended, has_room}
 use Rattle.tva_net.proofs.Ends.{told_same}
 use Rattle.tva_net.proofs.parts.Parts.step.Goals as goal
 
 pub returns-in-Some-clause-kept : goal.returns-in-Some-clause-kept
 returns-in-Some-clause-kept g c = told_same c.args.self.now.works.nodes.items
+
+pub next_events-events-requires-clause-works : goal.next_events-events-requires-clause-works
+next_events-events-requires-clause-works g c κs within = can_of (state_of c.args.self.now) c.requires.sound c.in_default.is
 
 pub give-requires-clause-room : goal.give-requires-clause-room
 give-requires-clause-room g c = (has_room (state_of c.args.self.now) c.requires.sound c.in_default.is).0

@@ -1,7 +1,8 @@
 use Rattle.std.proofs.Common.{◌+◌, ◌-◌}
 use Rattle.std.specs.List.{AllZip}
-use Rattle.tva_net.specs.Nets.{GrowsFrom, work_of}
-use Rattle.tva_net.specs.Times.{AreNoted}
+use Rattle.tva_net.specs.Kept.{work_of}
+use Rattle.tva_net.specs.Nets.{GrowsFrom}
+use Rattle.tva_mail.specs.Times.{AreNoted}
 use Rattle.tva_net.specs.Work.{AddsNothing, CanWork, OfEachRun}
 use Rattle.tva_net.proofs.works.Works.later_events.Given as goal
 

@@ -5,7 +5,8 @@ use Rattle.tva_log.specs.declared.kinds.Input.{Input}
 use Rattle.tva_log.specs.Sites.{AreRising, site_of}
 use Rattle.tva_node.specs.Links.{asked_by}
 use Rattle.tva_node.specs.Pairs.{link_pair}
-use Rattle.tva_node.specs.States.{NodeState, Fits, IsBy, role_plan, site_at, state_of}
+use Rattle.tva_node.specs.Besides.{IsBy}
+use Rattle.tva_node.specs.States.{NodeState, Fits, role_plan, site_at, state_of}
 use Rattle.tva_node.specs.Work.{TakesAt, is_due, queued_on}
 use Rattle.tva_node.proofs.Left.{some_due}
 use Rattle.tva_node.proofs.Waits.{asked_pairs}

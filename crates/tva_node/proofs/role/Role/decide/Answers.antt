@@ -5,7 +5,8 @@ use Rattle.tva_router.specs.Boots.{charges_of_boot}
 use Rattle.tva_log.specs.Parts.{charges, port_logs}
 use Rattle.tva_node.specs.declared.role.Role.{Role}
 use Rattle.tva_node.specs.declared.role.Hosted.{Hosted}
-use Rattle.tva_node.specs.States.{IsBy, RoleStands, StandsAsHost, role_plan}
+use Rattle.tva_node.specs.Besides.{IsBy, RoleStands, StandsAsHost}
+use Rattle.tva_node.specs.States.{role_plan}
 use Rattle.tva_node.specs.Steps.{started_by}
 use Rattle.tva_node.proofs.Roles.{host_decided, host_out, not_none, router_decided, router_has_out}
 use Rattle.tva_node.proofs.Making.{routed_same}

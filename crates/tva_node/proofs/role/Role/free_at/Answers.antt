@@ -4,7 +4,8 @@ use Rattle.tva_port.specs.Log.{free_after}
 use Rattle.tva_router.specs.Boots.{charges_of_boot}
 use Rattle.tva_log.specs.Parts.{charges, port_logs}
 use Rattle.tva_node.specs.declared.role.Role.{Role}
-use Rattle.tva_node.specs.States.{RoleStands, role_plan}
+use Rattle.tva_node.specs.Besides.{RoleStands}
+use Rattle.tva_node.specs.States.{role_plan}
 use Rattle.tva_node.proofs.Roles.{host_out, not_none, router_has_out}
 use Rattle.tva_node.proofs.role.Role.free_at.Goals as goal
 

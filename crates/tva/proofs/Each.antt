@@ -1,0 +1,64 @@
+-- Each run of a trace that is replayed has what is written.
+use Rattle.std.proofs.Common.{ℕ, List, None, Ok, ◌≡◌, ◌∙◌, ap, subst, inl, inr, IfSome}
+use Rattle.std.specs.declared.option.Option.{Option}
+use Rattle.std.specs.Io.KnownBytes.{append_known}
+use Rattle.tva_outside.specs.Held.{Held}
+use Rattle.tva_plan.specs.declared.config.Config.{Config}
+use Rattle.tva_plan.specs.Valid.{IsConfig}
+use Rattle.tva_report.specs.Lines.{first_bad}
+use Rattle.tva_trace.specs.declared.said.SaidRow.{SaidRow}
+use Rattle.tva_trace.specs.Rows.{rows_of}
+use Rattle.tva.specs.Answer.{WroteAll, WrotePart}
+use Rattle.tva.specs.Each.{BeginsEach, WroteEach}
+use Rattle.tva.specs.Expected.{Expected, audits, replays}
+use Rattle.tva.specs.Parts.{IsCut}
+use Rattle.tva.specs.Wanted.{wanted}
+use Rattle.tva.proofs.Replays.{cut_of_nothing, of_rows, same_report}
+use Rattle.tva.proofs.Wants.{HoldsOfEach, of_any}
+
+module _ (old new : Option (List ℕ)) where
+  -- what is written whole is what each run has
+  abbrev pub IsOne : Expected → Type 0
+  IsOne x = WroteAll old new x → WroteEach old new x
+
+  one_of_trace : (plan : Config) (trace : List ℕ) (said : List SaidRow) → IsConfig plan → rows_of plan trace ≡ Ok said → IsOne (replays plan trace)
+  one_of_trace plan trace said valid read (text, (rows, are, has), written) = λ others other theirs report.
+      written ∙ ap (append_known old) (same_report plan rows valid text other has.report (of_rows plan trace rows valid are other others theirs report))
+
+  one_of_audit : (plan : Config) (trace : List ℕ) (said : List SaidRow) (report : List ℕ) → IsConfig plan → rows_of plan trace ≡ Ok said → first_bad report ≡ None
+      → IsOne (audits plan trace report)
+  one_of_audit plan trace said report valid read good (text, (rows, are, has, sums, are_sums, same), written) = λ others other theirs its.
+      same_report plan rows valid other report (of_rows plan trace rows valid are other others theirs its) has.report
+
+  one_of_each : HoldsOfEach IsOne
+  one_of_each = record {
+    of_text = λ text wrote. tt;
+    of_shim = λ bytes wrote. tt;
+    of_trace = one_of_trace;
+    of_audit = one_of_audit;
+    of_refusal = λ r wrote. tt;
+  }
+
+  pub one_of_wanted : (held : Option Held) (words : List (List ℕ)) → IfSome (wanted held words) IsOne
+  one_of_wanted = of_any IsOne one_of_each
+
+  -- and a part of it is the first of what each run has
+  abbrev pub IsFirst : Expected → Type 0
+  IsFirst x = WrotePart old new x → BeginsEach old new x
+
+  first_of_trace : (plan : Config) (trace : List ℕ) (said : List SaidRow) → IsConfig plan → rows_of plan trace ≡ Ok said → IsFirst (replays plan trace)
+  first_of_trace plan trace said valid read (inl same) = λ others other theirs report. cut_of_nothing old new other same
+  first_of_trace plan trace said valid read (inr (text, (rows, are, begun), cut)) = λ others other theirs report.
+      subst (λ (t : List ℕ). IsCut old new t) (same_report plan rows valid text other begun (of_rows plan trace rows valid are other others theirs report)) cut
+
+  first_of_each : HoldsOfEach IsFirst
+  first_of_each = record {
+    of_text = λ text wrote. tt;
+    of_shim = λ bytes wrote. tt;
+    of_trace = first_of_trace;
+    of_audit = λ plan trace said report valid read good wrote. tt;
+    of_refusal = λ r wrote. tt;
+  }
+
+  pub first_of_wanted : (held : Option Held) (words : List (List ℕ)) → IfSome (wanted held words) IsFirst
+  first_of_wanted = of_any IsFirst first_of_each

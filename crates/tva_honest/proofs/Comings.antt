@@ -1,0 +1,311 @@
+-- What a router charges to a flow is what its unmarked packets were charged, each at its place.
+use Rattle.std.proofs.Common.{◌≡◌, ℕ, Bool, true, false, not, ◌&&◌, cond, List, [], ◌∷◌, ◌++◌, is_some, Option, Some, None, refl, ap, sym, subst, ◌∙◌, append_assoc}
+use Rattle.std.specs.Prelude.{filter}
+use Rattle.std.specs.Option.{option_map}
+use Rattle.std.specs.List.{AllByRecursion, filter_map, cons_option}
+use Rattle.std.proofs.lemmas.Option.{cond_some}
+use Rattle.tva_base.specs.declared.packet.Fate.{Fate}
+use Rattle.tva_base.specs.declared.packet.Flow.{Flow}
+use Rattle.tva_base.specs.declared.packet.Grant.{Grant}
+use Rattle.tva_base.specs.declared.packet.Rights.{Rights}
+use Rattle.tva_base.specs.declared.plan.RouterPlan.{RouterPlan}
+use Rattle.tva_base.specs.Changes.{in_force}
+use Rattle.tva_shim.specs.declared.kinds.Shown.{Shown}
+use Rattle.tva_shim.specs.declared.kinds.Kind.{Kind}
+use Rattle.tva_shim.specs.declared.kinds.Kind.TheVariants as kinds
+use Rattle.tva_shim.specs.declared.packets.Carried.{Carried}
+use Rattle.tva_shim.specs.declared.packets.Carried.TheVariants as carried
+use Rattle.tva_shim.specs.Packets.{PacketData}
+use Rattle.tva_caps.specs.declared.minters.Checked.TheVariants as checks
+use Rattle.tva_caps.specs.Check.{check_of, checked_at}
+use Rattle.tva_flow.specs.Charges.{Charge, same_flow, of_flow}
+use Rattle.tva_flow.proofs.Same.{flow_is}
+use Rattle.tva_router.specs.declared.judged.Arrival.{Arrival}
+use Rattle.tva_router.specs.Boots.{charges_at}
+use Rattle.tva_router.specs.Handling.{arrival}
+use Rattle.tva_router.specs.Marks.{is_marked}
+use Rattle.tva_host.specs.Receiving.{shows_grant}
+use Rattle.tva_plan.specs.declared.config.NodePlan.TheVariants as plans
+use Rattle.tva_log.proofs.Joins.{each-passes}
+use Rattle.tva_log.specs.declared.kinds.Input.{Input}
+use Rattle.tva_log.specs.Sites.{Site}
+use Rattle.tva_log.specs.Entries.{Arrived, Sent, Ticked, Received, Entry, Took, Started, input_time}
+use Rattle.tva_log.specs.Parts.{charged, charge_of, charges, port_logs}
+use Rattle.tva_promises.specs.Fates.{NoRowRefusesShown, NoRowRefusesNonce, NoRowRefusesKind, NoRowRefuses, IsFate}
+use Rattle.tva_promises.specs.Promises.{KeepsPromises}
+use Rattle.tva_honest.specs.Deals.{Coming, coming, came_at, comings}
+use Rattle.tva_honest.specs.Paths.{shows, those_charged}
+use Rattle.tva_honest.proofs.Charges.{last-of}
+use Rattle.tva_honest.proofs.Lists.{some_same, place}
+
+-- ## what was charged
+
+-- the charge of what came
+abbrev pub paid_of : Coming → Option Charge
+paid_of x = option_map (charged x.time x.packet) x.charge
+
+-- what was charged
+abbrev pub paid_coming : Coming → Option Coming
+paid_coming x = cond (is_some x.charge) (Some x) None
+
+abbrev pub paid : List Coming → List Coming
+paid seen = filter_map paid_coming seen
+
+valid_is : (a b c : Bool) (m g : Grant) → cond a checks.Expired (cond b checks.BadHash (cond c (checks.Valid m) checks.BadHash))
+    ≡ checks.Valid g → m ≡ g
+valid_is true b c m g e = absurd (cc)
+valid_is false true c m g e = absurd (cc)
+valid_is false false true m g e = cc
+valid_is false false false m g e = absurd (cc)
+
+pub valid_flow : (master : List ℕ) (second : ℕ) (flow : Flow) (cap : ℕ) (rights : Rights) (g : Grant)
+    → check_of master second flow cap rights ≡ checks.Valid g → g.flow ≡ flow
+unfolding check_of checked_at
+valid_flow master second flow cap rights g e = sym (ap (λ (x : Grant). x.flow) (valid_is _ _ _ _ g e))
+
+-- a grant to which a packet is charged is its flow's, and the packet is unmarked and shows a grant
+pub record IsClaim (flow : Flow) (c : Carried) (g : Grant) : Type 0 where
+  pub flow_is : g.flow ≡ flow
+  pub unmarked : is_marked c ≡ false
+  pub shown : shows c ≡ true
+
+shown_flow : (plan : RouterPlan) (h : List Charge) (a : Arrival) (shown : Shown) (g : Grant) → NoRowRefusesShown plan h a shown g
+    → g.flow ≡ a.flow
+shown_flow plan h a shown g r = valid_flow plan.master _ a.flow r.cap shown.rights g r.valid
+
+nonce_flow : (plan : RouterPlan) (h : List Charge) (a : Arrival) (nonce : ℕ) (g : Grant) → NoRowRefusesNonce plan h a nonce g
+    → g.flow ≡ a.flow
+nonce_flow plan h a nonce g r =
+    let own : same_flow r.charge.grant.flow a.flow ≡ true =
+    last-of (λ (c : Charge). same_flow c.grant.flow a.flow ≡ true) (of_flow a.flow h) r.charge
+    (each-passes (λ (c : Charge). same_flow c.grant.flow a.flow) h) r.held in
+    sym (ap (λ (x : Grant). x.flow) r.grant_is) ∙ flow_is r.charge.grant.flow a.flow own
+
+claim_kind : (plan : RouterPlan) (h : List Charge) (a : Arrival) (kind : Kind) (g : Grant) → NoRowRefusesKind plan h a kind g
+    → (g.flow ≡ a.flow) × (shows_grant kind ≡ true)
+claim_kind plan h a (kinds.Request entries) g r = absurd r
+claim_kind plan h a (kinds.List shown) g r = (shown_flow plan h a shown g r, refl)
+claim_kind plan h a (kinds.Nonce nonce) g r = (nonce_flow plan h a nonce g r, refl)
+claim_kind plan h a (kinds.Renewal shown) g r = (shown_flow plan h a shown g r, refl)
+
+pub claim : (plan : RouterPlan) (h : List Charge) (a : Arrival) (c : Carried) (g : Grant) → NoRowRefuses plan h a c g → IsClaim a.flow c g
+claim plan h a carried.Nothing g r = absurd r
+claim plan h a (carried.Shim shim) g r =
+    let k = claim_kind plan h a shim.kind g r.1 in record { flow_is = k.0; unmarked = r.0; shown = k.1 }
+claim plan h a (carried.Malformed size) g r = absurd r
+
+-- ## one entry
+
+filter_option : (p : Charge → Bool) (o : Option Charge) (cs : List Charge)
+    → filter p (cons_option o cs) ≡ filter p (cons_option o []) ++ filter p cs
+filter_option p None cs = refl
+filter_option p (Some c) cs = by (p c)
+  where
+    by : (b : Bool) → cond b (c ∷ filter p cs) (filter p cs) ≡ cond b (c ∷ []) [] ++ filter p cs
+    by true = refl
+    by false = refl
+
+paid_option : (o : Option Coming) (xs : List Coming)
+    → filter_map paid_of (cons_option o xs) ≡ filter_map paid_of (cons_option o []) ++ filter_map paid_of xs
+paid_option None xs = refl
+paid_option (Some x) xs = by (paid_of x)
+  where
+    by : (o : Option Charge) → cons_option o (filter_map paid_of xs) ≡ cons_option o [] ++ filter_map paid_of xs
+    by None = refl
+    by (Some c) = refl
+
+and_yes : (b : Bool) → (b && true) ≡ b
+and_yes true = refl
+and_yes false = refl
+
+module _ (f : Flow) where
+  unpaid : (b : Bool) (x : Coming) → x.charge ≡ None → [] ≡ filter_map paid_of (cons_option (cond b (Some x) None) [])
+  unpaid true x e = sym (ap (λ (o : Option Grant). cons_option (option_map (charged x.time x.packet) o) []) e)
+  unpaid false x e = refl
+
+  was_paid : (b : Bool) (x : Coming) (g : Grant) → x.charge ≡ Some g
+      → cond b (charged x.time x.packet g ∷ []) [] ≡ filter_map paid_of (cons_option (cond b (Some x) None) [])
+  was_paid true x g e = sym (ap (λ (o : Option Grant). cons_option (option_map (charged x.time x.packet) o) []) e)
+  was_paid false x g e = refl
+
+  -- what an arrival is charged
+  abbrev Charges : Coming → Option Grant → Type 0
+  Charges x o = filter (λ (c : Charge). same_flow c.grant.flow f) (cons_option (option_map (charged x.time x.packet) o) [])
+      ≡ filter_map paid_of (cons_option (cond (same_flow x.packet.flow f && not (is_marked x.packet.carried)) (Some x) None) [])
+
+  charge_by : (x : Coming) (o : Option Grant) → x.charge ≡ o → ((g : Grant) → o ≡ Some g → IsClaim x.packet.flow x.packet.carried g)
+      → Charges x o
+  charge_by x None e k = unpaid (same_flow x.packet.flow f && not (is_marked x.packet.carried)) x e
+  charge_by x (Some g) e k =
+      let c = k g refl in
+      let same : same_flow g.flow f ≡ (same_flow x.packet.flow f && not (is_marked x.packet.carried)) =
+      ap (λ (z : Flow). same_flow z f) c.flow_is ∙ (sym (and_yes (same_flow x.packet.flow f)) ∙ ap
+      (λ (b : Bool). same_flow x.packet.flow f && not b) (sym c.unmarked)) in
+      subst (λ (b : Bool). cond (same_flow g.flow f) (charged x.time x.packet g ∷ []) [] ≡ filter_map paid_of
+      (cons_option (cond b (Some x) None) [])) same (was_paid (same_flow g.flow f) x g e)
+
+-- ## a router's log
+
+module _ (site : Site) (plan : RouterPlan) (is_router : site.plan ≡ plans.Router plan) (until : ℕ) (log : List Entry)
+    (keeps : KeepsPromises site until log) where
+  pub fate_at : (before : List Entry) (input : Input) (from : Option ℕ) (packet : PacketData) (fate : Fate) (onward : PacketData)
+      (rest : List Entry) → log ≡ before ++ Took input (Arrived from packet fate onward) ∷ rest
+      → IsFate (in_force plan (input_time input)) (charges_at plan (input_time input) (charges before)) (port_logs before) (input_time input)
+      from packet fate onward
+  fate_at before input from packet fate onward rest here =
+      keeps.fates plan is_router before input (Arrived from packet fate onward) rest here
+
+  pub claim_at : (before : List Entry) (input : Input) (from : Option ℕ) (packet : PacketData) (fate : Fate) (onward : PacketData)
+      (rest : List Entry) → log ≡ before ++ Took input (Arrived from packet fate onward) ∷ rest
+      → (g : Grant) → fate.charge ≡ Some g
+      → NoRowRefuses (in_force plan (input_time input)) (charges_at plan (input_time input) (charges before))
+      (arrival (input_time input) from packet) packet.carried g
+  claim_at before input from packet fate onward rest here g e = ((fate_at before input from packet fate onward rest here).only g e).1
+
+  module _ (f : Flow) where
+    entry_charges : (before : List Entry) (e : Entry) (rest : List Entry) → log ≡ before ++ e ∷ rest
+        → of_flow f (cons_option (charge_of e) []) ≡ filter_map paid_of (cons_option (came_at f e) [])
+    entry_charges before (Took input (Arrived from packet fate onward)) rest here =
+        charge_by f (coming input packet fate) fate.charge refl
+        (λ g e. claim (in_force plan (input_time input)) (charges_at plan (input_time input) (charges before))
+        (arrival (input_time input) from packet) packet.carried g
+        (claim_at before input from packet fate onward rest here g e))
+    entry_charges before (Took input (Sent made outcome)) rest here = refl
+    entry_charges before (Took input Ticked) rest here = refl
+    entry_charges before (Took input (Received from packet receipt went range)) rest here = refl
+    entry_charges before (Started time link class packet) rest here = refl
+
+    -- what is charged to a flow
+    charges_from : (before es rest : List Entry) → log ≡ before ++ (es ++ rest) → of_flow f (charges es) ≡ filter_map paid_of (comings f es)
+    charges_from before [] rest here = refl
+    charges_from before (e ∷ es) rest here =
+        filter_option (λ (c : Charge). same_flow c.grant.flow f) (charge_of e) (charges es)
+        ∙ (ap (λ (cs : List Charge). cs ++ of_flow f (charges es)) (entry_charges before e (es ++ rest) here)
+        ∙ (ap (λ (cs : List Charge). filter_map paid_of (cons_option (came_at f e) []) ++ cs)
+        (charges_from (before ++ e ∷ []) es rest (here ∙ sym (append_assoc before (e ∷ []) (es ++ rest))))
+        ∙ sym (paid_option (came_at f e) (comings f es))))
+
+    pub flow_charges : (before rest : List Entry) → log ≡ before ++ rest
+        → of_flow f (charges before) ≡ filter_map paid_of (comings f before)
+    flow_charges before rest here = charges_from [] before rest here
+
+    -- where what came stands
+    pub record CameAt (front : List Coming) (x : Coming) : Type 0 where
+      pub before : List Entry
+      pub input : Input
+      pub from : Option ℕ
+      pub packet : PacketData
+      pub fate : Fate
+      pub onward : PacketData
+      pub rest : List Entry
+      pub here : log ≡ before ++ Took input (Arrived from packet fate onward) ∷ rest
+      pub is : coming input packet fate ≡ x
+      pub flow : same_flow packet.flow f ≡ true
+      pub unmarked : is_marked packet.carried ≡ false
+      pub front_is : comings f before ≡ front
+
+    and_parts : (a b : Bool) → (a && not b) ≡ true → (a ≡ true) × (b ≡ false)
+    and_parts true true e = absurd (cc)
+    and_parts true false e = (refl, refl)
+    and_parts false b e = absurd (cc)
+
+    came_by : (front : List Coming) (x : Coming) (before : List Entry) (e : Entry) (rest : List Entry) → log ≡ before ++ e ∷ rest
+        → came_at f e ≡ Some x → comings f before ≡ front → CameAt front x
+    came_by front x before (Took input (Arrived from packet fate onward)) rest here gives front_is =
+        let k = cond_some (same_flow packet.flow f && not (is_marked packet.carried)) (coming input packet fate) x gives in
+        let parts = and_parts (same_flow packet.flow f) (is_marked packet.carried) k.0 in
+        record {
+          before = before;
+          input = input;
+          from = from;
+          packet = packet;
+          fate = fate;
+          onward = onward;
+          rest = rest;
+          here = here;
+          is = k.1;
+          flow = parts.0;
+          unmarked = parts.1;
+          front_is = front_is;
+        }
+    came_by front x before (Took input (Sent made outcome)) rest here gives front_is = absurd (cc)
+    came_by front x before (Took input Ticked) rest here gives front_is = absurd (cc)
+    came_by front x before (Took input (Received from packet receipt went range)) rest here gives front_is = absurd (cc)
+    came_by front x before (Started time link class packet) rest here gives front_is = absurd (cc)
+
+    pub came_place : (past after : List Entry) → log ≡ past ++ after → (front : List Coming) (x : Coming) (back : List Coming)
+        → comings f past ≡ front ++ x ∷ back → CameAt front x
+    came_place past after whole front x back e =
+        let p = place (came_at f) past front x back e in
+        came_by front x p.before p.at (p.after ++ after) (whole ∙
+        (ap (λ (es : List Entry). es ++ after) p.is ∙ append_assoc p.before (p.at ∷ p.after) after)) p.gives p.front_is
+
+-- ## those that were charged
+
+-- only they count
+paid_here : (x : Coming) (cs : List Charge) (xs : List Coming) → cs ≡ filter_map paid_of xs
+    → cons_option (paid_of x) cs ≡ filter_map paid_of (cons_option (paid_coming x) xs)
+paid_here x cs xs e = by x.charge refl
+  where
+    by : (o : Option Grant) → x.charge ≡ o → cons_option (paid_of x) cs ≡ filter_map paid_of (cons_option (paid_coming x) xs)
+    by None k =
+        ap (λ (o : Option Grant). cons_option (option_map (charged x.time x.packet) o) cs) k ∙
+        (e ∙ sym (ap (λ (o : Option Grant). filter_map paid_of (cons_option (cond (is_some o) (Some x) None) xs)) k))
+    by (Some g) k =
+        ap (cons_option (paid_of x)) e ∙ sym (ap
+        (λ (o : Option Grant). filter_map paid_of (cons_option (cond (is_some o) (Some x) None) xs)) k)
+
+pub paid_only : (seen : List Coming) → filter_map paid_of seen ≡ filter_map paid_of (paid seen)
+paid_only [] = refl
+paid_only (x ∷ xs) = paid_here x (filter_map paid_of xs) (paid xs) (paid_only xs)
+
+paid_is : (x y : Coming) → paid_coming x ≡ Some y → (x ≡ y) × (is_some x.charge ≡ true)
+paid_is x y e = let k = cond_some (is_some x.charge) x y e in (k.1, k.0)
+
+-- where one of those stands among all
+pub record PaidAt (seen front : List Coming) (x : Coming) : Type 0 where
+  pub before : List Coming
+  pub after : List Coming
+  pub is : seen ≡ before ++ x ∷ after
+  pub front_is : paid before ≡ front
+
+pub paid_place : (seen front : List Coming) (x : Coming) (back : List Coming) → paid seen ≡ front ++ x ∷ back → PaidAt seen front x
+paid_place seen front x back e =
+    let p = place paid_coming seen front x back e in
+    let same = paid_is p.at x p.gives in
+    record { before = p.before; after = p.after; is = p.is ∙ ap (λ (y : Coming). p.before ++ y ∷ p.after) same.0; front_is = p.front_is }
+
+paid_each_by : (P : Coming → Type 0) (x : Coming) (xs : List Coming) (o : Option Grant) → x.charge ≡ o
+    → AllByRecursion P (cons_option (cond (is_some o) (Some x) None) xs) → (is_some o ≡ true → P x) × AllByRecursion P xs
+paid_each_by P x xs None e a = (λ k. absurd (cc), a)
+paid_each_by P x xs (Some g) e a = (λ k. a.0, a.1)
+
+-- what holds of those holds of each that was charged
+pub paid_each : (P : Coming → Type 0) (seen : List Coming) → AllByRecursion P (paid seen)
+    → AllByRecursion (λ x. is_some x.charge ≡ true → P x) seen
+paid_each P [] a = tt
+paid_each P (x ∷ xs) a = let k = paid_each_by P x (paid xs) x.charge refl a in (k.0, paid_each P xs k.1)
+
+charged_here : (x : Coming) (xs ys : List Coming) (b : Bool) → xs ≡ ys → cond b (x ∷ xs) xs ≡ cons_option (cond b (Some x) None) ys
+charged_here x xs ys true e = ap (λ (zs : List Coming). x ∷ zs) e
+charged_here x xs ys false e = e
+
+-- they are those that were charged
+pub charged_is : (seen : List Coming) → those_charged seen ≡ paid seen
+charged_is [] = refl
+charged_is (x ∷ xs) = charged_here x (those_charged xs) (paid xs) (is_some x.charge) (charged_is xs)
+
+-- a charge of what came
+pub charge_parts : (x : Coming) (o : Option Grant) (c : Charge) → x.charge ≡ o → option_map (charged x.time x.packet) o ≡ Some c
+    → (g : Grant) × (x.charge ≡ Some g) × (charged x.time x.packet g ≡ c)
+charge_parts x None c e k = absurd (cc)
+charge_parts x (Some g) c e k = (g, e, some_same (charged x.time x.packet g) c k)
+
+paying_by : (x : Coming) (xs : List Coming) (o : Option Grant) → x.charge ≡ o → AllByRecursion (λ y. is_some (paid_of y) ≡ true) xs
+    → AllByRecursion (λ y. is_some (paid_of y) ≡ true) (cons_option (cond (is_some o) (Some x) None) xs)
+paying_by x xs None e a = a
+paying_by x xs (Some g) e a = (ap (λ (o : Option Grant). is_some (option_map (charged x.time x.packet) o)) e, a)
+
+pub paying_all : (seen : List Coming) → AllByRecursion (λ y. is_some (paid_of y) ≡ true) (paid seen)
+paying_all [] = tt
+paying_all (x ∷ xs) = paying_by x (paid xs) x.charge refl (paying_all xs)

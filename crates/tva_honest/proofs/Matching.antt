@@ -1,0 +1,127 @@
+-- What came in the order in which it was prepared is matched with what was prepared, one by one.
+use Rattle.std.proofs.Common.{◌≡◌, ◌<◌, ◌⊎◌, inl, inr, ℕ, List, [], ◌∷◌, ◌++◌, Option, Some, ap, sym, subst, ◌∙◌, arith}
+use Rattle.std.specs.Prelude.{map}
+use Rattle.std.specs.List.{AllByRecursion, filter_map, cons_option}
+use Rattle.tva_base.specs.declared.packet.PacketId.{PacketId}
+use Rattle.tva_shim.specs.Packets.{PacketData}
+use Rattle.tva_log.proofs.Joins.{each-weaker}
+use Rattle.tva_honest.specs.Deals.{Deal, Prepared, Granted, Noticed, Coming}
+use Rattle.tva_honest.proofs.Lists.{Rises, each_rest, rises_rest}
+use Rattle.tva_honest.proofs.Hosts.{deal_key}
+
+-- the packet of that identity was prepared
+abbrev pub IsOf : Deal → PacketId → Type 0
+IsOf (Prepared time packet) id = packet.id ≡ id
+IsOf (Granted rights caps) id = ⊥
+IsOf Noticed id = ⊥
+
+abbrev pub In : List Deal → PacketId → Type 0
+In [] id = ⊥
+In (d ∷ ds) id = IsOf d id ⊎ In ds id
+
+abbrev pub come_key : Coming → ℕ
+come_key x = x.packet.id.ordinal
+
+abbrev pub keys : List Deal → List ℕ
+keys ds = filter_map deal_key ds
+
+pub in_place : (before : List Deal) (time : ℕ) (packet : PacketData) (after : List Deal) (id : PacketId) → packet.id ≡ id
+    → In (before ++ Prepared time packet ∷ after) id
+in_place [] time packet after id e = inl e
+in_place (d ∷ ds) time packet after id e = inr (in_place ds time packet after id e)
+
+pub in_append : (xs ys : List Deal) (id : PacketId) → In (xs ++ ys) id → In xs id ⊎ In ys id
+in_append [] ys id k = inr k
+in_append (x ∷ xs) ys id (inl k) = inl (inl k)
+in_append (x ∷ xs) ys id (inr k) = elim (in_append xs ys id k) [ inl a ↦ inl (inr a) | inr b ↦ inr b ]
+
+pub in_left : (xs ys : List Deal) (id : PacketId) → In xs id → In (xs ++ ys) id
+in_left [] ys id k = absurd k
+in_left (x ∷ xs) ys id (inl k) = inl k
+in_left (x ∷ xs) ys id (inr k) = inr (in_left xs ys id k)
+
+pub in_last : (xs : List Deal) (d : Deal) (id : PacketId) → IsOf d id → In (xs ++ d ∷ []) id
+in_last [] d id k = inl k
+in_last (x ∷ xs) d id k = inr (in_last xs d id k)
+
+is_key : (d : Deal) (id : PacketId) → IsOf d id → deal_key d ≡ Some id.ordinal
+is_key (Prepared time packet) id k = ap (λ (i : PacketId). Some i.ordinal) k
+is_key (Granted rights caps) id k = absurd k
+is_key Noticed id k = absurd k
+
+-- what holds of each key holds of what is in
+pub in_each : (P : ℕ → Type 0) (ds : List Deal) (id : PacketId) → In ds id → AllByRecursion P (keys ds) → P id.ordinal
+in_each P [] id k a = absurd k
+in_each P (d ∷ ds) id (inl k) a = (subst (λ (o : Option ℕ). AllByRecursion P (cons_option o (keys ds))) (is_key d id k) a).0
+in_each P (d ∷ ds) id (inr k) a = in_each P ds id k (each_rest P (deal_key d) (keys ds) a)
+
+-- what is behind has a greater ordinal
+pub in_behind : (d : Deal) (ds : List Deal) (i j : PacketId) → Rises (keys (d ∷ ds)) → IsOf d i → In ds j → i.ordinal < j.ordinal
+in_behind d ds i j r k l =
+    in_each (λ n. i.ordinal < n) ds j l (subst (λ (o : Option ℕ). Rises (cons_option o (keys ds))) (is_key d i k) r).0
+
+-- ## matching
+
+abbrev pub Matches : List Deal → List Coming → Type 0
+Matches [] [] = Unit {0}
+Matches [] (x ∷ xs) = ⊥
+Matches (d ∷ ds) [] = Matches ds []
+Matches (d ∷ ds) (x ∷ xs) = (IsOf d x.packet.id × Matches ds xs) ⊎ Matches ds (x ∷ xs)
+
+none_match : (ds : List Deal) → Matches ds []
+none_match [] = tt
+none_match (d ∷ ds) = none_match ds
+
+abbrev pub AreIn : List Deal → List Coming → Type 0
+AreIn ds xs = AllByRecursion (λ x. In ds x.packet.id) xs
+
+-- those behind the first are behind its deal
+behind_match : (d : Deal) (ds : List Deal) (i : PacketId) (xs : List Coming) → IsOf d i → AllByRecursion (λ n. i.ordinal < n)
+    (map come_key xs) → AreIn (d ∷ ds) xs → AreIn ds xs
+behind_match d ds i [] k a l = tt
+behind_match d ds i (x ∷ xs) k a l = (here l.0, behind_match d ds i xs k a.1 l.1)
+  where
+    here : In (d ∷ ds) x.packet.id → In ds x.packet.id
+    here (inl j) =
+        absurd (let same = sym (is_key d i k)
+        ∙ is_key d x.packet.id j in let less : i.ordinal < x.packet.id.ordinal =
+        a.0 in let e : i.ordinal ≡ x.packet.id.ordinal = cc in omega arith)
+    here (inr j) = j
+
+-- those behind one that is behind a deal are behind it too
+past_match : (d : Deal) (ds : List Deal) (i : PacketId) (xs : List Coming) → Rises (keys (d ∷ ds)) → In ds i
+    → AllByRecursion (λ n. i.ordinal < n) (map come_key xs) → AreIn (d ∷ ds) xs → AreIn ds xs
+past_match d ds i [] r k a l = tt
+past_match d ds i (x ∷ xs) r k a l = (here l.0, past_match d ds i xs r k a.1 l.1)
+  where
+    here : In (d ∷ ds) x.packet.id → In ds x.packet.id
+    here (inl j) =
+        absurd
+        (let more : x.packet.id.ordinal < i.ordinal = in_behind d ds x.packet.id i r j k in
+        let less : i.ordinal < x.packet.id.ordinal = a.0 in omega arith)
+    here (inr j) = j
+
+match_by : (d : Deal) (ds : List Deal) (x : Coming) (xs : List Coming) → (AreIn ds xs → Matches ds xs)
+    → (AreIn ds (x ∷ xs) → Matches ds (x ∷ xs)) → Rises (keys (d ∷ ds)) → Rises (map come_key (x ∷ xs))
+    → In (d ∷ ds) x.packet.id → AreIn (d ∷ ds) xs → Matches (d ∷ ds) (x ∷ xs)
+match_by d ds x xs front back r s (inl k) a = inl (k, front (behind_match d ds x.packet.id xs k s.0 a))
+match_by d ds x xs front back r s (inr k) a = inr (back (k, past_match d ds x.packet.id xs r k s.0 a))
+
+pub matched : (ds : List Deal) (xs : List Coming) → Rises (keys ds) → Rises (map come_key xs) → AreIn ds xs → Matches ds xs
+matched ds [] r s a = none_match ds
+matched [] (x ∷ xs) r s a = absurd a.0
+matched (d ∷ ds) (x ∷ xs) r s a =
+    let rest : Rises (keys ds) = rises_rest (deal_key d) (keys ds) r in
+    match_by d ds x xs (λ b. matched ds xs rest s.1 b) (λ b. matched ds (x ∷ xs) rest s b) r s a.0 a.1
+
+pub matches_in : (ds : List Deal) (xs : List Coming) → Matches ds xs → AreIn ds xs
+matches_in ds [] m = tt
+matches_in [] (x ∷ xs) m = absurd m
+matches_in (d ∷ ds) (x ∷ xs) (inl m) = (
+  inl m.0,
+  each-weaker (λ (y : Coming). In ds y.packet.id) (λ (y : Coming). In (d ∷ ds) y.packet.id) (λ y k. inr k) xs
+      (matches_in ds xs m.1),
+)
+matches_in (d ∷ ds) (x ∷ xs) (inr m) =
+    each-weaker (λ (y : Coming). In ds y.packet.id) (λ (y : Coming). In (d ∷ ds) y.packet.id) (λ y k. inr k) (x ∷ xs)
+    (matches_in ds (x ∷ xs) m)

@@ -1,0 +1,504 @@
+-- In each run what comes on a steady path and shows a grant is charged and goes on as regular.
+use Rattle.std.proofs.Common.{◌≡◌, ◌≤◌, ◌<◌, ◌⊎◌, inl, inr, ℕ, true, false, List, [], ◌∷◌, ◌++◌, map, is_some, Option, Some, None, refl, ap, ap₂, sym, subst, ◌∙◌, arith, append_assoc}
+use Rattle.std.specs.Prelude.{IsSomeAnd, ◌==◌}
+use Rattle.std.specs.Option.{option_map, IfSome}
+use Rattle.std.specs.List.{AllByRecursion, filter_map, cons_option}
+use Rattle.std.proofs.lemmas.Bool.{eqb-true}
+use Rattle.std.proofs.lemmas.List.Elements.{filter_map-append}
+use Rattle.tva_base.specs.declared.packet.Fate.{Fate}
+use Rattle.tva_base.specs.declared.packet.Flow.{Flow}
+use Rattle.tva_base.specs.declared.packet.Grant.{Grant}
+use Rattle.tva_base.specs.declared.packet.Outcome.{Outcome}
+use Rattle.tva_base.specs.declared.packet.PacketId.{PacketId}
+use Rattle.tva_base.specs.declared.packet.Rights.{Rights}
+use Rattle.tva_base.specs.declared.packet.Time.{Time}
+use Rattle.tva_base.specs.declared.plan.HostPlan.{HostPlan}
+use Rattle.tva_base.specs.declared.plan.RouterPlan.{RouterPlan}
+use Rattle.tva_base.specs.Changes.{boot_at, in_force}
+use Rattle.tva_base.specs.Plan.{IsHostPlan}
+use Rattle.tva_shim.specs.Shims.{IsReturn}
+use Rattle.tva_shim.specs.Packets.{PacketData, packet_length}
+use Rattle.tva_shim.specs.Shows.{back_in}
+use Rattle.tva_flow.specs.Charges.{Charge, same_flow, of_flow, last_charge, holder}
+use Rattle.tva_flow.proofs.Same.{flow_is}
+use Rattle.tva_sender.specs.Contacts as contact
+use Rattle.tva_sender.specs.Contacts.{Contact, Taking, last_taking, asked_at, time}
+use Rattle.tva_sender.specs.Played.{IsPlayed}
+use Rattle.tva_router.specs.Boots.{charges_of_boot, charges_at}
+use Rattle.tva_router.specs.Handling.{arrival}
+use Rattle.tva_router.specs.Marks.{is_marked}
+use Rattle.tva_router.proofs.InForce.{force_clock, force_slots}
+use Rattle.tva_host.specs.declared.made.Receipt.{Receipt}
+use Rattle.tva_host.specs.Calls.{NeverFall}
+use Rattle.tva_host.proofs.Played as players
+use Rattle.tva_plan.specs.declared.config.Config.{Config}
+use Rattle.tva_plan.specs.declared.config.NodePlan.{NodePlan}
+use Rattle.tva_plan.specs.declared.config.NodePlan.TheVariants as plans
+use Rattle.tva_plan.specs.Valid.{IsConfig}
+use Rattle.tva_trace.specs.declared.rows.Row.{Row}
+use Rattle.tva_trace.specs.declared.rows.RowWhat.{RowWhat}
+use Rattle.tva_trace.specs.declared.rows.RowWhat.TheVariants.{Send, Inject, File, Tick}
+use Rattle.tva_log.specs.Joins.{IsInOrder}
+use Rattle.tva_log.proofs.Joins.{each-weaker, times_from}
+use Rattle.tva_log.specs.declared.kinds.Input.{Input}
+use Rattle.tva_log.specs.declared.kinds.Input.TheVariants.{FromTrace, Arrival}
+use Rattle.tva_log.specs.Sites.{Site, IsPlanned}
+use Rattle.tva_base.specs.declared.event.DataLine.{DataLine}
+use Rattle.tva_log.specs.Entries.{Arrived, Received, Entry, Took, Started, input_time, entry_time, entry_rank}
+use Rattle.tva_log.specs.Parts.{charged, charges, port_logs, call_of_row, calls, packet_sent}
+use Rattle.tva_log.specs.Contents.{handled}
+use Rattle.tva_log.specs.NodeLog.{due}
+use Rattle.tva_run.specs.Reaching.{Logs, log_at, site_at}
+use Rattle.tva_run.specs.Run.{IsRunTo}
+use Rattle.tva_run.proofs.Sites.{site_is}
+use Rattle.tva_promises.specs.Promises.{KeepsPromises}
+use Rattle.tva_promises.proofs.Entries.{fate_is}
+use Rattle.tva_paths.specs.Origins.{made_in, Keeps, HasOrigin}
+use Rattle.tva_paths.proofs.Walks.{at_place}
+use Rattle.tva_paths.proofs.Origins.{origin_at}
+use Rattle.tva_honest.specs.Miles.{Mile, contacts, charges_in, last_came}
+use Rattle.tva_honest.specs.SteadyMiles.{Way, ComesIn, IsPaid, IsSteady}
+use Rattle.tva_honest.specs.Deals.{Deal, Prepared, Granted, Noticed, Coming, coming, deals, comings}
+use Rattle.tva_honest.specs.Paths.{shows, ask_coming, ask_came, grant_came, ShowsMinted, ComesInTime, ComesSteadily, comings_at, those_charged, IsSteadyPath, IsTakenByLast, AreHonestRegular}
+use Rattle.tva_honest.proofs.Given.{AreGiven}
+use Rattle.tva_honest.proofs.Lists.{some_same, Rises, rises_from, rises_rest, rises_front, rises_last, each_front, one_place}
+use Rattle.tva_honest.proofs.Dealt.{shape_in, counted, contact_of, played_front, map_place}
+use Rattle.tva_honest.proofs.Hosts.{ordinal_of, made_at, entry_key, deal_key, takes, IsMadeIn, IsTrue, Told, told}
+use Rattle.tva_honest.proofs.Returns.{received_returns}
+use Rattle.tva_honest.proofs.Counts.{few_inputs}
+use Rattle.tva_honest.proofs.Matching.{In, come_key, keys, AreIn, Matches, in_place, in_append, in_behind, matched}
+use Rattle.tva_honest.proofs.Asks.{Asked, last_time, asked_place, come_id, ask_is, coming_is, last_rights_are}
+use Rattle.tva_honest.proofs.Comings.{paid_of, paid, charge_parts, paying_all, claim, claim_at, flow_charges, CameAt, came_place, paid_only, paid_place, charged_is}
+use Rattle.tva_honest.proofs.Boots.{one_master, passing_place, boot_charges}
+use Rattle.tva_honest.proofs.DealtMiles.{Run, miles_of, authorised_since}
+use Rattle.tva_honest.proofs.Regular.{ShowsGrant, steady_regular}
+use Rattle.tva_honest.proofs.Kept.{AreShims, are_shims, same_length, at_router, shown_as_made, shows_as_made}
+
+-- ## the times of a host's calls
+
+row_falls : (from now : ℕ) (what : RowWhat) (p : PacketData) (es : List Entry) → from ≤ now → NeverFall now (calls es)
+    → ((t : ℕ) → t ≤ now → NeverFall t (calls es)) → NeverFall from (call_of_row now what p ∷ calls es)
+row_falls from now (Send dst payload) p es l k all = (l, k)
+row_falls from now (Inject flow payload carries) p es l k all = all from l
+row_falls from now (File dst size segment) p es l k all = (l, k)
+row_falls from now (Tick dst) p es l k all = (l, k)
+
+sent_falls : (from now : ℕ) (what : RowWhat) (o : Option PacketData) (es : List Entry) → from ≤ now → NeverFall now (calls es)
+    → ((t : ℕ) → t ≤ now → NeverFall t (calls es)) → NeverFall from (cons_option (option_map (call_of_row now what) o) (calls es))
+sent_falls from now what None es l k all = all from l
+sent_falls from now what (Some p) es l k all = row_falls from now what p es l k all
+
+never_fall : (from : ℕ) (es : List Entry) → AllByRecursion (λ e. from ≤ entry_time e) es → IsInOrder entry_time entry_rank es
+    → NeverFall from (calls es)
+never_fall from [] a o = tt
+never_fall from (Took (FromTrace row) c ∷ es) a o =
+    let later = (times_from entry_time entry_rank (Took (FromTrace row) c) es o).1 in
+    sent_falls from row.time.0 row.what (packet_sent c) es a.0 (never_fall row.time.0 es later o.1)
+    (λ t l. never_fall t es (each-weaker (λ (e : Entry). row.time.0 ≤ entry_time e) (λ (e : Entry). t ≤ entry_time e)
+    (λ e k. omega arith) es later) o.1)
+never_fall from (Took (Arrival at link packet) c ∷ es) a o =
+    (a.0, never_fall at.0 es (times_from entry_time entry_rank (Took (Arrival at link packet) c) es o).1 o.1)
+never_fall from (Started at link class packet ∷ es) a o = never_fall from es a.1 o.1
+
+from_zero : (es : List Entry) → AllByRecursion (λ e. 0 ≤ entry_time e) es
+from_zero [] = tt
+from_zero (e ∷ es) = (omega arith, from_zero es)
+
+-- ## places
+
+abbrev deal_time : Deal → ℕ
+deal_time (Prepared t p) = t
+deal_time (Granted rights caps) = 0
+deal_time Noticed = 0
+
+-- ## those that were charged came in order
+
+-- in order, and before the last
+abbrev AreBefore : Coming → List ℕ → Type 0
+AreBefore x ns = Rises ns × AllByRecursion (λ n. n < come_key x) ns
+
+keys_push : (xs : List Coming) (x : Coming) → map come_key (xs ++ x ∷ []) ≡ map come_key xs ++ come_key x ∷ []
+keys_push [] x = refl
+keys_push (y ∷ ys) x = ap (λ (ns : List ℕ). come_key y ∷ ns) (keys_push ys x)
+
+-- those that came before were prepared before
+prepared_before : (earlier : List Deal) (t : ℕ) (q : PacketData) (after : List Deal) (x : Coming) (ys : List Coming)
+    → q.id ≡ x.packet.id → Rises (keys (Prepared t q ∷ after))
+    → AllByRecursion (λ y. In (earlier ++ Prepared t q ∷ after) y.packet.id) ys → AllByRecursion (λ n. n < come_key x) (map come_key ys)
+    → AreIn earlier ys
+prepared_before earlier t q after x [] same r a b = tt
+prepared_before earlier t q after x (y ∷ ys) same r a b =
+    (by (in_append earlier (Prepared t q ∷ after) y.packet.id a.0), prepared_before earlier t q after x ys same r a.1 b.1)
+  where
+    less : come_key y < come_key x
+    less = b.0
+
+    own : q.id.ordinal ≡ x.packet.id.ordinal
+    own = ap (λ (i : PacketId). i.ordinal) same
+
+    by : In earlier y.packet.id ⊎ In (Prepared t q ∷ after) y.packet.id → In earlier y.packet.id
+    by (inl k) = k
+    by (inr (inl k)) =
+        absurd (let here : q.id.ordinal ≡ y.packet.id.ordinal = ap (λ (i : PacketId). i.ordinal) k in omega (arith, less, own, here))
+    by (inr (inr k)) = absurd (let more = in_behind (Prepared t q) after q.id y.packet.id r refl k in omega (arith, less, own, more))
+
+rises_behind : (before ds : List Deal) → Rises (keys (before ++ ds)) → Rises (keys ds)
+rises_behind [] ds r = r
+rises_behind (b ∷ bs) ds r = rises_behind bs ds (rises_rest (deal_key b) (keys (bs ++ ds)) r)
+
+-- ## in a run
+
+module _ (config : Config) (rows : List Row) (until : ℕ) (logs : Logs) (valid : IsConfig config)
+    (given : AreGiven config rows until logs) (run : IsRunTo config rows until logs)
+    (sender node : ℕ) (from to : Site) (host : HostPlan) (router : RouterPlan) (is_from : site_at config sender ≡ Some from)
+    (from_plan : from.plan ≡ plans.Host host)
+    (is_to : site_at config node ≡ Some to) (to_plan : to.plan ≡ plans.Router router)
+    (past : List Entry) (input : Input) (on : Option ℕ) (packet : PacketData) (fate : Fate) (onward : PacketData) (rest : List Entry)
+    (here : log_at logs node ≡ past ++ Took input (Arrived on packet fate onward) ∷ rest)
+    (unmarked : is_marked packet.carried ≡ false) (below : packet.hops < 32) (shown : shows packet.carried ≡ true) (delay : ℕ) where
+  abbrev own : List Deal
+  own = deals packet.flow.dst (log_at logs sender)
+
+  abbrev seen : List Coming
+  seen = comings packet.flow past
+
+  abbrev last : Coming
+  last = coming input packet fate
+
+  abbrev now : ℕ
+  now = input_time input
+
+  -- what is in force as the packet comes, and what came in that boot
+  abbrev ruling : RouterPlan
+  ruling = in_force router now
+
+  abbrev met : List Coming
+  met = comings_at router now seen
+
+  abbrev held : List Charge
+  held = charges_at router now (charges past)
+
+  abbrev way : Way
+  way = record {
+    margin = host.margin;
+    retry = host.retry;
+    version = host.version;
+    delay = delay;
+    flow = packet.flow;
+    master = ruling.master;
+    offset = router.clock_offset;
+    slots = router.slots;
+  }
+
+  abbrev InTime : Coming → Type 0
+  InTime y = ComesInTime host delay own y
+
+  abbrev Steadily : Coming → Type 0
+  Steadily y = ComesSteadily host router delay own seen y
+
+  -- ## the host
+
+  number : from.number ≡ sender
+  number = (site_is config sender from valid is_from).0
+
+  few : takes (log_at logs sender) < 18446744073709551615
+  few = few_inputs config rows until logs valid given run sender from is_from number
+
+  returns : (before : List Entry) (i : Input) (link : ℕ) (p : PacketData) (receipt : Receipt) (went : Option Outcome)
+      (range : Option DataLine) (after : List Entry) → log_at logs sender ≡ before ++ Took i (Received link p receipt went range) ∷ after
+      → IsReturn 2 (back_in p.carried)
+  returns before i link p receipt went range after e =
+      received_returns config rows until logs valid given run sender from is_from before i link p receipt went range after e
+
+  told_all : Told from host from_plan packet.flow.dst (log_at logs sender) few returns (log_at logs sender)
+  told_all =
+      told from host from_plan packet.flow.dst (log_at logs sender) few returns (due until (run.each sender from is_from).inputs)
+      (run.each sender from is_from).is_log.steps
+
+  rises : Rises (keys own)
+  rises = told_all.dealt
+
+  planned : IsHostPlan host
+  planned =
+      (let k : IsPlanned (plans.Host host) from.links = subst (λ (p : NodePlan). IsPlanned p from.links) from_plan
+      (site_is config sender from valid is_from).1.planned in k.0)
+
+  is_played : IsPlayed host.margin host.retry host.version (map contact_of own)
+  is_played =
+      let log : List Entry = log_at logs sender in
+      let falls : NeverFall 0 (calls log) = never_fall 0 log (from_zero log) (run.each sender from is_from).is_log.in_order in
+      subst (IsPlayed host.margin host.retry host.version) told_all.contacts
+      ((players.played host (calls log) falls).played packet.flow.dst)
+
+  -- ## the router
+
+  keeps : KeepsPromises to until (log_at logs node)
+  keeps = given.keeps node to is_to
+
+  came : (front : List Coming) (y : Coming) (back : List Coming) → seen ≡ front ++ y ∷ back
+      → CameAt to router to_plan until (log_at logs node) keeps packet.flow front y
+  came front y back e =
+      came_place to router to_plan until (log_at logs node) keeps packet.flow past
+      (Took input (Arrived on packet fate onward) ∷ rest) here front y back e
+
+  -- what came is as it was prepared
+  kept_at : (b : List Entry) (i : Input) (o : Option ℕ) (p : PacketData) (ft : Fate) (ow : PacketData) (r : List Entry)
+      → log_at logs node ≡ b ++ Took i (Arrived o p ft ow) ∷ r → (before : List Deal) (t : ℕ) (q : PacketData) (after : List Deal)
+      → own ≡ before ++ Prepared t q ∷ after → q.id ≡ p.id → Keeps q p
+  kept_at b i o p ft ow r h before t q after place same =
+      let log : List Entry = log_at logs sender in
+      let from_origin : HasOrigin logs p = origin_at config rows until logs valid run node to is_to b i (Arrived o p ft ow) r h p refl in
+      let m : IsMadeIn log q = at_place (IsTrue log) own before (Prepared t q) after place told_all.each in
+      let numbered : IfSome (made_in m.content) (λ (z : PacketData). z.id.node ≡ from.number) =
+      at_place (λ (e : Entry). IfSome (made_at e) (λ (z : PacketData). z.id.node ≡ from.number)) log m.before
+      (Took m.input m.content) m.rest m.here told_all.numbers in
+      let q_node : q.id.node ≡ from.number =
+      subst (λ (z : Option PacketData). IfSome z (λ (y : PacketData). y.id.node ≡ from.number)) m.makes numbered in
+      let p_node : p.id.node ≡ sender = ap (λ (z : PacketId). z.node) (sym same) ∙ (q_node ∙ number) in
+      let there : log ≡ from_origin.before ++ Took from_origin.input from_origin.content ∷ from_origin.rest = sym
+      (ap (log_at logs) p_node) ∙ from_origin.here in
+      let key : entry_key (Took m.input m.content) ≡ Some q.id.ordinal = ap (option_map ordinal_of) m.makes in
+      let other : entry_key (Took from_origin.input from_origin.content) ≡ Some q.id.ordinal =
+      ap (option_map ordinal_of) from_origin.makes ∙ ap (λ (z : PacketId). Some z.ordinal) (sym from_origin.keeps.id ∙ sym same) in
+      let s =
+      one_place entry_key m.before (Took m.input m.content) m.rest from_origin.before
+      (Took from_origin.input from_origin.content) from_origin.rest q.id.ordinal (sym m.here ∙ there) key other
+      (subst (λ (es : List Entry). Rises (filter_map entry_key es)) m.here told_all.entries) in
+      let made : q ≡ from_origin.made = some_same q from_origin.made (sym m.makes ∙ (ap made_at s.here ∙ from_origin.makes)) in
+      subst (λ (z : PacketData). Keeps z p) (sym made) from_origin.keeps
+
+  -- the place at which it was prepared is that of the steady path
+  one_deal : (before : List Deal) (t : ℕ) (q : PacketData) (after : List Deal) (c : List Deal) (u : ℕ) (p : PacketData) (d : List Deal)
+      → own ≡ before ++ Prepared t q ∷ after → own ≡ c ++ Prepared u p ∷ d → p.id ≡ q.id → (before ≡ c) × (t ≡ u)
+  one_deal before t q after c u p d place other same =
+      let s =
+      one_place deal_key before (Prepared t q) after c (Prepared u p) d q.id.ordinal (sym place ∙ other) refl
+      (ap (λ (z : PacketId). Some z.ordinal) same) (subst (λ (ds : List Deal). Rises (keys ds)) place rises) in
+      (s.before, ap deal_time s.here)
+
+  -- the charge of what came steadily
+  pays_at : (b : List Entry) (i : Input) (o : Option ℕ) (p : PacketData) (ft : Fate) (ow : PacketData) (r : List Entry)
+      → log_at logs node ≡ b ++ Took i (Arrived o p ft ow) ∷ r → same_flow p.flow packet.flow ≡ true → is_marked p.carried ≡ false
+      → (before : List Deal) (t : ℕ) (q : PacketData) (after : List Deal) → own ≡ before ++ Prepared t q ∷ after → (front : List Coming)
+      → filter_map paid_of (comings_at router now (comings packet.flow b)) ≡ filter_map paid_of front
+      → q.id ≡ p.id → Steadily (coming i p ft) → boot_at router (input_time i) ≡ boot_at router now
+      → (g : Grant) → ft.charge ≡ Some g → (ms : List Mile)
+      → last_came ms ≡ grant_came seen [] before → charges_in ms ≡ filter_map paid_of front
+      → IsPaid way ms t (shape_in q.carried) (counted q) (charged (input_time i) p g)
+  pays_at b i o p ft ow r h flow plain before t q after place front fr same cs boot g e ms lc ce =
+      let u : ℕ = input_time i in
+      let rules : RouterPlan = in_force router u in
+      let paid_then : List Charge = charges_at router u (charges b) in
+      let k = kept_at b i o p ft ow r h before t q after place same in
+      let cl = claim_at to router to_plan until (log_at logs node) keeps b i o p ft ow r h g e in
+      let ic = claim rules paid_then (arrival u o p) p.carried g cl in
+      let v = are_shims q.carried p.carried k.carried plain ic.shown in
+      let it : InTime (coming i p ft) = cs.in_time in
+      let s = one_deal before t q after it.before it.sent it.packet it.after place it.place (it.same ∙ sym same) in
+      let sent : t ≡ it.sent = s.1 in
+      let came_eq : last_came ms ≡ grant_came seen [] it.before = lc ∙ ap (grant_came seen []) s.0 in
+      let fl : packet.flow ≡ p.flow = sym (flow_is p.flow packet.flow flow) in
+      let of_boot : of_flow packet.flow paid_then ≡ filter_map paid_of (comings_at router now (comings packet.flow b)) =
+      subst (λ (n : ℕ). of_flow packet.flow (charges_of_boot router n (charges b))
+      ≡ filter_map paid_of (comings_at router now (comings packet.flow b))) (sym boot)
+      (boot_charges router packet.flow (boot_at router now) b
+      (flow_charges to router to_plan until (log_at logs node) keeps packet.flow b (Took i (Arrived o p ft ow) ∷ r) h)) in
+      let hold : last_charge (charges_in ms) ≡ holder paid_then p.flow =
+      ap last_charge (ce ∙ (sym fr ∙ sym of_boot)) ∙ ap (λ (z : Flow). last_charge (of_flow z paid_then)) fl in
+      let a = at_router way rules p ms paid_then u fl (one_master router now u (sym boot)) (sym (force_clock router u)) hold in
+      let minted : IfSome (last_came ms) (λ v. ShowsMinted rules p p.carried v) =
+      subst (λ (z : Option ℕ). IfSome z (λ v. ShowsMinted rules p p.carried v)) (sym came_eq) cs.minted in
+      let after_delay = it.from in
+      let within = it.until in
+      record {
+        comes = record { from = omega (arith, sent, after_delay); until = omega (arith, sent, within) };
+        behind = subst (λ (z : Option ℕ). IfSome z (λ u. u ≤ input_time i)) (sym came_eq) cs.behind;
+        length = same_length q p k v;
+        shown = shown_as_made way rules q p ms paid_then u a o (charged u p g) v refl refl cl minted;
+      }
+
+  module _ (steady : IsSteadyPath host router delay own seen held last) where
+    abbrev at : InTime last
+    at = steady.last.in_time
+
+    abbrev earlier : List Deal
+    earlier = at.before
+
+    abbrev tail : List Deal
+    tail = Prepared at.sent at.packet ∷ at.after
+
+    -- what was charged came steadily
+    each : AllByRecursion Steadily (paid met)
+    each = subst (AllByRecursion Steadily) (charged_is met) steady.each
+
+    comes_for : (before : List Deal) (rights : Rights) (caps : List ℕ) (after : List Deal) (came : ℕ)
+        → earlier ≡ before ++ Granted rights caps ∷ after → ask_came seen before ≡ Some came → (ms : List Mile)
+        → contacts ms ≡ map contact_of before → IfSome (asked_at (contacts ms)) (λ (t : Time). ComesIn way t.0 came)
+    comes_for before rights caps after came front e ms same =
+        let c = ask_is seen before came e in
+        let it : InTime c.coming =
+        subst (λ (o : Option Coming). IsSomeAnd o InTime) (coming_is seen before came c) (steady.asked before rights caps after front) in
+        let p = asked_place before c.asked c.last in
+        let ask : Deal = Prepared c.asked.time p.packet in
+        let more : List Deal = Granted rights caps ∷ after in
+        let whole : own ≡ p.before ++ ask ∷ (p.after ++ (more ++ tail)) =
+        at.place ∙ (ap (λ (ds : List Deal). ds ++ tail) (front ∙ ap (λ (ds : List Deal). ds ++ more) p.is) ∙
+        (append_assoc (p.before ++ ask ∷ p.after) more tail ∙ append_assoc p.before (ask ∷ p.after) (more ++ tail))) in
+        let s =
+        one_deal p.before c.asked.time p.packet (p.after ++ (more ++ tail)) it.before it.sent it.packet it.after whole it.place
+        (it.same ∙ (come_id seen c.asked.id c.coming c.found ∙ sym p.same)) in
+        let sent : c.asked.time ≡ it.sent = s.1 in
+        let came_at : c.coming.time ≡ came = c.time in
+        let after_delay = it.from in
+        let within = it.until in
+        let asked : asked_at (contacts ms) ≡ Some (time c.asked.time) =
+        ap asked_at same ∙ (last_time before ∙ ap (option_map (λ (a : Asked). time a.time)) c.last) in
+        let comes : ComesIn way c.asked.time came =
+        record { from = omega (arith, sent, came_at, after_delay); until = omega (arith, sent, came_at, within) } in
+        subst (λ (o : Option Time). IfSome o (λ (t : Time). ComesIn way t.0 came)) (sym asked) comes
+
+    asked_some : (o : Option Coming) → IsSomeAnd o InTime → is_some (option_map (λ (x : Coming). x.time) o) ≡ true
+    asked_some None k = absurd k
+    asked_some (Some x) k = refl
+
+    asked_for : (before : List Deal) (rights : Rights) (caps : List ℕ) (after : List Deal)
+        → earlier ≡ before ++ Granted rights caps ∷ after → is_some (ask_came seen before) ≡ true
+    asked_for before rights caps after e = asked_some (ask_coming seen before) (steady.asked before rights caps after e)
+
+    pays_for : (before : List Deal) (t : ℕ) (p : PacketData) (after : List Deal) (front : List Coming) (x : Coming) (back : List Coming)
+        → own ≡ before ++ Prepared t p ∷ after → paid met ≡ front ++ x ∷ back
+        → p.id ≡ x.packet.id → (c : Charge) → paid_of x ≡ Some c → (ms : List Mile) → last_came ms ≡ grant_came seen [] before
+        → charges_in ms ≡ filter_map paid_of front
+        → IsPaid way ms t (shape_in p.carried) (counted p) c
+    pays_for before t p after front x back place picked same c pays ms lc ce =
+        let pa = paid_place met front x back picked in
+        let mp = passing_place (λ (y : Coming). boot_at router y.time == boot_at router now) seen pa.before x pa.after pa.is in
+        let ca = came mp.before x mp.after mp.is in
+        let boot : boot_at router x.time ≡ boot_at router now = eqb-true (boot_at router x.time) (boot_at router now) mp.passes in
+        let cs = at_place Steadily (paid met) front x back picked each in
+        let parts = charge_parts x x.charge c refl pays in
+        let g : Grant = parts.0 in
+        let fr : filter_map paid_of (comings_at router now (comings packet.flow ca.before)) ≡ filter_map paid_of front =
+        ap (λ (ys : List Coming). filter_map paid_of (comings_at router now ys)) ca.front_is
+        ∙ (ap (filter_map paid_of) mp.front_is ∙ (paid_only pa.before ∙ ap (filter_map paid_of) pa.front_is)) in
+        let pay : p.id ≡ x.packet.id → Steadily x → boot_at router x.time ≡ boot_at router now → x.charge ≡ Some g
+        → IsPaid way ms t (shape_in p.carried) (counted p) (charged x.time x.packet g) =
+        subst (λ (y : Coming). p.id ≡ y.packet.id → Steadily y → boot_at router y.time ≡ boot_at router now → y.charge ≡ Some g
+        → IsPaid way ms t (shape_in p.carried) (counted p) (charged y.time y.packet g)) ca.is
+        (λ k s b e. pays_at ca.before ca.input ca.from ca.packet ca.fate ca.onward ca.rest ca.here ca.flow ca.unmarked
+        before t p after place front fr k s b g e ms lc ce) in
+        subst (IsPaid way ms t (shape_in p.carried) (counted p)) parts.2 (pay same cs boot parts.1)
+
+    in_order : AreBefore last (map come_key (paid met))
+    in_order =
+        rises_last (map come_key (paid met)) (come_key last)
+        (subst Rises (ap (λ (ys : List Coming). map come_key (ys ++ last ∷ [])) (charged_is met) ∙ keys_push (paid met) last)
+        (rises_from (map come_key (those_charged met ++ last ∷ [])) steady.order))
+
+    whole_rises : Rises (keys (earlier ++ tail))
+    whole_rises = subst (λ (ds : List Deal). Rises (keys ds)) at.place rises
+
+    ins : AreIn earlier (paid met)
+    ins =
+        prepared_before earlier at.sent at.packet at.after last (paid met) at.same
+        (rises_behind earlier tail whole_rises)
+        (each-weaker Steadily (λ (y : Coming). In (earlier ++ tail) y.packet.id)
+        (λ y cs. let it : InTime y = cs.in_time in
+        subst (λ (ds : List Deal). In ds y.packet.id) (sym it.place ∙ at.place)
+        (in_place it.before it.sent it.packet it.after y.packet.id it.same)) (paid met) each)
+        in_order.1
+
+    fine : AllByRecursion (IsTrue (log_at logs sender)) earlier
+    fine =
+        each_front (IsTrue (log_at logs sender)) earlier tail
+        (subst (AllByRecursion (IsTrue (log_at logs sender))) at.place told_all.each)
+
+    match : Matches earlier (paid met)
+    match =
+        matched earlier (paid met) (rises_front (keys earlier) (keys tail)
+        (subst Rises (filter_map-append deal_key earlier tail) whole_rises)) in_order.0 ins
+
+    miles : Run way seen met (log_at logs sender) own earlier tail at.place rises comes_for asked_for pays_for
+        (paying_all met) earlier (paid met)
+    miles =
+        miles_of way seen met (log_at logs sender) own earlier tail at.place rises comes_for asked_for pays_for
+        (paying_all met) fine match
+
+    kept : Keeps at.packet packet
+    kept =
+        kept_at past input on packet fate onward rest here
+        at.before at.sent at.packet at.after at.place at.same
+
+    shims : AreShims at.packet.carried packet.carried
+    shims = are_shims at.packet.carried packet.carried kept.carried unmarked shown
+
+    played_here : IsPlayed host.margin host.retry host.version (contacts miles.miles ++ contact.Prepared at.sent
+        (shape_in at.packet.carried) (packet_length packet) ∷ [])
+    played_here =
+        let q : PacketData = at.packet in
+        let split : map contact_of own ≡ map contact_of earlier ++ contact_of
+        (Prepared at.sent q) ∷ map contact_of at.after = ap (map contact_of) at.place ∙ map_place earlier
+        (Prepared at.sent q) at.after in
+        let front =
+        played_front host.margin host.retry host.version [] (map contact_of earlier) (contact_of (Prepared at.sent q))
+        (map contact_of at.after) (subst (IsPlayed host.margin host.retry host.version) split is_played) in
+        let size : counted q ≡ packet_length packet = sym (same_length q packet kept shims) in
+        subst (IsPlayed host.margin host.retry host.version)
+        (ap₂ (λ (cs : List Contact) (n : ℕ). cs ++ contact.Prepared at.sent (shape_in q.carried) n ∷ [])
+        (sym miles.contacts_are) size)
+        front
+
+    charged_so : of_flow packet.flow held ≡ charges_in miles.miles
+    charged_so =
+        boot_charges router packet.flow (boot_at router now) past
+        (flow_charges to router to_plan until (log_at logs node) keeps packet.flow past
+        (Took input (Arrived on packet fate onward) ∷ rest) here) ∙ (paid_only met ∙ sym miles.charges_are)
+
+    is_steady : IsSteady way held miles.miles at.sent (shape_in at.packet.carried) (packet_length packet)
+        (input_time input)
+    is_steady = record {
+      rules = planned.retry.0;
+      played = played_here;
+      miles = miles.are;
+      charges = charged_so;
+      comes = record { from = at.from; until = at.until };
+      behind = subst (λ (o : Option ℕ). IfSome o (λ u. u ≤ input_time input)) (sym miles.came) steady.last.behind;
+      authorised = authorised_since way seen met
+          (log_at logs sender) own earlier tail at.place rises comes_for asked_for pays_for
+          (paying_all met) miles steady.paid;
+      room = steady.room;
+    }
+
+    shows_it : ShowsGrant way miles.miles (shape_in at.packet.carried) packet.carried
+    shows_it =
+        let a =
+        at_router way ruling packet miles.miles held now refl refl (sym (force_clock router now)) (ap last_charge (sym charged_so)) in
+        shows_as_made way ruling at.packet packet miles.miles held now a shims
+        (subst (λ (o : Option ℕ). IfSome o (λ u. ShowsMinted ruling packet packet.carried u)) (sym miles.came) steady.last.minted)
+
+    pub regular : IsTakenByLast router packet.flow seen steady.last.in_time.before fate
+    regular =
+        let is : fate ≡ (handled router past now on packet).fate =
+        fate_is to router past input on packet fate onward to_plan (keeps.contents past input (Arrived on packet fate onward) rest here) in
+        let r =
+        steady_regular ruling held (port_logs past) now on packet way miles.miles at.sent
+        (shape_in at.packet.carried) below
+        (record { flow_is = refl; master_is = refl; offset_is = sym (force_clock router now); slots_are = sym (force_slots router now) }) is_steady shows_it in
+        record {
+          rights = r.last.rights;
+          came = r.last.came;
+          granted = sym (last_rights_are [] earlier) ∙
+              (ap (λ (cs : List Contact). option_map (λ (t : Taking). t.rights) (last_taking [] cs)) (sym miles.contacts_are)
+              ∙ r.last.rights_are);
+          asked = sym miles.came ∙ r.last.came_is;
+          charge = ap (λ (f : Fate). f.charge) is ∙ (r.charge_is ∙ ap Some (sym r.last.is));
+          class = ap (λ (f : Fate). f.class) is ∙ r.class_is;
+        }
+
+-- so it is in each run
+pub honest_regular : (config : Config) (rows : List Row) (until : ℕ) (logs : Logs) → IsConfig config → AreGiven config rows until logs
+    → IsRunTo config rows until logs → AreHonestRegular config logs
+honest_regular config rows until logs valid given run sender node from to host router is_from from_plan is_to to_plan
+    past input on packet fate onward rest here unmarked below shown delay steady =
+    regular config rows until logs valid given run sender node from to host router is_from from_plan is_to to_plan
+    past input on packet fate onward rest here unmarked below shown delay steady

@@ -1,0 +1,195 @@
+-- The paths of the worked walk are steady: up to its list, its nonce alone and its renewal.
+use Rattle.std.proofs.Common.{◌≡◌, ◌<◌, ℕ, List, [], ◌∷◌, ◌++◌, Some, None, refl, subst, arith}
+use Rattle.std.specs.Prelude.{IsSomeAnd}
+use Rattle.std.proofs.lemmas.List.Elements.{All-nil, All-from_recursion}
+use Rattle.tva_base.specs.declared.packet.Class.TheVariants.{Regular, Legacy}
+use Rattle.tva_base.specs.declared.packet.Rights.{Rights}
+use Rattle.tva_base.specs.Changes.{in_force}
+use Rattle.tva_base.specs.Credit.{credit_of}
+use Rattle.tva_shim.specs.Layout.{layout, two_bytes, six_bytes, eight_bytes, number_bytes}
+use Rattle.tva_log.specs.declared.kinds.Input.TheVariants.{FromTrace}
+use Rattle.tva_log.specs.Entries.{Arrived, Entry, Took, Started}
+use Rattle.tva_honest.specs.Deals.{Deal, Prepared, Granted, Coming, coming, comings, deals}
+use Rattle.tva_honest.specs.Paths.{ask_coming, ComesInTime, ComesSteadily}
+use Rattle.tva_honest.specs.Walk.{walk_b, walk_flow, walk_rights, walk_router, walk_host_a, walk_cap, walk_precap, walk_grant, walk_fate, walk_request, walk_list, walk_bare, walk_spoofed, walk_nonce, walk_renewal, walk_passes, walk_before_list, walk_before_nonce, walk_before_renewal, walk_log_a, walk_list_comes, walk_nonce_comes, walk_renewal_comes, IsSteadyBehind}
+use Rattle.tva_honest.proofs.Asks.{IsNoGrant}
+
+abbrev own : List Deal
+own = deals walk_b walk_log_a
+
+abbrev InTime : Coming → Type 0
+InTime x = ComesInTime walk_host_a 1000520 own x
+
+abbrev Steadily : List Entry → Coming → Type 0
+Steadily before x = ComesSteadily walk_host_a walk_router 1000520 own (comings walk_flow before) x
+
+abbrev list_coming : Coming
+list_coming = coming walk_list_comes (walk_list 0 0) (walk_fate Regular (Some walk_grant) 2)
+
+abbrev nonce_coming : Coming
+nonce_coming = coming walk_nonce_comes (walk_nonce 0) (walk_fate Regular (Some walk_grant) 2)
+
+abbrev renewal_coming : Coming
+renewal_coming = coming walk_renewal_comes (walk_renewal 0 0 (walk_cap walk_flow)) (walk_fate Regular (Some walk_grant) 2)
+
+-- ## the places at which they were prepared
+
+abbrev asked : Deal
+asked = Prepared 0 (walk_request 0 [])
+
+abbrev granted : Deal
+granted = Granted walk_rights (walk_cap walk_flow ∷ [])
+
+abbrev listed : Deal
+listed = Prepared 4002900 (walk_list 0 0)
+
+abbrev named : Deal
+named = Prepared 10000000 (walk_nonce 0)
+
+abbrev renewed : Deal
+renewed = Prepared 6000000000 (walk_renewal 0 0 (walk_cap walk_flow))
+
+request_in_time : InTime (record { time = 1001000; packet = walk_request 0 []; charge = None })
+request_in_time = record {
+  before = [];
+  sent = 0;
+  packet = walk_request 0 [];
+  after = granted ∷ listed ∷ named ∷ renewed ∷ [];
+  place = refl;
+  same = refl;
+  from = omega arith;
+  until = omega arith;
+}
+
+abbrev list_in_time : InTime list_coming
+list_in_time = record {
+  before = asked ∷ granted ∷ [];
+  sent = 4002900;
+  packet = walk_list 0 0;
+  after = named ∷ renewed ∷ [];
+  place = refl;
+  same = refl;
+  from = omega arith;
+  until = omega arith;
+}
+
+abbrev nonce_in_time : InTime nonce_coming
+nonce_in_time = record {
+  before = asked ∷ granted ∷ listed ∷ [];
+  sent = 10000000;
+  packet = walk_nonce 0;
+  after = renewed ∷ [];
+  place = refl;
+  same = refl;
+  from = omega arith;
+  until = omega arith;
+}
+
+abbrev renewal_in_time : InTime renewal_coming
+renewal_in_time = record {
+  before = asked ∷ granted ∷ listed ∷ named ∷ [];
+  sent = 6000000000;
+  packet = walk_renewal 0 0 (walk_cap walk_flow);
+  after = [];
+  place = refl;
+  same = refl;
+  from = omega arith;
+  until = omega arith;
+}
+
+-- ## the asks of grants
+
+abbrev AreNoGrants : List Deal → Type 0
+AreNoGrants [] = Unit {0}
+AreNoGrants (d ∷ ds) = IsNoGrant d × AreNoGrants ds
+
+none_granted : (ds : List Deal) → AreNoGrants ds → (before : List Deal) (rights : Rights) (caps : List ℕ) (after : List Deal)
+    → ds ≡ before ++ Granted rights caps ∷ after → ⊥
+none_granted [] n [] rights caps after e = cc
+none_granted [] n (b ∷ bs) rights caps after e = cc
+none_granted (d ∷ ds) n [] rights caps after e = (let same : d ≡ Granted rights caps = cc in subst IsNoGrant same n.0)
+none_granted (d ∷ ds) n (b ∷ bs) rights caps after e =
+    (let rest : ds ≡ bs ++ Granted rights caps ∷ after = cc in none_granted ds n.1 bs rights caps after rest)
+
+-- before the one grant stands the request alone
+asked_by : (P : List Deal → Type 0) (rest : List Deal) → AreNoGrants rest → P (asked ∷ [])
+    → (before : List Deal) (rights : Rights) (caps : List ℕ) (after : List Deal)
+    → asked ∷ granted ∷ rest ≡ before ++ Granted rights caps ∷ after → P before
+asked_by P rest n k [] rights caps after e = absurd (cc)
+asked_by P rest n k (x ∷ []) rights caps after e = (let same : asked ≡ x = cc in subst (λ (d : Deal). P (d ∷ [])) same k)
+asked_by P rest n k (x ∷ y ∷ ys) rights caps after e =
+    absurd (let more : rest ≡ ys ++ Granted rights caps ∷ after = cc in none_granted rest n ys rights caps after more)
+
+-- ## the paths
+
+list_comes : Steadily walk_before_list list_coming
+unfolding in_force
+list_comes = record { in_time = list_in_time; behind = omega arith; minted = refl }
+
+pub steady_list : IsSteadyBehind walk_before_list walk_list_comes (walk_list 0 0) (walk_list 1 1)
+unfolding list_comes
+steady_list = record {
+  rest = Started 5003420 2 Regular (walk_list 1 1)
+      ∷ Took (FromTrace walk_spoofed) (Arrived None (walk_bare 0) (walk_fate Legacy None 2) (walk_bare 1))
+      ∷ Started 9000000 2 Legacy (walk_bare 1)
+      ∷ walk_passes 11010280 0 (walk_nonce 0) Regular (Some walk_grant) 2 (walk_nonce 1)
+      ++ walk_passes 6001010400 0 (walk_renewal 0 0 (walk_cap walk_flow)) Regular (Some walk_grant) 2
+      (walk_renewal 1 1 (walk_precap walk_flow 6));
+  here = refl;
+  steady = record {
+    each = tt;
+    last = list_comes;
+    order = (All-nil (λ n. 2 < n), tt);
+    asked = asked_by (λ before. IsSomeAnd (ask_coming (comings walk_flow walk_before_list) before) InTime) [] tt request_in_time;
+    paid = tt;
+    room = λ e. omega arith;
+  };
+}
+
+nonce_comes : Steadily walk_before_nonce nonce_coming
+nonce_comes = record { in_time = nonce_in_time; behind = omega arith; minted = tt }
+
+pub steady_nonce : IsSteadyBehind walk_before_nonce walk_nonce_comes (walk_nonce 0) (walk_nonce 1)
+unfolding nonce_comes in_force layout two_bytes six_bytes eight_bytes number_bytes credit_of
+steady_nonce = record {
+  rest = Started 11010280 2 Regular (walk_nonce 1)
+      ∷ walk_passes 6001010400 0 (walk_renewal 0 0 (walk_cap walk_flow)) Regular (Some walk_grant) 2
+      (walk_renewal 1 1 (walk_precap walk_flow 6));
+  here = refl;
+  steady = record {
+    each = (record { in_time = list_in_time; behind = omega arith; minted = refl }, tt);
+    last = nonce_comes;
+    order = (All-from_recursion (λ n. 2 < n) (3 ∷ []) (omega arith, tt), (All-nil (λ n. 3 < n), tt));
+    asked = asked_by (λ before. IsSomeAnd (ask_coming (comings walk_flow walk_before_nonce) before) InTime) (listed ∷ []) (tt, tt)
+        request_in_time;
+    paid = (λ e. refl, tt);
+    room = λ e. absurd (cc);
+  };
+}
+
+renewal_comes : Steadily walk_before_renewal renewal_coming
+unfolding in_force
+renewal_comes = record { in_time = renewal_in_time; behind = omega arith; minted = refl }
+
+pub steady_renewal : IsSteadyBehind walk_before_renewal walk_renewal_comes (walk_renewal 0 0 (walk_cap walk_flow))
+    (walk_renewal 1 1 (walk_precap walk_flow 6))
+unfolding renewal_comes in_force layout two_bytes six_bytes eight_bytes number_bytes credit_of
+steady_renewal = record {
+  rest = Started 6001010400 2 Regular (walk_renewal 1 1 (walk_precap walk_flow 6)) ∷ [];
+  here = refl;
+  steady = record {
+    each = (
+      record { in_time = list_in_time; behind = omega arith; minted = refl },
+      (record { in_time = nonce_in_time; behind = omega arith; minted = tt }, tt),
+    );
+    last = renewal_comes;
+    order = (
+      All-from_recursion (λ n. 2 < n) (3 ∷ 4 ∷ []) (omega arith, (omega arith, tt)),
+      (All-from_recursion (λ n. 3 < n) (4 ∷ []) (omega arith, tt), (All-nil (λ n. 4 < n), tt)),
+    );
+    asked = asked_by (λ before. IsSomeAnd (ask_coming (comings walk_flow walk_before_renewal) before) InTime) (listed ∷ named ∷ [])
+        (tt, (tt, tt)) request_in_time;
+    paid = (λ e. refl, (λ e. refl, tt));
+    room = λ e. omega arith;
+  };
+}

@@ -1,0 +1,6 @@
+pub mod Deals
+pub mod Paths
+pub mod Walk
+pub mod Miles
+pub mod SteadyMiles
+pub mod WalkMiles

@@ -1,0 +1,216 @@
+-- Product: when the path of a host's packets to a peer is steady at a router up to one of them, by the logs of host
+-- and router.
+use Rattle.std.specs.Prelude.{◌≡◌, ℕ, ◌+◌, ◌<◌, ◌≤◌, ◌==◌, Bool, true, false, ◌&&◌, if◌then◌else◌, List, [], ◌∷◌, ◌++◌}
+use Rattle.std.specs.Prelude.{filter, map, slice_get, is_some, Option, Some, None, IfSome, IsSomeAnd}
+use Rattle.std.specs.Option.{option_or, option_map, option_and_then}
+use Rattle.std.specs.List.{AllByRecursion, find}
+use Rattle.tva_base.specs.declared.packet.Class.TheVariants.{Regular}
+use Rattle.tva_base.specs.declared.packet.Fate.{Fate}
+use Rattle.tva_base.specs.declared.packet.Flow.{Flow}
+use Rattle.tva_base.specs.declared.packet.PacketId.{PacketId}
+use Rattle.tva_base.specs.declared.packet.Rights.{Rights}
+use Rattle.tva_base.specs.declared.plan.HostPlan.{HostPlan}
+use Rattle.tva_base.specs.declared.plan.RouterPlan.{RouterPlan}
+use Rattle.tva_base.specs.Changes.{boot_at, in_force}
+use Rattle.tva_base.specs.Clock.{router_second}
+use Rattle.tva_shim.specs.declared.kinds.Shown.{Shown}
+use Rattle.tva_shim.specs.declared.kinds.Kind.{Kind}
+use Rattle.tva_shim.specs.declared.kinds.Kind.TheVariants as kinds
+use Rattle.tva_shim.specs.declared.packets.Carried.{Carried}
+use Rattle.tva_shim.specs.declared.packets.Carried.TheVariants as carried
+use Rattle.tva_shim.specs.Packets.{PacketData}
+use Rattle.tva_caps.specs.Formula.{precap_of, capability_of}
+use Rattle.tva_flow.specs.Charges.{Charge, lives, living_count}
+use Rattle.tva_port.specs.Keeps.{AreRising}
+use Rattle.tva_router.specs.Boots.{charges_at}
+use Rattle.tva_router.specs.Marks.{is_marked}
+use Rattle.tva_host.specs.Receiving.{shows_grant}
+use Rattle.tva_plan.specs.declared.config.Config.{Config}
+use Rattle.tva_plan.specs.declared.config.NodePlan.TheVariants.{Router, Host}
+use Rattle.tva_log.specs.declared.kinds.Input.{Input}
+use Rattle.tva_log.specs.Sites.{Site}
+use Rattle.tva_log.specs.Entries.{Entry, Arrived, Took, input_time}
+use Rattle.tva_log.specs.Parts.{charges}
+use Rattle.tva_run.specs.Reaching.{Logs, log_at, site_at}
+use Rattle.tva_honest.specs.Deals.{Deal, Prepared, Granted, Noticed, Coming, coming, deals, comings}
+
+-- ## asks and grants
+
+-- a request or a renewal asks
+abbrev pub asks_kind : Kind → Bool
+asks_kind (kinds.Request entries) = true
+asks_kind (kinds.List shown) = false
+asks_kind (kinds.Nonce nonce) = false
+asks_kind (kinds.Renewal shown) = true
+
+-- where it isn't marked
+abbrev pub asks_in : Carried → Bool
+asks_in carried.Nothing = false
+asks_in (carried.Shim shim) = if shim.demoted then false else asks_kind shim.kind
+asks_in (carried.Malformed size) = false
+
+-- the identity of the last ask among these deals
+abbrev pub ask_in : Deal → Option PacketId
+ask_in (Prepared time packet) = if asks_in packet.carried then Some packet.id else None
+ask_in (Granted rights caps) = None
+ask_in Noticed = None
+
+abbrev pub last_ask : List Deal → Option PacketId
+last_ask [] = None
+last_ask (d ∷ ds) = option_or (last_ask ds) (ask_in d)
+
+abbrev pub same_id : PacketId → PacketId → Bool
+same_id a b = (a.node == b.node) && (a.ordinal == b.ordinal)
+
+-- what came with that identity
+abbrev pub come_as : List Coming → PacketId → Option Coming
+come_as seen id = find (λ x. same_id x.packet.id id) seen
+
+-- how the last ask among these deals came to the router, and when
+abbrev pub ask_coming : List Coming → List Deal → Option Coming
+ask_coming seen before = option_and_then (come_as seen) (last_ask before)
+
+abbrev pub ask_came : List Coming → List Deal → Option ℕ
+ask_came seen before = option_map (λ x. x.time) (ask_coming seen before)
+
+abbrev pub granted_by : List Coming → List Deal → Deal → Option ℕ
+granted_by seen before (Prepared time packet) = None
+granted_by seen before (Granted rights caps) = ask_came seen before
+granted_by seen before Noticed = None
+
+-- when the last ask before the last grant came to the router; the deals before those are the first
+abbrev pub grant_came : List Coming → List Deal → List Deal → Option ℕ
+grant_came seen before [] = None
+grant_came seen before (d ∷ ds) = option_or (grant_came seen (before ++ d ∷ []) ds) (granted_by seen before d)
+
+-- the rights of the last grant among these deals
+abbrev pub rights_in : Deal → Option Rights
+rights_in (Prepared time packet) = None
+rights_in (Granted rights caps) = Some rights
+rights_in Noticed = None
+
+abbrev pub last_rights : List Deal → Option Rights
+last_rights [] = None
+last_rights (d ∷ ds) = option_or (last_rights ds) (rights_in d)
+
+-- the deals since the last grant, of which those are the first
+abbrev pub since_granted : List Deal → List Deal → List Deal
+since_granted own [] = own
+since_granted own (Prepared time packet ∷ ds) = since_granted (own ++ Prepared time packet ∷ []) ds
+since_granted own (Granted rights caps ∷ ds) = since_granted [] ds
+since_granted own (Noticed ∷ ds) = since_granted (own ++ Noticed ∷ []) ds
+
+-- ## what comes
+
+-- a list, a nonce alone or a renewal
+abbrev pub shows : Carried → Bool
+shows carried.Nothing = false
+shows (carried.Shim shim) = shows_grant shim.kind
+shows (carried.Malformed size) = false
+
+-- the capability at the pointer is that of the pre-capability that the router minted at a time
+abbrev pub IsMinted : RouterPlan → PacketData → Shown → ℕ → Type 0
+IsMinted router packet shown came = slice_get shown.caps shown.pointer ≡
+    Some (capability_of (precap_of router.master packet.flow (router_second router.clock_offset came)) shown.rights)
+
+-- where capabilities are shown
+abbrev pub ShowsMintedKind : RouterPlan → PacketData → Kind → ℕ → Type 0
+ShowsMintedKind router packet (kinds.Request entries) came = Unit {0}
+ShowsMintedKind router packet (kinds.List shown) came = IsMinted router packet shown came
+ShowsMintedKind router packet (kinds.Nonce nonce) came = Unit {0}
+ShowsMintedKind router packet (kinds.Renewal shown) came = IsMinted router packet shown came
+
+abbrev pub ShowsMinted : RouterPlan → PacketData → Carried → ℕ → Type 0
+ShowsMinted router packet carried.Nothing came = Unit {0}
+ShowsMinted router packet (carried.Shim shim) came = ShowsMintedKind router packet shim.kind came
+ShowsMinted router packet (carried.Malformed size) came = Unit {0}
+
+-- a packet that came was prepared at a place of these deals, by its identity, and came by the delay later, or up to the
+-- margin after that
+pub record ComesInTime (host : HostPlan) (delay : ℕ) (own : List Deal) (x : Coming) : Type 0 where
+  pub before : List Deal
+  pub sent : ℕ
+  pub packet : PacketData
+  pub after : List Deal
+  pub place : own ≡ before ++ Prepared sent packet ∷ after
+  pub same : packet.id ≡ x.packet.id
+  pub from : sent + delay ≤ x.time
+  pub until : x.time ≤ sent + delay + host.margin
+
+-- so came one that shows a grant, behind the last ask before the last grant, and a capability that it points at is the
+-- one minted for that ask with the master that is in force as it comes
+pub record ComesSteadily (host : HostPlan) (router : RouterPlan) (delay : ℕ) (own : List Deal) (seen : List Coming) (x : Coming)
+    : Type 0 where
+  pub in_time : ComesInTime host delay own x
+  pub behind : IfSome (grant_came seen [] in_time.before) (λ came. came ≤ x.time)
+  pub minted : IfSome (grant_came seen [] in_time.before)
+      (λ came. ShowsMinted (in_force router x.time) x.packet x.packet.carried came)
+
+-- those that came in the boot of the router that a time is in
+abbrev pub comings_at : RouterPlan → ℕ → List Coming → List Coming
+comings_at router now seen = filter (λ x. boot_at router x.time == boot_at router now) seen
+
+-- those that were charged
+abbrev pub those_charged : List Coming → List Coming
+those_charged seen = filter (λ x. is_some x.charge) seen
+
+-- a packet that shows a grant was charged
+abbrev pub WasCharged : List Coming → Deal → Type 0
+WasCharged seen (Prepared time packet) =
+    shows packet.carried ≡ true → is_some (option_and_then (λ x. x.charge) (come_as seen packet.id)) ≡ true
+WasCharged seen (Granted rights caps) = Unit {0}
+WasCharged seen Noticed = Unit {0}
+
+-- The path is steady up to a packet that shows a grant. It comes steadily, and so did all packets of its flow that
+-- were charged in its boot, in the order in which the host numbered them. Of each grant that was taken before it was
+-- prepared the last ask came in time, in whatever boot. All packets that were prepared before it under its grant and
+-- show it were charged in its boot. And where the flow doesn't live, by the charges of the boot, the cache has room. So
+-- a restart ends the path of each grant that was shown before it, and a grant that is asked for behind it may begin
+-- another path.
+pub record IsSteadyPath (host : HostPlan) (router : RouterPlan) (delay : ℕ) (own : List Deal) (seen : List Coming)
+    (charged : List Charge) (x : Coming) : Type 0 where
+  pub each : AllByRecursion (ComesSteadily host router delay own seen) (those_charged (comings_at router x.time seen))
+  pub last : ComesSteadily host router delay own seen x
+  pub order : AreRising (map (λ y. y.packet.id.ordinal) (those_charged (comings_at router x.time seen) ++ x ∷ []))
+  pub asked : (before : List Deal) (rights : Rights) (caps : List ℕ) (after : List Deal)
+      → last.in_time.before ≡ before ++ Granted rights caps ∷ after
+      → IsSomeAnd (ask_coming seen before) (ComesInTime host delay own)
+  pub paid : AllByRecursion (WasCharged (comings_at router x.time seen)) (since_granted [] last.in_time.before)
+  pub room : lives charged x.packet.flow x.time ≡ false → living_count charged x.time < router.slots
+
+-- of these deals each packet that shows a grant came in the boot that the time is in, and was charged there
+abbrev pub LieInBoot : RouterPlan → List Coming → ℕ → List Deal → Type 0
+LieInBoot router seen now own = (before : List Deal) (sent : ℕ) (packet : PacketData) (after : List Deal)
+    → own ≡ before ++ Prepared sent packet ∷ after → shows packet.carried ≡ true
+    → IsSomeAnd (come_as (comings_at router now seen) packet.id)
+    (λ y. (boot_at router y.time ≡ boot_at router now) × (is_some y.charge ≡ true))
+
+-- ## in a run
+
+-- a packet of a flow is regular, and charged to the last grant among these deals: with its rights, and of the router
+-- second in which the last ask before it came
+pub record IsTakenByLast (router : RouterPlan) (flow : Flow) (seen : List Coming) (before : List Deal) (fate : Fate)
+    : Type 0 where
+  pub rights : Rights
+  pub came : ℕ
+  pub granted : last_rights before ≡ Some rights
+  pub asked : grant_came seen [] before ≡ Some came
+  pub charge : fate.charge ≡
+      Some (record { flow = flow; rights = rights; second = router_second router.clock_offset came })
+  pub class : fate.class ≡ Regular
+
+-- Each packet that comes to a router unmarked and below the hop limit, and shows a grant, is charged to the last grant
+-- that its host took before it was prepared, and goes on as regular, where the path from that host is steady up to it.
+abbrev pub AreHonestRegular : Config → Logs → Type 0
+AreHonestRegular config logs =
+    (sender node : ℕ) (from to : Site) (host : HostPlan) (router : RouterPlan)
+    → site_at config sender ≡ Some from → from.plan ≡ Host host
+    → site_at config node ≡ Some to → to.plan ≡ Router router
+    → (before : List Entry) (input : Input) (on : Option ℕ) (packet : PacketData) (fate : Fate) (onward : PacketData)
+    (rest : List Entry)
+    → log_at logs node ≡ before ++ Took input (Arrived on packet fate onward) ∷ rest
+    → is_marked packet.carried ≡ false → packet.hops < 32 → shows packet.carried ≡ true
+    → (delay : ℕ)
+    (steady : IsSteadyPath host router delay (deals packet.flow.dst (log_at logs sender)) (comings packet.flow before)
+    (charges_at router (input_time input) (charges before)) (coming input packet fate))
+    → IsTakenByLast router packet.flow (comings packet.flow before) steady.last.in_time.before fate

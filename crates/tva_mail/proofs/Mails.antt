@@ -1,0 +1,299 @@
+-- Mail that nodes get, one delivery after another.
+use Rattle.std.proofs.Common.{◌≡◌, ℕ, zero, suc, ◌+◌, ◌<◌, ◌≤◌, Bool, true, false, cond, List, [], ◌∷◌, ◌++◌, length, get_or, set, drop, map, filter, All, Option, refl, sym, subst, ◌∙◌, ap, ap₂, arith, inl, inr}
+use Rattle.std.specs.Prelude.{◌==◌, ◌&&◌, nat_le, slice_get}
+use Rattle.std.specs.Option.{option_map_or}
+use Rattle.std.specs.List.{AllZip}
+use Rattle.std.proofs.lemmas.Bool.{cases_eq, eq-eqb, ne_eqb, lt-leb, le-leb, and_right}
+use Rattle.std.proofs.lemmas.List.{append-nil, append_assoc, length-set, get_or-set_same, get_or-set_other, get_or_default, map-append, get_or_append_left, get_or-append-add, length-append}
+use Rattle.std.proofs.lemmas.List.Elements.{filter-append, All-weaker}
+use Rattle.std.proofs.lemmas.Option.{slice_get-get_or}
+use Rattle.tva_base.specs.declared.plan.LinkPlan.{LinkPlan}
+use Rattle.tva_log.specs.declared.kinds.Input.{Input}
+use Rattle.tva_log.specs.declared.kinds.Sending.{Sending}
+use Rattle.tva_log.specs.Entries.{input_time}
+use Rattle.tva_log.specs.Sites.{Site}
+use Rattle.tva_node.specs.States.{NodeState, Fits}
+use Rattle.tva_run.specs.Reaching.{arrival}
+use Rattle.tva_mail.specs.Mail.{CanDeliver, GotMail, GotMails, IsPostable, IsSameBut, KeepsWork, goes_to, mail_at, mail_to}
+use Rattle.tva_mail.specs.Handing.{picked, sent_by}
+use Rattle.tva_mail.proofs.Lists.{zip_same}
+use Rattle.tva_mail.proofs.Places.{news_at, picked_last, picked_more}
+
+-- ## what is kept
+
+pub keeps_same : (v : NodeState) → KeepsWork v v
+keeps_same v = record { site = refl; horizon = refl; events = refl; sendings = refl; worked_to = refl; keeps = refl; gone = λ h. h }
+
+-- the same from the clause of a post
+pub kept_by : (old new : NodeState) → (new.site ≡ old.site) × (new.horizon ≡ old.horizon) × (new.events ≡ old.events) × (new.sendings ≡ old.sendings) × (new.worked_to ≡ old.worked_to) × (new.keeps ≡ old.keeps) × (new.gone.events ≡ old.gone.events) × (new.gone.sendings ≡ old.gone.sendings) → KeepsWork old new
+kept_by old new h = record {
+  site = h.0;
+  horizon = h.1;
+  events = h.2;
+  sendings = h.3;
+  worked_to = h.4;
+  keeps = h.5;
+  gone = λ had. record {
+    events = let few = had.events in let many = ap length h.2 in let gone = h.6 in omega (arith, few, many, gone);
+    sendings = let few = had.sendings in let many = ap length h.3 in let gone = h.7 in omega (arith, few, many, gone);
+  };
+}
+
+pub keeps_more : (u v w : NodeState) → KeepsWork u v → KeepsWork v w → KeepsWork u w
+keeps_more u v w a b = record {
+  site = b.site ∙ a.site;
+  horizon = b.horizon ∙ a.horizon;
+  events = b.events ∙ a.events;
+  sendings = b.sendings ∙ a.sendings;
+  worked_to = b.worked_to ∙ a.worked_to;
+  keeps = b.keeps ∙ a.keeps;
+  gone = λ had. b.gone (a.gone had);
+}
+
+pub zip_more : {X : Type 0} (R : X → X → Type 0) → ((x y z : X) → R x y → R y z → R x z) → (xs ys zs : List X) → AllZip R xs ys → AllZip R ys zs → AllZip R xs zs
+zip_more R t [] [] zs a b = b
+zip_more R t [] (y ∷ ys) zs a b = absurd a
+zip_more R t (x ∷ xs) [] zs a b = absurd a
+zip_more R t (x ∷ xs) (y ∷ ys) [] a b = absurd b
+zip_more R t (x ∷ xs) (y ∷ ys) (z ∷ zs) a b = (t x y z a.0 b.0, zip_more R t xs ys zs a.1 b.1)
+
+-- one element is written
+pub zip_set : {X : Type 0} (R : X → X → Type 0) → ((x : X) → R x x) → (xs : List X) (i : ℕ) (w : X) → R (get_or xs i w) w → AllZip R xs (set xs i w)
+zip_set R same [] i w r = tt
+zip_set R same (x ∷ xs) zero w r = (r, zip_same R same xs)
+zip_set R same (x ∷ xs) (suc i) w r = (same x, zip_set R same xs i w r)
+
+-- and nothing happens to the others
+pub same_but : (place : ℕ) (nodes : List NodeState) (v : NodeState) → IsSameBut place nodes (set nodes place v)
+same_but place nodes v = (length-set nodes place v, λ other d e. get_or-set_other nodes place other v d e)
+
+pub all_keep : (xs ys zs : List NodeState) → AllZip KeepsWork xs ys → AllZip KeepsWork ys zs → AllZip KeepsWork xs zs
+all_keep xs ys zs a b = zip_more KeepsWork keeps_more xs ys zs a b
+
+-- ## what is got
+
+got_nothing : (v : NodeState) → GotMail [] v v
+got_nothing v = record { inbox = sym (append-nil v.inbox); stands = λ s. s; keeps = keeps_same v }
+
+got_both : (a b : List Input) (u v w : NodeState) → GotMail a u v → GotMail b v w → GotMail (a ++ b) u w
+got_both a b u v w g h = record {
+  inbox = h.inbox ∙ (ap (λ (is : List Input). is ++ b) g.inbox ∙ append_assoc u.inbox a b);
+  stands = λ s. h.stands (g.stands s);
+  keeps = keeps_more u v w g.keeps h.keeps;
+}
+
+pub got_none : (mail : ℕ → List Input) (xs : List NodeState) → ((n : ℕ) → mail n ≡ []) → GotMails mail xs xs
+got_none mail xs none = record {
+  count = refl;
+  each = λ n d l. subst (λ (is : List Input). GotMail is (get_or xs n d) (get_or xs n d)) (sym (none n)) (got_nothing (get_or xs n d));
+}
+
+pub got_more : (a b c : ℕ → List Input) (xs ys zs : List NodeState) → ((n : ℕ) → a n ++ b n ≡ c n) → GotMails a xs ys → GotMails b ys zs → GotMails c xs zs
+got_more a b c xs ys zs e g h = record {
+  count = h.count ∙ g.count;
+  each = λ n d l.
+      let k : n < length ys = omega (arith, g.count) in
+      subst (λ (is : List Input). GotMail is (get_or xs n d) (get_or zs n d)) (e n)
+      (got_both (a n) (b n) (get_or xs n d) (get_or ys n d) (get_or zs n d) (g.each n d l) (h.each n d k));
+}
+
+pub got_agree : (a c : ℕ → List Input) (xs ys : List NodeState) → ((n : ℕ) → a n ≡ c n) → GotMails a xs ys → GotMails c xs ys
+got_agree a c xs ys e g = record {
+  count = g.count;
+  each = λ n d l. subst (λ (is : List Input). GotMail is (get_or xs n d) (get_or ys n d)) (e n) (g.each n d l);
+}
+
+-- one node gets mail
+pub got_at : (to : ℕ) (mail : List Input) (xs : List NodeState) (w : NodeState) → to < length xs → GotMail mail (get_or xs to w) w → GotMails (mail_at to mail) xs (set xs to w)
+got_at to mail xs w within g = record {
+  count = length-set xs to w;
+  each = λ n d l.
+      elim (cases_eq to n) [
+        | inl e ↦ here n d e
+        | inr e ↦ elsewhere n d e
+      ];
+}
+  where
+    here : (n : ℕ) (d : NodeState) → to ≡ n → GotMail (mail_at to mail n) (get_or xs n d) (get_or (set xs to w) n d)
+    here n d e =
+        subst (λ (b : Bool). GotMail (cond b mail []) (get_or xs n d) (get_or (set xs to w) n d)) (sym (eq-eqb to n e))
+        (subst (λ (m : ℕ). GotMail mail (get_or xs m d) (get_or (set xs to w) m d)) e
+        (subst (λ (v : NodeState). GotMail mail (get_or xs to d) v) (sym (get_or-set_same xs to w d within))
+        (subst (λ (u : NodeState). GotMail mail u w) (sym (get_or_default xs to d w within)) g)))
+
+    elsewhere : (n : ℕ) (d : NodeState) → (to ≡ n → ⊥) → GotMail (mail_at to mail n) (get_or xs n d) (get_or (set xs to w) n d)
+    elsewhere n d e =
+        subst (λ (b : Bool). GotMail (cond b mail []) (get_or xs n d) (get_or (set xs to w) n d)) (sym (ne_eqb to n e))
+        (subst (λ (v : NodeState). GotMail [] (get_or xs n d) v) (sym (get_or-set_other xs to n w d (λ z. e (sym z)))) (got_nothing (get_or xs n d)))
+
+-- ## mail that is being given
+
+-- of all mail, some is given already, and the rest is left
+pub record IsGoing (all left : ℕ → List Input) (old new : List NodeState) : Type 0 where
+  pub done : ℕ → List Input
+  pub got : GotMails done old new
+  pub rest : (n : ℕ) → done n ++ left n ≡ all n
+
+pub going_first : (all : ℕ → List Input) (xs : List NodeState) → IsGoing all all xs xs
+going_first all xs = record { done = λ n. []; got = got_none (λ n. []) xs (λ n. refl); rest = λ n. refl }
+
+pub going_more : (all left one less : ℕ → List Input) (xs ys zs : List NodeState) → IsGoing all left xs ys → GotMails one ys zs → ((n : ℕ) → left n ≡ one n ++ less n) → IsGoing all less xs zs
+going_more all left one less xs ys zs g h e = record {
+  done = λ n. g.done n ++ one n;
+  got = got_more g.done one (λ n. g.done n ++ one n) xs ys zs (λ n. refl) g.got h;
+  rest = λ n. append_assoc (g.done n) (one n) (less n) ∙ (ap (λ (is : List Input). g.done n ++ is) (sym (e n)) ∙ g.rest n);
+}
+
+pub going_last : (all left : ℕ → List Input) (xs ys : List NodeState) → IsGoing all left xs ys → ((n : ℕ) → left n ≡ []) → GotMails all xs ys
+going_last all left xs ys g none =
+    got_agree g.done all xs ys (λ n. sym (append-nil (g.done n)) ∙ (ap (λ (is : List Input). g.done n ++ is) (sym (none n)) ∙ g.rest n)) g.got
+
+-- ## what can still be given
+
+pub still_delivers : (mail : ℕ → List Input) (xs ys : List NodeState) (to : ℕ) (input : Input) → GotMails mail xs ys → CanDeliver xs to input → CanDeliver ys to input
+still_delivers mail xs ys to input g h = record {
+  node = let n = h.node in omega (arith, g.count);
+  takes = λ d.
+      let k = (g.each to d h.node).keeps in
+      let t = h.takes d in
+      record {
+        late = subst (λ (m : ℕ). m ≤ input_time input) (sym k.worked_to) t.late;
+        within = subst (λ (m : ℕ). input_time input ≤ m) (sym k.horizon) t.within;
+        fits = subst (λ (s : Site). Fits s.plan input) (sym k.site) t.fits;
+      };
+}
+
+pub still_postable : (mail : ℕ → List Input) (horizon : ℕ) (links : List LinkPlan) (xs ys : List NodeState) (sent : Sending) → GotMails mail xs ys → IsPostable horizon links xs sent → IsPostable horizon links ys sent
+still_postable mail horizon links xs ys sent g h = record {
+  link = h.link;
+  arrives = λ d l. still_delivers mail xs ys (get_or links sent.link d).to (arrival sent) g (h.arrives d l);
+}
+
+-- ## mail of what was sent
+
+pub mail-append : (horizon : ℕ) (links : List LinkPlan) (a b : List Sending) (n : ℕ) → mail_to horizon links (a ++ b) n ≡ mail_to horizon links a n ++ mail_to horizon links b n
+mail-append horizon links a b n =
+    ap (map arrival) (filter-append (goes_to horizon links n) a b) ∙ map-append arrival (filter (goes_to horizon links n) a) (filter (goes_to horizon links n) b)
+
+and_true : (b : Bool) → (b && true) ≡ b
+and_true false = refl
+and_true true = refl
+
+map_cond : (s : Sending) (b : Bool) → cond b (arrival s ∷ []) [] ≡ map arrival (cond b (s ∷ []) [])
+map_cond s false = refl
+map_cond s true = refl
+
+-- a packet that goes to a node
+goes_there : (horizon : ℕ) (links : List LinkPlan) (s : Sending) (d : LinkPlan) (n : ℕ) → s.link < length links → s.arrive.0 ≤ horizon → goes_to horizon links n s ≡ ((get_or links s.link d).to == n)
+goes_there horizon links s d n within l =
+    ap (λ (o : Option LinkPlan). option_map_or (λ link. link.to == n) o false && nat_le s.arrive.0 horizon) (slice_get-get_or links s.link d within)
+    ∙ (ap (λ (b : Bool). ((get_or links s.link d).to == n) && b) (le-leb s.arrive.0 horizon l) ∙ and_true ((get_or links s.link d).to == n))
+
+pub mail_of_one : (horizon : ℕ) (links : List LinkPlan) (s : Sending) (d : LinkPlan) (n : ℕ) → s.link < length links → s.arrive.0 ≤ horizon → mail_at (get_or links s.link d).to (arrival s ∷ []) n ≡ mail_to horizon links (s ∷ []) n
+mail_of_one horizon links s d n within l =
+    map_cond s ((get_or links s.link d).to == n)
+    ∙ ap (λ (b : Bool). map arrival (cond b (s ∷ []) [])) (sym (goes_there horizon links s d n within l))
+
+-- a packet that arrives past the horizon goes nowhere
+pub mail_of_late : (horizon : ℕ) (links : List LinkPlan) (s : Sending) (n : ℕ) → horizon < s.arrive.0 → mail_to horizon links (s ∷ []) n ≡ []
+mail_of_late horizon links s n l =
+    ap (λ (b : Bool). map arrival (cond b (s ∷ []) []))
+    (and_right (option_map_or (λ link. link.to == n) (slice_get links s.link) false) (nat_le s.arrive.0 horizon) (lt-leb s.arrive.0 horizon l))
+
+-- ## mail of one node after another
+
+pub sent_by_at : (nodes : List NodeState) (from : ℕ) (d : NodeState) → from < length nodes → sent_by nodes from ≡ (get_or nodes from d).sendings
+sent_by_at nodes from d within =
+    ap (λ (o : Option NodeState). option_map_or (λ w. w.sendings) o []) (slice_get-get_or nodes from d within)
+
+-- mail changes nothing in what was sent
+pub sent_by_still : (mail : ℕ → List Input) (xs ys : List NodeState) (from : ℕ) → GotMails mail xs ys → from < length xs → sent_by ys from ≡ sent_by xs from
+sent_by_still mail [] ys from g within = absurd (omega arith)
+sent_by_still mail (x ∷ xs) ys from g within =
+    let there : from < length ys = omega (arith, g.count) in
+    sent_by_at ys from x there ∙ ((g.each from x within).keeps.sendings ∙ sym (sent_by_at (x ∷ xs) from x within))
+
+-- what the node in a place has
+abbrev pub has_by : {X : Type 0} → (NodeState → List X) → List NodeState → ℕ → List X
+has_by has nodes k = option_map_or has (slice_get nodes k) []
+
+all_left : {X : Type 0} (P : X → Type 0) (xs ys : List X) → All P (xs ++ ys) → All P xs
+all_left P xs ys h = λ k d l. subst P (get_or_append_left xs ys d k l) (h k d (simp length-append (omega arith)))
+
+all_right : {X : Type 0} (P : X → Type 0) (xs ys : List X) → All P (xs ++ ys) → All P ys
+all_right P xs ys h = λ k d l. subst P (get_or-append-add xs ys k d) (h (length xs + k) d (simp length-append (omega arith)))
+
+pub picked_all : {X : Type 0} (P : X → Type 0) (has : NodeState → List X) (nodes : List NodeState) (known places : List ℕ) (i e : ℕ) → i < length places → All P (picked has nodes known places) → All P (news_at has nodes known (get_or places i e))
+picked_all P has nodes known [] i e l h = absurd (omega arith)
+picked_all P has nodes known (p ∷ ps) zero e l h = all_left P (news_at has nodes known p) (picked has nodes known ps) h
+picked_all P has nodes known (p ∷ ps) (suc i) e l h = picked_all P has nodes known ps i e (omega arith) (all_right P (news_at has nodes known p) (picked has nodes known ps) h)
+
+-- no more is known than a node has
+pub known_at : {X : Type 0} (has : NodeState → List X) (nodes : List NodeState) (known : List ℕ) (k e : ℕ) → AllZip (λ v n. n ≤ length (has v)) nodes known → k < length nodes → get_or known k e ≤ length (has_by has nodes k)
+known_at has [] known k e z l = absurd (omega arith)
+known_at has (v ∷ vs) [] k e z l = absurd z
+known_at has (v ∷ vs) (n ∷ ns) zero e z l = z.0
+known_at has (v ∷ vs) (n ∷ ns) (suc k) e z l = known_at has vs ns k e z.1 (omega arith)
+
+-- ## steps
+
+module _ (horizon : ℕ) (links : List LinkPlan) (nodes : List NodeState) (s : Sending) (d : LinkPlan) (link to : ℕ) (l : s.arrive.0 ≤ horizon) (same : link ≡ s.link) (end : to ≡ (get_or links link d).to) where
+  there : to ≡ (get_or links s.link d).to
+  there = end ∙ ap (λ (k : ℕ). (get_or links k d).to) same
+
+  pub delivers_one : IsPostable horizon links nodes s → CanDeliver nodes to (arrival s)
+  delivers_one h = subst (λ (k : ℕ). CanDeliver nodes k (arrival s)) (sym there) (h.arrives d l)
+
+  pub posted_one : (posted : List NodeState) → s.link < length links → GotMails (mail_at to (arrival s ∷ [])) nodes posted → GotMails (mail_to horizon links (s ∷ [])) nodes posted
+  posted_one posted within g =
+      got_agree (mail_at to (arrival s ∷ [])) (mail_to horizon links (s ∷ [])) nodes posted
+      (λ n. ap (λ (k : ℕ). mail_at k (arrival s ∷ []) n) there ∙ mail_of_one horizon links s d n within l) g
+
+pub posted_late : (horizon : ℕ) (links : List LinkPlan) (s : Sending) (nodes : List NodeState) → horizon < s.arrive.0 → GotMails (mail_to horizon links (s ∷ [])) nodes nodes
+posted_late horizon links s nodes l = got_none (mail_to horizon links (s ∷ [])) nodes (λ n. mail_of_late horizon links s n l)
+
+-- packets that can be posted still can when mail came
+pub postables_still : (mail : ℕ → List Input) (horizon : ℕ) (links : List LinkPlan) (xs ys : List NodeState) (sent : List Sending) → GotMails mail xs ys → All (IsPostable horizon links xs) sent → All (IsPostable horizon links ys) sent
+postables_still mail horizon links xs ys sent g h = All-weaker (IsPostable horizon links xs) (IsPostable horizon links ys) (λ s k. still_postable mail horizon links xs ys s g k) sent h
+
+-- one packet more is posted
+pub going_one : (horizon : ℕ) (links : List LinkPlan) (all left rest : List Sending) (s : Sending) (nodes now more : List NodeState) → left ≡ s ∷ rest
+    → IsGoing (mail_to horizon links all) (mail_to horizon links left) nodes now → GotMails (mail_to horizon links (s ∷ [])) now more
+    → IsGoing (mail_to horizon links all) (mail_to horizon links rest) nodes more
+going_one horizon links all left rest s nodes now more e h g =
+    going_more (mail_to horizon links all) (mail_to horizon links left) (mail_to horizon links (s ∷ [])) (mail_to horizon links rest) nodes now more h g
+    (λ n. ap (λ (ss : List Sending). mail_to horizon links ss n) e ∙ mail-append horizon links (s ∷ []) rest n)
+
+pub going_node : (horizon : ℕ) (links : List LinkPlan) (known places : List ℕ) (i from : ℕ) (nodes now more : List NodeState) → i < length places → from ≡ get_or places i from → from < length nodes
+    → IsGoing (mail_to horizon links (picked (λ v. v.sendings) nodes known places)) (mail_to horizon links (picked (λ v. v.sendings) nodes known (drop i places))) nodes now
+    → GotMails (mail_to horizon links (drop (get_or known from 0) (sent_by now from))) now more
+    → IsGoing (mail_to horizon links (picked (λ v. v.sendings) nodes known places)) (mail_to horizon links (picked (λ v. v.sendings) nodes known (drop (i + 1) places))) nodes more
+going_node horizon links known places i from nodes now more l is m h g =
+    let rest : List Sending = picked (λ v. v.sendings) nodes known (drop (i + 1) places) in
+    let same = sent_by_still h.done nodes now from h.got m in
+    let next : picked (λ v. v.sendings) nodes known (drop i places) ≡ drop (get_or known from 0) (sent_by nodes from) ++ rest =
+    picked_more (λ v. v.sendings) nodes known places i from l ∙ ap (λ (k : ℕ). news_at (λ v. v.sendings) nodes known k ++ rest) (sym is) in
+    going_more (mail_to horizon links (picked (λ v. v.sendings) nodes known places)) (mail_to horizon links (picked (λ v. v.sendings) nodes known (drop i places)))
+    (mail_to horizon links (drop (get_or known from 0) (sent_by nodes from))) (mail_to horizon links rest) nodes now more h
+    (subst (λ (ss : List Sending). GotMails (mail_to horizon links (drop (get_or known from 0) ss)) now more) same g)
+    (λ n. ap (λ (ss : List Sending). mail_to horizon links ss n) next
+    ∙ mail-append horizon links (drop (get_or known from 0) (sent_by nodes from)) rest n)
+
+pub picked_none : (horizon : ℕ) (links : List LinkPlan) (known places : List ℕ) (i n : ℕ) (nodes : List NodeState) → length places ≤ i → mail_to horizon links (picked (λ v. v.sendings) nodes known (drop i places)) n ≡ []
+picked_none horizon links known places i n nodes l = ap (λ (ss : List Sending). mail_to horizon links ss n) (picked_last (λ v. v.sendings) nodes known places i l)
+
+pub postable_from : (horizon : ℕ) (links : List LinkPlan) (known places : List ℕ) (i from : ℕ) (nodes now : List NodeState) (mail : ℕ → List Input) → GotMails mail nodes now → i < length places → from ≡ get_or places i from → from < length nodes
+    → All (IsPostable horizon links nodes) (picked (λ v. v.sendings) nodes known places)
+    → All (IsPostable horizon links now) (drop (get_or known from 0) (sent_by now from))
+postable_from horizon links known places i from nodes now mail g l is m h =
+    let same = sent_by_still mail nodes now from g m in
+    let here : All (IsPostable horizon links nodes) (drop (get_or known from 0) (sent_by nodes from)) =
+    subst (λ (k : ℕ). All (IsPostable horizon links nodes) (news_at (λ v. v.sendings) nodes known k)) (sym is) (picked_all (IsPostable horizon links nodes) (λ v. v.sendings) nodes known places i from l h) in
+    subst (λ (ss : List Sending). All (IsPostable horizon links now) (drop (get_or known from 0) ss)) (sym same)
+    (All-weaker (IsPostable horizon links nodes) (IsPostable horizon links now) (λ s k. still_postable mail horizon links nodes now s g k) (drop (get_or known from 0) (sent_by nodes from)) here)
+
+pub sent_counts : (xs ys : List NodeState) → AllZip KeepsWork xs ys → map (λ v. length v.sendings) ys ≡ map (λ v. length v.sendings) xs
+sent_counts [] [] h = refl
+sent_counts [] (y ∷ ys) h = absurd h
+sent_counts (x ∷ xs) [] h = absurd h
+sent_counts (x ∷ xs) (y ∷ ys) h = ap₂ (λ (n : ℕ) (ns : List ℕ). n ∷ ns) (ap length h.0.sendings) (sent_counts xs ys h.1)

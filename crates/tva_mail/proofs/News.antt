@@ -1,0 +1,149 @@
+-- What nodes tell, one node after another.
+use Rattle.std.proofs.Common.{◌≡◌, ℕ, zero, suc, ◌+◌, ◌<◌, ◌≤◌, List, [], ◌∷◌, ◌++◌, length, get_or, drop, All, refl, sym, subst, ◌∙◌, ap, ap₂, arith, inl, inr, true, false}
+use Rattle.std.specs.Prelude.{◌==◌}
+use Rattle.std.specs.List.{AllByRecursion, AllZip}
+use Rattle.std.proofs.lemmas.Bool.{eq-eqb, ne_eqb}
+use Rattle.std.proofs.lemmas.List.{append-nil}
+use Rattle.std.proofs.lemmas.List.Elements.{All-head, All-tail, filter-append}
+use Rattle.tva_base.specs.declared.event.Event.{Event}
+use Rattle.tva_log.specs.Joins.{IsInOrder, IsJoin, MayPrecede, NeverFalls, from_source}
+use Rattle.tva_log.proofs.Joins.{each-append, each-weaker, filter-all, filter-none}
+use Rattle.tva_log.specs.Entries.{Entry, entry_rank, entry_time}
+use Rattle.tva_log.specs.Sites.{Site}
+use Rattle.tva_log.specs.Told.{events}
+use Rattle.tva_node.specs.States.{NodeState, Stands}
+use Rattle.tva_run.specs.Report.{event_node, event_time}
+use Rattle.tva_mail.specs.Handing.{IsByTime}
+use Rattle.tva_mail.specs.News.{since, told_since}
+use Rattle.tva_mail.proofs.Orders.{stable_joins}
+
+-- ## lists place by place
+
+pub zip_at : {X Y : Type 0} (R : X → Y → Type 0) (xs : List X) (ys : List Y) (i : ℕ) (d : X) (e : Y) → AllZip R xs ys → i < length xs → R (get_or xs i d) (get_or ys i e)
+zip_at R [] ys i d e z l = absurd (omega arith)
+zip_at R (x ∷ xs) [] i d e z l = absurd z
+zip_at R (x ∷ xs) (y ∷ ys) zero d e z l = z.0
+zip_at R (x ∷ xs) (y ∷ ys) (suc i) d e z l = zip_at R xs ys i d e z.1 (omega arith)
+
+-- ## what a node tells
+
+told_times : (site : Site) (log : List Entry) → IsInOrder entry_time entry_rank log → NeverFalls event_time (events site log)
+told_times site [] h = tt
+told_times site (e ∷ es) h = (later es h.0, told_times site es h.1)
+  where
+    later : (xs : List Entry) → AllByRecursion (MayPrecede entry_time entry_rank e) xs → AllByRecursion (λ x. entry_time e ≤ event_time x) (events site xs)
+    later [] k = tt
+    later (x ∷ xs) k = ((elim k.0 [ inl a ↦ omega arith | inr a ↦ let b = a.0 in omega arith ]), later xs k.1)
+
+told_nodes : (site : Site) (log : List Entry) → AllByRecursion (λ e. event_node e ≡ site.number) (events site log)
+told_nodes site [] = tt
+told_nodes site (e ∷ es) = (refl, told_nodes site es)
+
+-- the nodes tell of themselves, from that number on, in the order of time
+abbrev pub Tell : ℕ → List NodeState → Type 0
+Tell k [] = Unit {0}
+Tell k (v ∷ vs) = AllByRecursion (λ e. event_node e ≡ k) v.events × NeverFalls event_time v.events × Tell (k + 1) vs
+
+tells : (k : ℕ) (v : NodeState) → v.site.number ≡ k → Stands v → AllByRecursion (λ e. event_node e ≡ k) v.events × NeverFalls event_time v.events
+tells k v e (log, h) = (
+  subst (λ (es : List Event). AllByRecursion (λ x. event_node x ≡ k) es) (sym h.events)
+      (subst (λ (n : ℕ). AllByRecursion (λ x. event_node x ≡ n) (events v.site log)) e (told_nodes v.site log)),
+  subst (NeverFalls event_time) (sym h.events) (told_times v.site log h.whole.in_order),
+)
+
+pub all_tell : (k : ℕ) (vs : List NodeState) → ((n : ℕ) (d : NodeState) → n < length vs → (get_or vs n d).site.number ≡ k + n) → All Stands vs → Tell k vs
+all_tell k [] numbers stand = tt
+all_tell k (v ∷ vs) numbers stand =
+    let zeroth : v.site.number ≡ k + 0 = numbers 0 v (omega arith) in
+    let first : v.site.number ≡ k = omega arith in
+    let here = tells k v first (All-head Stands v vs stand) in
+    (here.0, here.1, all_tell (k + 1) vs (λ n d l. let next : (get_or vs n d).site.number ≡ k + suc n = numbers (suc n) d (omega arith) in omega arith) (All-tail Stands v vs stand))
+
+-- ## what is told since
+
+each-drop : {X : Type 0} (P : X → Type 0) (n : ℕ) (xs : List X) → AllByRecursion P xs → AllByRecursion P (drop n xs)
+each-drop P zero xs h = h
+each-drop P (suc n) [] h = tt
+each-drop P (suc n) (x ∷ xs) h = each-drop P n xs h.1
+
+falls-drop : {X : Type 0} (time : X → ℕ) (n : ℕ) (xs : List X) → NeverFalls time xs → NeverFalls time (drop n xs)
+falls-drop time zero xs h = h
+falls-drop time (suc n) [] h = tt
+falls-drop time (suc n) (x ∷ xs) h = falls-drop time n xs h.1
+
+-- all that is told from a number on is of that number or a later one
+told_late : (k : ℕ) (vs : List NodeState) (known : List ℕ) → Tell k vs → AllByRecursion (λ e. k ≤ event_node e) (since (λ v. v.events) vs known)
+told_late k [] known h = tt
+told_late k (v ∷ vs) [] h = tt
+told_late k (v ∷ vs) (n ∷ ns) h =
+    each-append (λ e. k ≤ event_node e) (drop n v.events) (since (λ v. v.events) vs ns)
+    (each-weaker (λ e. event_node e ≡ k) (λ e. k ≤ event_node e) (λ e l. omega arith) (drop n v.events) (each-drop (λ e. event_node e ≡ k) n v.events h.0))
+    (each-weaker (λ e. k + 1 ≤ event_node e) (λ e. k ≤ event_node e) (λ e l. omega arith) (since (λ v. v.events) vs ns) (told_late (k + 1) vs ns h.2))
+
+rise_behind : (k : ℕ) (xs ys : List Event) → AllByRecursion (λ e. event_node e ≡ k) xs → AllByRecursion (λ e. k ≤ event_node e) ys → NeverFalls event_node ys → NeverFalls event_node (xs ++ ys)
+rise_behind k [] ys h l r = r
+rise_behind k (x ∷ xs) ys h l r =
+    let here : event_node x ≡ k = h.0 in (
+      each-append (λ e. event_node x ≤ event_node e) xs ys
+          (each-weaker (λ e. event_node e ≡ k) (λ e. event_node x ≤ event_node e) (λ e m. omega arith) xs h.1)
+          (each-weaker (λ e. k ≤ event_node e) (λ e. event_node x ≤ event_node e) (λ e m. omega arith) ys l),
+      rise_behind k xs ys h.1 l r,
+    )
+
+told_rise : (k : ℕ) (vs : List NodeState) (known : List ℕ) → Tell k vs → NeverFalls event_node (since (λ v. v.events) vs known)
+told_rise k [] known h = tt
+told_rise k (v ∷ vs) [] h = tt
+told_rise k (v ∷ vs) (n ∷ ns) h =
+    rise_behind k (drop n v.events) (since (λ v. v.events) vs ns) (each-drop (λ e. event_node e ≡ k) n v.events h.0)
+    (each-weaker (λ e. k + 1 ≤ event_node e) (λ e. k ≤ event_node e) (λ e l. omega arith) (since (λ v. v.events) vs ns) (told_late (k + 1) vs ns h.2))
+    (told_rise (k + 1) vs ns h.2)
+
+told_falls : (k : ℕ) (vs : List NodeState) (known : List ℕ) (n : ℕ) → Tell k vs → NeverFalls event_time (told_since vs known n)
+told_falls k [] known n h = tt
+told_falls k (v ∷ vs) [] zero h = falls-drop event_time 0 v.events h.1
+told_falls k (v ∷ vs) (m ∷ ms) zero h = falls-drop event_time m v.events h.1
+told_falls k (v ∷ vs) [] (suc n) h = told_falls (k + 1) vs [] n h.2
+told_falls k (v ∷ vs) (m ∷ ms) (suc n) h = told_falls (k + 1) vs ms n h.2
+
+own : (k s : ℕ) (xs : List Event) → s ≡ k → AllByRecursion (λ e. event_node e ≡ k) xs → from_source event_node s xs ≡ xs
+own k s xs e h =
+    filter-all (λ x. event_node x == s) xs
+    (each-weaker (λ x. event_node x ≡ k) (λ x. (event_node x == s) ≡ true) (λ x l. eq-eqb (event_node x) s (l ∙ sym e)) xs h)
+
+of_others : (k s : ℕ) (xs : List Event) → (s ≡ k → ⊥) → AllByRecursion (λ e. event_node e ≡ k) xs → from_source event_node s xs ≡ []
+of_others k s xs e h =
+    filter-none (λ x. event_node x == s) xs
+    (each-weaker (λ x. event_node x ≡ k) (λ x. (event_node x == s) ≡ false) (λ x l. ne_eqb (event_node x) s (λ z. e (sym z ∙ l))) xs h)
+
+of_later : (s : ℕ) (xs : List Event) → AllByRecursion (λ e. s + 1 ≤ event_node e) xs → from_source event_node s xs ≡ []
+of_later s xs h =
+    filter-none (λ x. event_node x == s) xs
+    (each-weaker (λ x. s + 1 ≤ event_node x) (λ x. (event_node x == s) ≡ false) (λ x l. ne_eqb (event_node x) s (λ z. omega arith)) xs h)
+
+-- of what is told, a node's is what it told itself
+told_each : (k : ℕ) (vs : List NodeState) (known : List ℕ) (n s : ℕ) → s ≡ k + n → length known ≡ length vs → Tell k vs → from_source event_node s (since (λ v. v.events) vs known) ≡ told_since vs known n
+told_each k [] known n s e c h = refl
+told_each k (v ∷ vs) [] n s e c h = absurd (omega arith)
+told_each k (v ∷ vs) (m ∷ ms) zero s e c h =
+    let same : s ≡ k = omega arith in
+    let late : AllByRecursion (λ e. s + 1 ≤ event_node e) (since (λ v. v.events) vs ms) =
+    each-weaker (λ e. k + 1 ≤ event_node e) (λ e. s + 1 ≤ event_node e) (λ e l. omega arith) (since (λ v. v.events) vs ms) (told_late (k + 1) vs ms h.2) in
+    filter-append (λ x. event_node x == s) (drop m v.events) (since (λ v. v.events) vs ms)
+    ∙ (ap₂ (λ (xs ys : List Event). xs ++ ys) (own k s (drop m v.events) same (each-drop (λ e. event_node e ≡ k) m v.events h.0)) (of_later s (since (λ v. v.events) vs ms) late)
+    ∙ append-nil (drop m v.events))
+told_each k (v ∷ vs) (m ∷ ms) (suc n) s e c h =
+    let other : s ≡ k → ⊥ = λ z. omega arith in
+    let further : s ≡ (k + 1) + n = omega arith in
+    let counts : length ms ≡ length vs = omega arith in
+    filter-append (λ x. event_node x == s) (drop m v.events) (since (λ v. v.events) vs ms)
+    ∙ (ap (λ (xs : List Event). xs ++ from_source event_node s (since (λ v. v.events) vs ms)) (of_others k s (drop m v.events) other (each-drop (λ e. event_node e ≡ k) m v.events h.0))
+    ∙ told_each (k + 1) vs ms n s further counts h.2)
+
+-- what is told, put in order, is the join of what the nodes tell
+pub told_join : (vs : List NodeState) (known : List ℕ) (ordered : List Event) → ((n : ℕ) (d : NodeState) → n < length vs → (get_or vs n d).site.number ≡ n) → All Stands vs → length known ≡ length vs → IsByTime (since (λ v. v.events) vs known) ordered → IsJoin event_time event_node (told_since vs known) ordered
+told_join vs known ordered numbers stand c by =
+    let tell : Tell 0 vs = all_tell 0 vs (λ n d l. let same : (get_or vs n d).site.number ≡ n = numbers n d l in omega arith) stand in
+    let each : (s : ℕ) → from_source event_node s (since (λ v. v.events) vs known) ≡ told_since vs known s = λ s. told_each 0 vs known s s (omega arith) c tell in
+    let j = stable_joins event_time event_node (since (λ v. v.events) vs known) ordered by.times by.ties (told_rise 0 vs known tell)
+    (λ s. subst (NeverFalls event_time) (sym (each s)) (told_falls 0 vs known s tell)) in
+    record { in_order = j.in_order; each = λ s. j.each s ∙ each s }

@@ -1,5 +1,0 @@
-use Rattle.tva_steady.proofs.Honest.{honest}
-use Rattle.tva_steady.proofs.laws.honest_senders_are_authorised.Goals as goal
-
-pub returns : goal.returns
-returns c w h miles sent s bytes at steady = honest w h miles sent s bytes at steady

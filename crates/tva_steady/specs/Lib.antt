@@ -1,3 +1,0 @@
-pub mod Miles
-pub mod Steady
-pub mod Walk

@@ -1,5 +1,0 @@
-use Rattle.tva_trace.proofs.RowsThere.{text_is_one, text_there}
-use Rattle.tva_trace.proofs.laws.bytes_have_one_text.Goals as goal
-
-pub returns : goal.returns
-returns c = record { there = text_there; one = text_is_one }

@@ -1,7 +1,0 @@
-use Rattle.std.proofs.Common.{◌≡◌, ◌∷◌, ◌++◌, take, string_bytes}
-use Rattle.std.specs.List.{flat_map}
-use Rattle.tva_trace.specs.ShimText.{digits_of}
-use Rattle.tva_trace.proofs.texts.put_caps.Given as goal
-
-abbrev pub invariant-loop-cap : goal.invariant-loop-cap
-invariant-loop-cap l = string_bytes l.text ≡ string_bytes l.initial.text ++ flat_map (λ x. 44 ∷ digits_of 8 x) (take l.cap-index l.rest)

@@ -1,0 +1,18 @@
+-- Crate: what memory holds of the inputs that a node was given, and when the next of those that wait comes.
+use Rattle.std.specs.Prelude.{◌≡◌, ℕ, List, [], ◌∷◌, length, Option, Some, None}
+use Rattle.tva_log.specs.declared.kinds.Input.{Input}
+use Rattle.tva_log.specs.Entries.{input_time}
+use Rattle.tva_past.specs.Kept.{KeptList}
+use Rattle.tva_waiting.specs.declared.memory.Memory.{Memory}
+use Rattle.tva_waiting.specs.declared.memory.Memory.TheVariants as memory
+
+-- of inputs memory holds all or none
+abbrev pub HoldsInputs : Memory → KeptList Input → Type 0
+HoldsInputs memory.All inbox = inbox.gone ≡ 0
+HoldsInputs memory.Events inbox = inbox.gone ≡ length inbox.all
+HoldsInputs memory.Nothing inbox = inbox.gone ≡ length inbox.all
+
+-- the time of the next input that is not taken
+abbrev pub first_time : List Input → Option ℕ
+first_time [] = None
+first_time (input ∷ inputs) = Some (input_time input)

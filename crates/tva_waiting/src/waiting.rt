@@ -1,0 +1,367 @@
+// The inputs of a node that are not taken yet, in the order of their taking.
+ghost use Rattle.std.specs.Prelude.{◌≡◌, ◌≢◌, ◌≤◌, ◌∷◌, ◌++◌, ℕ, List, [], Some, length, insert, true, IfOk, IfSome, IsSome, OnOk, OnErr};
+ghost use Rattle.tva_log.specs.Joins.{IsInOrder, precedes, put_in};
+ghost use Rattle.tva_log.specs.Entries.{input_source, input_time};
+ghost use Rattle.tva_waiting.specs.Inputs.{HoldsInputs, first_time};
+ghost use Rattle.tva_waiting.specs.Waiting.{CanWait, IsFreeAt, at_place, input_of, place_of, put_at, row_of, turn_source, turn_time};
+
+use crate::memory::{Memory, note_input};
+use std::alloc::{AllocError, Global};
+use std::collections::VecDeque;
+use std::marker::Model;
+use std::mem;
+use std::mem::size_of;
+use tva_base::{Address, Flow, Time};
+use tva_log::Input;
+use tva_past::Kept;
+use tva_shim::Carried;
+use tva_trace::{Row, RowWhat};
+
+// So many places are worth giving back.
+const MANY: usize = 4_096;
+
+/// When an input comes, in nanoseconds, its source (0 for the trace, else one more than the link's
+/// number), and what comes.
+#[derive(Clone, Copy)]
+pub(crate) struct Turn {
+    pub time: u64,
+    pub source: u32,
+    pub what: TurnWhat,
+}
+
+/// What a turn says: the place at which its input is held, or all of a row that carries nothing but its
+/// time. Such rows are the most that wait, and are short; an input that is held is large.
+#[derive(Clone, Copy)]
+pub(crate) enum TurnWhat {
+    Held(usize),
+    Send {
+        node: u16,
+        dst: Address,
+        payload: u16,
+    },
+    Inject {
+        node: u16,
+        flow: Flow,
+        payload: u16,
+    },
+    File {
+        node: u16,
+        dst: Address,
+        size: u32,
+        segment: u16,
+    },
+    Tick {
+        node: u16,
+        dst: Address,
+    },
+}
+
+// A million turns take 32 MB.
+const _: () = prove!(size_of::<Turn>() <= 32);
+
+/// A place: free, with the one that is free besides, or with an input.
+#[derive(Drop)]
+pub(crate) enum Slot {
+    Free(Option<usize>),
+    Held(Input),
+}
+
+/// Inputs by time, and at one time by source. A row that carries nothing stands in its turn. Any other
+/// input stays at its place while the turns move, and the place of one that is taken is used again.
+#[derive(Drop)]
+pub struct Waiting {
+    turns: VecDeque<Turn>,
+    slots: Vec<Slot>,
+    free: Option<usize>,
+}
+
+impl Model for Waiting {
+    ghost use Rattle.std.specs.Prelude.{List};
+    ghost use Rattle.tva_log.specs.declared.kinds.Input.{Input};
+    ghost use Rattle.tva_waiting.specs.Waiting.{AreWaiting, inputs_in};
+
+    ghost Value = { List Input };
+
+    ghost view = { λ w. inputs_in w.slots.items w.turns.items };
+
+    ghost invariant = { λ w. AreWaiting w.slots.items w.turns.items };
+}
+
+impl Waiting {
+    pub fn new(alloc: Global) -> Waiting
+        ensures { result ≡ [] }
+    {
+        Waiting {
+            turns: VecDeque::new(alloc),
+            slots: Vec::new(alloc),
+            free: None,
+        }
+    }
+
+    /// Makes room for so many more, so many of which are held at places. The error is want of memory.
+    pub fn reserve(&mut self, count: usize, held: usize) -> Result<(), AllocError>
+        ensures { self.new ≡ self.old }
+    {
+        self.turns.reserve(count)?;
+        self.slots.reserve(held)
+    }
+
+    /// Puts one more at its place, behind all before which it need not stand, and behind all in the inbox.
+    /// The error is want of memory, and changes nothing.
+    pub fn put(
+        &mut self,
+        input: Input,
+        inbox: &mut Kept<Input>,
+        keeps: Memory,
+    ) -> Result<(), AllocError>
+        requires { HoldsInputs keeps inbox.old }
+        ensures put { OnOk result (self.new ≡ put_in input_time input_source input self.old) }
+        ensures noted { OnOk result (inbox.new.all ≡ inbox.old.all ++ input ∷ []) }
+        ensures held { HoldsInputs keeps inbox.new }
+        ensures err { OnErr result ((self.new ≡ self.old) × (inbox.new ≡ inbox.old)) }
+    {
+        self.give_back();
+        let what = said_or_held(&mut self.slots, self.free, &input)?;
+        self.turns.reserve(1)?;
+        note_input(inbox, keeps, &input)?;
+        let turn = Turn {
+            time: time_of(&input),
+            source: source_of(&input),
+            what,
+        };
+        let at = place_for(&self.turns, &turn);
+        self.turns.insert(at, turn)?;
+        hold(&mut self.slots, &mut self.free, what, input);
+        Ok(())
+    }
+
+    /// When the next one comes, in nanoseconds.
+    pub fn first_time(&self) -> Option<u64>
+        ensures { result ≡ first_time self.now }
+    {
+        match self.turns.front() {
+            Some(turn) => Some(turn.time),
+            None => None,
+        }
+    }
+
+    /// Takes the next one.
+    pub fn take(&mut self) -> Input
+        requires { self.old ≢ [] }
+        ensures { self.old ≡ result ∷ self.new }
+    {
+        let Some(turn) = self.turns.pop_front() else {
+            unreachable!()
+        };
+        take_said_or_held(&mut self.slots, &mut self.free, turn.time, turn.what)
+    }
+
+    // Gives back the memory of many places, where nothing waits.
+    fn give_back(&mut self)
+        ensures { self.new ≡ self.old }
+    {
+        if self.turns.is_empty() && self.slots.len() > MANY {
+            self.free = None;
+            self.slots.clear();
+            self.slots.shrink_to_fit();
+        }
+    }
+}
+
+// What the turn of an input says: all of a row that carries nothing, and else a place that is free.
+fn said_or_held(
+    slots: &mut Vec<Slot>,
+    free: Option<usize>,
+    input: &Input,
+) -> Result<TurnWhat, AllocError>
+    ensures can { IfOk result (CanWait slots.new.items input.now) }
+    ensures same { (place : ℕ) → at_place slots.new.items place ≡ at_place slots.old.items place }
+{
+    match row_said(input) {
+        Some(what) => Ok(what),
+        None => Ok(TurnWhat::Held(free_place(slots, free)?)),
+    }
+}
+
+// What a turn says of a row that carries nothing.
+fn row_said(input: &Input) -> Option<TurnWhat>
+    ensures { IfSome result (λ what. row_of (input_time input.now) what ≡ Some input.now) }
+{
+    let Input::FromTrace(row) = input else {
+        return None;
+    };
+    let node = row.node;
+    match row.what {
+        RowWhat::Send { dst, payload } => Some(TurnWhat::Send { node, dst, payload }),
+        RowWhat::Inject {
+            flow,
+            payload,
+            carried: Carried::Nothing,
+        } => Some(TurnWhat::Inject {
+            node,
+            flow,
+            payload,
+        }),
+        RowWhat::Inject { .. } => None,
+        RowWhat::File { dst, size, segment } => Some(TurnWhat::File {
+            node,
+            dst,
+            size,
+            segment,
+        }),
+        RowWhat::Tick { dst } => Some(TurnWhat::Tick { node, dst }),
+    }
+}
+
+// Holds an input at its place, if its turn says one.
+fn hold(slots: &mut Vec<Slot>, free: &mut Option<usize>, what: TurnWhat, input: Input)
+    requires { CanWait slots.old.items input what }
+    ensures { slots.new.items ≡ put_at (place_of what) (Slot.Held input) slots.old.items }
+{
+    if let TurnWhat::Held(place) = what {
+        *free = next_free(&slots[place]);
+        slots[place] = Slot::Held(input);
+    }
+}
+
+// Takes the input of a turn: makes the row again that the turn says, or takes what is held at its place,
+// which is free then.
+fn take_said_or_held(
+    slots: &mut Vec<Slot>,
+    free: &mut Option<usize>,
+    time: u64,
+    what: TurnWhat,
+) -> Input
+    requires { IsSome (input_of slots.old.items time what) }
+    ensures input { input_of slots.old.items time what ≡ Some result }
+    ensures left { slots.new.items ≡ put_at (place_of what) (Slot.Free free.old) slots.old.items }
+{
+    let time = Time(time);
+    match what {
+        TurnWhat::Held(place) => take_held(slots, free, place),
+        TurnWhat::Send { node, dst, payload } => Input::FromTrace(Row {
+            time,
+            node,
+            what: RowWhat::Send { dst, payload },
+        }),
+        TurnWhat::Inject {
+            node,
+            flow,
+            payload,
+        } => Input::FromTrace(Row {
+            time,
+            node,
+            what: RowWhat::Inject {
+                flow,
+                payload,
+                carried: Carried::Nothing,
+            },
+        }),
+        TurnWhat::File {
+            node,
+            dst,
+            size,
+            segment,
+        } => Input::FromTrace(Row {
+            time,
+            node,
+            what: RowWhat::File { dst, size, segment },
+        }),
+        TurnWhat::Tick { node, dst } => Input::FromTrace(Row {
+            time,
+            node,
+            what: RowWhat::Tick { dst },
+        }),
+    }
+}
+
+// Takes an input from its place, which is free then.
+fn take_held(slots: &mut Vec<Slot>, free: &mut Option<usize>, place: usize) -> Input
+    requires { IsSome (at_place slots.old.items place) }
+    ensures input { at_place slots.old.items place ≡ Some result }
+    ensures left { slots.new.items ≡ put_at (Some place) (Slot.Free free.old) slots.old.items }
+{
+    let left = Slot::Free(*free);
+    *free = Some(place);
+    match mem::replace(&mut slots[place], left) {
+        Slot::Held(input) => input,
+        Slot::Free(_) => unreachable!(),
+    }
+}
+
+// A free place: that one, if it is free, or a new one.
+fn free_place(slots: &mut Vec<Slot>, free: Option<usize>) -> Result<usize, AllocError>
+    ensures free { IfOk result (IsFreeAt slots.new.items) }
+    ensures same { (place : ℕ) → at_place slots.new.items place ≡ at_place slots.old.items place }
+{
+    if let Some(place) = free {
+        if is_free(slots, place) {
+            return Ok(place);
+        }
+    }
+    let place = slots.len();
+    slots.push(Slot::Free(None))?;
+    Ok(place)
+}
+
+fn is_free(slots: &Vec<Slot>, place: usize) -> bool
+    ensures { result ≡ true → IsFreeAt slots.now.items place }
+{
+    match slots.get(place) {
+        Some(Slot::Free(_)) => true,
+        _ => false,
+    }
+}
+
+// The place that is free besides a free one.
+fn next_free(slot: &Slot) -> Option<usize> {
+    match slot {
+        Slot::Free(next) => *next,
+        Slot::Held(_) => None,
+    }
+}
+
+// The place of a turn among turns in order.
+fn place_for(turns: &VecDeque<Turn>, turn: &Turn) -> usize
+    requires { IsInOrder turn_time turn_source turns.now.items }
+    ensures place { put_in turn_time turn_source turn.now turns.now.items ≡ insert turns.now.items result turn.now }
+    ensures within { result ≤ length turns.now.items }
+{
+    let mut low = 0;
+    let mut high = turns.len();
+    while low < high {
+        let middle = low + (high - low) / 2;
+        if precedes(turn, &turns[middle]) {
+            high = middle;
+        } else {
+            low = middle + 1;
+        }
+    }
+    low
+}
+
+fn precedes(one: &Turn, other: &Turn) -> bool
+    ensures { result ≡ precedes turn_time turn_source one.now other.now }
+{
+    one.time < other.time || (one.time == other.time && one.source < other.source)
+}
+
+// When an input comes, in nanoseconds.
+fn time_of(input: &Input) -> u64
+    ensures { result ≡ input_time input.now }
+{
+    match input {
+        Input::FromTrace(row) => row.time.0,
+        Input::Arrival { time, .. } => time.0,
+    }
+}
+
+// The source of an input: 0 for the trace, else one more than the link's number.
+fn source_of(input: &Input) -> u32
+    ensures { result ≡ input_source input.now }
+{
+    match input {
+        Input::FromTrace(_) => 0,
+        Input::Arrival { link, .. } => u32::from(*link) + 1,
+    }
+}
