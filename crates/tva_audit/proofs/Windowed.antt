@@ -3,7 +3,7 @@ use Rattle.std.proofs.Common.{◌≡◌, ◌≤◌, ◌<◌, ℕ, ◌+◌, ◌-�
 use Rattle.std.specs.Prelude.{is_err, sum_by, false, OnOk}
 use Rattle.std.specs.List.{AllByRecursion, AllZip}
 use Rattle.std.proofs.lemmas.List.Elements.{All-append, All-from_recursion, All-map, AllZip-get_or, recursion_from_All}
-use Rattle.tva_base.specs.Printable.{IsLine}
+use Rattle.tva_lists.specs.Printable.{IsLine}
 use Rattle.tva_base.specs.declared.event.Event.{Event}
 use Rattle.tva_base.specs.declared.event.Totals.{Totals}
 use Rattle.tva_plan.specs.declared.config.Config.{Config}

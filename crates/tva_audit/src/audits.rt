@@ -1,6 +1,6 @@
 // The audit of a report.
 ghost use Rattle.std.specs.Prelude.{◌≡◌, ◌≤◌, ◌++◌, [], ◌∷◌, ℕ, List, All, length, sum_by};
-ghost use Rattle.tva_base.specs.Printable.{IsLine};
+ghost use Rattle.tva_lists.specs.Printable.{IsLine};
 ghost use Rattle.tva_plan.specs.Valid.{IsConfig};
 ghost use Rattle.tva_lines.specs.Lines.{text_of_totals};
 ghost use Rattle.tva_trace.specs.Valid.{AreTraceRows};

@@ -1,7 +1,7 @@
 // The lines of a report, as a network is worked.
 ghost use Rattle.std.specs.Prelude.{◌≡◌, List, All, IfErr, IfOk, OnOk};
 ghost use Rattle.std.specs.List.{AllZip};
-ghost use Rattle.tva_base.specs.Printable.{IsLine};
+ghost use Rattle.tva_lists.specs.Printable.{IsLine};
 ghost use Rattle.tva_base.specs.declared.event.Event.{Event};
 ghost use Rattle.tva_plan.specs.declared.config.Config.{Config};
 ghost use Rattle.tva_plan.specs.Valid.{IsConfig};

@@ -8,5 +8,4 @@ pub mod Options
 pub mod Orders
 pub mod Ordinals
 pub mod Plan
-pub mod Printable
 pub mod Versions

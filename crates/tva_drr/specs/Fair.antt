@@ -1,5 +1,6 @@
 -- Product: what is true of all fair queues, at every moment.
 use Rattle.std.specs.Prelude.{◌≡◌, ℕ, ◌+◌, ◌<◌, ◌≤◌, false, List, [], ◌∷◌, length}
+use Rattle.std.specs.List.{AllByRecursion}
 use Rattle.tva_base.specs.declared.limits.DrrLimits.{DrrLimits}
 use Rattle.tva_base.specs.Plan.{AreDrrLimits}
 use Rattle.tva_drr.specs.Queues.{Queue, Fair, has_key, bytes_in, all_bytes}
@@ -7,8 +8,7 @@ use Rattle.tva_drr.specs.Queues.{Queue, Fair, has_key, bytes_in, all_bytes}
 module _ {T : Type 0} (measure : T → ℕ) (l : DrrLimits) where
   -- each item has a length from 1 to the greatest
   abbrev pub AreMeasured : List T → Type 0
-  AreMeasured [] = Unit {0}
-  AreMeasured (x ∷ xs) = ((1 ≤ measure x) × (measure x ≤ l.max)) × AreMeasured xs
+  AreMeasured items = AllByRecursion (λ x. (1 ≤ measure x) × (measure x ≤ l.max)) items
 
   -- a queue is within its limits, and not empty
   pub record IsQueue (q : Queue T) : Type 0 where
@@ -24,8 +24,7 @@ module _ {T : Type 0} (measure : T → ℕ) (l : DrrLimits) where
 
   -- the deficit of a queue behind the front is below the greatest length
   abbrev pub AreBehind : List (Queue T) → Type 0
-  AreBehind [] = Unit {0}
-  AreBehind (q ∷ qs) = (q.deficit < l.max) × AreBehind qs
+  AreBehind qs = AllByRecursion (λ q. q.deficit < l.max) qs
 
   -- the deficit covers the first item
   abbrev pub Covers : ℕ → List T → Type 0

@@ -20,9 +20,6 @@ use std::marker::Model;
 use tva_base::DrrLimits;
 use tva_index::KeyRing;
 
-#[cfg(test)]
-mod tests;
-
 /// Fair queues of items, by deficit round robin (Shreedhar and Varghese, 1996). Contracts see the
 /// limits and one list of keys, deficits and items in ring order, in which no queue is empty.
 ///
@@ -33,9 +30,9 @@ mod tests;
 /// most 2^30 it fits in 32 bits.
 #[derive(Drop)]
 pub struct FairQueues<T: Measured> {
-    limits: DrrLimits,
+    pub(crate) limits: DrrLimits,
     bytes: u32,
-    waiting: VecDeque<Slot<T>>,
+    pub(crate) waiting: VecDeque<Slot<T>>,
     spare: Vec<Slot<T>>,
     keys: KeyRing,
 }

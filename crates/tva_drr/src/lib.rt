@@ -6,8 +6,6 @@
 //! when the queues are made.
 #![tactic(auto)]
 
-#[cfg(test)]
-mod cases;
 mod fair_queues;
 mod laws;
 mod measured;
@@ -15,6 +13,8 @@ mod offered;
 mod places;
 mod ring;
 mod slot;
+#[cfg(test)]
+mod tests;
 mod turns;
 
 pub use fair_queues::FairQueues;

@@ -22,6 +22,18 @@ pub(crate) struct Place {
     pub bytes: u32,
 }
 
+/// The place of a key. The front's key stands at hand, and where there is one queue, as behind most tags,
+/// it is the only one; so it is looked at before the tree of keys, which stands elsewhere in memory.
+fn place_of<T: Measured>(keys: &KeyRing, waiting: &VecDeque<Slot<T>>, key: u32) -> Option<usize>
+    requires { keys.now.keys ≡ keys_in (queues_in waiting.now.items) }
+    ensures { result ≡ place_in key keys.now.keys }
+{
+    if !waiting.is_empty() && waiting[0].key() == key {
+        return Some(0);
+    }
+    keys.place(key)
+}
+
 /// The place of the key's queue.
 pub(crate) fn find_slot<T: Measured>(keys: &KeyRing, waiting: &VecDeque<Slot<T>>, key: u32) -> Place
     requires { keys.now.keys ≡ keys_in (queues_in waiting.now.items) }
@@ -30,7 +42,7 @@ pub(crate) fn find_slot<T: Measured>(keys: &KeyRing, waiting: &VecDeque<Slot<T>>
     ensures items { result.items ≡ length (items_of key (queues_in waiting.now.items)) }
     ensures bytes { result.bytes ≡ bytes_in T.measure (items_of key (queues_in waiting.now.items)) }
 {
-    match keys.place(key) {
+    match place_of(keys, waiting, key) {
         Some(at) => {
             let slot = &waiting[at];
             Place {

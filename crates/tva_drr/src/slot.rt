@@ -60,6 +60,12 @@ impl<T: Measured> Slot<T> {
         self.deficit = deficit;
     }
 
+    pub fn key(&self) -> u32
+        ensures { result ≡ self.now.queue.key }
+    {
+        self.key
+    }
+
     pub fn deficit(&self) -> u32
         ensures { result ≡ self.now.queue.deficit }
     {

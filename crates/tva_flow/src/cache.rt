@@ -16,9 +16,6 @@ use std::alloc::{AllocError, Global};
 use std::marker::Model;
 use tva_base::{Flow, Grant, SECOND, Time};
 
-#[cfg(test)]
-mod tests;
-
 /// The flows of a router that live, each by its entry. Contracts see the key by which it finds flows,
 /// the number of its slots, how many nanoseconds its clock is ahead, the last time and the entries, of
 /// which there are at most as many as slots, and speak of all charges for which these stand. All memory
@@ -26,7 +23,7 @@ mod tests;
 #[derive(Drop)]
 pub struct FlowCache {
     clock_offset: u64,
-    last: u64,
+    pub(crate) last: u64,
     entries: Entries,
 }
 

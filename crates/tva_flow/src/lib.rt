@@ -6,14 +6,12 @@
 #![tactic(auto)]
 
 mod cache;
-#[cfg(test)]
-mod cases;
 mod hash;
 mod kept;
 mod laws;
-#[cfg(test)]
-mod plain;
 mod table;
+#[cfg(test)]
+mod tests;
 mod verdicts;
 
 pub use cache::FlowCache;

@@ -17,8 +17,7 @@ pub record Hier (T : Type 0) : Type 0 where
 
 -- the limits of one group: so many queues, and all else as for the whole
 abbrev pub inner_limits : DrrLimits → ℕ → DrrLimits
-inner_limits l inner =
-    record { queues = inner; ring = l.ring; queue_bytes = l.queue_bytes; class_bytes = l.class_bytes; quantum = l.quantum; max = l.max }
+inner_limits l inner = record l { queues = inner }
 
 module _ {T : Type 0} where
   abbrev pub group : ℕ → ℕ → Fair T → Group T

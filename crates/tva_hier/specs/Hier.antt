@@ -1,5 +1,6 @@
 -- Product: what is true of all two-level queues, at every moment.
 use Rattle.std.specs.Prelude.{◌≡◌, ℕ, ◌+◌, ◌^◌, ◌<◌, ◌≤◌, false, List, [], ◌∷◌, length}
+use Rattle.std.specs.List.{AllByRecursion}
 use Rattle.tva_base.specs.declared.limits.DrrLimits.{DrrLimits}
 use Rattle.tva_base.specs.Plan.{AreDrrLimits}
 use Rattle.tva_drr.specs.Queues.{Fair}
@@ -21,8 +22,7 @@ module _ {T : Type 0} (measure : T → ℕ) (l : DrrLimits) (inner : ℕ) where
 
   -- the deficit of a group behind the front is below the greatest length
   abbrev pub AreGroupsBehind : List (Group T) → Type 0
-  AreGroupsBehind [] = Unit {0}
-  AreGroupsBehind (g ∷ gs) = (g.deficit < l.max) × AreGroupsBehind gs
+  AreGroupsBehind gs = AllByRecursion (λ g. g.deficit < l.max) gs
 
   -- the front's deficit covers what its queues send next. It is below the greatest length and the
   -- quantum together, so no deficit passes 2 ^ 31

@@ -19,9 +19,6 @@ use tva_base::DrrLimits;
 use tva_drr::{Measured, Offered};
 use tva_index::KeyRing;
 
-#[cfg(test)]
-mod tests;
-
 /// Two-level fair queues of items, by deficit round robin (Shreedhar and Varghese, 1996). Contracts see
 /// the limits and one list of outer keys, deficits and fair queues in ring order, in which no group is
 /// empty.
@@ -31,7 +28,7 @@ mod tests;
 /// key's bits, and not by going through all groups.
 #[derive(Drop)]
 pub struct HierQueues<T: Measured> {
-    limits: DrrLimits,
+    pub(crate) limits: DrrLimits,
     inner: u32,
     bytes: u32,
     waiting: VecDeque<GroupSlot<T>>,

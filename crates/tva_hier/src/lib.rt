@@ -10,6 +10,8 @@
 mod group_slot;
 mod hier_queues;
 mod laws;
+#[cfg(test)]
+mod tests;
 mod turns;
 
 pub use hier_queues::HierQueues;

@@ -160,7 +160,7 @@ module _ (site : Site) (plan : RouterPlan) (is_router : site.plan ≡ plans.Rout
       → (g : Grant) → fate.charge ≡ Some g
       → NoRowRefuses (in_force plan (input_time input)) (charges_at plan (input_time input) (charges before))
       (arrival (input_time input) from packet) packet.carried g
-  claim_at before input from packet fate onward rest here g e = ((fate_at before input from packet fate onward rest here).only g e).1
+  claim_at before input from packet fate onward rest here g e = (((fate_at before input from packet fate onward rest here).charged g).0 e).1
 
   module _ (f : Flow) where
     entry_charges : (before : List Entry) (e : Entry) (rest : List Entry) → log ≡ before ++ e ∷ rest

@@ -19,12 +19,12 @@ use Rattle.tva_sender.specs.declared.shape.Shape.{Shape}
 use Rattle.tva_sender.specs.declared.shape.Shape.TheVariants as shape
 use Rattle.tva_sender.specs.declared.grant.Grant as holding
 use Rattle.tva_sender.specs.declared.peer.Peer.{Peer}
-use Rattle.tva_sender.specs.Contacts.{Contact, Prepared, Taken, Ask, asks, Taking, taking_in, last_taking, last_ask, time_of, time, Use, uses, since_notice, first_nonce, life_of, grant_of, asked_at, grant_held, awaits, is_open}
+use Rattle.tva_sender.specs.Contacts.{Contact, Prepared, Taken, Ask, asks, Taking, taking_in, last_taking, last_ask, time, Use, uses, since_notice, first_nonce, life_of, grant_of, asked_at, grant_held, awaits}
 use Rattle.tva_sender.specs.Shapes.{list_length, nonce_length, length_of, fits, is_alive, nonce_of, held, may_ask}
 use Rattle.tva_sender.specs.Steps.{prepared, answered, noticed}
 use Rattle.tva_sender.specs.Played.{IsNext, AreNext}
 use Rattle.tva_sender.specs.Book.{Keeps}
-use Rattle.tva_sender.proofs.Pushes.{last_taking-push}
+use Rattle.tva_sender.proofs.Pushes.{time_of, is_open, last_taking-push}
 use Rattle.tva_sender.proofs.Keeping.{keeps_prepared, keeps_answered, keeps_noticed}
 use Rattle.tva_honest.specs.Miles.{Mile, Went, Got, Told, contact_in, contacts, paid_in, charges_in, last_came}
 use Rattle.tva_honest.specs.SteadyMiles.{Way, ComesIn, grant_at, checked, IsMile, AreMiles, IsAuthorisedMile}

@@ -7,9 +7,9 @@ use Rattle.tva_base.specs.Clock.{router_second}
 use Rattle.tva_base.specs.Versions.{AreSomeRights}
 use Rattle.tva_flow.specs.Charges.{Charge}
 use Rattle.tva_sender.specs.declared.peer.Peer.{Peer}
-use Rattle.tva_sender.specs.Contacts.{Contact, Taking, taking_in, last_taking, last_ask, time_of, Use, uses_in, uses, first_nonce}
+use Rattle.tva_sender.specs.Contacts.{Contact, Taking, taking_in, last_taking, last_ask, Use, uses_in, uses, first_nonce}
 use Rattle.tva_sender.specs.Book.{Keeps}
-use Rattle.tva_sender.proofs.Pushes.{last_taking-push, taking_more, uses-push}
+use Rattle.tva_sender.proofs.Pushes.{time_of, last_taking-push, taking_more, uses-push}
 use Rattle.tva_honest.specs.Miles.{Mile, contact_in, contacts, paid_in, charges_in, ask_came_in, last_came, since_got}
 use Rattle.tva_honest.specs.SteadyMiles.{Way, ComesIn, grant_at, IsAuthorisedMile, AreAuthorised}
 use Rattle.tva_honest.proofs.Charges.{each-append, each-weaker, IsChargeOf, Pairs, pairs-push}

@@ -1,9 +1,13 @@
 -- The history and the times of one more call.
-use Rattle.std.proofs.Common.{◌≡◌, ℕ, ◌≤◌, List, [], ◌∷◌, ◌++◌, refl, sym, subst, arith}
+use Rattle.std.proofs.Common.{◌≡◌, ℕ, ◌≤◌, List, [], ◌∷◌, ◌++◌, fold, refl, sym, subst, arith}
 use Rattle.tva_base.specs.declared.plan.HostPlan.{HostPlan}
 use Rattle.tva_host.specs.History.{History, beginning}
-use Rattle.tva_host.specs.Calls.{Call, Intended, Injected, Received, after_call, history_from, history_of, last_time, NeverFall}
+use Rattle.tva_host.specs.Calls.{Call, Intended, Injected, Received, after_call, history_of, last_time, NeverFall}
 use Rattle.tva_host.specs.Stands.{HostData, Keeps, StandsFor}
+
+-- the history after these calls, which come after those that made it
+abbrev pub history_from : HostPlan → History → List Call → History
+history_from plan h calls = fold (after_call plan) h calls
 
 pub history_from-push : (plan : HostPlan) (h : History) (cs : List Call) (c : Call) → history_from plan h (cs ++ c ∷ []) ≡ after_call plan (history_from plan h cs) c
 history_from-push plan h [] c = refl

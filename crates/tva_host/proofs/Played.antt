@@ -20,7 +20,8 @@ use Rattle.tva_host.specs.History.{History, beginning, with_deed, offered}
 use Rattle.tva_host.specs.Sending.{next_shape, with_made, after_intending}
 use Rattle.tva_shim.specs.Shows.{back_in}
 use Rattle.tva_host.specs.Receiving.{met_by, claim_in, answer_to, brought_by, body_of, after_reply, before_reply, after_receipt}
-use Rattle.tva_host.specs.Calls.{Call, Intended, Injected, Received, after_call, history_from, history_of, last_time, NeverFall}
+use Rattle.tva_host.specs.Calls.{Call, Intended, Injected, Received, after_call, history_of, last_time, NeverFall}
+use Rattle.tva_host.proofs.Calls.{history_from}
 
 -- each peer's contacts are played, and none is later than that
 pub record ArePlayed (plan : HostPlan) (time : ℕ) (contacts : List (Address × Contact)) : Type 0 where

@@ -1,5 +1,5 @@
 -- Product: the calls on a host, and the history that they make.
-use Rattle.std.specs.Prelude.{ℕ, ◌≤◌, List, [], ◌∷◌}
+use Rattle.std.specs.Prelude.{ℕ, ◌≤◌, List, [], ◌∷◌, fold}
 use Rattle.tva_base.specs.declared.addresses.Address.{Address}
 use Rattle.tva_base.specs.declared.packet.Flow.{Flow}
 use Rattle.tva_base.specs.declared.packet.Upper.{Upper}
@@ -24,14 +24,9 @@ after_call plan h (Intended now dst payload above) = after_intending plan h now 
 after_call plan h (Injected flow payload carries) = with_packet h
 after_call plan h (Received now packet above) = after_receipt plan h now packet above
 
--- the history after these calls, which come after those that made it
-abbrev pub history_from : HostPlan → History → List Call → History
-history_from plan h [] = h
-history_from plan h (c ∷ cs) = history_from plan (after_call plan h c) cs
-
 -- the history that calls make, the first one first
 abbrev pub history_of : HostPlan → List Call → History
-history_of plan calls = history_from plan beginning calls
+history_of plan calls = fold (after_call plan) beginning calls
 
 -- the time of the last call that has one, or that time
 abbrev pub last_time : ℕ → List Call → ℕ

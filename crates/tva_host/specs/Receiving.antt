@@ -1,6 +1,7 @@
 -- Product: what a host makes of the packets that it receives.
 use Rattle.std.specs.Prelude.{ℕ, ◌+◌, ◌==◌, Bool, true, false, ◌&&◌, if◌then◌else◌, List, [], ◌∷◌, ◌++◌, length, map}
 use Rattle.std.specs.Prelude.{is_some, Option, Some, None}
+use Rattle.std.specs.Option.{option_map_or}
 use Rattle.tva_base.specs.declared.addresses.Address.{Address}
 use Rattle.tva_base.specs.declared.packet.Rights.{Rights}
 use Rattle.tva_base.specs.declared.packet.Upper.{Upper}
@@ -53,14 +54,12 @@ after_back version src back h = record h { contacts = h.contacts ++ met_by versi
 -- second, what the packet is, by its mark and then by its kind
 abbrev pub what_kind : Kind → WhatKind
 what_kind (kinds.Request entries) = what.Request
-what_kind (kinds.List shown) = what.Regular
-what_kind (kinds.Nonce nonce) = what.Regular
 what_kind (kinds.Renewal shown) = what.Renewal
+what_kind _ = what.Regular
 
 abbrev pub what_of : Carried → WhatKind
-what_of carried.Nothing = what.Legacy
 what_of (carried.Shim shim) = if shim.demoted then what.Demoted else what_kind shim.kind
-what_of (carried.Malformed size) = what.Legacy
+what_of _ = what.Legacy
 
 -- a packet's claim on a grant: the tags that are judged, and the pre-capabilities
 pub record ClaimData : Type 0 where
@@ -71,35 +70,29 @@ pub record ClaimData : Type 0 where
 abbrev pub claim_of : Kind → Option ClaimData
 claim_of (kinds.Request entries) =
     Some (record { tags = nonzero_tags entries; precaps = map (λ e. e.precap) entries })
-claim_of (kinds.List shown) = None
-claim_of (kinds.Nonce nonce) = None
 claim_of (kinds.Renewal shown) =
     if shown.pointer == length shown.caps then Some (record { tags = []; precaps = shown.caps }) else None
+claim_of _ = None
 
 -- a marked packet claims nothing
 abbrev pub claim_in : Carried → Option ClaimData
-claim_in carried.Nothing = None
 claim_in (carried.Shim shim) = if shim.demoted then None else claim_of shim.kind
-claim_in (carried.Malformed size) = None
+claim_in _ = None
 
 -- the kind shows what was granted
 abbrev pub shows_grant : Kind → Bool
 shows_grant (kinds.Request entries) = false
-shows_grant (kinds.List shown) = true
-shows_grant (kinds.Nonce nonce) = true
-shows_grant (kinds.Renewal shown) = true
+shows_grant _ = true
 
 abbrev pub is_nothing : ReturnInfo → Bool
 is_nothing backs.Nothing = true
-is_nothing backs.Notice = false
-is_nothing (backs.Grant rights caps) = false
+is_nothing _ = false
 
 -- a marked packet that shows a grant is answered with a notice, where it has no return info
 abbrev pub notice_for : Carried → Option ReturnInfo
-notice_for carried.Nothing = None
 notice_for (carried.Shim shim) =
     if shim.demoted && shows_grant shim.kind && is_nothing shim.back then Some backs.Notice else None
-notice_for (carried.Malformed size) = None
+notice_for _ = None
 
 -- a grant has the capability of each pre-capability
 abbrev pub granted : Option Rights → List ℕ → Option ReturnInfo
@@ -123,8 +116,7 @@ after_answer plan src carries h = record h { deeds = h.deeds ++ decided_on plan 
 abbrev pub brought_by : Upper → Option ReturnInfo → Option ReturnInfo
 brought_by above (Some back) = Some back
 brought_by upper.Nothing None = None
-brought_by (upper.Data transfer first bytes) None = Some backs.Nothing
-brought_by (upper.Ack transfer next) None = Some backs.Nothing
+brought_by _ None = Some backs.Nothing
 
 -- a reply's body: the bytes of its return info and those of its upper part
 abbrev pub body_of : ℕ → ReturnInfo → Upper → ℕ
@@ -140,8 +132,7 @@ reply_of node plan h now src (Some back) above =
 
 -- the upper part of a reply, if there is one
 abbrev pub upper_of : Option Made → Upper
-upper_of None = upper.Nothing
-upper_of (Some made) = made.packet.upper
+upper_of reply = option_map_or (λ made. made.packet.upper) reply upper.Nothing
 
 abbrev pub after_reply : HostPlan → ℕ → Address → Option ReturnInfo → Upper → History → History
 after_reply plan now src None above h = h

@@ -35,23 +35,19 @@ kind_shown_of (shapes.Renewal held) = kind_shown.Renewal
 kind_shown_of shapes.Legacy = kind_shown.Legacy
 
 abbrev pub is_legacy : Shape → Bool
-is_legacy shapes.Request = false
-is_legacy (shapes.List held) = false
-is_legacy (shapes.NonceOnly nonce) = false
-is_legacy (shapes.Renewal held) = false
 is_legacy shapes.Legacy = true
+is_legacy _ = false
 
 -- what is held of a grant, for the first router to check
 abbrev pub shown_of : Held → Shown
 shown_of held = record { nonce = held.nonce; pointer = 0; rights = held.rights; caps = held.caps }
 
--- the kind of a packet in that shape: a request has no entries yet
+-- the kind of a packet in that shape: what shows nothing is a request, which has no entries yet
 abbrev pub kind_of : Shape → Kind
-kind_of shapes.Request = kinds.Request []
 kind_of (shapes.List held) = kinds.List (shown_of held)
 kind_of (shapes.NonceOnly nonce) = kinds.Nonce nonce
 kind_of (shapes.Renewal held) = kinds.Renewal (shown_of held)
-kind_of shapes.Legacy = kinds.Request []
+kind_of _ = kinds.Request []
 
 -- the shim of that version of a packet in that shape with return info, marked where the shape shows nothing
 abbrev pub shim_of : ℕ → Shape → ReturnInfo → ShimData

@@ -25,7 +25,7 @@ use Rattle.tva_port.specs.Decide.{decision, is_start, RestsAt, MissesNone}
 use Rattle.tva_port.specs.Legal.{Follows}
 use Rattle.tva_router.specs.declared.judged.Judged.{Judged}
 use Rattle.tva_router.specs.Judging.{judge}
-use Rattle.tva_router.specs.Handling.{Logs, offered, outcome_of, sent, outgoing_link, link_or_none, way_to, arrival, goes_on, stopped, forwarded, handle}
+use Rattle.tva_router.specs.Handling.{Logs, offered, outcome_of, sent, outgoing_link, way_to, arrival, goes_on, stopped, forwarded, handle}
 use Rattle.tva_router.specs.Routes.{link_to}
 use Rattle.tva_router.specs.Boots.{charges_at}
 use Rattle.tva_host.specs.declared.made.Made.{Made}
@@ -111,7 +111,7 @@ same_out plan now link = refl
 router_way : (site : Site) (plan : RouterPlan) (now : ℕ) (dst : Address) → IsSite site → site.plan ≡ plans.Router plan → IsWayOut site (way_to (in_force plan now) dst)
 router_way site plan now dst s e = by_link (link_to (in_force plan now).routes dst)
   where
-    by_link : (o : Option ℕ) → IsWayOut site (link_or_none (in_force plan now) o)
+    by_link : (o : Option ℕ) → IsWayOut site (option_and_then (outgoing_link (in_force plan now)) o)
     by_link None = tt
     by_link (Some link) = own_way site link (outgoing_link (in_force plan now) link) (sym (same_out plan now link ∙ router_out site plan link s e))
 

@@ -19,12 +19,12 @@ use Rattle.tva_port.specs.declared.requests.RequestQueues.{RequestQueues}
 use Rattle.tva_port.specs.declared.requests.RequestQueues.TheVariants.{OneLevel, TwoLevels}
 use Rattle.tva_port.specs.Levels.{next_in, single_queues}
 use Rattle.tva_port.specs.Log.{Entry, Queued, Started}
-use Rattle.tva_port.specs.Waiting.{same_class, request_step, fair_step, waiting_after}
+use Rattle.tva_port.specs.Waiting.{same_class, request_step, waiting_after}
 use Rattle.tva_port.specs.Decide.{credit_after}
 use Rattle.tva_port.specs.Legal.{Follows, GoesOn, IsStarted, IsLegal}
 use Rattle.tva_port.specs.Keeps.{AreWithin, IsWithinLimits}
 use Rattle.tva_port.specs.Bounds.{queues_of, bytes_started, IsNeverEmpty}
-use Rattle.tva_port.proofs.Logs.{legal-front, requests-push, goes_on-push}
+use Rattle.tva_port.proofs.Logs.{legal-front, fair_step, requests-push, goes_on-push}
 use Rattle.tva_port.proofs.Deciding.{covered_pays}
 use Rattle.tva_port.proofs.Legality.{started_is}
 use Rattle.tva_port.proofs.Idling.{within}

@@ -1,6 +1,6 @@
 -- What one more entry changes of what a log comes to.
 use Rattle.std.proofs.Common.{◌≡◌, ℕ, ◌+◌, ◌*◌, ◌≤◌, ◌<◌, false, cond, ltb, List, [], ◌∷◌, ◌++◌, length, drop, refl, sym, ap, ◌∙◌, subst, inl, inr, zero, suc, arith, append-nil, append_assoc}
-use Rattle.std.specs.List.{filter_map, count_by}
+use Rattle.std.specs.List.{fold, filter_map, count_by}
 use Rattle.std.proofs.lemmas.Bool.Decides.{leb_tells}
 use Rattle.std.proofs.lemmas.List.{drop-append-le}
 use Rattle.std.proofs.lemmas.List.Sums.{sum_by_push}
@@ -10,11 +10,13 @@ use Rattle.tva_base.specs.declared.packet.Class.{Class}
 use Rattle.tva_base.specs.declared.packet.Class.TheVariants.{Request, Regular, Legacy}
 use Rattle.tva_shim.specs.Packets.{PacketData, packet_length}
 use Rattle.tva_drr.specs.Queues.{Fair, fair}
+use Rattle.tva_drr.specs.Offer.{offer_leaves}
+use Rattle.tva_drr.specs.Take.{take_leaves}
 use Rattle.tva_port.specs.declared.requests.RequestQueues.{RequestQueues}
 use Rattle.tva_port.specs.Levels.{no_requests}
 use Rattle.tva_port.specs.Requests.{Start}
 use Rattle.tva_port.specs.Log.{Entry, Queued, Started, entry_time, NoneLater, cut, request_start, request_starts, free_from}
-use Rattle.tva_port.specs.Waiting.{request_step, regular_step, after, queued_legacy, is_legacy_start, legacy_after}
+use Rattle.tva_port.specs.Waiting.{request_step, regular_step, class_step, queued_legacy, is_legacy_start, legacy_after}
 use Rattle.tva_port.specs.Legal.{Follows, GoesOn, IsLegal}
 use Rattle.tva_port.proofs.Debts.{AreBy}
 
@@ -84,24 +86,28 @@ free-started l free (Started u d q ∷ es) t c p = free-started l (u + packet_le
 
 -- ## what waits
 
-pub after-push : {A : Type 0} (step : A → Entry → A) (begin : A) (log : List Entry) (e : Entry)
-    → after step begin (log ++ e ∷ []) ≡ step (after step begin log) e
-after-push step begin [] e = refl
-after-push step begin (d ∷ ds) e = after-push step (step begin d) ds e
+-- the fair queues of a class after one more entry
+abbrev pub fair_step : Class → Fair PacketData → Entry → Fair PacketData
+fair_step c queues e = class_step c (offer_leaves packet_length) (take_leaves packet_length) queues e
+
+pub fold-push : {A : Type 0} (step : A → Entry → A) (begin : A) (log : List Entry) (e : Entry)
+    → fold step begin (log ++ e ∷ []) ≡ step (fold step begin log) e
+fold-push step begin [] e = refl
+fold-push step begin (d ∷ ds) e = fold-push step (step begin d) ds e
 
 abbrev pub requests_after : LinkLimits → List Entry → RequestQueues
-requests_after l log = after request_step (no_requests l) log
+requests_after l log = fold request_step (no_requests l) log
 
 abbrev pub regulars_after : LinkLimits → List Entry → Fair PacketData
-regulars_after l log = after regular_step (fair l.regular []) log
+regulars_after l log = fold regular_step (fair l.regular []) log
 
 pub requests-push : (l : LinkLimits) (log : List Entry) (e : Entry)
     → requests_after l (log ++ e ∷ []) ≡ request_step (requests_after l log) e
-requests-push l log e = after-push request_step (no_requests l) log e
+requests-push l log e = fold-push request_step (no_requests l) log e
 
 pub regulars-push : (l : LinkLimits) (log : List Entry) (e : Entry)
     → regulars_after l (log ++ e ∷ []) ≡ regular_step (regulars_after l log) e
-regulars-push l log e = after-push regular_step (fair l.regular []) log e
+regulars-push l log e = fold-push regular_step (fair l.regular []) log e
 
 -- no more legacy packets started than were queued
 abbrev pub FewStarted : List Entry → Type 0

@@ -19,7 +19,7 @@ use Rattle.tva_port.specs.Log.{Entry, Queued, Started, entry_time, NoneLater, cu
 use Rattle.tva_port.specs.Waiting.{waiting_after}
 use Rattle.tva_port.specs.Decide.{RestsAt, MissesNone}
 use Rattle.tva_port.specs.Legal.{Follows, GoesOn, IsStarted, IsLegal}
-use Rattle.tva_port.specs.Bounds.{waiting_with, bytes_with, regular_bound, AreRegularsServed, StartsBy}
+use Rattle.tva_port.specs.Bounds.{waiting_with, bytes_with, regular_bound, AreServed, StartsBy}
 use Rattle.tva_port.proofs.Debts.{AreBy, debt-later, debt-push}
 use Rattle.tva_port.proofs.Logs.{cut-all, legal-front, legal-here, later-push, later-weaker, later-front, starts_by, starts-push, starts-same, free-queued, free-started, goes_on-push}
 use Rattle.tva_port.proofs.Legality.{started_is, debt_capped}
@@ -279,7 +279,7 @@ regular_bounded l before after t key p until a g m k =
     (omega (arith, near)) refl (before ++ e ∷ after) m k after log (waiting_with l Regular key p before) 0 0 t begin
     (sym (append_assoc before (e ∷ []) after)) (legal_rest l before e after g) (omega arith) w)
 
-pub regulars_served : (l : LinkLimits) (log : List Entry) (now until : ℕ) → AreLinkLimits l → IsLegal l log → MissesNone l until log → now < until → AreRegularsServed l now log
+pub regulars_served : (l : LinkLimits) (log : List Entry) (now until : ℕ) → AreLinkLimits l → IsLegal l log → MissesNone l until log → now < until → AreServed l Regular (regular_bound l) now log
 regulars_served l log now until a g m k = λ before later time key bound packet same e h.
     subst (λ z. StartsBy l Regular key packet (before ++ Queued time Regular key packet ∷ []) later z) (sym e)
     (regular_bounded l before later time key packet until a (subst (λ z. IsLegal l z) same g) (subst (λ z. MissesNone l until z) same m) (omega (arith, e, h)))

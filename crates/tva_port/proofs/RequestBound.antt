@@ -17,7 +17,7 @@ use Rattle.tva_port.specs.Log.{Entry, Queued, Started, entry_time, NoneLater, cu
 use Rattle.tva_port.specs.Waiting.{waiting_after}
 use Rattle.tva_port.specs.Decide.{covered, credit_after, RestsAt, MissesNone}
 use Rattle.tva_port.specs.Legal.{Follows, GoesOn, IsStarted, IsLegal}
-use Rattle.tva_port.specs.Bounds.{waiting_with, bytes_with, requests_until, request_bound, AreRequestsServed, StartsBy}
+use Rattle.tva_port.specs.Bounds.{waiting_with, bytes_with, requests_until, request_bound, AreServed, StartsBy}
 use Rattle.tva_port.proofs.Debts.{AreBy, debt-later, debt-push}
 use Rattle.tva_port.proofs.Logs.{cut-all, legal-front, legal-here, later-push, later-weaker, later-front, starts_by, starts-push, starts-same, requests-push, free-queued, free-started, goes_on-push}
 use Rattle.tva_port.proofs.Deciding.{lacking, covered_pays}
@@ -332,7 +332,7 @@ request_bounded l before after t key p until a g m k =
     (before ++ e ∷ after) m k after log (waiting_with l Request key p before) 0 t begin
     (sym (append_assoc before (e ∷ []) after)) (legal_rest l before e after g) (omega arith) w)
 
-pub requests_served : (l : LinkLimits) (log : List Entry) (now until : ℕ) → AreLinkLimits l → IsLegal l log → MissesNone l until log → now < until → AreRequestsServed l now log
+pub requests_served : (l : LinkLimits) (log : List Entry) (now until : ℕ) → AreLinkLimits l → IsLegal l log → MissesNone l until log → now < until → AreServed l Request (request_bound l) now log
 requests_served l log now until a g m k = λ before later time key bound packet same e h.
     subst (λ z. StartsBy l Request key packet (before ++ Queued time Request key packet ∷ []) later z) (sym e)
     (request_bounded l before later time key packet until a (subst (λ z. IsLegal l z) same g) (subst (λ z. MissesNone l until z) same m) (omega (arith, e, h)))

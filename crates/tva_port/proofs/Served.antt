@@ -8,7 +8,7 @@ use Rattle.tva_port.specs.declared.decision.Decision.{Decision}
 use Rattle.tva_port.specs.Log.{Entry, NoneLater}
 use Rattle.tva_port.specs.Decide.{decision, started_by, RestsAt, MissesNone}
 use Rattle.tva_port.specs.Legal.{IsLegal}
-use Rattle.tva_port.specs.Bounds.{AreRequestsServed, AreRegularsServed, ServesAlike}
+use Rattle.tva_port.specs.Bounds.{request_bound, regular_bound, AreServed, ServesAlike}
 use Rattle.tva_port.proofs.Logs.{cut-all, legal-front}
 use Rattle.tva_port.proofs.Resting.{cut_away, none_later}
 use Rattle.tva_port.proofs.Steady.{none_again}
@@ -25,7 +25,7 @@ misses_now l log now d a n e m = λ time k. elim (leb_tells (suc time) now) [
 ]
 
 pub all_served : (l : LinkLimits) (log : List Entry) (now : ℕ) (d : Decision) → AreLinkLimits l → IsLegal l (log ++ started_by d now) → NoneLater now log → d ≡ decision l log now → MissesNone l now log
-    → AreRequestsServed l now (log ++ started_by d now) × AreRegularsServed l now (log ++ started_by d now)
+    → AreServed l Request (request_bound l) now (log ++ started_by d now) × AreServed l Regular (regular_bound l) now (log ++ started_by d now)
 all_served l log now d a g n e m =
     let none = misses_now l log now d a n e m in
     (requests_served l (log ++ started_by d now) now (now + 1) a g none (omega arith), regulars_served l (log ++ started_by d now) now (now + 1) a g none (omega arith))

@@ -19,9 +19,9 @@ use Rattle.tva_drr.proofs.OrderLaws.{goes_last, goes_first}
 use Rattle.tva_drr.proofs.Falling.{taken_falls, ahead-offer, head_ahead}
 use Rattle.tva_drr.proofs.Until.{offer_cases, has_from_items}
 use Rattle.tva_port.specs.Log.{Entry}
-use Rattle.tva_port.specs.Waiting.{fair_step, waiting_after}
+use Rattle.tva_port.specs.Waiting.{waiting_after}
 use Rattle.tva_port.specs.Keeps.{IsWithinLimits}
-use Rattle.tva_port.proofs.Logs.{regulars-push}
+use Rattle.tva_port.proofs.Logs.{fair_step, regulars-push}
 
 -- ## one class
 

@@ -73,19 +73,14 @@ regular_bound l bytes = div_ceil (cost l (most_until l.regular bytes + l.regular
 abbrev pub bytes_with : LinkLimits → Class → ℕ → PacketData → List Entry → ℕ
 bytes_with l class key packet log = bytes_in packet_length (waiting_with l class key packet log)
 
--- each request of a log whose bound is over by that time has started within it
-abbrev pub AreRequestsServed : LinkLimits → ℕ → List Entry → Type 0
-AreRequestsServed l now log =
-    (before later : List Entry) (time key bound : ℕ) (packet : PacketData) → log ≡ before ++ Queued time Request key packet ∷ later
-    → bound ≡ time + request_bound l (bytes_with l Request key packet (before ++ Queued time Request key packet ∷ []))
-    → bound ≤ now → StartsBy l Request key packet (before ++ Queued time Request key packet ∷ []) later bound
-
--- and each regular packet
-abbrev pub AreRegularsServed : LinkLimits → ℕ → List Entry → Type 0
-AreRegularsServed l now log =
-    (before later : List Entry) (time key bound : ℕ) (packet : PacketData) → log ≡ before ++ Queued time Regular key packet ∷ later
-    → bound ≡ time + regular_bound l (bytes_with l Regular key packet (before ++ Queued time Regular key packet ∷ []))
-    → bound ≤ now → StartsBy l Regular key packet (before ++ Queued time Regular key packet ∷ []) later bound
+-- each packet of a class in a log whose bound is over by that time has started within it; the bound comes so much after
+-- the packet was queued, by the bytes that waited with it then
+abbrev pub AreServed : LinkLimits → Class → (ℕ → ℕ) → ℕ → List Entry → Type 0
+AreServed l class wait now log =
+    (before later : List Entry) (time key bound : ℕ) (packet : PacketData)
+    → log ≡ before ++ Queued time class key packet ∷ later
+    → bound ≡ time + wait (bytes_with l class key packet (before ++ Queued time class key packet ∷ []))
+    → bound ≤ now → StartsBy l class key packet (before ++ Queued time class key packet ∷ []) later bound
 
 -- the queues of a class by its keys alone; legacy packets have none, and requests on a link with two levels neither
 abbrev pub queues_of : Class → Waiting → List (Queue PacketData)

@@ -2,6 +2,7 @@
 use Rattle.std.specs.Prelude.{◌≡◌, ◌⊎◌, ℕ, ◌+◌, ◌-◌, ◌<◌, ◌≤◌, nat_le, Bool, true, false, if◌then◌else◌, List, [], ◌∷◌}
 use Rattle.std.specs.Prelude.{◌++◌}
 use Rattle.std.specs.Prelude.{Option, Some, None}
+use Rattle.std.specs.Option.{option_map_or}
 use Rattle.tva_base.specs.declared.limits.LinkLimits.{LinkLimits}
 use Rattle.tva_base.specs.declared.packet.Class.{Class}
 use Rattle.tva_base.specs.declared.packet.Class.TheVariants.{Request, Regular, Legacy}
@@ -20,8 +21,7 @@ covered l credit (Some packet) = if nat_le (cost l (packet_length packet)) credi
 
 -- the packet starts, and without one there is the other decision
 abbrev pub start_or : Class → Option PacketData → Decision → Decision
-start_or class None other = other
-start_or class (Some packet) other = Start class packet
+start_or class packet other = option_map_or (Start class) packet other
 
 -- the next request waits for its credit, which grows by one each nanosecond
 abbrev pub wait_for : LinkLimits → ℕ → ℕ → Option PacketData → Decision

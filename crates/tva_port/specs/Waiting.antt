@@ -1,7 +1,7 @@
 -- Product: what waits at a port after a log, by the offers and takes of its queues.
 use Rattle.std.specs.Prelude.{◌≡◌, ℕ, ◌+◌, nat_lt, Bool, true, false, ◌||◌, if◌then◌else◌, List, [], ◌∷◌, drop, length}
 use Rattle.std.specs.Prelude.{count_by, Option, Some, None}
-use Rattle.std.specs.List.{filter_map}
+use Rattle.std.specs.List.{fold, filter_map}
 use Rattle.tva_base.specs.declared.limits.LinkLimits.{LinkLimits}
 use Rattle.tva_base.specs.declared.packet.Class.{Class}
 use Rattle.tva_base.specs.declared.packet.Class.TheVariants.{Request, Regular, Legacy}
@@ -30,27 +30,18 @@ same_class Regular Regular = true
 same_class Legacy Legacy = true
 same_class a b = false
 
--- the fair queues of a class after one more entry: a queued packet is offered, and a start takes
-abbrev pub fair_step : Class → Fair PacketData → Entry → Fair PacketData
-fair_step c queues (Queued time class key packet) =
-    if same_class class c then offer_leaves packet_length queues key packet else queues
-fair_step c queues (Started time class packet) =
-    if same_class class c then take_leaves packet_length queues else queues
+-- the queues of a class after one more entry: a queued packet is offered to them, and a start takes from them
+abbrev pub class_step : {Q : Type 0} → Class → (Q → ℕ → PacketData → Q) → (Q → Q) → Q → Entry → Q
+class_step c offer take queues (Queued time class key packet) =
+    if same_class class c then offer queues key packet else queues
+class_step c offer take queues (Started time class packet) = if same_class class c then take queues else queues
 
 -- the requests that wait after one more entry, and the regular packets that do
 abbrev pub request_step : RequestQueues → Entry → RequestQueues
-request_step queues (Queued time class key packet) =
-    if same_class class Request then request_leaves queues key packet else queues
-request_step queues (Started time class packet) =
-    if same_class class Request then request_taken queues else queues
+request_step queues e = class_step Request request_leaves request_taken queues e
 
 abbrev pub regular_step : Fair PacketData → Entry → Fair PacketData
-regular_step queues e = fair_step Regular queues e
-
--- what these entries, one after another, make of a beginning
-abbrev pub after : {A : Type 0} → (A → Entry → A) → A → List Entry → A
-after step begin [] = begin
-after step begin (e ∷ es) = after step (step begin e) es
+regular_step queues e = class_step Regular (offer_leaves packet_length) (take_leaves packet_length) queues e
 
 abbrev pub queued_legacy : Entry → Option PacketData
 queued_legacy (Queued time Legacy key packet) = Some packet
@@ -67,7 +58,7 @@ legacy_after log = drop (count_by is_legacy_start log) (filter_map queued_legacy
 -- what waits after these entries at a port that began empty
 abbrev pub waiting_after : LinkLimits → List Entry → Waiting
 waiting_after l log =
-    waiting (after request_step (no_requests l) log) (after regular_step (fair l.regular []) log) (legacy_after log)
+    waiting (fold request_step (no_requests l) log) (fold regular_step (fair l.regular []) log) (legacy_after log)
 
 -- the request that is the next to start
 abbrev pub next_request : Waiting → Option PacketData

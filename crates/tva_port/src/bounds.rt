@@ -8,7 +8,7 @@ ghost use Rattle.tva_hier.specs.Ahead.{most_until_under};
 ghost use Rattle.tva_port.specs.Log.{Entry};
 ghost use Rattle.tva_port.specs.Decide.{MissesNone};
 ghost use Rattle.tva_port.specs.Legal.{IsLegal};
-ghost use Rattle.tva_port.specs.Bounds.{requests_until, request_bound, regular_bound, AreRequestsServed, AreRegularsServed, AreServedAlike};
+ghost use Rattle.tva_port.specs.Bounds.{requests_until, request_bound, regular_bound, AreServed, AreServedAlike};
 
 use tva_base::{DrrLimits, LinkLimits};
 
@@ -85,9 +85,9 @@ pub fn longest_regular_wait(limits: &LinkLimits, bytes: u32) -> u128
 /// queued. On a link with two levels the queue of a request is the one of its two keys.
 pub fn packets_start_in_time()
     ensures requests { (l : LinkLimits) (log : List Entry) (now until : ℕ) → AreLinkLimits l → IsLegal l log
-        → MissesNone l until log → now < until → AreRequestsServed l now log }
+        → MissesNone l until log → now < until → AreServed l Request (request_bound l) now log }
     ensures regulars { (l : LinkLimits) (log : List Entry) (now until : ℕ) → AreLinkLimits l → IsLegal l log
-        → MissesNone l until log → now < until → AreRegularsServed l now log }
+        → MissesNone l until log → now < until → AreServed l Regular (regular_bound l) now log }
 {}
 
 /// Between two places of a link's log, two keys of a class under which something waits all along

@@ -1,5 +1,6 @@
 // The port of a link.
 ghost use Rattle.std.specs.Prelude.{◌≡◌, ℕ, ◌+◌, ◌*◌, ◌≤◌, ◌<◌, ◌↔◌, max, true, false, List, Some, [], ◌++◌, IfOk};
+ghost use Rattle.tva_base.specs.declared.packet.Class.TheVariants.{Request, Regular};
 ghost use Rattle.tva_base.specs.Plan.{AreLinkLimits};
 ghost use Rattle.tva_drr.specs.Queues.{fair};
 ghost use Rattle.tva_shim.specs.Packets.{PacketData, packet_length};
@@ -10,7 +11,7 @@ ghost use Rattle.tva_port.specs.Waiting.{waiting, waiting_after, next_request, q
 ghost use Rattle.tva_port.specs.Decide.{decision, is_start, started_by, RestsAt, MissesNone, NoneDueBefore, IsFirstCovered};
 ghost use Rattle.tva_port.specs.declared.decision.Decision.TheVariants.{Start, WaitUntil, Idle};
 ghost use Rattle.tva_port.specs.Stands.{port_data, StandsFor};
-ghost use Rattle.tva_port.specs.Bounds.{AreRequestsServed, AreRegularsServed, ServesAlike};
+ghost use Rattle.tva_port.specs.Bounds.{request_bound, regular_bound, AreServed, ServesAlike};
 ghost use Rattle.tva_port.specs.Keeps.{IsWithinRate, start_times, AreRising, StaysWithinLimits};
 
 use crate::credits::{grow, most_credit, occupy, pay};
@@ -152,8 +153,8 @@ impl Port {
             → MissesNone self.old.limits until (log ++ started_by result now.0) }
         // Whatever others send, each packet whose bound is over by now has started within it.
         ensures served { (log : List Entry) → StandsFor self.old log → MissesNone self.old.limits now.0 log
-            → AreRequestsServed self.old.limits now.0 (log ++ started_by result now.0)
-            × AreRegularsServed self.old.limits now.0 (log ++ started_by result now.0) }
+            → AreServed self.old.limits Request (request_bound self.old.limits) now.0 (log ++ started_by result now.0)
+            × AreServed self.old.limits Regular (regular_bound self.old.limits) now.0 (log ++ started_by result now.0) }
         // From any place so far to any other, two keys under which something waits all along start about
         // as many bytes as each other: less than a quantum and two greatest packets more.
         ensures alike { (log : List Entry) → StandsFor self.old log

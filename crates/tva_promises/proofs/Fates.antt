@@ -1,5 +1,6 @@
 -- The fate of every arrival is by the router's tables.
 use Rattle.std.proofs.Common.{◌≡◌, ℕ, ◌+◌, ◌*◌, ◌≤◌, ◌<◌, Bool, true, false, not, ◌&&◌, ◌||◌, ◌↔◌, cond, eqb, ltb, leb, List, length, is_some, Option, Some, None, Ok, Err, refl, sym, ap, ◌∙◌, subst, le-leb, le-ltb, eq-eqb, inl, inr}
+use Rattle.std.specs.Result.{result_err}
 use Rattle.std.proofs.lemmas.Bool.{cases_lt, cond-false, lt-leb}
 use Rattle.tva_base.specs.declared.packet.Grant.{Grant}
 use Rattle.tva_base.specs.declared.packet.Class.TheVariants as class
@@ -27,11 +28,11 @@ use Rattle.tva_router.specs.Judging.{Answer, tag_of, second_of, fresh_for, answe
 use Rattle.tva_router.specs.Handling.{Logs, arrival, sent, way_to, stopped, forwarded, handle}
 use Rattle.tva_router.proofs.Fates.{mark_told}
 use Rattle.tva_promises.proofs.Only.{charged_only}
-use Rattle.tva_promises.specs.Fates.{refusal, cause_of_kind, cause_in, cause_of, NoRowRefusesShown, NoRowRefusesNonce, NoRowRefusesKind, NoRowRefuses, IsFate}
+use Rattle.tva_promises.specs.Fates.{cause_of_kind, cause_in, cause_of, NoRowRefusesShown, NoRowRefusesNonce, NoRowRefusesKind, NoRowRefuses, IsFate}
 
 -- ## causes
 
-answer_cause : (shim changed : ShimData) (o : Answer) → (judged_by shim changed o).cause ≡ refusal o
+answer_cause : (shim changed : ShimData) (o : Answer) → (judged_by shim changed o).cause ≡ result_err o
 answer_cause shim changed (Ok grant) = refl
 answer_cause shim changed (Err c) = refl
 
@@ -220,8 +221,7 @@ is_fate plan h logs now from p = record {
   named = named plan h logs now from p;
   stopped = λ l. at_limit plan h logs now from p l;
   way = λ l. on_way plan h logs now from p l;
-  taken = λ g l n. taken plan h logs now from p g l n;
-  only = λ g e. charged_only plan h logs now from p g e;
+  charged = λ g. (λ e. charged_only plan h logs now from p g e, λ n. taken plan h logs now from p g n.0 n.1);
   regular = λ l. regular plan h logs now from p l;
   mark = mark_told plan h logs now from p;
 }
@@ -231,9 +231,9 @@ is_fate plan h logs now from p = record {
 -- what no row refuses has no cause
 kind_passes : (plan : RouterPlan) (h : List Charge) (a : Arrival) (kind : Kind) (g : Grant) → NoRowRefusesKind plan h a kind g → cause_of_kind plan h a kind ≡ None
 kind_passes plan h a (kinds.Request es) g n = absurd n
-kind_passes plan h a (kinds.List shown) g n = ap refusal (shown_taken plan h a shown g n)
-kind_passes plan h a (kinds.Nonce nonce) g n = ap refusal (bare_taken plan h a nonce g n)
-kind_passes plan h a (kinds.Renewal shown) g n = ap refusal (shown_taken plan h a shown g n)
+kind_passes plan h a (kinds.List shown) g n = ap result_err (shown_taken plan h a shown g n)
+kind_passes plan h a (kinds.Nonce nonce) g n = ap result_err (bare_taken plan h a nonce g n)
+kind_passes plan h a (kinds.Renewal shown) g n = ap result_err (shown_taken plan h a shown g n)
 
 passes : (plan : RouterPlan) (h : List Charge) (a : Arrival) (c : Carried) (g : Grant) → NoRowRefuses plan h a c g → cause_in plan h a c ≡ None
 passes plan h a carried.Nothing g n = absurd n
@@ -253,7 +253,7 @@ refused plan h logs now from p fate onward c f is e =
     let a : Arrival = arrival now from p in
     elim (cases_lt p.hops 32) [
       | inl below ↦ uncharged fate.charge
-          (λ g k. no_cause c fate.cause is (f.named ∙ (ap (λ (b : Bool). cond b None (cause_in plan h a p.carried)) (lt-leb 32 p.hops below) ∙ passes plan h a p.carried g (f.only g k).1)))
+          (λ g k. no_cause c fate.cause is (f.named ∙ (ap (λ (b : Bool). cond b None (cause_in plan h a p.carried)) (lt-leb 32 p.hops below) ∙ passes plan h a p.carried g ((f.charged g).0 k).1)))
           ((f.regular below).0 e)
       | inr limit ↦ no_cause c fate.cause is (f.stopped limit).0
     ]

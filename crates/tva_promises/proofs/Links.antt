@@ -24,7 +24,7 @@ use Rattle.tva_port.specs.Log as port
 use Rattle.tva_port.specs.Decide.{decision, is_start, RestsAt, MissesNone}
 use Rattle.tva_port.specs.Legal.{IsStarted, Follows, IsLegal}
 use Rattle.tva_port.proofs.Logs.{goes_on-push}
-use Rattle.tva_router.specs.Handling.{Logs, offered, outcome_of, sent, outgoing_link, link_or_none, way_to}
+use Rattle.tva_router.specs.Handling.{Logs, offered, outcome_of, sent, outgoing_link, way_to}
 use Rattle.tva_router.specs.Routes.{link_to}
 use Rattle.tva_host.specs.declared.made.Made.{Made}
 use Rattle.tva_plan.specs.declared.config.NodePlan.{NodePlan}
@@ -93,7 +93,7 @@ own_way site link (Some o) e = subst (λ k. limits_out site k ≡ Some o) (sym (
 pub link_way : (site : Site) (link : ℕ) → IsWayOut site (limits_out site link)
 link_way site link = own_way site link (limits_out site link) refl
 
-way_by : (site : Site) (plan : RouterPlan) (o : Option ℕ) → ((link : ℕ) → outgoing_link plan link ≡ limits_out site link) → IsWayOut site (link_or_none plan o)
+way_by : (site : Site) (plan : RouterPlan) (o : Option ℕ) → ((link : ℕ) → outgoing_link plan link ≡ limits_out site link) → IsWayOut site (option_and_then (outgoing_link plan) o)
 way_by site plan None e = tt
 way_by site plan (Some link) e = own_way site link (outgoing_link plan link) (sym (e link))
 

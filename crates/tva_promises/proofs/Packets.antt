@@ -1,7 +1,7 @@
 -- What a router makes of a packet stays within the sizes of a network.
 use Rattle.std.proofs.Common.{◌≡◌, ℕ, ◌+◌, ◌^◌, ◌≤◌, ◌<◌, ◌==◌, Bool, true, false, cond, eqb, leb, List, [], ◌∷◌, ◌++◌, length, slice_get, slice_set, Option, Some, None, Ok, Err, All, refl, sym, subst, arith, length-append, length-set}
 use Rattle.std.specs.List.{find}
-use Rattle.std.specs.Option.{IfSome}
+use Rattle.std.specs.Option.{option_map_or, IfSome}
 use Rattle.std.proofs.lemmas.Bool.Decides.{nat_tests}
 use Rattle.std.proofs.lemmas.List.Elements.{All-head, All-nil, All-push, All-set, All-tail}
 use Rattle.std.proofs.lemmas.Option.{slice_get_within}
@@ -24,7 +24,7 @@ use Rattle.tva_shim.proofs.Lengths.{carried_fits, packet_within}
 use Rattle.tva_caps.proofs.Stamps.{precap_of-lt}
 use Rattle.tva_flow.specs.Charges.{Charge}
 use Rattle.tva_router.specs.declared.judged.Arrival.{Arrival}
-use Rattle.tva_router.specs.Judging.{Answer, tag_or_zero, tag_of, second_of, fresh_for, answer_to_cap, answer_to_shown, answer_to_nonce, judged, marked, judged_by, judged_request, judged_kind, judged_shim, judge}
+use Rattle.tva_router.specs.Judging.{Answer, tag_of, second_of, fresh_for, answer_to_cap, answer_to_shown, answer_to_nonce, judged, marked, judged_by, judged_request, judged_kind, judged_shim, judge}
 use Rattle.tva_router.specs.Handling.{Logs, arrival, stopped, forwarded, handle}
 
 -- a packet has 20 to 2,048 bytes
@@ -101,7 +101,7 @@ entry_fits entry s is h e = kind_fits s (kinds.Request (entries_of s.kind ++ ent
 
 -- ## judgements
 
-tag_in : (o : Option (ℕ × ℕ)) → IfSome o (λ i. i.1 < 2 ^ 16) → tag_or_zero o < 2 ^ 16
+tag_in : (o : Option (ℕ × ℕ)) → IfSome o (λ i. i.1 < 2 ^ 16) → option_map_or (λ (pair : ℕ × ℕ). pair.1) o 0 < 2 ^ 16
 tag_in None k = omega arith
 tag_in (Some i) k = k
 

@@ -1,7 +1,8 @@
 -- Product: why a router refuses what an arrival claims, and which arrivals no row refuses.
 use Rattle.std.specs.Prelude.{◌≡◌, ◌↔◌, ℕ, ◌+◌, ◌*◌, ◌<◌, ◌≤◌, nat_le, ◌==◌, ◌||◌, true, false}
 use Rattle.std.specs.Prelude.{if◌then◌else◌, List, length}
-use Rattle.std.specs.Prelude.{slice_get, is_some, Option, Some, None, Ok, Err}
+use Rattle.std.specs.Prelude.{slice_get, is_some, Option, Some, None}
+use Rattle.std.specs.Result.{result_err}
 use Rattle.tva_base.specs.declared.packet.Grant.{Grant}
 use Rattle.tva_base.specs.declared.packet.Class.TheVariants as class
 use Rattle.tva_base.specs.declared.packet.Cause.{Cause}
@@ -21,23 +22,18 @@ use Rattle.tva_caps.specs.declared.minters.Checked.TheVariants.{Valid}
 use Rattle.tva_flow.specs.Charges.{Charge, lives, holder, used, living_count}
 use Rattle.tva_flow.specs.Verdicts.{supersedes}
 use Rattle.tva_router.specs.declared.judged.Arrival.{Arrival}
-use Rattle.tva_router.specs.Judging.{Answer, second_of, answer_to_shown, answer_to_nonce}
+use Rattle.tva_router.specs.Judging.{second_of, answer_to_shown, answer_to_nonce}
 use Rattle.tva_router.specs.Handling.{Logs, arrival, sent, way_to}
 use Rattle.tva_router.specs.Marks.{is_marked, calls_for_mark}
 
 -- ## causes
 
--- the cause of a refusal
-abbrev pub refusal : Answer → Option Cause
-refusal (Ok grant) = None
-refusal (Err cause) = Some cause
-
 -- an unmarked shim, by its kind: a request without room for an entry, or the first row that refuses what is shown
 abbrev pub cause_of_kind : RouterPlan → List Charge → Arrival → Kind → Option Cause
 cause_of_kind plan h a (kinds.Request entries) = if length entries == 16 then Some cause.PathFull else None
-cause_of_kind plan h a (kinds.List shown) = refusal (answer_to_shown plan h a shown)
-cause_of_kind plan h a (kinds.Nonce nonce) = refusal (answer_to_nonce plan h a nonce)
-cause_of_kind plan h a (kinds.Renewal shown) = refusal (answer_to_shown plan h a shown)
+cause_of_kind plan h a (kinds.List shown) = result_err (answer_to_shown plan h a shown)
+cause_of_kind plan h a (kinds.Nonce nonce) = result_err (answer_to_nonce plan h a nonce)
+cause_of_kind plan h a (kinds.Renewal shown) = result_err (answer_to_shown plan h a shown)
 
 -- a packet without a shim or with a marked one has no cause
 abbrev pub cause_in : RouterPlan → List Charge → Arrival → Carried → Option Cause
@@ -82,9 +78,8 @@ NoRowRefusesKind plan h a (kinds.Renewal shown) grant = NoRowRefusesShown plan h
 
 -- no row refuses an unmarked packet that shows a grant
 abbrev pub NoRowRefuses : RouterPlan → List Charge → Arrival → Carried → Grant → Type 0
-NoRowRefuses plan h a carried.Nothing grant = ⊥
 NoRowRefuses plan h a (carried.Shim shim) grant = (shim.demoted ≡ false) × NoRowRefusesKind plan h a shim.kind grant
-NoRowRefuses plan h a (carried.Malformed size) grant = ⊥
+NoRowRefuses plan h a _ grant = ⊥
 
 -- ## fates
 
@@ -98,9 +93,7 @@ pub record IsFate (plan : RouterPlan) (h : List Charge) (logs : Logs) (now : ℕ
   pub named : fate.cause ≡ cause_of plan h (arrival now from p) p
   pub stopped : 32 ≤ p.hops → (fate.cause ≡ None) × (fate.charge ≡ None) × (fate.outcome ≡ Dropped HopLimit)
   pub way : p.hops < 32 → fate.outcome ≡ sent logs fate.class onward (way_to plan p.flow.dst)
-  pub taken : (grant : Grant) → p.hops < 32 → NoRowRefuses plan h (arrival now from p) p.carried grant
-      → fate.charge ≡ Some grant
-  pub only : (grant : Grant) → fate.charge ≡ Some grant
-      → (p.hops < 32) × NoRowRefuses plan h (arrival now from p) p.carried grant
+  pub charged : (grant : Grant)
+      → (fate.charge ≡ Some grant) ↔ ((p.hops < 32) × NoRowRefuses plan h (arrival now from p) p.carried grant)
   pub regular : p.hops < 32 → (fate.class ≡ class.Regular) ↔ (is_some fate.charge ≡ true)
   pub mark : is_marked onward.carried ≡ (is_marked p.carried || calls_for_mark fate.cause)

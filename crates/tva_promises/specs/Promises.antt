@@ -1,6 +1,7 @@
 -- Product: what the log of every node keeps, at each of its places.
 use Rattle.std.specs.Prelude.{◌≡◌, ℕ, ◌<◌, ◌≤◌, List, [], ◌∷◌, ◌++◌, Some}
 use Rattle.tva_base.specs.declared.limits.LinkLimits.{LinkLimits}
+use Rattle.tva_base.specs.declared.packet.Class.TheVariants as class
 use Rattle.tva_base.specs.declared.plan.RouterPlan.{RouterPlan}
 use Rattle.tva_base.specs.Changes.{in_force}
 use Rattle.tva_router.specs.Boots.{charges_of_boot, charges_at}
@@ -11,11 +12,11 @@ use Rattle.tva_port.specs.Log as port
 use Rattle.tva_port.specs.Decide.{MissesNone}
 use Rattle.tva_port.specs.Legal.{IsLegal}
 use Rattle.tva_port.specs.Keeps.{IsWithinRate, StaysWithinLimits}
-use Rattle.tva_port.specs.Bounds.{AreRequestsServed, AreRegularsServed, ServesAlike}
+use Rattle.tva_port.specs.Bounds.{request_bound, regular_bound, AreServed, ServesAlike}
 use Rattle.tva_plan.specs.declared.config.NodePlan.TheVariants.{Router}
 use Rattle.tva_log.specs.declared.kinds.Input.{Input}
 use Rattle.tva_log.specs.Sites.{Site, limits_out}
-use Rattle.tva_log.specs.Entries.{Content, Arrived, Sent, Ticked, Received, Entry, Took, input_time}
+use Rattle.tva_log.specs.Entries.{Content, Arrived, Entry, Took, input_time}
 use Rattle.tva_log.specs.Parts.{port_logs, charges}
 use Rattle.tva_log.specs.Contents.{content}
 use Rattle.tva_promises.specs.Fates.{IsFate}
@@ -36,8 +37,8 @@ pub record KeepsService (limits : LinkLimits) (until : ℕ) (log : List port.Ent
   pub rate : IsWithinRate limits log
   pub room : StaysWithinLimits limits log
   pub missed : MissesNone limits until log
-  pub requests : (now : ℕ) → now < until → AreRequestsServed limits now log
-  pub regulars : (now : ℕ) → now < until → AreRegularsServed limits now log
+  pub requests : (now : ℕ) → now < until → AreServed limits class.Request (request_bound limits) now log
+  pub regulars : (now : ℕ) → now < until → AreServed limits class.Regular (regular_bound limits) now log
   pub alike : ServesAlike limits log
 
 -- a router handles each input by the plan in force, over the charges of the boot
@@ -45,9 +46,7 @@ abbrev pub IsHandled : RouterPlan → List Entry → Input → Content → Type 
 IsHandled plan before input (Arrived from packet fate onward) =
     IsFate (in_force plan (input_time input)) (charges_at plan (input_time input) (charges before)) (port_logs before)
     (input_time input) from packet fate onward
-IsHandled plan before input (Sent made outcome) = ⊥
-IsHandled plan before input Ticked = ⊥
-IsHandled plan before input (Received from packet receipt went range) = ⊥
+IsHandled plan before input _ = ⊥
 
 -- a node's log up to a time: at each place an input became what the node makes of it over what stands before it, a
 -- router's charges of each boot keep their grants, the log of each link out of the node keeps its service, and each

@@ -2,7 +2,7 @@
 use Rattle.std.specs.Prelude.{◌≡◌, ℕ, ◌≤◌, true, List, ◌++◌, length, All, Option}
 use Rattle.std.specs.List.{list_all}
 use Rattle.std.specs.Option.{option_or}
-use Rattle.tva_base.specs.Printable.{IsPrintable}
+use Rattle.tva_lists.specs.Printable.{IsPrintable}
 use Rattle.tva_report.specs.declared.differences.Finding.{Finding}
 use Rattle.tva_report.specs.Lines.{is_ended_line, pieces, report_lines}
 use Rattle.tva_report.specs.Differences.{difference_from, first_difference}

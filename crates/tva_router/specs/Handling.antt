@@ -1,6 +1,7 @@
 -- Product: what becomes of a packet that arrives at a router.
 use Rattle.std.specs.Prelude.{ℕ, ◌+◌, ◌==◌, nat_le, if◌then◌else◌, List, [], ◌∷◌, Option, Some, None}
 use Rattle.std.specs.List.{find}
+use Rattle.std.specs.Option.{option_and_then}
 use Rattle.tva_base.specs.declared.addresses.Address.{Address}
 use Rattle.tva_base.specs.declared.limits.LinkLimits.{LinkLimits}
 use Rattle.tva_base.specs.declared.packet.Grant.{Grant}
@@ -38,12 +39,8 @@ abbrev pub outgoing_link : RouterPlan → ℕ → Option (ℕ × LinkLimits)
 outgoing_link plan link = find (λ o. o.0 == link) plan.outgoing
 
 -- the link that a packet for the destination takes, with its limits
-abbrev pub link_or_none : RouterPlan → Option ℕ → Option (ℕ × LinkLimits)
-link_or_none plan None = None
-link_or_none plan (Some link) = outgoing_link plan link
-
 abbrev pub way_to : RouterPlan → Address → Option (ℕ × LinkLimits)
-way_to plan dst = link_or_none plan (link_to plan.routes dst)
+way_to plan dst = option_and_then (outgoing_link plan) (link_to plan.routes dst)
 
 -- what the port of a link with that log answers to the packet
 abbrev pub offered : LinkLimits → List Entry → Class → PacketData → Offered PacketData

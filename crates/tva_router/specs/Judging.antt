@@ -1,6 +1,7 @@
 -- Product: what a router makes of a packet before it looks for a link.
 use Rattle.std.specs.Prelude.{ℕ, ◌==◌, if◌then◌else◌, List, length, slice_get, Option, Some, None, Result, Ok, Err}
 use Rattle.std.specs.List.{find}
+use Rattle.std.specs.Option.{option_map_or}
 use Rattle.tva_base.specs.Clock.{router_second}
 use Rattle.tva_base.specs.declared.packet.Rights.{Rights}
 use Rattle.tva_base.specs.declared.packet.Grant.{Grant}
@@ -27,15 +28,10 @@ use Rattle.tva_flow.specs.Verdicts.{list_verdict, nonce_verdict}
 use Rattle.tva_router.specs.declared.judged.Arrival.{Arrival}
 use Rattle.tva_router.specs.declared.judged.Judged.{Judged}
 
--- the tag of a link with its tag, and 0 without one
-abbrev pub tag_or_zero : Option (ℕ × ℕ) → ℕ
-tag_or_zero None = 0
-tag_or_zero (Some pair) = pair.1
-
--- the tag of the link that a packet came in on; one from the trace has the router's own
+-- the tag of the link that a packet came in on, or 0 where there is none; one from the trace has the router's own
 abbrev pub tag_of : RouterPlan → Option ℕ → ℕ
 tag_of plan None = plan.edge_tag
-tag_of plan (Some link) = tag_or_zero (find (λ pair. pair.0 == link) plan.incoming)
+tag_of plan (Some link) = option_map_or (λ pair. pair.1) (find (λ pair. pair.0 == link) plan.incoming) 0
 
 -- the router second of an arrival
 abbrev pub second_of : RouterPlan → Arrival → ℕ

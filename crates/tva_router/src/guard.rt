@@ -1,6 +1,7 @@
 // What a router makes of the packets that arrive.
 ghost use Rattle.std.specs.Prelude.{◌≡◌, ◌≤◌, ◌<◌, ◌==◌, ℕ, List, [], length, slice_get, IfOk, IfSome, Some, None};
 ghost use Rattle.std.specs.List.{find};
+ghost use Rattle.std.specs.Option.{option_map_or};
 ghost use Rattle.tva_base.specs.Plan.{IsRouterPlan};
 ghost use Rattle.tva_base.specs.Changes.{changed};
 ghost use Rattle.tva_base.specs.Versions.{AreSomeRights};
@@ -9,7 +10,7 @@ ghost use Rattle.tva_shim.specs.Packets.{IsCarried};
 ghost use Rattle.tva_caps.specs.Check.{IfValid, IsSecondOf};
 ghost use Rattle.tva_flow.specs.Charges.{Charge};
 ghost use Rattle.tva_flow.specs.Stands.{StandsFor};
-ghost use Rattle.tva_router.specs.Judging.{tag_or_zero, tag_of, second_of, fresh_for, answer_of, answer_to_checked, answer_to_shown, answer_to_nonce, judged_by, judged_request, judged_shim, judge};
+ghost use Rattle.tva_router.specs.Judging.{tag_of, second_of, fresh_for, answer_of, answer_to_checked, answer_to_shown, answer_to_nonce, judged_by, judged_request, judged_shim, judge};
 ghost use Rattle.tva_shim.specs.Shows.{kind_nonce, nonce_in};
 ghost use Rattle.tva_router.specs.Steps.{IsGuard, MayJudge, Keeps, grant_in, judgement, judged_with};
 ghost use Rattle.tva_router.specs.Tables.{ArePlaces};
@@ -332,7 +333,7 @@ fn tag_of(plan: &RouterPlan, places: &HashMap<u16, usize>, from: Option<u16>) ->
 
 fn tag_in(incoming: &[(u16, u16)], places: &HashMap<u16, usize>, link: u16) -> u16
     requires { ArePlaces incoming.now places.now }
-    ensures { result ≡ tag_or_zero (find (λ pair. pair.0 == link) incoming.now) }
+    ensures { result ≡ option_map_or (λ pair. pair.1) (find (λ pair. pair.0 == link) incoming.now) 0 }
 {
     match place_of(incoming, places, link) {
         Some(place) => incoming[place].1,

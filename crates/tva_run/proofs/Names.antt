@@ -31,7 +31,7 @@ use Rattle.tva_router.specs.declared.judged.Judged.{Judged}
 use Rattle.tva_router.specs.Judging.{judge}
 use Rattle.tva_router.specs.Routes.{link_to}
 use Rattle.tva_router.specs.Handling as handling
-use Rattle.tva_router.specs.Handling.{Handled, arrival, forwarded, goes_on, handle, link_or_none, offered, outcome_of, sent, stopped, way_to}
+use Rattle.tva_router.specs.Handling.{Handled, arrival, forwarded, goes_on, handle, offered, outgoing_link, outcome_of, sent, stopped, way_to}
 use Rattle.tva_router.specs.Boots.{charges_at}
 use Rattle.tva_host.specs.declared.made.Made.{Made}
 use Rattle.tva_host.specs.declared.made.Receipt.{Receipt}
@@ -174,7 +174,7 @@ module _ (config : Config) where
   sent_known logs class p (Some (link, limits)) known = outcome_known link (offered limits (logs link) class p) (known (link, limits) refl)
 
   way_known : (plan : RouterPlan) (o : Option ℕ) → AllByRecursion (λ (x : ℕ × LinkLimits). HasLink config x.0) plan.outgoing
-      → (way : ℕ × LinkLimits) → link_or_none plan o ≡ Some way → HasLink config way.0
+      → (way : ℕ × LinkLimits) → option_and_then (outgoing_link plan) o ≡ Some way → HasLink config way.0
   way_known plan None h way e = absurd (cc)
   way_known plan (Some link) h way e = (found (λ (x : ℕ × LinkLimits). x.0 == link) (λ (x : ℕ × LinkLimits). HasLink config x.0) plan.outgoing way h e).0
 

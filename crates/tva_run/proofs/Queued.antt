@@ -1,7 +1,7 @@
 -- What waits at the port of a link was queued there, and so was what starts.
 use Rattle.std.proofs.Common.{◌≡◌, ℕ, Bool, true, false, cond, List, [], ◌∷◌, drop, Option, Some, None, refl, subst}
 use Rattle.std.specs.Prelude.{nat_le, count_by}
-use Rattle.std.specs.List.{AllByRecursion, filter_map}
+use Rattle.std.specs.List.{AllByRecursion, fold, filter_map}
 use Rattle.std.proofs.lemmas.List.Elements.{All-drop, All-from_recursion, recursion_from_All}
 use Rattle.tva_base.specs.declared.limits.LinkLimits.{LinkLimits}
 use Rattle.tva_base.specs.declared.packet.Class.{Class}
@@ -17,7 +17,7 @@ use Rattle.tva_port.proofs.Holding.{Each, each-offered, each-taken, each-first, 
 use Rattle.tva_port.specs.declared.decision.Decision.{Decision}
 use Rattle.tva_port.specs.Requests.{cost}
 use Rattle.tva_port.specs.Log.{Entry, Queued, Started, free_after}
-use Rattle.tva_port.specs.Waiting.{Waiting, same_class, request_step, regular_step, after, queued_legacy, is_legacy_start, waiting_after, next_request}
+use Rattle.tva_port.specs.Waiting.{Waiting, same_class, request_step, regular_step, queued_legacy, is_legacy_start, waiting_after, next_request}
 use Rattle.tva_port.specs.Decide.{covered, start_or, wait_for, credit_after, decision}
 use Rattle.tva_log.specs.NodeLog.{start_of, start_after}
 
@@ -52,7 +52,7 @@ module _ (P : PacketData → Type 0) where
 
   each-after : {A : Type 0} (Holds : A → Type 0) (step : A → Entry → A)
       → ((a : A) (e : Entry) → Brings e → Holds a → Holds (step a e))
-      → (a : A) (log : List Entry) → AllByRecursion Brings log → Holds a → Holds (after step a log)
+      → (a : A) (log : List Entry) → AllByRecursion Brings log → Holds a → Holds (fold step a log)
   each-after Holds step keeps a [] b h = h
   each-after Holds step keeps a (e ∷ es) b h = each-after Holds step keeps (step a e) es b.1 (keeps a e b.0 h)
 

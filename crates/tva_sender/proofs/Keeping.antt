@@ -11,11 +11,11 @@ use Rattle.tva_sender.specs.declared.shape.Shape.{Shape}
 use Rattle.tva_sender.specs.declared.shape.Shape.TheVariants as shape
 use Rattle.tva_sender.specs.declared.grant.Grant.{Grant}
 use Rattle.tva_sender.specs.declared.peer.Peer.{Peer}
-use Rattle.tva_sender.specs.Contacts.{Contact, Prepared, Taken, Notice, is_taking, is_notice, asks, Ask, last_ask, Taking, last_taking, notices, unless_given_up, Use, uses_in, uses, since_notice, life_of, first_nonce, time_of, time, grant_of, is_open}
+use Rattle.tva_sender.specs.Contacts.{Contact, Prepared, Taken, Notice, is_taking, is_notice, asks, Ask, last_ask, Taking, last_taking, notices, unless_given_up, Use, uses_in, uses, since_notice, life_of, first_nonce, time, grant_of}
 use Rattle.tva_sender.specs.Shapes.{length_of, list_length, nonce_length}
 use Rattle.tva_sender.specs.Steps.{charged, used_by, grant_used_by, prepared, answered, noticed, first_asked}
 use Rattle.tva_sender.specs.Book.{Keeps, IsStrange}
-use Rattle.tva_sender.proofs.Pushes.{ask_more, last_ask-push, taking_more, last_taking-push, notices-push, uses-push, since_notice-push, since_notice-first, life_of-push, first_nonce-push}
+use Rattle.tva_sender.proofs.Pushes.{time_of, is_open, ask_more, last_ask-push, taking_more, last_taking-push, notices-push, uses-push, since_notice-push, since_notice-first, life_of-push, first_nonce-push}
 
 -- a contact that is no taking leaves an ask as it was
 asked_more : (c : Contact) (o : Option Ask) → option_map (λ (ask : Ask). time ask.time) (option_map (ask_more c) o) ≡ option_map (λ (ask : Ask). time ask.time) o

@@ -1,10 +1,10 @@
 -- What one more contact changes in what is read off a list of contacts.
-use Rattle.std.proofs.Common.{◌≡◌, ℕ, ◌+◌, true, false, cond, List, [], ◌∷◌, ◌++◌, Option, Some, None, refl, ap, sym, max, arith, append_assoc, append-nil}
-use Rattle.std.specs.Option.{option_or, option_map, unwrap_or}
+use Rattle.std.proofs.Common.{◌≡◌, ℕ, ◌+◌, Bool, true, false, not, cond, List, [], ◌∷◌, ◌++◌, Option, Some, None, refl, ap, sym, max, arith, append_assoc, append-nil}
+use Rattle.std.specs.Option.{option_or, option_map, option_map_or, unwrap_or}
 use Rattle.std.proofs.lemmas.List.Sums.{sum_by-cons, sum_by_push}
 use Rattle.tva_base.specs.declared.packet.Rights.{Rights}
 use Rattle.tva_base.specs.Credit.{credit_of}
-use Rattle.tva_sender.specs.Contacts.{Contact, Prepared, Taken, Notice, is_notice, asks, Ask, ask_in, last_ask, Taking, taking_in, last_taking, notices, Use, uses_in, uses, after_notice, since_notice, life_of, first_nonce}
+use Rattle.tva_sender.specs.Contacts.{Contact, Prepared, Taken, Notice, is_notice, asks, Ask, ask_in, last_ask, Taking, taking_in, last_taking, notices, Use, uses_in, uses, after_notice, since_notice, life_of, first_nonce, is_answered}
 
 -- the last of two, and what a function makes of it
 or_none : {X : Type 0} (x : Option X) → option_or None x ≡ option_or x None
@@ -15,6 +15,13 @@ or_map : {X Y : Type 0} (f : X → Y) (y : Option Y) (a b : Option X) → option
 or_map f (Some y) a b = refl
 or_map f None (Some a) b = refl
 or_map f None None b = refl
+
+-- the time of an ask, if there is one, and whether it isn't answered
+abbrev pub time_of : Option Ask → ℕ
+time_of o = option_map_or (λ (ask : Ask). ask.time) o 0
+
+abbrev pub is_open : Option Ask → Bool
+is_open o = option_map_or (λ (ask : Ask). not (is_answered ask)) o false
 
 abbrev pub ask_more : Contact → Ask → Ask
 ask_more c ask = record { time = ask.time; after = ask.after ++ c ∷ [] }

@@ -2,8 +2,8 @@
 use Rattle.std.specs.Prelude.{ℕ, Bool, true, false, not, nat_lt, ◌==◌, ◌&&◌, ◌||◌, if◌then◌else◌, List, [], ◌∷◌, ◌++◌}
 use Rattle.std.specs.Prelude.{sum_by, count_by}
 use Rattle.std.specs.Prelude.{Option, Some, None, unwrap_or}
-use Rattle.std.specs.List.{list_any}
-use Rattle.std.specs.Option.{option_or, option_map, option_and_then}
+use Rattle.std.specs.List.{list_any, flat_map}
+use Rattle.std.specs.Option.{option_or, option_map, option_map_or, option_and_then}
 use Rattle.tva_base.specs.declared.packet.Rights.{Rights}
 use Rattle.tva_base.specs.declared.packet.Time.{Time}
 use Rattle.tva_base.specs.Credit.{credit_of}
@@ -21,22 +21,18 @@ pub data Contact : Type 0 where
   Notice : Contact
 
 abbrev pub is_taking : Contact → Bool
-is_taking (Prepared time shape length) = false
 is_taking (Taken rights caps) = true
-is_taking Notice = false
+is_taking _ = false
 
 abbrev pub is_notice : Contact → Bool
-is_notice (Prepared time shape length) = false
-is_notice (Taken rights caps) = false
 is_notice Notice = true
+is_notice _ = false
 
 -- a request or a renewal asks
 abbrev pub asks : Shape → Bool
 asks shape.Request = true
 asks (shape.Renewal held) = true
-asks (shape.List held) = false
-asks (shape.NonceOnly nonce) = false
-asks shape.Legacy = false
+asks _ = false
 
 -- an ask: its time, and what happened after it
 pub record Ask : Type 0 where
@@ -45,8 +41,7 @@ pub record Ask : Type 0 where
 
 abbrev pub ask_in : Contact → List Contact → Option Ask
 ask_in (Prepared time shape length) after = if asks shape then Some (record { time = time; after = after }) else None
-ask_in (Taken rights caps) after = None
-ask_in Notice after = None
+ask_in _ after = None
 
 abbrev pub last_ask : List Contact → Option Ask
 last_ask [] = None
@@ -64,10 +59,9 @@ pub record Taking : Type 0 where
   pub after : List Contact
 
 abbrev pub taking_in : List Contact → Contact → List Contact → Option Taking
-taking_in before (Prepared time shape length) after = None
 taking_in before (Taken rights caps) after =
     Some (record { before = before; rights = rights; caps = caps; after = after })
-taking_in before Notice after = None
+taking_in before _ after = None
 
 -- the last grant that was taken among the contacts that come after those before
 abbrev pub last_taking : List Contact → List Contact → Option Taking
@@ -92,18 +86,14 @@ pub record Use : Type 0 where
   pub nonce : ℕ
 
 abbrev pub uses_in : Contact → List Use
-uses_in (Prepared time shape.Request length) = []
 uses_in (Prepared time (shape.List held) length) = record { time = time; length = length; nonce = held.nonce } ∷ []
 uses_in (Prepared time (shape.NonceOnly nonce) length) = record { time = time; length = length; nonce = nonce } ∷ []
 uses_in (Prepared time (shape.Renewal held) length) = record { time = time; length = length; nonce = held.nonce } ∷ []
-uses_in (Prepared time shape.Legacy length) = []
-uses_in (Taken rights caps) = []
-uses_in Notice = []
+uses_in _ = []
 
 -- the renewals, lists and nonces among some contacts
 abbrev pub uses : List Contact → List Use
-uses [] = []
-uses (c ∷ cs) = uses_in c ++ uses cs
+uses cs = flat_map uses_in cs
 
 -- where a notice stands among some contacts, those after the first one
 abbrev pub after_notice : List Contact → Option (List Contact)
@@ -122,10 +112,6 @@ abbrev pub first_nonce : List Use → Option ℕ
 first_nonce [] = None
 first_nonce (u ∷ us) = Some u.nonce
 
-abbrev pub time_of : Option Ask → ℕ
-time_of None = 0
-time_of (Some ask) = ask.time
-
 abbrev pub time : ℕ → Time
 time n = record { 0 = n }
 
@@ -136,7 +122,7 @@ grant_of t = record {
   rights = t.rights;
   caps = t.caps;
   nonce = first_nonce (uses t.after);
-  asked = time (time_of (last_ask t.before));
+  asked = time (option_map_or (λ ask. ask.time) (last_ask t.before) 0);
   used = sum_by (λ u. u.length) (uses t.after);
   life = life_of t.rights (uses (since_notice t.after));
   notices = notices t.after;
@@ -146,13 +132,9 @@ grant_of t = record {
 abbrev pub asked_at : List Contact → Option Time
 asked_at h = option_map (λ ask. time ask.time) (last_ask h)
 
-abbrev pub is_open : Option Ask → Bool
-is_open None = false
-is_open (Some ask) = not (is_answered ask)
-
 -- there was an ask, and the last one isn't answered
 abbrev pub awaits : List Contact → Bool
-awaits h = is_open (last_ask h)
+awaits h = option_map_or (λ ask. not (is_answered ask)) (last_ask h) false
 
 -- a sender of version 2 takes all rights, and one of version 1 those that its shims can carry
 abbrev pub is_within : ℕ → Rights → Bool

@@ -50,10 +50,9 @@ PointsAtOne (kinds.Renewal shown) = shown.pointer < length shown.caps
 
 -- the kind with a change of the capabilities that it shows
 abbrev pub on_shown : (Shown → Shown) → Kind → Kind
-on_shown change (kinds.Request entries) = kinds.Request entries
 on_shown change (kinds.List shown) = kinds.List (change shown)
-on_shown change (kinds.Nonce nonce) = kinds.Nonce nonce
 on_shown change (kinds.Renewal shown) = kinds.Renewal (change shown)
+on_shown change kind = kind
 
 -- the shim with its pointer one further
 abbrev pub with_next_pointer : ShimData → ShimData

@@ -59,8 +59,7 @@ kind_code (kinds.Renewal shown) = 3
 -- bit 2, where there is return info
 abbrev pub return_bit : ReturnInfo → ℕ
 return_bit backs.Nothing = 0
-return_bit backs.Notice = 4
-return_bit (backs.Grant rights caps) = 4
+return_bit _ = 4
 
 -- bit 3, the demoted mark
 abbrev pub demoted_bit : Bool → ℕ

@@ -45,9 +45,8 @@ upper_size (upper.Ack transfer next) = 8
 
 -- a range has at most 1,500 bytes, and ends below 2^32
 abbrev pub IsUpper : uppers.Upper → Type 0
-IsUpper upper.Nothing = Unit {0}
 IsUpper (upper.Data transfer first bytes) = (bytes ≤ 1500) × (first + bytes < 2 ^ 32)
-IsUpper (upper.Ack transfer next) = Unit {0}
+IsUpper _ = Unit {0}
 
 -- an upper part is all of a payload
 abbrev pub Fills : uppers.Upper → ℕ → Type 0
@@ -57,9 +56,8 @@ Fills (upper.Ack transfer next) payload = payload ≡ 8
 
 -- a malformed shim has at most 400 bytes
 abbrev pub IsCarried : Carried → Type 0
-IsCarried carried.Nothing = Unit {0}
-IsCarried (carried.Shim shim) = Unit {0}
 IsCarried (carried.Malformed bytes) = bytes ≤ 400
+IsCarried _ = Unit {0}
 
 -- a packet within the sizes of a network
 pub record IsPacket (p : PacketData) : Type 0 where
@@ -99,12 +97,9 @@ carried_size (carried.Malformed bytes) = bytes
 
 abbrev pub class_by_kind : Kind → Class
 class_by_kind (kinds.Request entries) = classes.Request
-class_by_kind (kinds.List shown) = classes.Regular
-class_by_kind (kinds.Nonce nonce) = classes.Regular
-class_by_kind (kinds.Renewal shown) = classes.Regular
+class_by_kind _ = classes.Regular
 
 -- the class of a packet by its shim alone
 abbrev pub class_by_shim : Carried → Class
-class_by_shim carried.Nothing = classes.Legacy
 class_by_shim (carried.Shim shim) = if shim.demoted then classes.Legacy else class_by_kind shim.kind
-class_by_shim (carried.Malformed bytes) = classes.Legacy
+class_by_shim _ = classes.Legacy

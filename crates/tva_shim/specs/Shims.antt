@@ -20,22 +20,18 @@ pub record ShimData : Type 0 where
 -- the entries of a request; other kinds have none
 abbrev pub entries_of : Kind → List Entry
 entries_of (kinds.Request entries) = entries
-entries_of (kinds.List shown) = []
-entries_of (kinds.Nonce nonce) = []
-entries_of (kinds.Renewal shown) = []
+entries_of _ = []
 
 -- the capabilities of a list or a renewal; other kinds have none
 abbrev pub caps_of : Kind → List ℕ
-caps_of (kinds.Request entries) = []
 caps_of (kinds.List shown) = shown.caps
-caps_of (kinds.Nonce nonce) = []
 caps_of (kinds.Renewal shown) = shown.caps
+caps_of _ = []
 
 -- the capabilities of a grant
 abbrev pub granted_caps : ReturnInfo → List ℕ
-granted_caps backs.Nothing = []
-granted_caps backs.Notice = []
 granted_caps (backs.Grant rights caps) = caps
+granted_caps _ = []
 
 -- in a shim of that version: a nonce of 48 bits, rights within the version's widths, and a pointer to a
 -- capability or to their end
@@ -51,9 +47,8 @@ IsKind version (kinds.Nonce nonce) = nonce < 2 ^ 48
 IsKind version (kinds.Renewal shown) = IsShown version shown
 
 abbrev pub IsReturn : ℕ → ReturnInfo → Type 0
-IsReturn version backs.Nothing = Unit {0}
-IsReturn version backs.Notice = Unit {0}
 IsReturn version (backs.Grant rights caps) = AreRights version rights
+IsReturn version _ = Unit {0}
 
 -- A shim whose numbers are within the widths of its version. Each value of the program is one.
 pub record IsShim (s : ShimData) : Type 0 where

@@ -15,9 +15,8 @@ use Rattle.tva_shim.specs.Packets.{PacketData}
 
 -- the entries of a request that a packet carries
 abbrev pub entries_in : Carried → List Entry
-entries_in carried.Nothing = []
 entries_in (carried.Shim shim) = entries_of shim.kind
-entries_in (carried.Malformed bytes) = []
+entries_in _ = []
 
 -- the key under which a packet of a class is queued; a legacy packet needs none
 abbrev pub key_of : Class → PacketData → ℕ
@@ -37,18 +36,15 @@ kind_nonce (kinds.Renewal shown) = shown.nonce
 
 -- the nonce that a packet shows, if any
 abbrev pub nonce_in : Carried → ℕ
-nonce_in carried.Nothing = 0
 nonce_in (carried.Shim shim) = kind_nonce shim.kind
-nonce_in (carried.Malformed bytes) = 0
+nonce_in _ = 0
 
 -- the version of the shim that a packet carries, if any
 abbrev pub version_in : Carried → ℕ
-version_in carried.Nothing = 0
 version_in (carried.Shim shim) = shim.version
-version_in (carried.Malformed bytes) = 0
+version_in _ = 0
 
 -- the return info that a packet shows
 abbrev pub back_in : Carried → ReturnInfo
-back_in carried.Nothing = backs.Nothing
 back_in (carried.Shim shim) = shim.back
-back_in (carried.Malformed bytes) = backs.Nothing
+back_in _ = backs.Nothing

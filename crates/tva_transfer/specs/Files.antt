@@ -68,11 +68,10 @@ next_of files source transfer = sum_by (λ r. r.1.bytes) (filter (is_of source t
 
 -- a range is delivered that begins there
 unfoldable pub range_of : Files → Address → Upper → Option DataLine
-range_of files source Nothing = None
 range_of files source (Data transfer first bytes) =
     if first == next_of files source transfer
     then Some (record { transfer = transfer; first = first; bytes = bytes }) else None
-range_of files source (Ack transfer next) = None
+range_of files source _ = None
 
 abbrev pub with_range : Address → Option DataLine → Files → Files
 with_range source None files = files

@@ -1,5 +1,5 @@
 use Rattle.std.proofs.Common.{[], ◌∷◌, ◌++◌, sym, subst, ap, ◌∙◌}
-use Rattle.tva_base.specs.Printable.{IsLine}
+use Rattle.tva_lists.specs.Printable.{IsLine}
 use Rattle.tva_base.specs.declared.event.Totals.{Totals}
 use Rattle.tva_lines.specs.Lines.{text_of_totals}
 use Rattle.tva_report.specs.Compared as compared

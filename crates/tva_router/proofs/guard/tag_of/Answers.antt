@@ -1,6 +1,6 @@
 use Rattle.std.proofs.Common.{◌≡◌, ℕ, List, ◌==◌, sym, subst}
 use Rattle.std.specs.List.{find}
-use Rattle.tva_router.specs.Judging.{tag_or_zero}
+use Rattle.std.specs.Option.{option_map_or}
 use Rattle.tva_router.specs.Tables.{ArePlaces}
 use Rattle.tva_router.proofs.guard.tag_of.Goals as goal
 
@@ -10,4 +10,4 @@ tag_in-requires c = subst (λ (z : List (ℕ × ℕ)). ArePlaces z c.args.places
 pub returns-in-Some : goal.returns-in-Some
 returns-in-Some c =
     rw c.in-Some.is
-    (subst (λ (z : List (ℕ × ℕ)). c.tag_in.result ≡ tag_or_zero (find (λ pair. pair.0 == c.in-Some.link) z)) c.as_slice.ensures c.tag_in.ensures)
+    (subst (λ (z : List (ℕ × ℕ)). c.tag_in.result ≡ option_map_or (λ pair. pair.1) (find (λ pair. pair.0 == c.in-Some.link) z) 0) c.as_slice.ensures c.tag_in.ensures)

@@ -1,11 +1,12 @@
 use Rattle.std.proofs.Common.{◌≡◌, ℕ, List, Option, Some, None, eqb, sym, ap, ◌∙◌, subst}
 use Rattle.std.specs.List.{find, position}
+use Rattle.std.specs.Option.{option_and_then}
 use Rattle.tva_base.specs.declared.limits.LinkLimits.{LinkLimits}
 use Rattle.tva_base.specs.declared.plan.Route.{Route}
 use Rattle.tva_base.specs.declared.plan.RouterPlan.{RouterPlan}
 use Rattle.tva_shim.specs.Packets.{PacketData}
 use Rattle.tva_router.specs.Routes.{link_to}
-use Rattle.tva_router.specs.Handling.{sent, queued, way_to, link_or_none}
+use Rattle.tva_router.specs.Handling.{sent, queued, way_to, outgoing_link}
 use Rattle.tva_router.specs.Stands.{StandForLogs, ◌with◌}
 use Rattle.tva_router.specs.Tables.{ArePlaces, IsTableOf}
 use Rattle.tva_router.proofs.Links.{find_nowhere}
@@ -20,7 +21,7 @@ way-none plan routes outgoing p packet link r o v to nowhere =
     subst (λ (z : PacketData). link_to plan.routes z.flow.dst ≡ Some link) v (subst (λ (z : List Route). link_to z p.flow.dst ≡ Some link) r to) in
     let gone : find (λ o. eqb o.0 link) plan.outgoing ≡ None =
     find_nowhere (λ (o : ℕ × LinkLimits). eqb o.0 link) plan.outgoing (subst (λ (z : List (ℕ × LinkLimits)). position (λ o. eqb o.0 link) z ≡ None) o nowhere) in
-    ap (link_or_none plan) leads ∙ gone
+    ap (option_and_then (outgoing_link plan)) leads ∙ gone
 
 pub link_to-requires : goal.link_to-requires
 link_to-requires c = subst (λ (z : List Route). IsTableOf z c.args.ways.now.routes) (sym c.as_slice.ensures) c.requires.ways.routes

@@ -1,11 +1,16 @@
 ghost use Rattle.std.specs.Prelude.{IfSome};
 
+mod cases;
 mod plain;
 
-use super::*;
-use crate::cases::CASES;
+use crate::fair_queues::FairQueues;
+use crate::measured::Measured;
+use crate::offered::Offered;
+use cases::CASES;
+use std::alloc::{AllocError, Global};
 use std::process::Abort;
 use std::test::Fail;
+use tva_base::DrrLimits;
 
 /// A parcel of so many bytes.
 #[derive(Drop)]

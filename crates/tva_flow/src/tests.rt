@@ -1,9 +1,14 @@
-use super::*;
-use crate::cases::CASES;
-use crate::plain::Charges;
+mod cases;
+mod plain;
+
+use crate::cache::FlowCache;
+use crate::verdicts::Verdict;
+use cases::CASES;
+use plain::Charges;
+use std::alloc::{AllocError, Global};
 use std::process::Abort;
 use std::test::Fail;
-use tva_base::{Address, Rights, address};
+use tva_base::{Address, Flow, Grant, Rights, SECOND, Time, address};
 
 fn crosses<T: Send + Sync>() {}
 

@@ -1,10 +1,12 @@
-use super::*;
-use std::process::Abort;
-use std::test::Fail;
-
 mod calls;
 
+use crate::hier_queues::HierQueues;
 use calls::CALLS;
+use std::alloc::{AllocError, Global};
+use std::process::Abort;
+use std::test::Fail;
+use tva_base::DrrLimits;
+use tva_drr::{Measured, Offered};
 
 /// A parcel of so many bytes, with the two keys under which it was offered.
 #[derive(Drop)]
