@@ -2,13 +2,13 @@
 use Rattle.std.proofs.Common.{◌≡◌, ◌⊎◌, inl, inr, ℕ, List, Err, Ok, refl, sym, ap, ◌∙◌, subst, None, Some}
 use Rattle.std.specs.declared.option.Option.{Option}
 use Rattle.std.specs.Option.{option_map, option_map_or}
-use Rattle.tva_outside.specs.Held.{Held}
+use Rattle.tva_outside.specs.Held.{HeldByName}
 use Rattle.tva_plan.specs.declared.config.Config.{Config}
 use Rattle.tva_report.specs.Lines.{first_bad}
 use Rattle.tva_trace.specs.declared.rows.Row.{Row}
 use Rattle.tva_trace.specs.Meaning.{AreRows}
 use Rattle.tva.specs.Command.{audit}
-use Rattle.tva.specs.Expected.{Expected, Found, IsText, audits, comes_to, file_at, followed, plan_at, refuses, report_at, told, trace_at, ◌>>=◌}
+use Rattle.tva.specs.Expected.{Expected, Sought, IsText, audits, comes_to, file_at, followed, plan_at, refuses, report_at, told, trace_at, ◌>>=◌}
 use Rattle.tva.specs.Answer.{Answers}
 use Rattle.tva.specs.Parts.{EndsAudited, IsAudited, IsAuditText, IsFound, IsNotFound}
 use Rattle.tva.specs.declared.status.Status as status
@@ -61,24 +61,24 @@ bad_or_none plan rows report old new w (BadReport k) a = inl (record { line = k;
 -- ## files
 
 -- what an audit comes to
-abbrev of_audit : List ℕ → List ℕ → List ℕ → Held → Expected
+abbrev of_audit : List ℕ → List ℕ → List ℕ → HeldByName → Expected
 of_audit config trace report files = comes_to (audit config trace report) files
 
 -- a report with this first bad line, if any
-abbrev good_or_bad : List ℕ → Option ℕ → Found (List ℕ)
+abbrev good_or_bad : List ℕ → Option ℕ → Sought (List ℕ)
 good_or_bad text first = option_map_or (λ line. Err (BadReport line)) first (Ok text)
 
-module _ (config trace report text : List ℕ) (plan : Config) (files : Held) (found : plan_at config files ≡ Ok plan) (there : trace_at plan trace files ≡ Ok text) where
+module _ (config trace report text : List ℕ) (plan : Config) (files : HeldByName) (found : plan_at config files ≡ Ok plan) (there : trace_at plan trace files ≡ Ok text) where
   -- what comes of the report where plan and rows were found
   of_found : of_audit config trace report files ≡ followed (report_at report files) (audits plan text)
   of_found =
-      ap (λ (p : Found Config). followed p (λ plan. followed (trace_at plan trace files) (λ rows. followed (report_at report files) (audits plan rows)))) found
-      ∙ ap (λ (t : Found (List ℕ)). followed t (λ rows. followed (report_at report files) (audits plan rows))) there
+      ap (λ (p : Sought Config). followed p (λ plan. followed (trace_at plan trace files) (λ rows. followed (report_at report files) (audits plan rows)))) found
+      ∙ ap (λ (t : Sought (List ℕ)). followed t (λ rows. followed (report_at report files) (audits plan rows))) there
 
   of_read : (bytes : List ℕ) → file_at 1073741824 report files ≡ Ok bytes
       → of_audit config trace report files ≡ followed (good_or_bad bytes (first_bad bytes)) (audits plan text)
   of_read bytes read =
-      of_found ∙ ap (λ (b : Found (List ℕ)). followed (b >>= (λ text. good_or_bad text (first_bad text))) (audits plan text)) read
+      of_found ∙ ap (λ (b : Sought (List ℕ)). followed (b >>= (λ text. good_or_bad text (first_bad text))) (audits plan text)) read
 
   of_good : (bytes : List ℕ) → file_at 1073741824 report files ≡ Ok bytes → first_bad bytes ≡ None
       → of_audit config trace report files ≡ audits plan text bytes
@@ -90,16 +90,16 @@ module _ (config trace report text : List ℕ) (plan : Config) (files : Held) (f
 
   of_unread : (refusal : status.Status) → file_at 1073741824 report files ≡ Err refusal → of_audit config trace report files ≡ refuses refusal
   of_unread refusal read =
-      of_found ∙ ap (λ (b : Found (List ℕ)). followed (b >>= (λ text. good_or_bad text (first_bad text))) (audits plan text)) read
+      of_found ∙ ap (λ (b : Sought (List ℕ)). followed (b >>= (λ text. good_or_bad text (first_bad text))) (audits plan text)) read
 
-told_bad : (held : Option Held) (config trace report text bytes : List ℕ) (plan : Config) (r w : Type 0) (old new : Option (List ℕ)) (line : ℕ) →
+told_bad : (held : Option HeldByName) (config trace report text bytes : List ℕ) (plan : Config) (r w : Type 0) (old new : Option (List ℕ)) (line : ℕ) →
     IsFound held (plan_at config) plan → IsFound held (trace_at plan trace) text → IsFound held (file_at 1073741824 report) bytes →
     first_bad bytes ≡ Some line → new ≡ old → Answers (told held (audit config trace report)) r w old new (BadReport line)
 told_bad None config trace report text bytes plan r w old new line found rows read bad kept = (tt, kept)
 told_bad (Some files) config trace report text bytes plan r w old new line found rows read bad kept =
     (of_bad config trace report text plan files found rows bytes line read bad, kept)
 
-told_good : (held : Option Held) (config trace report text bytes : List ℕ) (plan : Config) (r w : Type 0) (old new : Option (List ℕ)) (s : status.Status) →
+told_good : (held : Option HeldByName) (config trace report text bytes : List ℕ) (plan : Config) (r w : Type 0) (old new : Option (List ℕ)) (s : status.Status) →
     IsFound held (plan_at config) plan → IsFound held (trace_at plan trace) text → IsFound held (file_at 1073741824 report) bytes →
     first_bad bytes ≡ None → Answers (Some (audits plan text bytes)) ⊥ w old new s → Answers (told held (audit config trace report)) r w old new s
 told_good None config trace report text bytes plan r w old new s found rows read good a = untold (audits plan text bytes) r w old new s (λ e. cc) a
@@ -108,12 +108,12 @@ told_good (Some files) config trace report text bytes plan r w old new s found r
     (with_reads (audits plan text bytes) r w old new s a)
 
 -- what an audit answers where its plan, its rows and its report were found, one after another
-pub audit_found : (held between last : Option Held) (config trace report text bytes : List ℕ) (plan : Config) (rows : List Row) (r w : Type 0) (old new : Option (List ℕ)) (s : status.Status) →
+pub audit_found : (held between last : Option HeldByName) (config trace report text bytes : List ℕ) (plan : Config) (rows : List Row) (r w : Type 0) (old new : Option (List ℕ)) (s : status.Status) →
     between ≡ held → last ≡ held → AreRows plan text rows → IsFound held (plan_at config) plan → IsFound between (trace_at plan trace) text →
     IsFound last (file_at 1073741824 report) bytes → IsAudited plan rows bytes old new w s → Answers (told held (audit config trace report)) r w old new s
 audit_found held between last config trace report text bytes plan rows r w old new s same still are found there read a =
-    let rows_found : IsFound held (trace_at plan trace) text = subst (λ (h : Option Held). IsFound h (trace_at plan trace) text) same there in
-    let read_found : IsFound held (file_at 1073741824 report) bytes = subst (λ (h : Option Held). IsFound h (file_at 1073741824 report) bytes) still read in
+    let rows_found : IsFound held (trace_at plan trace) text = subst (λ (h : Option HeldByName). IsFound h (trace_at plan trace) text) same there in
+    let read_found : IsFound held (file_at 1073741824 report) bytes = subst (λ (h : Option HeldByName). IsFound h (file_at 1073741824 report) bytes) still read in
     elim (bad_or_none plan rows bytes old new w s a) [
       | inl bad ↦
           subst (λ (t : status.Status). Answers (told held (audit config trace report)) r w old new t) (sym bad.told)
@@ -125,7 +125,7 @@ audit_found held between last config trace report text bytes plan rows r w old n
 
 -- ## a report that isn't found
 
-pub audit_unread : (held : Option Held) (config trace report text : List ℕ) (plan : Config) (r w : Type 0) (old : Option (List ℕ)) (s : status.Status) →
+pub audit_unread : (held : Option HeldByName) (config trace report text : List ℕ) (plan : Config) (r w : Type 0) (old : Option (List ℕ)) (s : status.Status) →
     IsFound held (plan_at config) plan → IsFound held (trace_at plan trace) text →
     IsNotFound (option_map (file_at 1073741824 report) held) r s → Answers (told held (audit config trace report)) r w old old s
 audit_unread held config trace report text plan r w old Done found rows a = absurd a

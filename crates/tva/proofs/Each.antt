@@ -2,7 +2,7 @@
 use Rattle.std.proofs.Common.{ℕ, List, None, Ok, ◌≡◌, ◌∙◌, ap, subst, inl, inr, IfSome}
 use Rattle.std.specs.declared.option.Option.{Option}
 use Rattle.std.specs.Io.KnownBytes.{append_known}
-use Rattle.tva_outside.specs.Held.{Held}
+use Rattle.tva_outside.specs.Held.{HeldByName}
 use Rattle.tva_plan.specs.declared.config.Config.{Config}
 use Rattle.tva_plan.specs.Valid.{IsConfig}
 use Rattle.tva_report.specs.Lines.{first_bad}
@@ -39,7 +39,7 @@ module _ (old new : Option (List ℕ)) where
     of_refusal = λ r wrote. tt;
   }
 
-  pub one_of_wanted : (held : Option Held) (words : List (List ℕ)) → IfSome (wanted held words) IsOne
+  pub one_of_wanted : (held : Option HeldByName) (words : List (List ℕ)) → IfSome (wanted held words) IsOne
   one_of_wanted = of_any IsOne one_of_each
 
   -- and a part of it is the first of what each run has
@@ -60,5 +60,5 @@ module _ (old new : Option (List ℕ)) where
     of_refusal = λ r wrote. tt;
   }
 
-  pub first_of_wanted : (held : Option Held) (words : List (List ℕ)) → IfSome (wanted held words) IsFirst
+  pub first_of_wanted : (held : Option HeldByName) (words : List (List ℕ)) → IfSome (wanted held words) IsFirst
   first_of_wanted = of_any IsFirst first_of_each

@@ -4,7 +4,7 @@ use Rattle.std.proofs.Common.{◌≡◌, inl, inr, ℕ, ◌+◌, List, ◌++◌,
 use Rattle.std.proofs.lemmas.Grind.{flat_map-append}
 use Rattle.std.specs.declared.option.Option.{Option}
 use Rattle.std.specs.Io.KnownBytes.{append_known}
-use Rattle.tva_outside.specs.Held.{Held}
+use Rattle.tva_outside.specs.Held.{HeldByName}
 use Rattle.tva_base.specs.declared.event.Event.{Event}
 use Rattle.tva_plan.specs.declared.config.Config.{Config}
 use Rattle.tva_plan.specs.Valid.{IsConfig}
@@ -132,7 +132,7 @@ untold x r w old new (BadTrace f) apart a = (tt, a.1)
 untold x r w old new (EventLimit m) apart a = tt
 untold x r w old new OutOfMemory apart a = tt
 
-told_replay : (held : Option Held) (config trace text : List ℕ) (plan : Config) (r w : Type 0) (old new : Option (List ℕ)) (s : status.Status) →
+told_replay : (held : Option HeldByName) (config trace text : List ℕ) (plan : Config) (r w : Type 0) (old new : Option (List ℕ)) (s : status.Status) →
     IsFound held (plan_at config) plan → IsFound held (trace_at plan trace) text →
     Answers (Some (replays plan text)) ⊥ w old new s → Answers (told held (replay config trace)) r w old new s
 told_replay None config trace text plan r w old new s found rows a = untold (replays plan text) r w old new s (λ e. cc) a
@@ -143,9 +143,9 @@ told_replay (Some files) config trace text plan r w old new s found rows a =
     subst (λ (x : Expected). Answers (Some x) r w old new s) (sym comes) (with_reads (replays plan text) r w old new s a)
 
 -- what a replay answers where its plan and its rows were found, one after another
-pub replay_found : (held between : Option Held) (config trace text : List ℕ) (plan : Config) (rows : List Row) (r w : Type 0) (old new : Option (List ℕ)) (s : status.Status) →
+pub replay_found : (held between : Option HeldByName) (config trace text : List ℕ) (plan : Config) (rows : List Row) (r w : Type 0) (old new : Option (List ℕ)) (s : status.Status) →
     between ≡ held → IsConfig plan → AreRows plan text rows → IsFound held (plan_at config) plan → IsFound between (trace_at plan trace) text →
     IsReplayed plan rows old new w s → Answers (told held (replay config trace)) r w old new s
 replay_found held between config trace text plan rows r w old new s same valid are found there a =
-    told_replay held config trace text plan r w old new s found (subst (λ (h : Option Held). IsFound h (trace_at plan trace) text) same there)
+    told_replay held config trace text plan r w old new s found (subst (λ (h : Option HeldByName). IsFound h (trace_at plan trace) text) same there)
     (answers_of_replayed plan text rows valid are w old new s a)

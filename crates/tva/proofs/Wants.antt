@@ -4,7 +4,7 @@ use Rattle.std.specs.declared.option.Option.{Option}
 use Rattle.std.specs.Prelude.{nat_lt, option_and_then}
 use Rattle.std.specs.Option.{option_map_or}
 use Rattle.std.specs.Result.{result_map_both}
-use Rattle.tva_outside.specs.Held.{Held, bytes_at}
+use Rattle.tva_outside.specs.Held.{HeldByName, bytes_at}
 use Rattle.tva_plan.specs.declared.config.Config.{Config}
 use Rattle.tva_config_entries.specs.declared.faults.ConfigFault.{ConfigFault}
 use Rattle.tva_config.specs.Read.{read_of}
@@ -33,13 +33,13 @@ use Rattle.tva_report.specs.Differences.{first_difference}
 use Rattle.tva_report.specs.Lines.{first_bad, report_lines}
 use Rattle.tva_report.proofs.Differing.{none_of_same}
 use Rattle.tva_audit.specs.declared.routers.RouterSum.{RouterSum}
-use Rattle.tva_audit.specs.Audit.{IsFound}
+use Rattle.tva_audit.specs.Audit.{IsDifference}
 use Rattle.tva_audit.specs.Sums.{IsBelowLimit}
 use Rattle.tva_audit.proofs.Budgets.{sums_below}
 use Rattle.tva_gen.specs.Text.{generated}
 use Rattle.tva.specs.Check.{check_line}
 use Rattle.tva.specs.Command.{Command, command_of, replay, check, shim, gen, audit}
-use Rattle.tva.specs.Expected.{Expected, writes, shows, replays, audits, refuses, Found, followed, ◌>>=◌, within_limit, plan_at, trace_at, report_at, told, Ends, EndsAudit, EndsReplay}
+use Rattle.tva.specs.Expected.{Expected, writes, shows, replays, audits, refuses, Sought, followed, ◌>>=◌, within_limit, plan_at, trace_at, report_at, told, Ends, EndsAudit, EndsReplay}
 use Rattle.tva.specs.Network.{OfRows, EachKeepsPromises, EachTakesHonest, EachKeepsFiles, AreSumsBelow}
 use Rattle.tva_run.specs.Shown.{HasReport, IsPastLimit, IsWithinLimit}
 use Rattle.tva.specs.Wanted.{wanted, HasOneEnd}
@@ -59,17 +59,17 @@ pub record HoldsOfEach (P : Expected → Type 0) : Type 0 where
   pub of_refusal : (r : status.Status) → P (refuses r)
 
 -- a report with this first bad line, if any
-abbrev good_or_bad : List ℕ → Option ℕ → Found (List ℕ)
+abbrev good_or_bad : List ℕ → Option ℕ → Sought (List ℕ)
 good_or_bad text first = option_map_or (λ line. Err (BadReport line)) first (Ok text)
 
 module _ (P : Expected → Type 0) (holds : HoldsOfEach P) where
   -- a file that is found is judged by its bytes
-  of_bytes : {A : Type 0} (max : ℕ) (bytes : List ℕ) (judge : List ℕ → Found A) (next : A → Expected) → P (followed (judge bytes) next)
+  of_bytes : {A : Type 0} (max : ℕ) (bytes : List ℕ) (judge : List ℕ → Sought A) (next : A → Expected) → P (followed (judge bytes) next)
       → (b : Bool) → P (followed (cond b (Err (TooLarge (max + 1))) (Ok bytes) >>= judge) next)
   of_bytes max bytes judge next h true = holds.of_refusal (TooLarge (max + 1))
   of_bytes max bytes judge next h false = h
 
-  of_file : {A : Type 0} (max : ℕ) (file : Option (List ℕ)) (judge : List ℕ → Found A) (next : A → Expected)
+  of_file : {A : Type 0} (max : ℕ) (file : Option (List ℕ)) (judge : List ℕ → Sought A) (next : A → Expected)
       → ((bytes : List ℕ) → P (followed (judge bytes) next))
       → P (followed (within_limit max file >>= judge) next)
   of_file max None judge next h = holds.of_refusal ReadFault
@@ -81,7 +81,7 @@ module _ (P : Expected → Type 0) (holds : HoldsOfEach P) where
   of_plan_or_fault text (Ok plan) next e h = h plan (read_valid text plan e)
   of_plan_or_fault text (Err fault) next e h = holds.of_refusal (BadConfig fault)
 
-  of_plan_at : (name : List ℕ) (files : Held) (next : Config → Expected) → ((plan : Config) → IsConfig plan → P (next plan))
+  of_plan_at : (name : List ℕ) (files : HeldByName) (next : Config → Expected) → ((plan : Config) → IsConfig plan → P (next plan))
       → P (followed (plan_at name files) next)
   of_plan_at name files next h =
       of_file 1048576 (bytes_at files name) (λ text. result_map_both (λ (plan : Config). plan) BadConfig (read_of text)) next (λ bytes. of_plan_or_fault bytes (read_of bytes) next refl h)
@@ -92,7 +92,7 @@ module _ (P : Expected → Type 0) (holds : HoldsOfEach P) where
   of_trace_or_fault plan text (Ok said) next e h = h said e
   of_trace_or_fault plan text (Err fault) next e h = holds.of_refusal (BadTrace fault)
 
-  of_trace_at : (name : List ℕ) (files : Held) (plan : Config) (next : List ℕ → Expected)
+  of_trace_at : (name : List ℕ) (files : HeldByName) (plan : Config) (next : List ℕ → Expected)
       → ((text : List ℕ) (said : List SaidRow) → rows_of plan text ≡ Ok said → P (next text))
       → P (followed (trace_at plan name files) next)
   of_trace_at name files plan next h =
@@ -103,12 +103,12 @@ module _ (P : Expected → Type 0) (holds : HoldsOfEach P) where
   of_report_or_fault text None next e h = h e
   of_report_or_fault text (Some line) next e h = holds.of_refusal (BadReport line)
 
-  of_report_at : (name : List ℕ) (files : Held) (next : List ℕ → Expected) → ((text : List ℕ) → first_bad text ≡ None → P (next text))
+  of_report_at : (name : List ℕ) (files : HeldByName) (next : List ℕ → Expected) → ((text : List ℕ) → first_bad text ≡ None → P (next text))
       → P (followed (report_at name files) next)
   of_report_at name files next h =
       of_file 1073741824 (bytes_at files name) (λ text. good_or_bad text (first_bad text)) next (λ text. of_report_or_fault text (first_bad text) next refl (h text))
 
-  of_told : (files : Held) (c : Command) → IfSome (told (Some files) c) P
+  of_told : (files : HeldByName) (c : Command) → IfSome (told (Some files) c) P
   of_told files (replay config trace) =
       of_plan_at config files (λ plan. followed (trace_at plan trace files) (replays plan))
       (λ plan valid. of_trace_at trace files plan (replays plan) (λ text said read. holds.of_trace plan text said valid read))
@@ -123,11 +123,11 @@ module _ (P : Expected → Type 0) (holds : HoldsOfEach P) where
       of_trace_at trace files plan (λ rows. followed (report_at report files) (audits plan rows))
       (λ text said read. of_report_at report files (audits plan text) (λ bytes good. holds.of_audit plan text said bytes valid read good)))
 
-  of_command : (files : Held) (c : Option Command) → IfSome (option_and_then (told (Some files)) c) P
+  of_command : (files : HeldByName) (c : Option Command) → IfSome (option_and_then (told (Some files)) c) P
   of_command files None = tt
   of_command files (Some c) = of_told files c
 
-  of_wanted : (words : List (List ℕ)) (files : Held) → IfSome (wanted (Some files) words) P
+  of_wanted : (words : List (List ℕ)) (files : HeldByName) → IfSome (wanted (Some files) words) P
   of_wanted words files = of_command files (command_of words)
 
   -- where it isn't told what is held, words alone come to a shim's text
@@ -140,7 +140,7 @@ module _ (P : Expected → Type 0) (holds : HoldsOfEach P) where
   of_words (Some (audit config trace report)) = tt
 
   -- of files that are told or aren't
-  pub of_any : (held : Option Held) (words : List (List ℕ)) → IfSome (wanted held words) P
+  pub of_any : (held : Option HeldByName) (words : List (List ℕ)) → IfSome (wanted held words) P
   of_any None words = of_words (command_of words)
   of_any (Some files) words = of_wanted words files
 
@@ -158,7 +158,7 @@ kept_of_each = record {
 }
 
 -- every run of a trace that is to be replayed keeps its promises
-pub kept_of_wanted : (words : List (List ℕ)) (files : Held) → IfSome (wanted (Some files) words) (OfRows EachKeepsPromises)
+pub kept_of_wanted : (words : List (List ℕ)) (files : HeldByName) → IfSome (wanted (Some files) words) (OfRows EachKeepsPromises)
 kept_of_wanted = of_wanted (OfRows EachKeepsPromises) kept_of_each
 
 -- ## honest senders
@@ -177,7 +177,7 @@ honest_of_each = record {
 }
 
 -- and takes what honest senders show
-pub honest_of_wanted : (words : List (List ℕ)) (files : Held) → IfSome (wanted (Some files) words) (OfRows EachTakesHonest)
+pub honest_of_wanted : (words : List (List ℕ)) (files : HeldByName) → IfSome (wanted (Some files) words) (OfRows EachTakesHonest)
 honest_of_wanted = of_wanted (OfRows EachTakesHonest) honest_of_each
 
 -- ## files
@@ -194,7 +194,7 @@ files_of_each = record {
 }
 
 -- and its files
-pub files_of_wanted : (words : List (List ℕ)) (files : Held) → IfSome (wanted (Some files) words) (OfRows EachKeepsFiles)
+pub files_of_wanted : (words : List (List ℕ)) (files : HeldByName) → IfSome (wanted (Some files) words) (OfRows EachKeepsFiles)
 files_of_wanted = of_wanted (OfRows EachKeepsFiles) files_of_each
 
 -- ## sums
@@ -213,7 +213,7 @@ below_of_each = record {
 }
 
 -- and the sums of an audit are below their limits
-pub below_of_wanted : (words : List (List ℕ)) (files : Held) → IfSome (wanted (Some files) words) AreSumsBelow
+pub below_of_wanted : (words : List (List ℕ)) (files : HeldByName) → IfSome (wanted (Some files) words) AreSumsBelow
 below_of_wanted = of_wanted AreSumsBelow below_of_each
 
 -- ## one end
@@ -285,7 +285,7 @@ module _ (plan : Config) (trace : List ℕ) (rows : List Row) (valid : IsConfig 
     past_audit (BadReport k) p o = absurd o
 
     -- the report of the run decides the others
-    of_text_of : (text : List ℕ) (f : Finding) → HasReport plan rows text → IsFound plan rows report f
+    of_text_of : (text : List ℕ) (f : Finding) → HasReport plan rows text → IsDifference plan rows report f
         → first_difference (report_lines text) (report_lines report) ≡ Some f
     of_text_of text f has found =
         subst (λ (t : List ℕ). first_difference (report_lines t) (report_lines report) ≡ Some f) (one_report plan rows valid found.text text found.has has) found.first
@@ -364,5 +364,5 @@ one_end_of_each = record {
 }
 
 -- what words come to ends in just one way
-pub one_end_of_wanted : (words : List (List ℕ)) (files : Held) → IfSome (wanted (Some files) words) HasOneEnd
+pub one_end_of_wanted : (words : List (List ℕ)) (files : HeldByName) → IfSome (wanted (Some files) words) HasOneEnd
 one_end_of_wanted = of_wanted HasOneEnd one_end_of_each

@@ -8,7 +8,7 @@ use Rattle.tva_run.specs.Report.{IsReport}
 use Rattle.tva.specs.Expected.{Expected, replays, audits, refuses, IsText}
 use Rattle.tva.specs.Parts.{IsCut, WroteCutShort}
 use Rattle.tva_run.specs.Shown.{IsPastLimit}
-use Rattle.tva_audit.specs.Audit.{IsFound}
+use Rattle.tva_audit.specs.Audit.{IsDifference}
 use Rattle.tva_report.specs.declared.differences.Finding.{Finding}
 use Rattle.tva.specs.declared.status.Status as status
 use Rattle.tva.specs.declared.status.Status.TheVariants.{Done, Found, Usage, ReadFault, WriteFault, TooLarge}
@@ -33,8 +33,8 @@ WroteCut old new x = (text : List ℕ) × IsBegunText x text × IsCut old new te
 abbrev pub WrotePart : Option (List ℕ) → Option (List ℕ) → Expected → Type 0
 WrotePart old new x = (new ≡ old) ⊎ WroteCut old new x
 
--- the lines of all windows before the one in which the run passes its number of events are written; an audit then writes
--- nothing
+-- the lines of all windows before the one in which the run passes its number of events are written; an audit then
+-- writes nothing
 abbrev pub WroteLines : ℕ → Option (List ℕ) → Option (List ℕ) → Expected → Type 0
 WroteLines most old new (replays plan trace) =
     (rows : List Row) × AreRows plan trace rows × WroteCutShort plan rows most old new
@@ -44,7 +44,7 @@ WroteLines most old new x = ⊥
 
 -- an audit found a line that differs
 abbrev pub HasFound : Finding → Expected → Type 0
-HasFound f (audits plan trace report) = (rows : List Row) × AreRows plan trace rows × IsFound plan rows report f
+HasFound f (audits plan trace report) = (rows : List Row) × AreRows plan trace rows × IsDifference plan rows report f
 HasFound f x = ⊥
 
 -- ## answers

@@ -3,7 +3,7 @@ use Rattle.std.specs.Prelude.{ℕ, List, [], ◌∷◌, ◌++◌, Option, Some, 
 use Rattle.std.specs.List.{flat_map, join_with_byte}
 use Rattle.tva_base.specs.declared.packet.Grant.{Grant}
 use Rattle.tva_plan.specs.declared.config.Config.{Config}
-use Rattle.tva_lines.specs.Lines.{ended, name_of}
+use Rattle.tva_lines.specs.Lines.{ended, name_of_node}
 use Rattle.tva_sums.specs.Sums.{limit_of}
 use Rattle.tva_audit.specs.declared.routers.RouterSum.{RouterSum}
 
@@ -15,7 +15,7 @@ worst_word (Some worst) = decimal worst.1 ++ codes "/" ++ decimal (limit_of wors
 abbrev pub sum_line : Config → RouterSum → List ℕ
 sum_line config s =
     ended (join_with_byte 32
-    (name_of config s.node ∷ (codes "grants=" ++ decimal s.grants) ∷ (codes "charges=" ++ decimal s.charges)
+    (name_of_node config s.node ∷ (codes "grants=" ++ decimal s.grants) ∷ (codes "charges=" ++ decimal s.charges)
     ∷ (codes "bytes=" ++ decimal s.bytes) ∷ (codes "worst=" ++ worst_word s.worst) ∷ []))
 
 abbrev pub audit_text : Config → List RouterSum → ℕ → List ℕ

@@ -30,8 +30,8 @@ EachKeepsPromises plan rows =
 abbrev pub EachTakesHonest : Config → List Row → Type 0
 EachTakesHonest plan rows = (until : ℕ) (logs : Logs) → IsRunTo plan rows until logs → AreHonestRegular plan logs
 
--- in every such run, up to any time, each receiver delivers the ranges of a transfer in order and once, no more than its
--- file has, and no sender believes more than was delivered
+-- in every such run, up to any time, each receiver delivers the ranges of a transfer in order and once, no more than
+-- its file has, and no sender believes more than was delivered
 abbrev pub EachKeepsFiles : Config → List Row → Type 0
 EachKeepsFiles plan rows = (until : ℕ) (logs : Logs) → IsRunTo plan rows until logs → KeepsFiles plan logs
 

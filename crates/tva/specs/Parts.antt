@@ -2,34 +2,34 @@
 use Rattle.std.specs.Prelude.{◌≡◌, ◌⊎◌, ℕ, List, length, take, IfSome, None, Some, Ok, Err}
 use Rattle.std.specs.declared.option.Option.{Option}
 use Rattle.std.specs.Io.KnownBytes.{append_known}
-use Rattle.tva_outside.specs.Held.{Held}
+use Rattle.tva_outside.specs.Held.{HeldByName}
 use Rattle.tva_plan.specs.declared.config.Config.{Config}
 use Rattle.tva_trace.specs.declared.rows.Row.{Row}
 use Rattle.tva_trace.specs.Meaning.{AreRows}
 use Rattle.tva_net.specs.declared.kinds.NetError.{NetError}
 use Rattle.tva_net.specs.declared.kinds.NetError.TheVariants as error
 use Rattle.tva_report.specs.Lines.{first_bad, report_lines}
-use Rattle.tva_audit.specs.Audit.{HasSums, IsFound as IsDifference}
+use Rattle.tva_audit.specs.Audit.{HasSums, IsDifference}
 use Rattle.tva_audit.specs.declared.routers.RouterSum.{RouterSum}
 use Rattle.tva_audit.specs.declared.audits.AuditError.{AuditError}
 use Rattle.tva_audit.specs.declared.audits.AuditError.TheVariants as audit
 use Rattle.tva.specs.Audit.{audit_text}
-use Rattle.tva.specs.Expected.{Found}
+use Rattle.tva.specs.Expected.{Sought}
 use Rattle.tva_run.specs.Shown.{HasReport, IsBegun, IsCutShort, IsPastLimit}
 use Rattle.tva.specs.declared.status.Status as status
 use Rattle.tva.specs.declared.status.Status.TheVariants.{Done, Found as Differs, ReadFault, WriteFault, TooLarge}
 use Rattle.tva.specs.declared.status.Status.TheVariants.{BadConfig, BadTrace, EventLimit, OutOfMemory, BadReport}
 
 -- that is what is found, where it is told what is held
-abbrev pub IsFound : {A : Type 0} → Option Held → (Held → Found A) → A → Type 0
+abbrev pub IsFound : {A : Type 0} → Option HeldByName → (HeldByName → Sought A) → A → Type 0
 IsFound held search x = IfSome held (λ files. search files ≡ Ok x)
 
 -- these are the rows of a trace that is found
-abbrev pub AreRowsOf : Option Held → (Held → Found (List ℕ)) → Config → List Row → Type 0
+abbrev pub AreRowsOf : Option HeldByName → (HeldByName → Sought (List ℕ)) → Config → List Row → Type 0
 AreRowsOf held search plan rows = (trace : List ℕ) × IsFound held search trace × AreRows plan trace rows
 
 -- why it isn't found: the refusal of what is held, where that is told, or a fault of reading
-abbrev pub IsNotFound : {A : Type 0} → Option (Found A) → Type 0 → status.Status → Type 0
+abbrev pub IsNotFound : {A : Type 0} → Option (Sought A) → Type 0 → status.Status → Type 0
 IsNotFound found rose ReadFault = rose ⊎ (found ≡ Some (Err ReadFault))
 IsNotFound found rose (TooLarge k) = IfSome found (λ x. x ≡ Err (TooLarge k))
 IsNotFound found rose (BadConfig fault) = IfSome found (λ x. x ≡ Err (BadConfig fault))

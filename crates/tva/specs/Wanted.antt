@@ -1,14 +1,14 @@
 -- Product: what words come to, and what may then be said of a run.
 use Rattle.std.specs.Prelude.{◌≡◌, ◌⊎◌, ℕ, List, option_and_then, None, Some}
 use Rattle.std.specs.declared.option.Option.{Option}
-use Rattle.tva_outside.specs.Held.{Held}
+use Rattle.tva_outside.specs.Held.{HeldByName}
 use Rattle.tva.specs.Command.{Command, command_of, shim}
 use Rattle.tva.specs.Expected.{Expected, refuses, told, Ends}
 use Rattle.tva.specs.declared.status.Status as status
 use Rattle.tva.specs.declared.status.Status.TheVariants.{Done, WriteFault, EventLimit, OutOfMemory}
 
 -- what is to come of the words, where they are a command and the shelf tells
-abbrev pub wanted : Option Held → List (List ℕ) → Option Expected
+abbrev pub wanted : Option HeldByName → List (List ℕ) → Option Expected
 wanted held words = option_and_then (told held) (command_of words)
 
 -- words that need no file: they are no command, or that which shows a shim
@@ -34,7 +34,7 @@ abbrev pub SettlesRefusal : status.Status → Expected → Type 0
 SettlesRefusal s (refuses r) = Settles s (refuses r)
 SettlesRefusal s x = Unit {0}
 
--- it is to end in just one way, and no other: a trace that is to be replayed has rows, and their run is within the number of
--- events that it may have, or passes it
+-- it is to end in just one way, and no other: a trace that is to be replayed has rows, and their run is within the
+-- number of events that it may have, or passes it
 abbrev pub HasOneEnd : Expected → Type 0
 HasOneEnd x = (s : status.Status) × Ends s x × ((other : status.Status) → Ends other x → other ≡ s)

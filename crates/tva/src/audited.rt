@@ -4,7 +4,7 @@ ghost use Rattle.std.specs.List.{flat_map};
 ghost use Rattle.tva_outside.specs.Faults.{Rose};
 ghost use Rattle.tva_plan.specs.Valid.{IsConfig};
 ghost use Rattle.tva_report.specs.Lines.{report_lines};
-ghost use Rattle.tva_lines.specs.Lines.{name_of};
+ghost use Rattle.tva_lines.specs.Lines.{name_of_node};
 ghost use Rattle.tva_trace.specs.Valid.{AreTraceRows};
 ghost use Rattle.tva.specs.Audit.{audit_text, sum_line, worst_word};
 ghost use Rattle.tva.specs.Parts.{IsAudited, refused_by};
@@ -129,7 +129,7 @@ fn put_count(word: &str, count: u64, text: &mut Vec<u8>) -> Result<(), AllocErro
 
 // The name of a node.
 fn node_name(plan: &Config, node: u16) -> &[u8]
-    ensures { result.now ≡ name_of plan.now node }
+    ensures { result.now ≡ name_of_node plan.now node }
 {
     match plan.nodes.as_slice().get(usize::from(node)) {
         Some(node) => name_at(node),

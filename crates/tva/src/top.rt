@@ -1,6 +1,6 @@
 // The top call.
 ghost use Rattle.std.specs.Prelude.{◌≡◌, ◌≤◌, ◌⊎◌, ◌↔◌, ℕ, IfSome, length, None, Some};
-ghost use Rattle.tva_outside.specs.Held.{Held};
+ghost use Rattle.tva_outside.specs.Held.{HeldByName};
 ghost use Rattle.tva_outside.specs.Faults.{Rose};
 ghost use Rattle.tva_config_entries.specs.declared.faults.ConfigFault.{ConfigFault};
 ghost use Rattle.tva_report.specs.declared.differences.Finding.{Finding};
@@ -59,8 +59,8 @@ pub fn run<R: Threads + Sync, S: Shelf, W: Sink, G: Gate>(
     // What is written: the whole text, of a replay the report of the run, and of an audit, whose report
     // is that of the run, what its routers let through; with the event limit the lines of all windows
     // before the one that passes it, and nothing by an audit; and always nothing or the first bytes of a
-    // text that is to be written, of a replay the report of the run. That each run has this very report
-    // is said in `laws`.
+    // text that is to be written, of a replay the report of the run. That there is no other report is
+    // a law (`what_is_written_is_of_each_run`).
     ensures done { result ≡ Status.Done →
         IfSome (wanted (S.held shelf.old) (texts words.now)) (WroteAll (W.written out.old) (W.written out.new)) }
     ensures event_limit { (most : ℕ) → result ≡ Status.EventLimit most →
@@ -79,23 +79,23 @@ pub fn run<R: Threads + Sync, S: Shelf, W: Sink, G: Gate>(
     // which the words are to end over them: a trace that is to be replayed has rows, and their run is
     // within its number of events, or passes it. An audited report is that of the run, or has a first
     // line that differs.
-    ensures one_end { (files : Held) → IfSome (wanted (Some files) (texts words.now)) HasOneEnd }
+    ensures one_end { (files : HeldByName) → IfSome (wanted (Some files) (texts words.now)) HasOneEnd }
 
     // The network: in every run of a trace that is to be replayed, or whose report is audited, up to any
     // time, the log of each node keeps its promises at each of its places. Budgets are counted for each
     // router, each of its boots and each grant.
-    ensures network { (files : Held) → IfSome (wanted (Some files) (texts words.now)) (OfRows EachKeepsPromises) }
+    ensures network { (files : HeldByName) → IfSome (wanted (Some files) (texts words.now)) (OfRows EachKeepsPromises) }
 
     // Honest senders, in each such run: what shows a grant is charged and regular at each router to
     // which the path of its host is steady, in a boot of that router.
-    ensures honest { (files : Held) → IfSome (wanted (Some files) (texts words.now)) (OfRows EachTakesHonest) }
+    ensures honest { (files : HeldByName) → IfSome (wanted (Some files) (texts words.now)) (OfRows EachTakesHonest) }
 
     // Files, in each such run: whatever is lost, dropped, demoted, repeated or late, a receiver delivers
     // each range of a transfer once and in order, and its sender never believes more than was delivered.
-    ensures delivered { (files : Held) → IfSome (wanted (Some files) (texts words.now)) (OfRows EachKeepsFiles) }
+    ensures delivered { (files : HeldByName) → IfSome (wanted (Some files) (texts words.now)) (OfRows EachKeepsFiles) }
 
     // Sums: in each whole run of an audited trace no router let a grant have twice its units in one boot.
-    ensures limits { (files : Held) → IfSome (wanted (Some files) (texts words.now)) AreSumsBelow }
+    ensures limits { (files : HeldByName) → IfSome (wanted (Some files) (texts words.now)) AreSumsBelow }
 
     // What stays. Words that need no file leave the shelf as it was, and usage the sink, whatever
     // they are.

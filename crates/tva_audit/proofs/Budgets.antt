@@ -29,7 +29,7 @@ use Rattle.tva_sums.specs.declared.charged.Charged.{Charged}
 use Rattle.tva_sums.specs.declared.pairs.Pair.{Pair}
 use Rattle.tva_sums.specs.Charged.{boot_among, of_boot}
 use Rattle.tva_sums.specs.Pairs.{firsts}
-use Rattle.tva_sums.specs.Sums.{bytes_of_pair, bytes_under, grant_and_sum, is_worse, limit_of, pair_of, pair_sums, pairs_in, same_pair, sums_of, worst_from, worst_of}
+use Rattle.tva_sums.specs.Sums.{bytes_of_pair, charged_bytes, grant_and_sum, is_worse, limit_of, pair_of, pair_sums, pairs_in, same_pair, sums_of, worst_from, worst_of}
 use Rattle.tva_audit.specs.declared.routers.RouterSum.{RouterSum}
 use Rattle.tva_audit.specs.Sums.{IsBelowLimit, run_sums, sum_of_log, without_nonce}
 
@@ -97,19 +97,19 @@ pairs_below restarts cs h =
 
 -- the bytes of a grant in a boot are the same without nonces
 boot_bytes : (plan : RouterPlan) (grant : Grant) (boot : ℕ) (h : List Charge)
-    → sum_by (bytes_under grant) (of_boot plan.restarts boot (map without_nonce h)) ≡ bytes_of grant (charges_of_boot plan boot h)
+    → sum_by (charged_bytes grant) (of_boot plan.restarts boot (map without_nonce h)) ≡ bytes_of grant (charges_of_boot plan boot h)
 boot_bytes plan grant boot [] = refl
 boot_bytes plan grant boot (c ∷ h) =
     let rest = boot_bytes plan grant boot h in
     elim (cases_Bool (boot_at plan c.time == boot)) [
       | inl a ↦
-          ap (sum_by (bytes_under grant)) (filter-true (λ (d : Charged). boot_among plan.restarts d.time.0 == boot) (without_nonce c) (map without_nonce h) a)
-          ∙ sum_by-cons (bytes_under grant) (without_nonce c) (of_boot plan.restarts boot (map without_nonce h))
-          ∙ ap (λ (n : ℕ). bytes_under grant (without_nonce c) + n) rest
+          ap (sum_by (charged_bytes grant)) (filter-true (λ (d : Charged). boot_among plan.restarts d.time.0 == boot) (without_nonce c) (map without_nonce h) a)
+          ∙ sum_by-cons (charged_bytes grant) (without_nonce c) (of_boot plan.restarts boot (map without_nonce h))
+          ∙ ap (λ (n : ℕ). charged_bytes grant (without_nonce c) + n) rest
           ∙ sym (sum_by-cons (flow.bytes_under grant) c (charges_of_boot plan boot h))
           ∙ ap (bytes_of grant) (sym (filter-true (λ (d : Charge). boot_at plan d.time == boot) c h a))
       | inr a ↦
-          ap (sum_by (bytes_under grant)) (filter-false (λ (d : Charged). boot_among plan.restarts d.time.0 == boot) (without_nonce c) (map without_nonce h) a)
+          ap (sum_by (charged_bytes grant)) (filter-false (λ (d : Charged). boot_among plan.restarts d.time.0 == boot) (without_nonce c) (map without_nonce h) a)
           ∙ rest
           ∙ ap (bytes_of grant) (sym (filter-false (λ (d : Charge). boot_at plan d.time == boot) c h a))
     ]
@@ -124,7 +124,7 @@ few_each plan h [] k = tt
 few_each plan h (c ∷ cs) k =
     let same = boot_bytes plan c.grant (boot_at plan c.time) h in
     let below : bytes_of c.grant (charges_of_boot plan (boot_at plan c.time) h) < 2 * (1024 * c.grant.rights.n) = k.0 in
-    let few : sum_by (bytes_under c.grant) (of_boot plan.restarts (boot_at plan c.time) (map without_nonce h)) < 2 * 1024 * c.grant.rights.n = omega (arith, same, below) in
+    let few : sum_by (charged_bytes c.grant) (of_boot plan.restarts (boot_at plan c.time) (map without_nonce h)) < 2 * 1024 * c.grant.rights.n = omega (arith, same, below) in
     (few, few_each plan h cs k.1)
 
 router_below : (plan : RouterPlan) (h : List Charge) → ((boot : ℕ) → All (IsKept plan h boot) (charges_of_boot plan boot h))

@@ -27,14 +27,14 @@ use Rattle.tva_run.specs.Report.{AreEvents, event_node}
 use Rattle.tva_node.specs.States.{NodeState}
 use Rattle.tva_net.specs.Nets.{ByPlace, TellOf}
 use Rattle.tva_sums.specs.declared.charged.Charged.{Charged}
-use Rattle.tva_sums.specs.Charged.{charged, charged_in, charges_in}
+use Rattle.tva_sums.specs.Charged.{charged_at, charged_in, charges_in}
 use Rattle.tva_sums.specs.Sums.{sums_of}
 use Rattle.tva_audit.specs.Sums.{numbered, run_sums, sum_of_log, sum_told, sums_told, without_nonce}
 
 -- ## charges
 
 taken_told : (time : ℕ) (packet : PacketData) (charge : Option Grant)
-    → option_map (charged (at_time time) (packet_length packet)) charge ≡ option_map without_nonce (option_map (parts.charged time packet) charge)
+    → option_map (charged_at (at_time time) (packet_length packet)) charge ≡ option_map without_nonce (option_map (parts.charged time packet) charge)
 taken_told time packet None = refl
 taken_told time packet (Some grant) = refl
 

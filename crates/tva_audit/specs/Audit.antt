@@ -22,18 +22,18 @@ pub record HasSums (config : Config) (rows : List Row) (sums : List RouterSum) :
   pub each : sums ≡ run_sums config logs
 
 -- the run has a report, from which this is the first difference of a text
-pub record IsFound (config : Config) (rows : List Row) (report : List ℕ) (f : Finding) : Type 0 where
+pub record IsDifference (config : Config) (rows : List Row) (report : List ℕ) (f : Finding) : Type 0 where
   pub text : List ℕ
   pub has : HasReport config rows text
   pub first : first_difference (report_lines text) (report_lines report) ≡ Some f
 
--- what an audit of a report answers: its first bad line; else that the run has more events than it may have; else, where
--- it is the report of the run, the sums of its routers, and where it isn't, the first line that differs
+-- what an audit of a report answers: its first bad line; else that the run has more events than it may have; else,
+-- where it is the report of the run, the sums of its routers, and where it isn't, the first line that differs
 abbrev pub IsAudit : Config → List Row → List ℕ → Result Audited AuditError → Type 0
 IsAudit config rows report (Err (BadReport line)) = first_bad report ≡ Some line
 IsAudit config rows report (Err (EventLimit most)) =
     (first_bad report ≡ None) × (most ≡ config.max_events) × IsPastLimit config rows
 IsAudit config rows report (Err OutOfMemory) = first_bad report ≡ None
-IsAudit config rows report (Ok (Differs f)) = (first_bad report ≡ None) × IsFound config rows report f
+IsAudit config rows report (Ok (Differs f)) = (first_bad report ≡ None) × IsDifference config rows report f
 IsAudit config rows report (Ok (Same sums)) =
     (first_bad report ≡ None) × HasReport config rows report × HasSums config rows sums.items

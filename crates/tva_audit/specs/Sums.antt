@@ -14,7 +14,7 @@ use Rattle.tva_run.specs.Reaching.{Logs, log_at}
 use Rattle.tva_node.specs.States.{NodeState}
 use Rattle.tva_sums.specs.declared.charged.Charged.{Charged}
 use Rattle.tva_sums.specs.declared.sums.Sums.{Sums}
-use Rattle.tva_sums.specs.Charged.{charged, charges_in}
+use Rattle.tva_sums.specs.Charged.{charged_at, charges_in}
 use Rattle.tva_sums.specs.Sums.{limit_of, sums_of}
 use Rattle.tva_audit.specs.declared.routers.RouterSum.{RouterSum}
 
@@ -26,7 +26,7 @@ numbered node s =
 
 -- a charge without its nonce
 abbrev pub without_nonce : Charge → Charged
-without_nonce c = charged (at_time c.time) c.length c.grant
+without_nonce c = charged_at (at_time c.time) c.length c.grant
 
 -- the sums of a router with that number and log: over its charges, and by its restarts
 abbrev pub sum_of_log : ℕ → NodePlan → List Entry → Option RouterSum

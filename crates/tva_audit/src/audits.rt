@@ -12,7 +12,7 @@ ghost use Rattle.tva_audit.specs.Deciding.{IsDecided, told_by};
 use crate::lines::step_and_put;
 use crate::routers::{RouterSum, sums};
 use arrayvec::ArrayString;
-use std::alloc::{AllocError, Global};
+use std::alloc::Global;
 use std::thread::Threads;
 use tva_base::Totals;
 use tva_lines::summary_text;

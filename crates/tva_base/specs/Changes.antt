@@ -20,7 +20,8 @@ boot_at plan now = count_by (λ change. has_come now change.0) plan.restarts
 
 -- the master of the last restart that has come, else the router's own
 abbrev pub master_at : RouterPlan → ℕ → List ℕ
-master_at plan now = last_of plan.master (map (λ change. change.1) (filter (λ change. has_come now change.0) plan.restarts))
+master_at plan now =
+    last_of plan.master (map (λ change. change.1) (filter (λ change. has_come now change.0) plan.restarts))
 
 abbrev pub same_prefix : Prefix → Prefix → Bool
 same_prefix a b = (a.bits == b.bits) && (a.address.0 == b.address.0)
@@ -37,9 +38,9 @@ route_at plan now route = record route {
 }
 
 -- a plan with another master and other routes
-abbrev pub changed : List ℕ → List Route → RouterPlan → RouterPlan
-changed master routes plan = record plan { master = master; routes = routes }
+abbrev pub changed_plan : List ℕ → List Route → RouterPlan → RouterPlan
+changed_plan master routes plan = record plan { master = master; routes = routes }
 
 -- the plan that is in force at a time
 unfoldable pub in_force : RouterPlan → ℕ → RouterPlan
-in_force plan now = changed (master_at plan now) (map (route_at plan now) plan.routes) plan
+in_force plan now = changed_plan (master_at plan now) (map (route_at plan now) plan.routes) plan

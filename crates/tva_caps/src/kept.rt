@@ -61,7 +61,8 @@ impl KeptSecret {
         precap_with(&self.secret, second, flow)
     }
 
-    /// The capability with these rights of that pre-capability. It is kept in place of the last one.
+    /// The capability with these rights of the pre-capability that a router with this master mints for the
+    /// flow in that router second. It is kept in place of the last one.
     pub fn capability_at(
         &mut self,
         master: &[u8; 32],
@@ -80,6 +81,7 @@ impl KeptSecret {
             }
         }
         let cap = capability(self.precap_at(master, second, flow), rights);
+        // It is: `precap_at` keeps this master, which its contract doesn't tell.
         if self.master == *master {
             self.last = Some(Good {
                 flow,

@@ -1,6 +1,6 @@
 // Capabilities that are known to be good.
 ghost use Rattle.std.specs.Prelude.{◌≡◌, true, All};
-ghost use Rattle.tva_caps.specs.Known.{IsGood, IsGoodOrNone};
+ghost use Rattle.tva_caps.specs.Known.{IsGood};
 
 use std::alloc::{AllocError, Global};
 use std::marker::Model;
@@ -15,23 +15,33 @@ pub(crate) struct Good {
     pub cap: u64,
 }
 
-/// Capabilities that a router found good, so that one that is shown again isn't hashed again. Contracts see
-/// nothing of it: whatever is known, an answer is the same. Memory is taken when it is made.
+/// A capability that was found good, and after how many restarts.
+#[derive(Clone, Copy)]
+pub(crate) struct Noted {
+    pub boot: u64,
+    pub good: Good,
+}
+
+/// Capabilities that a router found good, so that one that is shown again isn't hashed again. What was noted
+/// before a restart stays in its place, and counts for nothing: so a restart takes one step, however many
+/// places there are. Contracts see nothing of it: whatever is known, an answer is the same. Memory is taken
+/// when it is made.
 #[derive(Drop)]
 pub struct Known {
     master: [u8; 32],
-    places: Vec<Option<Good>>,
+    boot: u64,
+    places: Vec<Option<Noted>>,
 }
 
 impl Model for Known {
     ghost use Rattle.std.specs.Prelude.{All};
-    ghost use Rattle.tva_caps.specs.Known.{IsGoodOrNone};
+    ghost use Rattle.tva_caps.specs.Known.{IsNoted};
 
     ghost Value = { Unit {0} };
 
     ghost view = { λ known. tt };
 
-    ghost invariant = { λ known. All (IsGoodOrNone known.master) known.places.items };
+    ghost invariant = { λ known. All (IsNoted known.master known.boot) known.places.items };
 }
 
 impl Known {
@@ -40,13 +50,19 @@ impl Known {
     pub fn with_places(alloc: Global, master: [u8; 32], count: u32) -> Result<Known, AllocError> {
         Ok(Known {
             master,
+            boot: 0,
             places: vec![in alloc; None; count as usize]?,
         })
     }
 
-    /// The same for another master.
+    /// Forgets all that is known: from now on it is what a router with this master finds good.
     pub fn restart(&mut self, master: [u8; 32]) {
-        self.places.fill(None);
+        if self.boot == u64::MAX {
+            self.places.fill(None);
+            self.boot = 0;
+        } else {
+            self.boot += 1;
+        }
         self.master = master;
     }
 
@@ -58,7 +74,7 @@ impl Known {
             return false;
         }
         match self.places.get(self.place_of(good)) {
-            Some(Some(found)) => *found == *good,
+            Some(Some(found)) => found.boot == self.boot && found.good == *good,
             _ => false,
         }
     }
@@ -69,7 +85,10 @@ impl Known {
     {
         let place = self.place_of(&good);
         if self.master == *master && place < self.places.len() {
-            self.places[place] = Some(good);
+            self.places[place] = Some(Noted {
+                boot: self.boot,
+                good,
+            });
         }
     }
 

@@ -106,6 +106,7 @@ impl Minter {
         self.check_with(now, flow, cap, rights, Some(known))
     }
 
+    // Checks a capability, by what is known where that is handed in.
     #[tactic(auto, unfolding(crate::specs::Check::check_of, crate::specs::Check::checked_at))]
     fn check_with(
         &mut self,

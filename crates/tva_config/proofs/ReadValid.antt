@@ -7,7 +7,7 @@ use Rattle.tva_config.specs.declared.joined.OwnedRoute.{OwnedRoute}
 use Rattle.tva_plan.specs.declared.config.Config.{Config}
 use Rattle.tva_config_entries.specs.declared.faults.ConfigError.{ConfigError}
 use Rattle.tva_config_entries.specs.Faults.{Answers}
-use Rattle.tva_config_entries.specs.Tables.{Entries}
+use Rattle.tva_config_entries.specs.Tables.{ConfigEntries}
 use Rattle.tva_config_entries.specs.Reading.{entries_read}
 use Rattle.tva_config.specs.Nodes.{node_names, node_of}
 use Rattle.tva_config.specs.Links.{link_between, link_step, uplink_step}
@@ -25,7 +25,7 @@ use Rattle.tva_config.proofs.StepsChanges.{restarts_keep, reroutes_keep}
 use Rattle.tva_config.proofs.StepsKeep.{names_are, names_distinct, addresses_are, addresses_distinct, retries_late}
 use Rattle.tva_config_entries.proofs.Turns.{first_gave, when_gave, gave_one, in_turn_long}
 
-abbrev Joins : Entries → Joined → Type 0
+abbrev Joins : ConfigEntries → Joined → Type 0
 Joins e j = Passed e.horizon e.max_events e.routers e.hosts e.links j.links j.uplinks j.owned
 
 -- each entry gives one route
@@ -37,7 +37,7 @@ routes_long routers node links entries routes gave =
     omega (arith, long)
 
 -- what the steps over routes, restarts and changes of routes give
-owned_keep : (routers : ℕ) (node : List ℕ → Option ℕ) (links : List LinkPlan) (e : Entries) (owned : Owned) → All IsRouteEntry e.routes
+owned_keep : (routers : ℕ) (node : List ℕ → Option ℕ) (links : List LinkPlan) (e : ConfigEntries) (owned : Owned) → All IsRouteEntry e.routes
     → owned_of routers node (link_between links) e ≡ Ok owned → AreOwned links owned × (length owned.routes ≡ length e.routes)
 unfolding owned_of
 owned_keep routers node links e owned known gave =
@@ -52,7 +52,7 @@ owned_keep routers node links e owned known gave =
     } in
     subst (λ o. AreOwned links o × (length o.routes ≡ length e.routes)) (gave_one all owned g3) (kept, routes_long routers node links e.routes routes k1)
 
-joined_passed : (e : Entries) (j : Joined) → AreEntries e → joined_of e ≡ Ok j → Joins e j
+joined_passed : (e : ConfigEntries) (j : Joined) → AreEntries e → joined_of e ≡ Ok j → Joins e j
 unfolding joined_of linked_of addresses_of links_of uplinks_of
 joined_passed e j known gave =
     let rs = e.routers in
@@ -94,7 +94,7 @@ joined_passed e j known gave =
     } in
     subst (Joins e) made passed))))))))
 
-plan_valid : (e : Entries) (c : Config) → AreEntries e → plan_of e ≡ Ok c → IsConfig c
+plan_valid : (e : ConfigEntries) (c : Config) → AreEntries e → plan_of e ≡ Ok c → IsConfig c
 unfolding planned_of
 plan_valid e c known gave =
     let (j, joined, last) = first_gave (joined_of e) _ c (plan_staged e ∙ gave) in

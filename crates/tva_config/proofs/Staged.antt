@@ -6,7 +6,7 @@ use Rattle.tva_config_entries.specs.declared.entries.HostEntry.{HostEntry}
 use Rattle.tva_config_entries.specs.declared.faults.ConfigTable.TheVariants as table
 use Rattle.tva_config_entries.specs.declared.faults.ConfigRule.TheVariants as rule
 use Rattle.tva_config_entries.specs.Faults.{Read, ◌>>=◌, at, fault_at, unless, in_turn}
-use Rattle.tva_config_entries.specs.Tables.{Entries}
+use Rattle.tva_config_entries.specs.Tables.{ConfigEntries}
 use Rattle.tva_config_entries.proofs.Staged.{deeper}
 use Rattle.tva_plan.specs.declared.config.Config.{Config}
 use Rattle.tva_plan.specs.declared.config.NodePlan as nodes
@@ -40,7 +40,7 @@ three_of (Ok x) (Ok y) t make f g h same = last_of (t x) (make x y) f g (h x y) 
 three_of (Ok x) (Err fault) t make f g h same = refl
 three_of (Err fault) s t make f g h same = refl
 
-pub plan_staged : (e : Entries) → planned_of e ≡ plan_of e
+pub plan_staged : (e : ConfigEntries) → planned_of e ≡ plan_of e
 unfolding plan_of planned_of joined_of linked_of owned_of config_of names_of addresses_of retries_of links_of uplinks_of routes_of restarts_of reroutes_of slots_of rings_of
 plan_staged e =
     let rs = e.routers in

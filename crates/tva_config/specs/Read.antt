@@ -16,7 +16,7 @@ use Rattle.tva_config.specs.declared.joined.OwnedRoute.{OwnedRoute}
 use Rattle.tva_config.specs.declared.joined.OwnedRestart.{OwnedRestart}
 use Rattle.tva_config.specs.declared.joined.OwnedReroute.{OwnedReroute}
 use Rattle.tva_config_entries.specs.Faults.{Read, ◌>>=◌, at, fault_at, unless, in_turn}
-use Rattle.tva_config_entries.specs.Tables.{Entries}
+use Rattle.tva_config_entries.specs.Tables.{ConfigEntries}
 use Rattle.tva_config_entries.specs.Reading.{entries_read}
 use Rattle.tva_config.specs.Nodes.{node_names, node_of, name_step, address_step, retry_step, all_slots}
 use Rattle.tva_config.specs.Links.{link_between, link_step, uplink_step}
@@ -66,7 +66,7 @@ router_plans links owned number (r ∷ rs) =
     node.Router (router_plan links owned number r) ∷ router_plans links owned (number + 1) rs
 
 -- the plan of the entries, or the first fault between them
-unfoldable pub plan_of : Entries → Read Config
+unfoldable pub plan_of : ConfigEntries → Read Config
 plan_of e = do
   names ← in_turn (name_step (length e.routers)) [] (node_names e.routers e.hosts)
   addresses ← in_turn address_step [] e.hosts

@@ -22,7 +22,7 @@ use Rattle.tva_config.specs.declared.joined.OwnedRoute.{OwnedRoute}
 use Rattle.tva_config.specs.declared.joined.OwnedRestart.{OwnedRestart}
 use Rattle.tva_config.specs.declared.joined.OwnedReroute.{OwnedReroute}
 use Rattle.tva_config_entries.specs.Faults.{Read, ◌>>=◌, at, fault_at, unless, found, in_turn}
-use Rattle.tva_config_entries.specs.Tables.{Entries}
+use Rattle.tva_config_entries.specs.Tables.{ConfigEntries}
 use Rattle.tva_plan.specs.Wiring.{links_from, all_places}
 use Rattle.tva_config.specs.Nodes.{node_names, node_of, name_step, address_step, retry_step, all_slots}
 use Rattle.tva_config.specs.Links.{link_between, link_step, only, uplink_step}
@@ -135,7 +135,7 @@ pub record Joined : Type 0 where
 
 -- the steps over routes, restarts and changes of routes, by the numbers of names and those of links
 -- between nodes
-unfoldable pub owned_of : ℕ → (List ℕ → Option ℕ) → (ℕ → ℕ → Option ℕ) → Entries → Read Owned
+unfoldable pub owned_of : ℕ → (List ℕ → Option ℕ) → (ℕ → ℕ → Option ℕ) → ConfigEntries → Read Owned
 owned_of routers node link e = do
   routes ← routes_of routers node link e.routes
   restarts ← restarts_of routers node e.restarts
@@ -143,7 +143,7 @@ owned_of routers node link e = do
   Ok (record { routes = routes; restarts = restarts; reroutes = reroutes })
 
 -- the steps across tables from the links on, by the numbers of names
-unfoldable pub linked_of : (List ℕ → Option ℕ) → Entries → Read Joined
+unfoldable pub linked_of : (List ℕ → Option ℕ) → ConfigEntries → Read Joined
 linked_of node e = do
   links ← links_of node e.links
   uplinks ← uplinks_of (length e.routers) links e.hosts
@@ -153,7 +153,7 @@ linked_of node e = do
   Ok (record { links = links; uplinks = uplinks; owned = owned })
 
 -- the steps across tables, in their order
-unfoldable pub joined_of : Entries → Read Joined
+unfoldable pub joined_of : ConfigEntries → Read Joined
 joined_of e = do
   names ← names_of e.routers e.hosts
   addresses ← addresses_of e.hosts
@@ -161,7 +161,7 @@ joined_of e = do
   linked_of (node_of names) e
 
 -- the plan of the entries, by these steps
-unfoldable pub planned_of : Entries → Read Config
+unfoldable pub planned_of : ConfigEntries → Read Config
 planned_of e = do
   j ← joined_of e
   Ok (config_of e.horizon e.max_events e.routers e.hosts j.links j.uplinks j.owned)

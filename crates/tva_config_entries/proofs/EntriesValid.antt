@@ -20,7 +20,7 @@ use Rattle.tva_config_entries.specs.Faults.{Read}
 use Rattle.tva_config_entries.specs.Keys.{only_listed, required, optional}
 use Rattle.tva_config_entries.specs.Values as value
 use Rattle.tva_config_entries.specs.Entries.{router_keys, router_of, host_keys, policy_plan_of, host_of, link_keys, row, class_limits, behind_a_tag, limits_of, link_of, route_keys, route_of}
-use Rattle.tva_config_entries.specs.Tables.{entries_of}
+use Rattle.tva_config_entries.specs.Tables.{table_entries}
 use Rattle.tva_config_entries.specs.Stages.{entry_step}
 use Rattle.tva_config_entries.proofs.Ranges.{IsRouterEntry, IsHostEntry, IsLinkEntry, IsRouteEntry}
 use Rattle.tva_plan.specs.Valid.{IsName}
@@ -104,7 +104,7 @@ host_valid version is p ms h gave =
     when_gave IsHostEntry (only_listed p host_keys ms) _ h gave (λ u known g1.
     when_gave IsHostEntry (required p ms (codes "name") (value.written value.name_of)) _ h g1 (λ name k1 g2.
     when_gave IsHostEntry (required p ms (codes "address") (value.written address_of)) _ h g2 (λ address k2 g3.
-    when_gave IsHostEntry (optional p ms (codes "nonce") (value.written value.nonce_of) 1) _ h g3 (λ nonce k3 g4.
+    when_gave IsHostEntry (optional p ms (codes "nonce") (value.written value.hex_nonce_of) 1) _ h g3 (λ nonce k3 g4.
     when_gave IsHostEntry (optional p ms (codes "margin_ns") (value.number 0 1000000000000) 1000000) _ h g4 (λ margin k4 g5.
     when_gave IsHostEntry (optional p ms (codes "retry_ns") (value.number 0 10000000000000) 2000000000) _ h g5 (λ retry k5 g6.
     when_gave IsHostEntry (policy_plan_of version p ms) _ h g6 (λ plan k6 g7.
@@ -120,7 +120,7 @@ host_valid version is p ms h gave =
     let same : made ≡ h = gave_one made h g7 in
     let valid : IsHostEntry made = record {
       name = required_valid IsName (value.written value.name_of) p ms (codes "name") name name_valid k1;
-      nonce = optional_valid (λ k. k < 2 ^ 48) (value.written value.nonce_of) p ms (codes "nonce") 1 nonce nonce_valid one_below k3;
+      nonce = optional_valid (λ k. k < 2 ^ 48) (value.written value.hex_nonce_of) p ms (codes "nonce") 1 nonce nonce_valid one_below k3;
       margin = (number_or 0 1000000000000 1000000 p ms (codes "margin_ns") margin refl k4).1;
       retry = (number_or 0 10000000000000 2000000000 p ms (codes "retry_ns") retry refl k5).1;
       version = is;
@@ -232,7 +232,7 @@ route_valid p ms r gave =
 -- what each entry keeps, all of a table keep
 pub entries_valid : {A : Type 0} (P : A → Type 0) (t : tables.ConfigTable) (entry_of : Place → Members → Read A)
     → ((p : Place) (ms : Members) (x : A) → entry_of p ms ≡ Ok x → P x)
-    → (entries : List Members) (xs : List A) → entries_of t entry_of entries ≡ Ok xs → All P xs
-unfolding entries_of
+    → (entries : List Members) (xs : List A) → table_entries t entry_of entries ≡ Ok xs → All P xs
+unfolding table_entries
 entries_valid P t entry_of each entries xs gave =
     in_turn_keeps (All P) (entry_step t entry_of) (λ done ms x all made. all_push P done x all (each _ ms x made)) [] entries xs (All-nil P) gave

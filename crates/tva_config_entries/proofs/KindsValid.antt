@@ -16,7 +16,7 @@ use Rattle.tva_config_entries.specs.declared.faults.ConfigRule.TheVariants as ru
 use Rattle.tva_config_entries.specs.declared.place.Place.{Place}
 use Rattle.tva_config_entries.specs.Faults.{Read, fault_at, found}
 use Rattle.tva_config_entries.specs.Keys.{keyed, required, optional}
-use Rattle.tva_config_entries.specs.Values.{within, number, written, name_of, number_of_bytes, nonce_of}
+use Rattle.tva_config_entries.specs.Values.{within, number, written, name_of, number_of_bytes, hex_nonce_of}
 use Rattle.tva_plan.specs.Names.{is_name_byte}
 use Rattle.tva_plan.specs.Valid.{IsName}
 use Rattle.tva_config_entries.proofs.Prefixes.{prefix_valid}
@@ -123,6 +123,6 @@ decoded_from text (Ok bytes) n is gave =
     let same : number_of_bytes bytes ≡ n = cc in
     subst (λ m. m < 2 ^ 48) same (six_bytes bytes six small)
 
-pub nonce_valid : (d : Data) (n : ℕ) → written nonce_of d ≡ Some n → n < 2 ^ 48
+pub nonce_valid : (d : Data) (n : ℕ) → written hex_nonce_of d ≡ Some n → n < 2 ^ 48
 nonce_valid d n is =
-    then_gave (λ m. m < 2 ^ 48) nonce_of (as_str d) n (λ text given. decoded_from text (decode_sized text 6) n refl given) is
+    then_gave (λ m. m < 2 ^ 48) hex_nonce_of (as_str d) n (λ text given. decoded_from text (decode_sized text 6) n refl given) is

@@ -7,7 +7,7 @@ use Rattle.tva_config_entries.specs.declared.entries.RouterEntry.{RouterEntry}
 use Rattle.tva_config_entries.specs.declared.entries.HostEntry.{HostEntry}
 use Rattle.tva_config_entries.specs.declared.entries.LinkEntry.{LinkEntry}
 use Rattle.tva_config_entries.specs.declared.entries.RouteEntry.{RouteEntry}
-use Rattle.tva_config_entries.specs.Tables.{Entries}
+use Rattle.tva_config_entries.specs.Tables.{ConfigEntries}
 use Rattle.tva_plan.specs.Valid.{IsName}
 
 -- the ranges of an entry's name and numbers
@@ -34,7 +34,7 @@ abbrev pub IsRouteEntry : RouteEntry → Type 0
 IsRouteEntry r = IsPrefix r.prefix
 
 -- and what all of them keep, with the numbers beside them
-pub record AreEntries (e : Entries) : Type 0 where
+pub record AreEntries (e : ConfigEntries) : Type 0 where
   pub horizon : e.horizon ≤ 1000000000000000
   pub events : (1 ≤ e.max_events) × (e.max_events ≤ 4000000)
   pub nodes : length e.routers + length e.hosts ≤ 1024

@@ -9,7 +9,7 @@ use Rattle.tva_config_entries.specs.Faults.{at, top, fault_at, found, unless}
 use Rattle.tva_config_entries.specs.Keys.{only_listed, required, optional}
 use Rattle.tva_config_entries.specs.Values as value
 use Rattle.tva_config_entries.specs.Entries.{router_of, host_of, link_of, route_of, restart_of, reroute_of}
-use Rattle.tva_config_entries.specs.Tables.{top_keys, entries_of, Entries}
+use Rattle.tva_config_entries.specs.Tables.{top_keys, table_entries, ConfigEntries}
 use Rattle.tva_config_entries.specs.Stages.{Top, top_of, tables_of, counts_of, entry_step, all_entries_of}
 use Rattle.tva_config_entries.specs.Reading.{members_read, document_of, entries_read}
 use Rattle.tva_config_entries.proofs.Ranges.{IsRouterEntry, IsHostEntry, IsLinkEntry, IsRouteEntry, AreEntries}
@@ -52,7 +52,7 @@ counts_valid nodes links routes restarts reroutes gave =
     )
 
 -- what the entries of all tables keep
-record AreRead (t : Top) (e : Entries) : Type 0 where
+record AreRead (t : Top) (e : ConfigEntries) : Type 0 where
   routers : All IsRouterEntry e.routers
   hosts : All IsHostEntry e.hosts
   links : All IsLinkEntry e.links
@@ -62,16 +62,16 @@ record AreRead (t : Top) (e : Entries) : Type 0 where
   routes_long : length e.routes ≡ length t.routes
   numbers : (e.horizon ≡ t.horizon) × (e.max_events ≡ t.max_events)
 
-all_read : (t : Top) (e : Entries) → IsVersion t.version → all_entries_of t ≡ Ok e → AreRead t e
-unfolding all_entries_of entries_of
+all_read : (t : Top) (e : ConfigEntries) → IsVersion t.version → all_entries_of t ≡ Ok e → AreRead t e
+unfolding all_entries_of table_entries
 all_read t e known gave =
-    when_gave (AreRead t) (entries_of table.Router router_of t.routers) _ e gave (λ routers k1 g1.
-    when_gave (AreRead t) (entries_of table.Host (host_of t.version) t.hosts) _ e g1 (λ hosts k2 g2.
-    when_gave (AreRead t) (entries_of table.Link link_of t.links) _ e g2 (λ links k3 g3.
-    when_gave (AreRead t) (entries_of table.Route route_of t.routes) _ e g3 (λ routes k4 g4.
-    when_gave (AreRead t) (entries_of table.Restart restart_of t.restarts) _ e g4 (λ restarts k5 g5.
-    when_gave (AreRead t) (entries_of table.Reroute reroute_of t.reroutes) _ e g5 (λ reroutes k6 g6.
-    let made : Entries = record { horizon = t.horizon; max_events = t.max_events; routers = routers; hosts = hosts; links = links; routes = routes; restarts = restarts; reroutes = reroutes } in
+    when_gave (AreRead t) (table_entries table.Router router_of t.routers) _ e gave (λ routers k1 g1.
+    when_gave (AreRead t) (table_entries table.Host (host_of t.version) t.hosts) _ e g1 (λ hosts k2 g2.
+    when_gave (AreRead t) (table_entries table.Link link_of t.links) _ e g2 (λ links k3 g3.
+    when_gave (AreRead t) (table_entries table.Route route_of t.routes) _ e g3 (λ routes k4 g4.
+    when_gave (AreRead t) (table_entries table.Restart restart_of t.restarts) _ e g4 (λ restarts k5 g5.
+    when_gave (AreRead t) (table_entries table.Reroute reroute_of t.reroutes) _ e g5 (λ reroutes k6 g6.
+    let made : ConfigEntries = record { horizon = t.horizon; max_events = t.max_events; routers = routers; hosts = hosts; links = links; routes = routes; restarts = restarts; reroutes = reroutes } in
     let same : made ≡ e = gave_one made e g6 in
     let n1 = in_turn_long (entry_step table.Router router_of) [] t.routers routers k1 in
     let n2 = in_turn_long (entry_step table.Host (host_of t.version)) [] t.hosts hosts k2 in
@@ -89,7 +89,7 @@ all_read t e known gave =
     } in
     subst (AreRead t) same valid))))))
 
-members_valid : (ms : Members) (e : Entries) → members_read ms ≡ Ok e → AreEntries e
+members_valid : (ms : Members) (e : ConfigEntries) → members_read ms ≡ Ok e → AreEntries e
 members_valid ms e gave =
     when_gave AreEntries (top_of ms) _ e (members_staged ms ∙ gave) (λ t k1 g1.
     when_gave AreEntries (counts_of (length t.routers + length t.hosts) (length t.links) (length t.routes) (length t.restarts) (length t.reroutes)) _ e g1 (λ few k2 g2.
@@ -112,7 +112,7 @@ members_valid ms e gave =
       routes = known.routes;
     }))
 
-pub read_entries_valid : (text : List ℕ) (e : Entries) → entries_read text ≡ Ok e → AreEntries e
+pub read_entries_valid : (text : List ℕ) (e : ConfigEntries) → entries_read text ≡ Ok e → AreEntries e
 unfolding entries_read
 read_entries_valid text e gave =
     when_gave AreEntries (found (document_of text) (fault_at top rule.Syntax (codes "-"))) members_read e gave (λ ms k1 g1. members_valid ms e g1)

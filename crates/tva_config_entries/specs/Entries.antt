@@ -16,7 +16,7 @@ use Rattle.tva_config_entries.specs.declared.entries.RestartEntry.{RestartEntry}
 use Rattle.tva_config_entries.specs.declared.entries.RerouteEntry.{RerouteEntry}
 use Rattle.tva_config_entries.specs.Faults.{Read, ◌>>=◌}
 use Rattle.tva_config_entries.specs.Keys.{only_listed, required, optional}
-use Rattle.tva_config_entries.specs.Values.{number, written, name_of, hex_bytes_of, nonce_of, policy_of, few_items}
+use Rattle.tva_config_entries.specs.Values.{number, written, name_of, hex_bytes_of, hex_nonce_of, policy_of, few_items}
 
 -- the keys of `router`
 abbrev pub router_keys : List (List ℕ)
@@ -60,7 +60,7 @@ host_of version p ms = do
   known ← only_listed p host_keys ms
   name ← required p ms (codes "name") (written name_of)
   address ← required p ms (codes "address") (written address_of)
-  nonce ← optional p ms (codes "nonce") (written nonce_of) 1
+  nonce ← optional p ms (codes "nonce") (written hex_nonce_of) 1
   margin ← optional p ms (codes "margin_ns") (number 0 1000000000000) 1000000
   retry ← optional p ms (codes "retry_ns") (number 0 10000000000000) 2000000000
   plan ← policy_plan_of version p ms

@@ -5,5 +5,5 @@ pub mod Reading
 pub mod Tables
 pub mod Values
 pub mod Words
-pub mod Stages
 pub mod Views
+pub mod Stages

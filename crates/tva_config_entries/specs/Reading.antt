@@ -9,10 +9,10 @@ use Rattle.tva_config_entries.specs.Faults.{Read, ◌>>=◌, top, fault_at, foun
 use Rattle.tva_config_entries.specs.Keys.{only_listed, required, optional}
 use Rattle.tva_config_entries.specs.Values as value
 use Rattle.tva_config_entries.specs.Entries.{router_of, host_of, link_of, route_of, restart_of, reroute_of}
-use Rattle.tva_config_entries.specs.Tables.{top_keys, at_most, entries_of, Entries}
+use Rattle.tva_config_entries.specs.Tables.{top_keys, at_most, table_entries, ConfigEntries}
 
 -- the keys of the top level, the sizes of its tables, and their entries, in the order of their faults
-unfoldable pub members_read : Members → Read Entries
+unfoldable pub members_read : Members → Read ConfigEntries
 members_read ms = do
   known ← only_listed top top_keys ms
   horizon ← required top ms (codes "horizon_ns") (value.number 0 1000000000000000)
@@ -29,12 +29,12 @@ members_read ms = do
   few_routes ← at_most 65536 table.Route (length routes)
   few_restarts ← at_most 65536 table.Restart (length restarts)
   few_reroutes ← at_most 65536 table.Reroute (length reroutes)
-  each_router ← entries_of table.Router router_of routers
-  each_host ← entries_of table.Host (host_of version) hosts
-  each_link ← entries_of table.Link link_of links
-  each_route ← entries_of table.Route route_of routes
-  each_restart ← entries_of table.Restart restart_of restarts
-  each_reroute ← entries_of table.Reroute reroute_of reroutes
+  each_router ← table_entries table.Router router_of routers
+  each_host ← table_entries table.Host (host_of version) hosts
+  each_link ← table_entries table.Link link_of links
+  each_route ← table_entries table.Route route_of routes
+  each_restart ← table_entries table.Restart restart_of restarts
+  each_reroute ← table_entries table.Reroute reroute_of reroutes
   Ok (record {
     horizon = horizon;
     max_events = max_events;
@@ -51,5 +51,5 @@ unfoldable pub document_of : List ℕ → Option Members
 document_of text = if is_utf8 text then parse_document text else None
 
 -- the entries of a text, or its first fault
-unfoldable pub entries_read : List ℕ → Read Entries
+unfoldable pub entries_read : List ℕ → Read ConfigEntries
 entries_read text = found (document_of text) (fault_at top rule.Syntax (codes "-")) >>= members_read

@@ -1,15 +1,17 @@
 -- Kit: the steps of reading, cut as the functions of the code take them.
-use Rattle.std.specs.Prelude.{ℕ, List, [], length, nat_lt, Ok, codes}
+use Rattle.std.specs.Prelude.{ℕ, List, [], length, map, nat_lt, Ok, codes}
 use Rattle.toml.specs.Data.{Members}
+use Rattle.toml.specs.View.{table_view}
 use Rattle.tva_config_entries.specs.declared.faults.ConfigTable as tables
 use Rattle.tva_config_entries.specs.declared.faults.ConfigTable.TheVariants as table
 use Rattle.tva_config_entries.specs.declared.faults.ConfigRule.TheVariants as rule
 use Rattle.tva_config_entries.specs.declared.place.Place.{Place}
+use Rattle.tva_config_entries.specs.declared.top.TopTable.{TopTable}
 use Rattle.tva_config_entries.specs.Faults.{Read, ◌>>=◌, at, top, fault_at, unless}
 use Rattle.tva_config_entries.specs.Keys.{only_listed, required, optional}
 use Rattle.tva_config_entries.specs.Values as value
 use Rattle.tva_config_entries.specs.Entries.{router_of, host_of, link_of, route_of, restart_of, reroute_of}
-use Rattle.tva_config_entries.specs.Tables.{top_keys, entries_of, Entries}
+use Rattle.tva_config_entries.specs.Tables.{top_keys, table_entries, ConfigEntries}
 
 -- what the top level holds
 pub record Top : Type 0 where
@@ -22,6 +24,20 @@ pub record Top : Type 0 where
   pub routes : List Members
   pub restarts : List Members
   pub reroutes : List Members
+
+-- what a top level of the code stands for
+abbrev pub seen_top : TopTable → Top
+seen_top t = record {
+  horizon = t.horizon;
+  max_events = t.max_events;
+  version = t.version;
+  routers = map (λ m. table_view m.now) t.routers.items;
+  hosts = map (λ m. table_view m.now) t.hosts.items;
+  links = map (λ m. table_view m.now) t.links.items;
+  routes = map (λ m. table_view m.now) t.routes.items;
+  restarts = map (λ m. table_view m.now) t.restarts.items;
+  reroutes = map (λ m. table_view m.now) t.reroutes.items;
+}
 
 -- its tables, behind its numbers
 unfoldable pub tables_of : ℕ → ℕ → ℕ → Members → Read Top
@@ -66,14 +82,14 @@ abbrev pub entry_step : {A : Type 0} → tables.ConfigTable → (Place → Membe
 entry_step t entry_of done members = entry_of (at t (length done)) members
 
 -- the entries of all tables, in order
-unfoldable pub all_entries_of : Top → Read Entries
+unfoldable pub all_entries_of : Top → Read ConfigEntries
 all_entries_of t = do
-  routers ← entries_of table.Router router_of t.routers
-  hosts ← entries_of table.Host (host_of t.version) t.hosts
-  links ← entries_of table.Link link_of t.links
-  routes ← entries_of table.Route route_of t.routes
-  restarts ← entries_of table.Restart restart_of t.restarts
-  reroutes ← entries_of table.Reroute reroute_of t.reroutes
+  routers ← table_entries table.Router router_of t.routers
+  hosts ← table_entries table.Host (host_of t.version) t.hosts
+  links ← table_entries table.Link link_of t.links
+  routes ← table_entries table.Route route_of t.routes
+  restarts ← table_entries table.Restart restart_of t.restarts
+  reroutes ← table_entries table.Reroute reroute_of t.reroutes
   Ok (record {
     horizon = t.horizon;
     max_events = t.max_events;

@@ -1,4 +1,4 @@
--- Product: the keys of the top level, how many entries a table may have, and its entries one by one.
+-- Product: the keys of the top level, how many entries there may be, and its entries one by one.
 use Rattle.std.specs.Prelude.{ℕ, List, [], ◌∷◌, length, nat_lt, codes}
 use Rattle.toml.specs.Data.{Members}
 use Rattle.tva_config_entries.specs.declared.faults.ConfigTable as tables
@@ -17,17 +17,17 @@ abbrev pub top_keys : List (List ℕ)
 top_keys = codes "horizon_ns" ∷ codes "max_events" ∷ codes "version"
     ∷ codes "router" ∷ codes "host" ∷ codes "link" ∷ codes "route" ∷ codes "restart" ∷ codes "reroute" ∷ []
 
--- a table has at most so many entries
+-- a count is at most so great, or it is a fault at the first entry of a table
 abbrev pub at_most : ℕ → tables.ConfigTable → ℕ → Read (Unit {0})
 at_most most t count = unless (nat_lt most count) (fault_at (at t 0) rule.Count (codes "-"))
 
 -- the entries of a table, in order
-unfoldable pub entries_of : {A : Type 0} → tables.ConfigTable → (Place → Members → Read A) → List Members
+unfoldable pub table_entries : {A : Type 0} → tables.ConfigTable → (Place → Members → Read A) → List Members
     → Read (List A)
-entries_of t entry_of tables = in_turn (λ done ms. entry_of (at t (length done)) ms) [] tables
+table_entries t entry_of tables = in_turn (λ done ms. entry_of (at t (length done)) ms) [] tables
 
 -- what stands in a configuration: its numbers, and the entries of all tables
-pub record Entries : Type 0 where
+pub record ConfigEntries : Type 0 where
   pub horizon : ℕ
   pub max_events : ℕ
   pub routers : List RouterEntry

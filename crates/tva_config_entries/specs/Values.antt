@@ -38,8 +38,8 @@ abbrev pub number_of_bytes : List ℕ → ℕ
 number_of_bytes bytes = fold (λ n b. n * 256 + b) 0 bytes
 
 -- a nonce: 12 hexadecimal digits
-abbrev pub nonce_of : List ℕ → Option ℕ
-nonce_of text = option_map number_of_bytes (hex_bytes_of 6 text)
+abbrev pub hex_nonce_of : List ℕ → Option ℕ
+hex_nonce_of text = option_map number_of_bytes (hex_bytes_of 6 text)
 
 -- a word of a policy
 abbrev pub policy_of : List ℕ → Option policies.PolicyKind
@@ -59,11 +59,11 @@ items kind no_items = Some []
 items kind (item d ds) = and_first (kind d) (items kind ds)
 
 -- an array of at most 1,024 of a kind
-abbrev pub few : {A : Type 0} → List A → Option (List A)
-few xs = if nat_le (length xs) 1024 then Some xs else None
+abbrev pub short_array : {A : Type 0} → List A → Option (List A)
+short_array xs = if nat_le (length xs) 1024 then Some xs else None
 
 abbrev pub few_items : {A : Type 0} → (Data → Option A) → Data → Option (List A)
-few_items kind d = option_and_then few (option_and_then (items kind) (as_array d))
+few_items kind d = option_and_then short_array (option_and_then (items kind) (as_array d))
 
 -- an array of tables
 abbrev pub tables : Data → Option (List Members)

@@ -2,7 +2,7 @@
 ghost use Rattle.std.specs.Prelude.{◌≡◌, IfOk, map, option_map, option_and_then};
 ghost use Rattle.toml.specs.Data.{as_table};
 ghost use Rattle.toml.specs.View.{view, array_view, table_view};
-ghost use Rattle.tva_config_entries.specs.Values.{items, few, few_items, tables};
+ghost use Rattle.tva_config_entries.specs.Values.{items, short_array, few_items, tables};
 
 use crate::values::Kind;
 use std::alloc::{AllocError, Global};
@@ -40,7 +40,7 @@ fn each<T: Kind>(alloc: Global, array: &Array) -> Result<Option<Vec<T>>, AllocEr
 
 // A list that isn't too long.
 fn few<T: Drop>(found: Option<Vec<T>>) -> Option<Vec<T>>
-    ensures { option_map (λ v. v.items) result ≡ option_and_then few (option_map (λ v. v.items) found) }
+    ensures { option_map (λ v. v.items) result ≡ option_and_then short_array (option_map (λ v. v.items) found) }
 {
     match found {
         Some(list) if list.len() <= FEW => Some(list),

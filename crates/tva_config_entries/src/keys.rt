@@ -168,7 +168,7 @@ pub fn number_or<T: Number>(
 /// A nonce, or the default.
 pub fn nonce_or(place: Place, table: &Table, key: &str, default: u64) -> Result<u64, ConfigFault>
     requires { length key.now ≤ 24 }
-    ensures { result ≡ optional place (table_view table.now) key.now (kind.written kind.nonce_of) default }
+    ensures { result ≡ optional place (table_view table.now) key.now (kind.written kind.hex_nonce_of) default }
 {
     match value_at(table, key) {
         None => Ok(default),

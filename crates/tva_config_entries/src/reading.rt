@@ -2,8 +2,8 @@
 ghost use Rattle.std.specs.Prelude.{◌≡◌, ◌≤◌, ◌+◌, IfOk, length, option_map};
 ghost use Rattle.toml.specs.View.{table_view};
 ghost use Rattle.tva_config_entries.specs.Faults.{AnswersBy};
-ghost use Rattle.tva_config_entries.specs.Stages.{all_entries_of};
-ghost use Rattle.tva_config_entries.specs.Views.{seen_top, seen_entries};
+ghost use Rattle.tva_config_entries.specs.Stages.{all_entries_of, seen_top};
+ghost use Rattle.tva_config_entries.specs.Views.{seen_entries};
 ghost use Rattle.tva_config_entries.specs.Reading.{members_read, document_of, entries_read};
 
 use crate::entries::EntryLists;

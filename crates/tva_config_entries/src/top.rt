@@ -3,9 +3,8 @@ ghost use Rattle.std.specs.Prelude.{◌≡◌, ◌≤◌, ◌+◌, IfOk, OnOk, l
 ghost use Rattle.toml.specs.View.{table_view};
 ghost use Rattle.tva_config_entries.specs.declared.faults.ConfigRule.TheVariants as rule;
 ghost use Rattle.tva_config_entries.specs.Faults.{AnswersBy, at, fault_at};
-ghost use Rattle.tva_config_entries.specs.Tables.{entries_of};
-ghost use Rattle.tva_config_entries.specs.Stages.{top_of, tables_of, counts_of};
-ghost use Rattle.tva_config_entries.specs.Views.{seen_top};
+ghost use Rattle.tva_config_entries.specs.Tables.{table_entries};
+ghost use Rattle.tva_config_entries.specs.Stages.{top_of, tables_of, counts_of, seen_top};
 
 use crate::faults::{ConfigError, ConfigFault, ConfigRule, ConfigTable};
 use crate::keys;
@@ -125,7 +124,7 @@ fn too_many(table: ConfigTable) -> ConfigFault
 }
 
 /// The entries of a table where shims have that version, or the first fault in them.
-#[tactic(auto, unfolding(crate::specs::Tables::entries_of))]
+#[tactic(auto, unfolding(crate::specs::Tables::table_entries))]
 pub fn entries<T: Entry>(
     alloc: Global,
     kind: ConfigTable,
@@ -133,7 +132,7 @@ pub fn entries<T: Entry>(
     tables: &[&Table],
 ) -> Result<Vec<T>, ConfigError>
     requires { length tables.now ≤ 65536 }
-    ensures answer { AnswersBy (λ v. v.items) (entries_of kind (T.entry_of version) (map (λ t. table_view t.now) tables.now)) result }
+    ensures answer { AnswersBy (λ v. v.items) (table_entries kind (T.entry_of version) (map (λ t. table_view t.now) tables.now)) result }
     ensures count { IfOk result (λ v. length v.items ≡ length tables.now) }
 {
     let mut read = Vec::new(alloc);

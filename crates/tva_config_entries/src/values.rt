@@ -5,7 +5,7 @@ ghost use Rattle.std.specs.declared.option.Option.{Option};
 ghost use Rattle.toml.specs.Data.{Data};
 ghost use Rattle.toml.specs.View.{view};
 ghost use Rattle.tva_base.specs.Addresses.{address_of, prefix_of};
-ghost use Rattle.tva_config_entries.specs.Values.{within, number, written, name_of, hex_bytes_of, nonce_of, number_of_bytes, policy_of};
+ghost use Rattle.tva_config_entries.specs.Values.{within, number, written, name_of, hex_bytes_of, hex_nonce_of, number_of_bytes, policy_of};
 ghost use Rattle.tva_plan.specs.Names.{is_name_byte};
 
 use toml::Value;
@@ -160,7 +160,7 @@ fn master_of(text: &str) -> Option<[u8; 32]>
 
 /// 12 hexadecimal digits, of either case, as a number.
 pub fn nonce(value: &Value) -> Option<u64>
-    ensures { result ≡ written nonce_of (view value.now) }
+    ensures { result ≡ written hex_nonce_of (view value.now) }
 {
     match value.as_str() {
         Some(text) => nonce_of(text),
@@ -169,7 +169,7 @@ pub fn nonce(value: &Value) -> Option<u64>
 }
 
 fn nonce_of(text: &str) -> Option<u64>
-    ensures { result ≡ nonce_of text.now }
+    ensures { result ≡ hex_nonce_of text.now }
 {
     match six_bytes(text) {
         Some(bytes) => Some(number_of_bytes(&bytes)),

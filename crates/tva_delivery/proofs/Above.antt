@@ -87,7 +87,7 @@ small n l = omega arith
 
 module _ (config : Config) (logs : Logs) where
   -- no router changes it
-  hands_on : (plan : RouterPlan) (h : List Charge) (links : handling.Logs) (now : ℕ) (from : Option ℕ) (p : PacketData)
+  hands_on : (plan : RouterPlan) (h : List Charge) (links : handling.PortLogs) (now : ℕ) (from : Option ℕ) (p : PacketData)
       → IsTruePacket config logs p → IsTruePacket config logs (handle plan h links now from p).onward
   hands_on plan h links now from p k =
       let o = (handle plan h links now from p).onward in
@@ -244,7 +244,7 @@ module _ (config : Config) (logs : Logs) where
     receipt_true h now q above k =
         either_true (eqb q.flow.dst.0 plan.address.0) (receiving.received site.number plan h now q.flow.src q.carried above) stray
         (reply_true (before_reply plan q.flow.src q.carried h) now q.flow.src
-        (brought_by above (receiving.answer_to plan h.deeds q.flow.src q.carried (claim_in q.carried))) above k)
+        (brought_by above (receiving.answer_to_claim plan h.deeds q.flow.src q.carried (claim_in q.carried))) above k)
         (λ p e. none_true p e)
 
     hosted_true : (before : List Entry) (input : Input) (rest : List Entry)

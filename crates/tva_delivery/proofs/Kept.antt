@@ -19,7 +19,7 @@ use Rattle.tva_plan.specs.declared.config.NodePlan.{NodePlan}
 use Rattle.tva_plan.specs.declared.config.NodePlan.TheVariants as plans
 use Rattle.tva_plan.specs.Valid.{IsConfig}
 use Rattle.tva_transfer.specs.declared.transfers.Transfer.{Transfer}
-use Rattle.tva_transfer.specs.Files.{Act, Filed, Ticked, Came, is_for}
+use Rattle.tva_transfer.specs.Files.{Act, Filed, Ticked, Came, is_addressed_to}
 use Rattle.tva_transfer.specs.Couriers.{Follow, to_from}
 use Rattle.tva_transfer.proofs.History.{HasCome, ranges_came}
 use Rattle.tva_transfer.proofs.Sent.{acked_came, address_is}
@@ -46,7 +46,7 @@ use Rattle.tva_delivery.proofs.Above.{IsAnswer, IsSegment, IsTruePacket, IsTrueU
 
 -- ## what came in at a host is true
 
-heard_by : (home : Address) (p : PacketData) (above : Upper) (b : Bool) → is_for home p ≡ b → (above ≡ Nothing → ⊥)
+heard_by : (home : Address) (p : PacketData) (above : Upper) (b : Bool) → is_addressed_to home p ≡ b → (above ≡ Nothing → ⊥)
     → cond b p.upper Nothing ≡ above
     → (p.flow.dst ≡ home) × (p.upper ≡ above)
 heard_by home p above true own some e = (address_is p.flow.dst home (eqb-true p.flow.dst.0 home.0 own), e)
@@ -77,7 +77,7 @@ module _ (config : Config) (logs : Logs) where
       → IsTrueUpper config logs (to_from home source) above
   come_true home log source above some h come =
       let p = come.packet in
-      let own = heard_by home p above (is_for home p) refl some come.brings in
+      let own = heard_by home p above (is_addressed_to home p) refl some come.brings in
       let flow : p.flow ≡ to_from home source = ap₂ to_from own.0 (address_is p.flow.src source come.from) in
       let packet : IsTruePacket config logs p = at_place IsTrueAct (acts log) come.before (Came p) come.after come.is (true_acts log h) in
       subst (λ (f : Flow). IsTrueUpper config logs f above) flow (subst (IsTrueUpper config logs p.flow) own.1 packet)

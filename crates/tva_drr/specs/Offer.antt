@@ -21,7 +21,8 @@ module _ {T : Type 0} where
   -- `start` where the list was empty, and else with 0
   abbrev pub put : ℕ → ℕ → T → List (Queue T) → List (Queue T)
   put start key item [] = queue key start (item ∷ []) ∷ []
-  put start key item (q ∷ qs) = if q.key == key then queue q.key q.deficit (q.items ++ item ∷ []) ∷ qs else q ∷ put 0 key item qs
+  put start key item (q ∷ qs) =
+      if q.key == key then queue q.key q.deficit (q.items ++ item ∷ []) ∷ qs else q ∷ put 0 key item qs
 
   -- what an offer answers
   abbrev pub offer_answer : (T → ℕ) → Fair T → ℕ → T → Offered T
@@ -31,4 +32,5 @@ module _ {T : Type 0} where
   -- what an offer leaves
   abbrev pub offer_leaves : (T → ℕ) → Fair T → ℕ → T → Fair T
   offer_leaves measure f key item =
-      if lacks_queue f key then f else (if lacks_room measure f key item then f else fair f.limits (put f.limits.quantum key item f.queues))
+      if lacks_queue f key then f
+      else (if lacks_room measure f key item then f else fair f.limits (put f.limits.quantum key item f.queues))

@@ -21,8 +21,8 @@ use Rattle.tva_trace.specs.declared.rows.TraceRule.TheVariants as rule
 use Rattle.tva_trace.specs.declared.said.SaidRow.{SaidRow}
 use Rattle.tva_trace.specs.declared.said.SaidWhat.{SaidWhat}
 use Rattle.tva_trace.specs.declared.said.SaidWhat.TheVariants as say
-use Rattle.tva_trace.specs.Items.{shim_of}
-use Rattle.tva_trace.specs.Rows.{Judged, allowed, behind, demand, field, filed_by, flow_from, has_room, hold, injection_of, is_header, kind_at, kind_of, records_in, row_of, rows_from, rows_under, then_rows, times, what_of}
+use Rattle.tva_trace.specs.Items.{row_shim}
+use Rattle.tva_trace.specs.Rows.{Ruled, allowed, behind, demand, field, filed_by, flow_from, has_room, hold, injection_of, is_header, kind_at, row_kind, records_in, row_of, rows_from, rows_under, then_rows, times, what_of}
 use Rattle.tva_trace.specs.Meaning.{AreRows, Means, MeansWhat}
 use Rattle.tva_trace.specs.Valid.{IsAllowed, IsRow, IsRowWhat, NeverFall}
 use Rattle.tva_promises.proofs.ReadRows.{demanded, headed_by, held, ok_one, ok_rows, when_held}
@@ -58,7 +58,7 @@ injection_at at_host plans k fields w gave =
     when_held Q (demand rule.Src (address_of (field fields 3))) _ w gave (λ src k1 g1.
     when_held Q (demand rule.Dst (address_of (field fields 4))) _ w g1 (λ dst k2 g2.
     when_held Q (demand rule.Payload (decimal_of (field fields 5) 1600)) _ w g2 (λ payload k3 g3.
-    when_held Q (demand rule.Shim (shim_of plans k (flow_from src dst) (field fields 6))) _ w g3 (λ shim k4 g4.
+    when_held Q (demand rule.Shim (row_shim plans k (flow_from src dst) (field fields 6))) _ w g3 (λ shim k4 g4.
     let made : SaidWhat = say.Inject (flow_from src dst) payload shim in
     let at : Q made = tt in
     subst Q (ok_one made w g4) at))))
@@ -92,7 +92,7 @@ kind_by at_host room (Some named) k e = allowed_at at_host room named k e
 kind_allowed : (plans : List NodePlan) (files : ℕ → ℕ) (node : ℕ) (word : List ℕ) (k : kinds.RowKind) → kind_at plans files node word ≡ Some k
     → IsAllowed (is_host plans node) (has_room files node) k
 unfolding kind_at
-kind_allowed plans files node word k e = kind_by (is_host plans node) (has_room files node) (kind_of word) k e
+kind_allowed plans files node word k e = kind_by (is_host plans node) (has_room files node) (row_kind word) k e
 
 at_hosts : (at_host : Bool) (w : SaidWhat) → at_host ≡ true → IsSaidAt at_host w
 at_hosts at_host w e = subst (λ b. IsSaidAt b w) (sym e) (anywhere w)
@@ -147,7 +147,7 @@ behind_one : (config : Config) (last : ℕ) (row : SaidRow) (r : Result (List Sa
 behind_one config last row (Ok rest) said s more gave = subst (AreBehind config last) (ok_rows (row ∷ rest) said gave) (s, more rest refl)
 behind_one config last row (Err fault) said s more gave = absurd (cc)
 
-then_behind : (config : Config) (number last : ℕ) (r : Judged SaidRow) (next : SaidRow → Result (List SaidRow) TraceFault) (said : List SaidRow) → ((row : SaidRow) → r ≡ Ok row → IsSaidBehind config last row)
+then_behind : (config : Config) (number last : ℕ) (r : Ruled SaidRow) (next : SaidRow → Result (List SaidRow) TraceFault) (said : List SaidRow) → ((row : SaidRow) → r ≡ Ok row → IsSaidBehind config last row)
     → ((row : SaidRow) (rest : List SaidRow) → next row ≡ Ok rest → AreBehind config row.time.0 rest) → then_rows number r next ≡ Ok said
     → AreBehind config last said
 then_behind config number last (Err broken) next said own more gave = absurd (cc)

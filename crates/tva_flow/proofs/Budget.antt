@@ -14,7 +14,7 @@ use Rattle.tva_base.specs.Clock.{router_second}
 use Rattle.tva_flow.specs.declared.kept.Entry.{Entry}
 use Rattle.tva_flow.specs.Charges.{Charge, end_of, is_living, restarts, run, same_flow, same_grant, bytes_under, bytes_of, of_flow, living_count}
 use Rattle.tva_flow.specs.Verdicts.{IsAuthorised}
-use Rattle.tva_flow.specs.Stands.{NoneLater, IsNext, AreNext, StandsFor, cache}
+use Rattle.tva_flow.specs.Stands.{NoChargeLater, IsNext, AreNext, StandsFor, cache}
 use Rattle.tva_flow.specs.Budget.{IsWithinSeconds, AreTimely, IsWithinBudget}
 use Rattle.tva_flow.proofs.Same.{by_bool, by_flow, same_is, same_grant-self, same_flow-self}
 use Rattle.tva_flow.proofs.Pushes.{credit, credits, of_flow-push, past-push}
@@ -116,13 +116,13 @@ bytes-of_flow g (c ∷ cs) =
     (λ e. let n : same_grant c.grant g ≡ false = by_bool (same_grant c.grant g) (λ b. b ≡ false) (λ k. absurd (e (ap (λ (z : Grant). z.flow) (same_is c.grant g k)))) (λ k. refl) in
     sum_by-cons (bytes_under g) c cs ∙ (ap (λ b. cond b c.length 0 + bytes_of g cs) n ∙ (zero-add (bytes_of g cs) ∙ bytes-of_flow g cs)))
 
-past-of_flow : (t : ℕ) (f : Flow) (h : List Charge) → NoneLater t h → NoneLater t (of_flow f h)
+past-of_flow : (t : ℕ) (f : Flow) (h : List Charge) → NoChargeLater t h → NoChargeLater t (of_flow f h)
 past-of_flow t f h p = All-filter (λ c. same_flow c.grant.flow f) (λ (c : Charge). c.time ≤ t) h p
 
 timely-of_flow : (o : ℕ) (f : Flow) (h : List Charge) → AreTimely o h → AreTimely o (of_flow f h)
 timely-of_flow o f h p = All-filter (λ c. same_flow c.grant.flow f) (IsTimely o) h p
 
-past-mid : (t : ℕ) (xs : List Charge) (y : Charge) (ys : List Charge) → NoneLater t (xs ++ y ∷ ys) → y.time ≤ t
+past-mid : (t : ℕ) (xs : List Charge) (y : Charge) (ys : List Charge) → NoChargeLater t (xs ++ y ∷ ys) → y.time ≤ t
 past-mid t [] y ys p = All-head (λ (c : Charge). c.time ≤ t) y ys p
 past-mid t (x ∷ xs) y ys p = past-mid t xs y ys (All-tail (λ (c : Charge). c.time ≤ t) x (xs ++ y ∷ ys) p)
 
@@ -156,13 +156,13 @@ ends_by : (g : Grant) (o : ℕ) (c : Charge) → same_grant c.grant g ≡ true �
 ends_by g o c k t = let e = same_is c.grant g k in let q : (c.time + o) / 1000000000 < g.second + g.rights.t = subst (λ (z : Grant). router_second o c.time < z.second + z.rights.t) e t.until in omega arith
 
 -- the budget of one flow, after a charge of the grant
-flow-budget : (o : ℕ) (cs : List Charge) (c : Charge) (g : Grant) → same_grant c.grant g ≡ true → 1 ≤ g.rights.n → NoneLater c.time cs → AreTimely o (cs ++ c ∷ [])
+flow-budget : (o : ℕ) (cs : List Charge) (c : Charge) (g : Grant) → same_grant c.grant g ≡ true → 1 ≤ g.rights.n → NoChargeLater c.time cs → AreTimely o (cs ++ c ∷ [])
     → cond (is_living cs c.time) (bytes_of g (run [] cs)) 0 + c.length ≤ 1024 * g.rights.n → bytes_of g (cs ++ c ∷ []) < 2 * (1024 * g.rights.n)
 flow-budget o cs c g k n p t u =
     let d = split_push cs c in
     let whole : bytes_of g (cs ++ c ∷ []) ≡ bytes_of g d.before + bytes_of g (d.start ∷ d.rest) = ap (bytes_of g) d.whole ∙ sum_by-append (bytes_under g) d.before (d.start ∷ d.rest) in
     let late : bytes_of g (d.start ∷ d.rest) ≤ 1024 * g.rights.n = rw (← d.later_is) (run-within cs c g k u) in
-    let start : d.start.time ≤ c.time = past-mid c.time d.before d.start d.rest (subst (NoneLater c.time) d.whole (past-push c.time cs c p (omega arith))) in
+    let start : d.start.time ≤ c.time = past-mid c.time d.before d.start d.rest (subst (NoChargeLater c.time) d.whole (past-push c.time cs c p (omega arith))) in
     let dead = end_from_dead d.before d.start.time d.dead in
     let w = ends_by g o c k (timely-last o cs c t) in
     let front = timely-front o d.before (d.start ∷ d.rest) (subst (AreTimely o) d.whole t) in

@@ -3,7 +3,7 @@ use Rattle.std.proofs.Common.{◌≡◌, ℕ, ◌+◌, ◌≤◌, true, ◌&&◌
 use Rattle.std.proofs.lemmas.List.Elements.{All-head, All-tail}
 use Rattle.tva_base.specs.declared.packet.Flow.{Flow}
 use Rattle.tva_flow.specs.Charges.{Charge, same_flow, is_living, of_flow, lives, flows, living_count}
-use Rattle.tva_flow.specs.Stands.{NoneLater, IsNext, AreNext}
+use Rattle.tva_flow.specs.Stands.{NoChargeLater, IsNext, AreNext}
 use Rattle.tva_flow.proofs.Same.{by_bool, by_flow}
 use Rattle.tva_flow.proofs.Pushes.{of_flow-push}
 use Rattle.tva_flow.proofs.Steps.{not_living, end_from_dead}
@@ -57,9 +57,9 @@ lives_after h c now f l e =
 
 -- at each time from the last charge on no more flows live than there are slots
 abbrev IsSparse : ℕ → List Charge → Type 0
-IsSparse slots h = (now : ℕ) → NoneLater now h → living_count h now ≤ slots
+IsSparse slots h = (now : ℕ) → NoChargeLater now h → living_count h now ≤ slots
 
-last_time : (now : ℕ) (h : List Charge) (c : Charge) → NoneLater now (h ++ c ∷ []) → c.time ≤ now
+last_time : (now : ℕ) (h : List Charge) (c : Charge) → NoChargeLater now (h ++ c ∷ []) → c.time ≤ now
 last_time now [] c p = All-head (λ (x : Charge). x.time ≤ now) c [] p
 last_time now (d ∷ ds) c p = last_time now ds c (All-tail (λ (x : Charge). x.time ≤ now) d (ds ++ c ∷ []) p)
 
@@ -81,5 +81,5 @@ sparse_all slots offset before [] w a = subst (IsSparse slots) (sym (append-nil 
 sparse_all slots offset before (c ∷ cs) w a =
     subst (IsSparse slots) (append_assoc before (c ∷ []) cs) (sparse_all slots offset (before ++ c ∷ []) cs (sparse-push slots offset before c w a.0) a.1)
 
-pub few : (slots offset : ℕ) (h : List Charge) (now : ℕ) → AreNext slots offset [] h → NoneLater now h → living_count h now ≤ slots
+pub few : (slots offset : ℕ) (h : List Charge) (now : ℕ) → AreNext slots offset [] h → NoChargeLater now h → living_count h now ≤ slots
 few slots offset h now a p = sparse_all slots offset [] h (λ t q. omega arith) a now p

@@ -5,7 +5,7 @@ use Rattle.std.proofs.lemmas.List.Elements.{All-push, All-weaker}
 use Rattle.tva_base.specs.declared.packet.Flow.{Flow}
 use Rattle.tva_base.specs.Credit.{credit_of}
 use Rattle.tva_flow.specs.Charges.{Charge, same_flow, end_of, is_living, restarts, run, last_or, last_charge, of_flow}
-use Rattle.tva_flow.specs.Stands.{NoneLater, IsNext, AreNext}
+use Rattle.tva_flow.specs.Stands.{NoChargeLater, IsNext, AreNext}
 
 abbrev pub credit : Charge → ℕ
 credit c = credit_of c.length c.grant.rights
@@ -51,10 +51,10 @@ of_flow-push f (d ∷ ds) c = rw (of_flow-push f ds c) (elim (same_flow d.grant.
       | false ↦ refl
     ])
 
-pub past-push : (last : ℕ) (h : List Charge) (c : Charge) → NoneLater last h → c.time ≤ last → NoneLater last (h ++ c ∷ [])
+pub past-push : (last : ℕ) (h : List Charge) (c : Charge) → NoChargeLater last h → c.time ≤ last → NoChargeLater last (h ++ c ∷ [])
 past-push last h c p t = All-push (λ (x : Charge). x.time ≤ last) h c p t
 
-pub past-later : (last now : ℕ) (h : List Charge) → last ≤ now → NoneLater last h → NoneLater now h
+pub past-later : (last now : ℕ) (h : List Charge) → last ≤ now → NoChargeLater last h → NoChargeLater now h
 past-later last now h l p = All-weaker (λ (x : Charge). x.time ≤ last) (λ (x : Charge). x.time ≤ now) (λ x q. omega arith) h p
 
 pub next-push : (slots offset : ℕ) (before h : List Charge) (c : Charge) → AreNext slots offset before h → IsNext slots offset (before ++ h) c → AreNext slots offset before (h ++ c ∷ [])

@@ -9,7 +9,7 @@ use Rattle.tva_flow.specs.declared.verdicts.Verdict.{Verdict}
 use Rattle.tva_flow.specs.declared.verdicts.Verdict.TheVariants.{Authorised}
 use Rattle.tva_flow.specs.Charges.{Charge, charge, same_flow, of_flow, last_or, last_charge}
 use Rattle.tva_flow.specs.Verdicts.{list_verdict, nonce_verdict, charged}
-use Rattle.tva_flow.specs.Stands.{NoneLater}
+use Rattle.tva_flow.specs.Stands.{NoChargeLater}
 use Rattle.tva_flow.specs.Budget.{IsWithinSeconds, AreTimely}
 use Rattle.tva_flow.proofs.Rows.{list_rows, held}
 
@@ -34,7 +34,7 @@ later_within : (o time now : ℕ) (g : Grant) → time ≤ now → IsWithinSecon
 later_within o time now g l w u = record { from = (let q = w.from in omega arith); until = u }
 
 -- a grant that a nonce is authorised by is in its seconds, where the charges before were
-pub held-timely : (o : ℕ) (h : List Charge) (now : ℕ) (f : Flow) (nonce bytes : ℕ) (k : Grant) → NoneLater now h → nonce_verdict o h now f nonce bytes ≡ Authorised k → AreTimely o h → IsWithinSeconds o now k
+pub held-timely : (o : ℕ) (h : List Charge) (now : ℕ) (f : Flow) (nonce bytes : ℕ) (k : Grant) → NoChargeLater now h → nonce_verdict o h now f nonce bytes ≡ Authorised k → AreTimely o h → IsWithinSeconds o now k
 held-timely o h now f nonce bytes k p e a =
     let w = held o h now f nonce bytes k e in
     let own : Charge → Type 0 = λ c. IsWithinSeconds o c.time c.grant in
@@ -44,5 +44,5 @@ held-timely o h now f nonce bytes k p e a =
     (last_all past (of_flow f h) w.charge (All-filter (λ c. same_flow c.grant.flow f) past h p) w.is)
     (last_all own (of_flow f h) w.charge (All-filter (λ c. same_flow c.grant.flow f) own h a) w.is) w.until)
 
-pub nonce-timely : (o : ℕ) (h : List Charge) (now : ℕ) (f : Flow) (nonce bytes : ℕ) (r : Verdict) → NoneLater now h → r ≡ nonce_verdict o h now f nonce bytes → AreTimely o h → AreTimely o (h ++ charged r now nonce bytes)
+pub nonce-timely : (o : ℕ) (h : List Charge) (now : ℕ) (f : Flow) (nonce bytes : ℕ) (r : Verdict) → NoChargeLater now h → r ≡ nonce_verdict o h now f nonce bytes → AreTimely o h → AreTimely o (h ++ charged r now nonce bytes)
 nonce-timely o h now f nonce bytes r p t a = timely-charged o h now nonce bytes r a (λ k e. held-timely o h now f nonce bytes k p (sym t ∙ e) a)

@@ -21,7 +21,8 @@ abbrev pub same_flow : Flow → Flow → Bool
 same_flow a b = (a.src.0 == b.src.0) && (a.dst.0 == b.dst.0)
 
 abbrev pub same_grant : Grant → Grant → Bool
-same_grant a b = same_flow a.flow b.flow && (a.rights.n == b.rights.n) && (a.rights.t == b.rights.t) && (a.second == b.second)
+same_grant a b =
+    same_flow a.flow b.flow && (a.rights.n == b.rights.n) && (a.rights.t == b.rights.t) && (a.second == b.second)
 
 -- the charges of a flow among those of a router
 abbrev pub of_flow : Flow → List Charge → List Charge

@@ -1,5 +1,5 @@
--- Kit: entries at their places, each found by its flow and by its end, for the contracts of the functions
--- on them.
+-- Kit: entries at their places, each found by its flow and by a number that is no later than its end, for the
+-- contracts of the functions on them.
 use Rattle.std.specs.Prelude.{◌≡◌, ℕ, ◌+◌, ◌*◌, ◌<◌, ◌≤◌, List, length, slice_index, slice_index_or, Option, Some, None}
 use Rattle.tva_index.specs.Buckets.{Placed, home}
 use Rattle.tva_flow.specs.declared.hash.HashKey.{HashKey}

@@ -57,12 +57,12 @@ pub record IsChargeable (g : Grant) (bytes : ℕ) : Type 0 where
   pub length : (20 ≤ bytes) × (bytes ≤ 2048)
 
 -- no charge is later than that
-abbrev pub NoneLater : ℕ → List Charge → Type 0
-NoneLater time h = All (λ c. c.time ≤ time) h
+abbrev pub NoChargeLater : ℕ → List Charge → Type 0
+NoChargeLater time h = All (λ c. c.time ≤ time) h
 
 -- a charge of such a packet, which is no earlier than the charges before it and authorised over them
 pub record IsNext (slots offset : ℕ) (before : List Charge) (c : Charge) : Type 0 where
-  pub order : NoneLater c.time before
+  pub order : NoChargeLater c.time before
   pub packet : IsChargeable c.grant c.length
   pub authorised : IsAuthorised slots offset before c
 
@@ -74,7 +74,7 @@ AreNext slots offset before (c ∷ cs) = IsNext slots offset before c × AreNext
 -- entries stand for these charges: none is later than the last time, each is the next one after those
 -- before it, each flow is kept by its one entry, and there are at most as many entries as slots
 pub record StandFor (slots offset last : ℕ) (entries : List Entry) (h : List Charge) : Type 0 where
-  pub past : NoneLater last h
+  pub past : NoChargeLater last h
   pub charges : AreNext slots offset [] h
   pub kept : (f : Flow) → IsKept (entry_of f entries) (of_flow f h) last
   pub apart : AreApart entries

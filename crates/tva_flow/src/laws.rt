@@ -4,7 +4,7 @@ ghost use Rattle.tva_flow.specs.declared.verdicts.Verdict.{Verdict};
 ghost use Rattle.tva_flow.specs.declared.verdicts.Verdict.TheVariants.{Authorised};
 ghost use Rattle.tva_flow.specs.Charges.{Charge, living_count};
 ghost use Rattle.tva_flow.specs.Verdicts.{nonce_verdict, charged, is_authorised};
-ghost use Rattle.tva_flow.specs.Stands.{NoneLater, IsNext, AreNext};
+ghost use Rattle.tva_flow.specs.Stands.{NoChargeLater, IsNext, AreNext};
 ghost use Rattle.tva_flow.specs.Budget.{IsWithinSeconds, AreTimely, IsWithinBudget};
 
 /// The charges before any place of a router's list are themselves a list that a router can have, and
@@ -30,7 +30,7 @@ pub fn charges_keep_budgets()
 /// last charge before it on, no more flows live than the cache has slots.
 pub fn living_flows_are_few()
     ensures living { (slots offset : ℕ) (before rest : List Charge) (now : ℕ)
-        → AreNext slots offset [] (before ++ rest) → NoneLater now before
+        → AreNext slots offset [] (before ++ rest) → NoChargeLater now before
         → living_count before now ≤ slots }
 {}
 

@@ -5,10 +5,10 @@ use crate::cache::FlowCache;
 use crate::verdicts::Verdict;
 use cases::CASES;
 use plain::Charges;
-use std::alloc::{AllocError, Global};
+use std::alloc::Global;
 use std::process::Abort;
 use std::test::Fail;
-use tva_base::{Address, Flow, Grant, Rights, SECOND, Time, address};
+use tva_base::{Address, Flow, Grant, Rights, Time, address};
 
 fn crosses<T: Send + Sync>() {}
 

@@ -5,7 +5,7 @@ use Rattle.rand_pcg.specs.Lcg.{Lcg}
 use Rattle.tva_base.specs.declared.plan.HostPlan.{HostPlan}
 use Rattle.tva_plan.specs.declared.config.Config.{Config}
 use Rattle.tva_gen.specs.Hosts.{hosts_in}
-use Rattle.tva_gen.specs.Rows.{rows_from}
+use Rattle.tva_gen.specs.Rows.{drawn_rows}
 use Rattle.tva_gen.specs.Text.{generated, generator_of, header}
 use Rattle.tva_gen.proofs.RowsPut.{with_hosts, without_hosts}
 
@@ -19,7 +19,7 @@ header_alone v hosts config seed count text e none is =
     let same = count_of v hosts (hosts_in config.nodes) e in
     is ∙ without_hosts (hosts_in config.nodes) config.horizon.0 count (generator_of seed) header (omega arith)
 
-pub header_and_rows : {X : Type 0} (v : X → HostPlan) (hosts : List X) (config : Config) (seed count : ℕ) (text all : List ℕ) (g : Lcg) → map v hosts ≡ hosts_in config.nodes → 1 ≤ length hosts → text ≡ header → g ≡ generator_of seed → all ≡ text ++ rows_from config.horizon.0 (map v hosts) count 0 g → all ≡ generated config seed count
+pub header_and_rows : {X : Type 0} (v : X → HostPlan) (hosts : List X) (config : Config) (seed count : ℕ) (text all : List ℕ) (g : Lcg) → map v hosts ≡ hosts_in config.nodes → 1 ≤ length hosts → text ≡ header → g ≡ generator_of seed → all ≡ text ++ drawn_rows config.horizon.0 (map v hosts) count 0 g → all ≡ generated config seed count
 unfolding generated
 header_and_rows v hosts config seed count text all g e some is start put =
     let same = count_of v hosts (hosts_in config.nodes) e in

@@ -21,8 +21,8 @@ draw_at g = record {
 }
 
 -- the state behind four words
-unfoldable pub behind : Lcg → Lcg
-behind g = behind_word (behind_word (behind_word (behind_word g)))
+unfoldable pub state_behind : Lcg → Lcg
+state_behind g = behind_word (behind_word (behind_word (behind_word g)))
 
 -- time grows by less than 100,000 nanoseconds, and not past the horizon
 unfoldable pub later : ℕ → ℕ → RowWords → ℕ

@@ -5,7 +5,7 @@ use Rattle.std.specs.List.{join_with_byte}
 use Rattle.rand_pcg.specs.Lcg.{Lcg}
 use Rattle.tva_base.specs.declared.plan.HostPlan.{HostPlan}
 use Rattle.tva_gen.specs.declared.draw.RowWords.{RowWords}
-use Rattle.tva_gen.specs.Draws.{behind, draw_at, host_number, is_raw, later, payload}
+use Rattle.tva_gen.specs.Draws.{state_behind, draw_at, host_number, is_raw, later, payload}
 use Rattle.tva_gen.specs.Hosts.{address_text}
 
 -- the fields of a row that gives the bytes of a shim, and of one at which its host sends
@@ -30,14 +30,14 @@ line_between time d (Some from) None = []
 line_between time d None to = []
 
 -- the line of a row at a time: each host is the one that its word names
-unfoldable pub line_of : List HostPlan → ℕ → RowWords → List ℕ
-line_of hosts time d =
+unfoldable pub row_line : List HostPlan → ℕ → RowWords → List ℕ
+row_line hosts time d =
     line_between time d (slice_get hosts (host_number (length hosts) d.from))
     (slice_get hosts (host_number (length hosts) d.to))
 
 -- the lines of so many rows behind a time, each drawn from the state behind the row before
-unfoldable pub rows_from : ℕ → List HostPlan → ℕ → ℕ → Lcg → List ℕ
-rows_from horizon hosts zero time g = []
-rows_from horizon hosts (suc n) time g =
+unfoldable pub drawn_rows : ℕ → List HostPlan → ℕ → ℕ → Lcg → List ℕ
+drawn_rows horizon hosts zero time g = []
+drawn_rows horizon hosts (suc n) time g =
     let now = later horizon time (draw_at g) in
-    line_of hosts now (draw_at g) ++ rows_from horizon hosts n now (behind g)
+    row_line hosts now (draw_at g) ++ drawn_rows horizon hosts n now (state_behind g)

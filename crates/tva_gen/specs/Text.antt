@@ -5,7 +5,7 @@ use Rattle.rand_pcg.specs.Pcg.{multiplier_64}
 use Rattle.tva_base.specs.declared.plan.HostPlan.{HostPlan}
 use Rattle.tva_plan.specs.declared.config.Config.{Config}
 use Rattle.tva_gen.specs.Hosts.{hosts_in}
-use Rattle.tva_gen.specs.Rows.{joined, rows_from}
+use Rattle.tva_gen.specs.Rows.{joined, drawn_rows}
 
 -- the names of the fields
 abbrev pub header : List ℕ
@@ -25,5 +25,5 @@ row_count (host ∷ hosts) count = count
 -- the header and the rows, from time 0 on
 unfoldable pub generated : Config → ℕ → ℕ → List ℕ
 generated config seed count =
-    header ++ rows_from config.horizon.0 (hosts_in config.nodes) (row_count (hosts_in config.nodes) count) 0
+    header ++ drawn_rows config.horizon.0 (hosts_in config.nodes) (row_count (hosts_in config.nodes) count) 0
     (generator_of seed)

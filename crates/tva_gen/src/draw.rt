@@ -1,6 +1,6 @@
 // What a row is drawn from.
 ghost use Rattle.std.specs.Prelude.{◌≡◌};
-ghost use Rattle.tva_gen.specs.Draws.{behind, draw_at, is_raw, later, payload};
+ghost use Rattle.tva_gen.specs.Draws.{state_behind, draw_at, is_raw, later, payload};
 
 use rand_core::utils::NextWord;
 use rand_pcg::Lcg64Xsh32;
@@ -16,10 +16,10 @@ pub struct RowWords {
 }
 
 /// Draws the four words of a row.
-#[tactic(auto, unfolding(crate::specs::Draws::draw_at, crate::specs::Draws::behind))]
+#[tactic(auto, unfolding(crate::specs::Draws::draw_at, crate::specs::Draws::state_behind))]
 pub fn draw(words: &mut Lcg64Xsh32) -> RowWords
     ensures draw { result ≡ draw_at words.old }
-    ensures behind { words.new ≡ behind words.old }
+    ensures behind { words.new ≡ state_behind words.old }
 {
     let pause = words.next_word();
     let from = words.next_word();

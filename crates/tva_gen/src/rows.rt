@@ -1,7 +1,7 @@
 // The rows of a generated trace.
 ghost use Rattle.std.specs.Prelude.{◌≡◌, ◌<◌, ◌++◌, ◌∷◌, OnOk, decimal, length, map};
 ghost use Rattle.tva_gen.specs.Hosts.{address_text};
-ghost use Rattle.tva_gen.specs.Rows.{line_of, raw_fields, rows_from, send_fields, joined};
+ghost use Rattle.tva_gen.specs.Rows.{row_line, raw_fields, drawn_rows, send_fields, joined};
 
 use crate::draw::{RowWords, draw, is_raw, later, payload};
 use crate::hosts::{host_at, put_address, put_number};
@@ -18,7 +18,7 @@ pub fn put_rows(
     words: &mut Lcg64Xsh32,
 ) -> Result<(), AllocError>
     requires { 0 < length hosts.now }
-    ensures { OnOk result (text.new.items ≡ text.old.items ++ rows_from horizon (map (λ h. h.now) hosts.now) count 0 words.old) }
+    ensures { OnOk result (text.new.items ≡ text.old.items ++ drawn_rows horizon (map (λ h. h.now) hosts.now) count 0 words.old) }
 {
     let mut time = 0;
     let mut left = count;
@@ -32,7 +32,7 @@ pub fn put_rows(
 }
 
 /// Puts the line of a row.
-#[tactic(auto, unfolding(crate::specs::Rows::line_of))]
+#[tactic(auto, unfolding(crate::specs::Rows::row_line))]
 fn put_line(
     text: &mut Vec<u8>,
     hosts: &[&HostPlan],
@@ -40,7 +40,7 @@ fn put_line(
     draw: RowWords,
 ) -> Result<(), AllocError>
     requires { 0 < length hosts.now }
-    ensures { OnOk result (text.new.items ≡ text.old.items ++ line_of (map (λ h. h.now) hosts.now) time draw) }
+    ensures { OnOk result (text.new.items ≡ text.old.items ++ row_line (map (λ h. h.now) hosts.now) time draw) }
 {
     let from = host_at(hosts, draw.from);
     let to = host_at(hosts, draw.to);

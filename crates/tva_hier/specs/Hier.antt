@@ -28,7 +28,8 @@ module _ {T : Type 0} (measure : T → ℕ) (l : DrrLimits) (inner : ℕ) where
   -- quantum together, so no deficit passes 2 ^ 31
   abbrev pub HasGroupTurn : List (Group T) → Type 0
   HasGroupTurn [] = Unit {0}
-  HasGroupTurn (g ∷ gs) = (head_bytes measure g.queues.queues ≤ g.deficit) × (g.deficit < l.max + l.quantum) × AreGroupsBehind gs
+  HasGroupTurn (g ∷ gs) =
+      (head_bytes measure g.queues.queues ≤ g.deficit) × (g.deficit < l.max + l.quantum) × AreGroupsBehind gs
 
   pub record AreHier (gs : List (Group T)) : Type 0 where
     pub few : length gs ≤ l.queues

@@ -19,7 +19,8 @@ module _ {T : Type 0} where
   -- with the item its queue would hold too many items or bytes, or all queues of all groups too many bytes
   abbrev pub lacks_space : (T → ℕ) → Hier T → ℕ → ℕ → T → Bool
   lacks_space measure h outer inner item =
-      lacks_room measure (fair_of h outer) inner item || nat_lt h.limits.class_bytes (all_group_bytes measure h.groups + measure item)
+      lacks_room measure (fair_of h outer) inner item
+      || nat_lt h.limits.class_bytes (all_group_bytes measure h.groups + measure item)
 
   -- the outer key's fair queues become what `change` makes of them; a new outer key has empty ones and
   -- goes last in the list, with the deficit `start` where the list was empty, and else with 0
@@ -36,10 +37,12 @@ module _ {T : Type 0} where
   -- what an offer answers
   abbrev pub answer_to_offer : (T → ℕ) → Hier T → ℕ → ℕ → T → Offered T
   answer_to_offer measure h outer inner item =
-      if lacks_place h outer inner then NoQueue item else (if lacks_space measure h outer inner item then QueueFull item else Queued)
+      if lacks_place h outer inner then NoQueue item
+      else (if lacks_space measure h outer inner item then QueueFull item else Queued)
 
   -- what an offer leaves
   abbrev pub left_by_offer : (T → ℕ) → Hier T → ℕ → ℕ → T → Hier T
   left_by_offer measure h outer inner item =
       if lacks_place h outer inner then h
-      else (if lacks_space measure h outer inner item then h else hier h.limits h.inner (put_under measure h outer inner item))
+      else if lacks_space measure h outer inner item then h
+      else hier h.limits h.inner (put_under measure h outer inner item)

@@ -15,7 +15,7 @@ use Rattle.tva_sender.specs.Contacts as contact
 use Rattle.tva_sender.specs.Contacts.{Contact, Ask, Taking, taking_in, last_taking, asks, asked_at, time}
 use Rattle.tva_flow.proofs.Same.{and_true}
 use Rattle.tva_honest.specs.Deals.{Deal, Prepared, Granted, Noticed, Coming}
-use Rattle.tva_honest.specs.Paths.{asks_kind, asks_in, ask_in, last_ask, same_id, come_as, ask_coming, ask_came, granted_by, grant_came, rights_in, last_rights}
+use Rattle.tva_honest.specs.Paths.{asks_kind, asks_in, ask_id, last_ask_id, same_id, come_as, ask_coming, ask_came, granted_by, grant_came, rights_in, last_rights}
 use Rattle.tva_honest.proofs.Lists.{some_same}
 use Rattle.tva_honest.proofs.Dealt.{shape_of_kind, shape_in, contact_of}
 
@@ -56,12 +56,12 @@ map_or : {X Y : Type 0} (f : X → Y) (o p : Option X) → option_map f (option_
 map_or f None p = refl
 map_or f (Some x) p = refl
 
-asked_id : (d : Deal) → ask_in d ≡ option_map (λ (a : Asked). a.id) (asked_in d)
+asked_id : (d : Deal) → ask_id d ≡ option_map (λ (a : Asked). a.id) (asked_in d)
 asked_id (Prepared t p) = let a : Asked = record { time = t; id = p.id } in sym (map_cond (λ (x : Asked). x.id) (asks_in p.carried) a)
 asked_id (Granted rights caps) = refl
 asked_id Noticed = refl
 
-pub last_id : (ds : List Deal) → last_ask ds ≡ option_map (λ (a : Asked). a.id) (last_asked ds)
+pub last_id : (ds : List Deal) → last_ask_id ds ≡ option_map (λ (a : Asked). a.id) (last_asked ds)
 last_id [] = refl
 last_id (d ∷ ds) = ap₂ option_or (last_id ds) (asked_id d) ∙ sym (map_or (λ (a : Asked). a.id) (last_asked ds) (asked_in d))
 

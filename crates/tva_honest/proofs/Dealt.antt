@@ -27,7 +27,7 @@ use Rattle.tva_host.specs.History.{History}
 use Rattle.tva_host.specs.Calls.{after_call}
 use Rattle.tva_host.specs.Sending.{is_legacy, shim_of, carried_by, next_shape, next_made, intended, after_intending}
 use Rattle.tva_host.specs.Receiving as receiving
-use Rattle.tva_host.specs.Receiving.{taken_or_ignored, became_of, met_by, claim_in, answer_to, reply_of, after_reply, before_reply, stray, receipt_of, after_receipt, brought_by, body_of}
+use Rattle.tva_host.specs.Receiving.{taken_or_ignored, became_of, met_by, claim_in, answer_to_claim, reply_of, after_reply, before_reply, stray, receipt_of, after_receipt, brought_by, body_of}
 use Rattle.tva_host.proofs.Lengths.{made-length}
 use Rattle.tva_trace.specs.declared.rows.RowWhat.{RowWhat}
 use Rattle.tva_trace.specs.declared.rows.RowWhat.TheVariants.{Send, Inject, File, Tick}
@@ -234,7 +234,7 @@ unfolding receipt_of after_receipt
 receipt_deal number plan h peer now p above =
     let src : Address = p.flow.src in
     let met : History = before_reply plan src p.carried h in
-    let answer : Option ReturnInfo = brought_by above (answer_to plan h.deeds src p.carried (claim_in p.carried)) in
+    let answer : Option ReturnInfo = brought_by above (answer_to_claim plan h.deeds src p.carried (claim_in p.carried)) in
     let r : Receipt = receiving.received number plan h now src p.carried above in
     elim (eqb p.flow.dst.0 plan.address.0) as (λ b. of_peer peer
     (cond b (after_reply plan now src answer above met) h).contacts ≡ of_peer peer h.contacts

@@ -25,7 +25,7 @@ use Rattle.tva_host.specs.History.{History}
 use Rattle.tva_host.specs.Calls.{Call, after_call, history_of}
 use Rattle.tva_host.specs.Sending.{intended, after_intending}
 use Rattle.tva_host.specs.Receiving as receiving
-use Rattle.tva_host.specs.Receiving.{answer_to, claim_in, reply_of, after_reply, before_reply, stray, receipt_of, after_receipt, brought_by, upper_of}
+use Rattle.tva_host.specs.Receiving.{answer_to_claim, claim_in, reply_of, after_reply, before_reply, stray, receipt_of, after_receipt, brought_by, upper_of}
 use Rattle.tva_host.proofs.Calls.{history_of-push}
 use Rattle.tva_host.proofs.Shown.{answer_is_shown, nothing_is_shown}
 use Rattle.tva_plan.specs.declared.config.NodePlan.{NodePlan}
@@ -135,7 +135,7 @@ unfolding receipt_of after_receipt
 receipt_makes number plan h now p above =
     let src : Address = p.flow.src in
     let met : History = before_reply plan src p.carried h in
-    let answer : Option ReturnInfo = brought_by above (answer_to plan h.deeds src p.carried (claim_in p.carried)) in
+    let answer : Option ReturnInfo = brought_by above (answer_to_claim plan h.deeds src p.carried (claim_in p.carried)) in
     elim (eqb p.flow.dst.0 plan.address.0) as (λ b. Replies number h.made (cond b (after_reply plan now src answer above met) h).made
     (packet_in (cond b (receiving.received number plan h now src p.carried above) stray).reply)) [
       | true ↦ reply_makes number plan met now src answer above

@@ -28,8 +28,8 @@ use Rattle.tva_trace.specs.declared.said.SaidShim.{SaidShim}
 use Rattle.tva_trace.specs.declared.said.SaidShim.TheVariants.{Bytes, Built}
 use Rattle.tva_trace.specs.declared.said.SaidWhat.{SaidWhat}
 use Rattle.tva_trace.specs.declared.said.SaidWhat.TheVariants as say
-use Rattle.tva_trace.specs.Items.{hex_number_of, plain_shim, raw_of, shim_of, shown_of}
-use Rattle.tva_trace.specs.Rows.{Judged, behind, demand, field, flow_from, hold, injection_of, is_empty, is_header, kind_at, records_in, row_of, rows_from, rows_under, sending_of, then_rows, what_of, filing_of, ticking_of, positive, filed_by, times}
+use Rattle.tva_trace.specs.Items.{hex_number_of, plain_shim, raw_of, row_shim, shown_of}
+use Rattle.tva_trace.specs.Rows.{Ruled, behind, demand, field, flow_from, hold, injection_of, is_empty, is_header, kind_at, records_in, row_of, rows_from, rows_under, sending_of, then_rows, what_of, filing_of, ticking_of, positive, filed_by, times}
 use Rattle.tva_trace.specs.Meaning.{AreRows, CarriedBy, Means, MeansWhat}
 use Rattle.tva_run.specs.Reaching.{Logs}
 use Rattle.tva_run.specs.Run.{IsRunTo}
@@ -56,8 +56,8 @@ mapped f None s e k = absurd (cc)
 mapped f (Some x) s e k = subst SaysBack (some_same (f x) s e) (k x)
 
 shim_says : (plans : List NodePlan) (k : kinds.RowKind) (flow : Flow) (text : List ℕ) (s : SaidShim)
-    → shim_of plans k flow text ≡ Some s → SaysBack s
-unfolding shim_of
+    → row_shim plans k flow text ≡ Some s → SaysBack s
+unfolding row_shim
 shim_says plans kind.Send flow text s e = absurd (cc)
 shim_says plans kind.File flow text s e = absurd (cc)
 shim_says plans kind.Tick flow text s e = absurd (cc)
@@ -87,11 +87,11 @@ injection_says plans k fields w gave =
     when_held SaysReturn (demand rule.Src (address_of (field fields 3))) _ w gave (λ src k1 g1.
     when_held SaysReturn (demand rule.Dst (address_of (field fields 4))) _ w g1 (λ dst k2 g2.
     when_held SaysReturn (demand rule.Payload (decimal_of (field fields 5) 1600)) _ w g2 (λ payload k3 g3.
-    when_held SaysReturn (demand rule.Shim (shim_of plans k (flow_from src dst) (field fields 6))) _ w g3 (λ shim k4 g4.
+    when_held SaysReturn (demand rule.Shim (row_shim plans k (flow_from src dst) (field fields 6))) _ w g3 (λ shim k4 g4.
     let made : SaidWhat = say.Inject (flow_from src dst) payload shim in
     let says : SaysReturn made =
     shim_says plans k (flow_from src dst) (field fields 6) shim
-    (demanded rule.Shim (shim_of plans k (flow_from src dst) (field fields 6)) shim k4) in
+    (demanded rule.Shim (row_shim plans k (flow_from src dst) (field fields 6)) shim k4) in
     subst SaysReturn (ok_one made w g4) says))))
 
 filing_says : (fields : List (List ℕ)) (w : SaidWhat) → filing_of fields ≡ Ok w → SaysReturn w
@@ -166,7 +166,7 @@ behind_said number row (Ok rest) said s more gave =
     subst (AreSaid number) (ok_rows (row ∷ rest) said gave) ((s.1, k.0), λ l. (let few = k.1 (omega (arith, last)) in omega (arith, few)))
 behind_said number row (Err fault) said s more gave = absurd (cc)
 
-then_said : (number : ℕ) (r : Judged SaidRow) (next : SaidRow → Result (List SaidRow) TraceFault) (said : List SaidRow)
+then_said : (number : ℕ) (r : Ruled SaidRow) (next : SaidRow → Result (List SaidRow) TraceFault) (said : List SaidRow)
     → ((row : SaidRow) → r ≡ Ok row → IsSaid number row)
     → ((row : SaidRow) (rest : List SaidRow) → next row ≡ Ok rest → AreSaid (number + 1) rest) → then_rows number r next ≡ Ok said
     → AreSaid number said

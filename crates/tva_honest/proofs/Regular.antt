@@ -32,7 +32,7 @@ use Rattle.tva_honest.proofs.Authorised.{honest}
 use Rattle.tva_router.specs.declared.judged.Arrival.{Arrival}
 use Rattle.tva_router.specs.declared.judged.Judged.{Judged}
 use Rattle.tva_router.specs.Judging.{Answer, second_of, fresh_for, answer_of, answer_to_checked, answer_to_cap, answer_to_shown, answer_to_nonce, judged, judged_by, judged_kind, judged_shim, judge}
-use Rattle.tva_router.specs.Handling.{Logs, arrival, handle}
+use Rattle.tva_router.specs.Handling.{PortLogs, arrival, handle}
 
 -- ## what comes to a router as it was prepared
 
@@ -155,7 +155,7 @@ judge_regular plan h a carried.Nothing w miles s leads t k = absurd k
 judge_regular plan h a (carried.Malformed size) w miles s leads t k = absurd k
 judge_regular plan h a (carried.Shim shim) w miles s leads t k = shim_regular plan h a shim w miles s leads t k.0 k.1
 
-pub steady_regular : (plan : RouterPlan) (h : List Charge) (logs : Logs) (now : ℕ) (from : Option ℕ) (p : PacketData) (w : Way) (miles : List Mile) (prepared : ℕ) (s : Shape) → p.hops < 32 → LeadsTo plan p.flow w → IsSteady w h miles prepared s (packet_length p) now
+pub steady_regular : (plan : RouterPlan) (h : List Charge) (logs : PortLogs) (now : ℕ) (from : Option ℕ) (p : PacketData) (w : Way) (miles : List Mile) (prepared : ℕ) (s : Shape) → p.hops < 32 → LeadsTo plan p.flow w → IsSteady w h miles prepared s (packet_length p) now
     → ShowsGrant w miles s p.carried → IsRegularBy w miles (handle plan h logs now from p).fate.charge (handle plan h logs now from p).fate.class
 unfolding handle
 steady_regular plan h logs now from p w miles prepared s below leads steady k =

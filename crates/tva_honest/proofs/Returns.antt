@@ -17,7 +17,7 @@ use Rattle.tva_shim.specs.Shims.{IsReturn}
 use Rattle.tva_shim.specs.Packets.{PacketData, made_packet, upper_size}
 use Rattle.tva_shim.specs.Shows.{back_in}
 use Rattle.tva_flow.specs.Charges.{Charge}
-use Rattle.tva_policy.specs.Grants.{Deed, is_granted, decision}
+use Rattle.tva_policy.specs.Grants.{Deed, is_granted, grant_decision}
 use Rattle.tva_sender.specs.declared.shape.Shape.{Shape}
 use Rattle.tva_router.specs.Handling as handling
 use Rattle.tva_router.specs.Handling.{handle}
@@ -27,7 +27,7 @@ use Rattle.tva_host.specs.History.{History}
 use Rattle.tva_host.specs.Calls.{history_of}
 use Rattle.tva_host.specs.Sending.{is_legacy, shim_of, carried_by, next_shape, intended}
 use Rattle.tva_host.specs.Receiving as receiving
-use Rattle.tva_host.specs.Receiving.{ClaimData, shows_grant, is_nothing, notice_for, granted, answer_to, claim_in, reply_of, before_reply, stray, receipt_of, brought_by}
+use Rattle.tva_host.specs.Receiving.{ClaimData, shows_grant, is_nothing, notice_for, granted, answer_to_claim, claim_in, reply_of, before_reply, stray, receipt_of, brought_by}
 use Rattle.tva_plan.specs.declared.config.Config.{Config}
 use Rattle.tva_plan.specs.declared.config.NodePlan.{NodePlan}
 use Rattle.tva_plan.specs.declared.config.NodePlan.TheVariants as plans
@@ -67,7 +67,7 @@ same_back (carried.Shim a) _ k = absurd k
 same_back (carried.Malformed a) (carried.Malformed b) k = refl
 same_back (carried.Malformed a) _ k = absurd k
 
-hands_on : (plan : RouterPlan) (h : List Charge) (logs : handling.Logs) (now : ℕ) (from : Option ℕ) (p : PacketData) → Returns p
+hands_on : (plan : RouterPlan) (h : List Charge) (logs : handling.PortLogs) (now : ℕ) (from : Option ℕ) (p : PacketData) → Returns p
     → Returns (handle plan h logs now from p).onward
 hands_on plan h logs now from p k =
     subst (IsReturn 2) (sym
@@ -133,16 +133,16 @@ notice_returns (carried.Shim shim) =
 notice_returns (carried.Malformed size) = tt
 
 decided_rights : (plan : HostPlan) (deeds : List Deed) (src : Address) (tags : List ℕ) → AreSomeRights plan.policy.rights
-    → IfSome (decision plan.policy deeds src tags) AreSomeRights
+    → IfSome (grant_decision plan.policy deeds src tags) AreSomeRights
 decided_rights plan deeds src tags k =
     elim (is_granted plan.policy deeds src tags) as (λ b. IfSome
     (cond b (Some plan.policy.rights) None) AreSomeRights) [ true ↦ k | false ↦ tt ]
 
 answer_returns : (plan : HostPlan) (deeds : List Deed) (src : Address) (c : Carried) (claim : Option ClaimData)
-    → AreSomeRights plan.policy.rights → IfSome (answer_to plan deeds src c claim) (IsReturn 2)
+    → AreSomeRights plan.policy.rights → IfSome (answer_to_claim plan deeds src c claim) (IsReturn 2)
 answer_returns plan deeds src c None k = notice_returns c
 answer_returns plan deeds src c (Some claim) k =
-    granted_returns (decision plan.policy deeds src claim.tags) claim.precaps (decided_rights plan deeds src claim.tags k)
+    granted_returns (grant_decision plan.policy deeds src claim.tags) claim.precaps (decided_rights plan deeds src claim.tags k)
 
 brought_returns : (above : Upper) (answer : Option ReturnInfo) → IfSome answer (IsReturn 2) → IfSome (brought_by above answer) (IsReturn 2)
 brought_returns above (Some back) k = k
@@ -160,7 +160,7 @@ receipt_returns : (number : ℕ) (plan : HostPlan) (h : History) (now : ℕ) (p 
 unfolding receipt_of
 receipt_returns number plan h now p above k =
     let src : Address = p.flow.src in
-    let answer : Option ReturnInfo = answer_to plan h.deeds src p.carried (claim_in p.carried) in
+    let answer : Option ReturnInfo = answer_to_claim plan h.deeds src p.carried (claim_in p.carried) in
     elim (eqb p.flow.dst.0 plan.address.0) as (λ b. IfSome (cond b (receiving.received number plan h now src p.carried above) stray).reply
     (λ (made : Made). Returns made.packet)) [
       | true ↦ reply_returns number plan (before_reply plan src p.carried h) now src (brought_by above answer) above

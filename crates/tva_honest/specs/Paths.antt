@@ -49,15 +49,15 @@ asks_in carried.Nothing = false
 asks_in (carried.Shim shim) = if shim.demoted then false else asks_kind shim.kind
 asks_in (carried.Malformed size) = false
 
--- the identity of the last ask among these deals
-abbrev pub ask_in : Deal → Option PacketId
-ask_in (Prepared time packet) = if asks_in packet.carried then Some packet.id else None
-ask_in (Granted rights caps) = None
-ask_in Noticed = None
+-- the identity of an ask, and that of the last one among these deals
+abbrev pub ask_id : Deal → Option PacketId
+ask_id (Prepared time packet) = if asks_in packet.carried then Some packet.id else None
+ask_id (Granted rights caps) = None
+ask_id Noticed = None
 
-abbrev pub last_ask : List Deal → Option PacketId
-last_ask [] = None
-last_ask (d ∷ ds) = option_or (last_ask ds) (ask_in d)
+abbrev pub last_ask_id : List Deal → Option PacketId
+last_ask_id [] = None
+last_ask_id (d ∷ ds) = option_or (last_ask_id ds) (ask_id d)
 
 abbrev pub same_id : PacketId → PacketId → Bool
 same_id a b = (a.node == b.node) && (a.ordinal == b.ordinal)
@@ -68,7 +68,7 @@ come_as seen id = find (λ x. same_id x.packet.id id) seen
 
 -- how the last ask among these deals came to the router, and when
 abbrev pub ask_coming : List Coming → List Deal → Option Coming
-ask_coming seen before = option_and_then (come_as seen) (last_ask before)
+ask_coming seen before = option_and_then (come_as seen) (last_ask_id before)
 
 abbrev pub ask_came : List Coming → List Deal → Option ℕ
 ask_came seen before = option_map (λ x. x.time) (ask_coming seen before)
@@ -83,7 +83,7 @@ abbrev pub grant_came : List Coming → List Deal → List Deal → Option ℕ
 grant_came seen before [] = None
 grant_came seen before (d ∷ ds) = option_or (grant_came seen (before ++ d ∷ []) ds) (granted_by seen before d)
 
--- the rights of the last grant among these deals
+-- the rights of a grant, and those of the last one among these deals
 abbrev pub rights_in : Deal → Option Rights
 rights_in (Prepared time packet) = None
 rights_in (Granted rights caps) = Some rights
@@ -139,8 +139,8 @@ pub record ComesInTime (host : HostPlan) (delay : ℕ) (own : List Deal) (x : Co
 
 -- so came one that shows a grant, behind the last ask before the last grant, and a capability that it points at is the
 -- one minted for that ask with the master that is in force as it comes
-pub record ComesSteadily (host : HostPlan) (router : RouterPlan) (delay : ℕ) (own : List Deal) (seen : List Coming) (x : Coming)
-    : Type 0 where
+pub record ComesSteadily (host : HostPlan) (router : RouterPlan) (delay : ℕ) (own : List Deal) (seen : List Coming)
+    (x : Coming) : Type 0 where
   pub in_time : ComesInTime host delay own x
   pub behind : IfSome (grant_came seen [] in_time.before) (λ came. came ≤ x.time)
   pub minted : IfSome (grant_came seen [] in_time.before)

@@ -7,7 +7,7 @@ use Rattle.tva_base.specs.declared.packet.Upper.{Upper}
 use Rattle.tva_base.specs.declared.plan.HostPlan.{HostPlan}
 use Rattle.tva_shim.specs.declared.packets.Carried.{Carried}
 use Rattle.tva_shim.specs.Packets.{PacketData}
-use Rattle.tva_policy.specs.Grants.{Decided, decision}
+use Rattle.tva_policy.specs.Grants.{Decided, grant_decision}
 use Rattle.tva_policy.specs.Notes as policy
 use Rattle.tva_base.specs.declared.event.WhatKind.{WhatKind}
 use Rattle.tva_base.specs.declared.event.BackKind.{BackKind}
@@ -17,19 +17,19 @@ use Rattle.tva_host.specs.declared.made.Receipt.{Receipt}
 use Rattle.tva_host.specs.History.{History}
 use Rattle.tva_host.specs.Stands.{HostData, Keeps}
 use Rattle.tva_shim.specs.Shows.{back_in}
-use Rattle.tva_host.specs.Receiving.{ClaimData, became_of, what_of, reply_of, claim_in, decided_on, answer_to, brought_by, after_answer, after_reply, before_reply, stray, received, receipt_of, after_receipt}
+use Rattle.tva_host.specs.Receiving.{ClaimData, became_of, what_came, reply_of, claim_in, decided_on, answer_to_claim, brought_by, after_answer, after_reply, before_reply, stray, received, receipt_of, after_receipt}
 use Rattle.tva_host.proofs.Standing.{noted, keeps-deed}
 
 -- the policy decided on a claim
 pub keeps-answer : (v : HostData) (notes : policy.Notes) (h : History) (src : Address) (carries : Carried) (claim : ClaimData) (rights : Option Rights)
-    → Keeps v h → Some claim ≡ claim_in carries → rights ≡ decision v.plan.policy h.deeds src claim.tags
+    → Keeps v h → Some claim ≡ claim_in carries → rights ≡ grant_decision v.plan.policy h.deeds src claim.tags
     → policy.StandsFor v.plan.policy notes (h.deeds ++ Decided src (is_some rights) ∷ [])
     → Keeps (noted notes v) (after_answer v.plan src carries h)
 keeps-answer v notes h src carries claim rights k claims decides more =
-    let decided : policy.StandsFor v.plan.policy notes (h.deeds ++ Decided src (is_some (decision v.plan.policy h.deeds src claim.tags)) ∷ []) =
+    let decided : policy.StandsFor v.plan.policy notes (h.deeds ++ Decided src (is_some (grant_decision v.plan.policy h.deeds src claim.tags)) ∷ []) =
     subst (λ (o : Option Rights). policy.StandsFor v.plan.policy notes (h.deeds ++ Decided src (is_some o) ∷ [])) decides more in
     subst (λ (o : Option ClaimData). Keeps (noted notes v) (record h { deeds = h.deeds ++ decided_on v.plan h.deeds src o })) claims
-    (keeps-deed v notes (Decided src (is_some (decision v.plan.policy h.deeds src claim.tags))) h k decided)
+    (keeps-deed v notes (Decided src (is_some (grant_decision v.plan.policy h.deeds src claim.tags))) h k decided)
 
 -- a packet for another host
 pub receipt-stray : (node : ℕ) (plan : HostPlan) (h : History) (now : ℕ) (p : PacketData) (above : Upper) → eqb p.flow.dst.0 plan.address.0 ≡ false → stray ≡ receipt_of node plan h now p above
@@ -46,7 +46,7 @@ unfolding receipt_of
 receipt-here node plan h now p above here = rw here refl
 
 pub keeps-here : (plan : HostPlan) (v : HostData) (h : History) (now : ℕ) (p : PacketData) (above : Upper) → eqb p.flow.dst.0 plan.address.0 ≡ true
-    → Keeps v (after_reply plan now p.flow.src (brought_by above (answer_to plan h.deeds p.flow.src p.carried (claim_in p.carried))) above (before_reply plan p.flow.src p.carried h))
+    → Keeps v (after_reply plan now p.flow.src (brought_by above (answer_to_claim plan h.deeds p.flow.src p.carried (claim_in p.carried))) above (before_reply plan p.flow.src p.carried h))
     → Keeps v (after_receipt plan h now p above)
 unfolding after_receipt
 keeps-here plan v h now p above here k = rw here k
@@ -56,10 +56,10 @@ told what back reply = record { what = what; back = back; reply = reply }
 
 -- the parts of a receipt, one by one
 pub receipt-received : (node : ℕ) (plan : HostPlan) (h : History) (now : ℕ) (src : Address) (carries : Carried) (what : WhatKind) (back : BackKind) (answer : Option ReturnInfo) (above : Upper) (reply : Option Made)
-    → what ≡ what_of carries → back ≡ became_of plan.version h.contacts src (back_in carries) → answer ≡ brought_by above (answer_to plan h.deeds src carries (claim_in carries))
+    → what ≡ what_came carries → back ≡ became_of plan.version h.contacts src (back_in carries) → answer ≡ brought_by above (answer_to_claim plan h.deeds src carries (claim_in carries))
     → reply ≡ reply_of node plan (before_reply plan src carries h) now src answer above
     → told what back reply ≡ received node plan h now src carries above
 receipt-received node plan h now src carries what back answer above reply is became answers replies =
     ap (λ (w : WhatKind). told w back reply) is
-    ∙ ap (λ (b : BackKind). told (what_of carries) b reply) became
-    ∙ ap (told (what_of carries) (became_of plan.version h.contacts src (back_in carries))) (replies ∙ ap (λ (o : Option ReturnInfo). reply_of node plan (before_reply plan src carries h) now src o above) answers)
+    ∙ ap (λ (b : BackKind). told (what_came carries) b reply) became
+    ∙ ap (told (what_came carries) (became_of plan.version h.contacts src (back_in carries))) (replies ∙ ap (λ (o : Option ReturnInfo). reply_of node plan (before_reply plan src carries h) now src o above) answers)

@@ -16,10 +16,10 @@ use Rattle.tva_sender.specs.Played.{IsUpTo, NoneLater, IsNext, IsPlayed}
 use Rattle.tva_sender.specs.Book.{of_peer}
 use Rattle.tva_sender.proofs.Playing.{none-later, none-push, next-push, next-prepared}
 use Rattle.tva_sender.proofs.Standing.{each-more}
-use Rattle.tva_host.specs.History.{History, beginning, with_deed, offered}
+use Rattle.tva_host.specs.History.{History, beginning, with_deed, next_nonce}
 use Rattle.tva_host.specs.Sending.{next_shape, with_made, after_intending}
 use Rattle.tva_shim.specs.Shows.{back_in}
-use Rattle.tva_host.specs.Receiving.{met_by, claim_in, answer_to, brought_by, body_of, after_reply, before_reply, after_receipt}
+use Rattle.tva_host.specs.Receiving.{met_by, claim_in, answer_to_claim, brought_by, body_of, after_reply, before_reply, after_receipt}
 use Rattle.tva_host.specs.Calls.{Call, Intended, Injected, Received, after_call, history_of, last_time, NeverFall}
 use Rattle.tva_host.proofs.Calls.{history_from}
 
@@ -45,7 +45,7 @@ made plan h now dst body k =
     let shape = next_shape plan h now dst body in
     let same : now ≤ now = omega arith in
     more plan now h.contacts dst (Prepared now shape (length_of plan.version shape body)) k
-    (next-prepared plan.margin plan.retry plan.version now (of_peer dst h.contacts) now body (offered plan h) shape same (k.times dst) refl) same
+    (next-prepared plan.margin plan.retry plan.version now (of_peer dst h.contacts) now body (next_nonce plan h) shape same (k.times dst) refl) same
 
 -- return info was taken or ignored
 taken : (plan : HostPlan) (time : ℕ) (contacts : List (Address × Contact)) (src : Address) (rights : Rights) (caps : List ℕ) (opens : Bool) → takes plan.version (of_peer src contacts) rights ≡ opens
@@ -73,7 +73,7 @@ unfolding after_receipt
 receiving plan h now p above k =
     let before = before_reply plan p.flow.src p.carried h in
     let heard : ArePlayed plan now before.contacts = met plan now h.contacts p.flow.src (back_in p.carried) k in
-    let answer = brought_by above (answer_to plan h.deeds p.flow.src p.carried (claim_in p.carried)) in
+    let answer = brought_by above (answer_to_claim plan h.deeds p.flow.src p.carried (claim_in p.carried)) in
     elim (eqb p.flow.dst.0 plan.address.0) as (λ b. ArePlayed plan now (cond b (after_reply plan now p.flow.src answer above before) h).contacts)
     [ true ↦ replied plan before now p.flow.src answer above heard | false ↦ k ]
 

@@ -8,7 +8,7 @@ use Rattle.tva_base.specs.declared.plan.HostPlan.{HostPlan}
 use Rattle.tva_shim.specs.declared.kinds.ReturnInfo.{ReturnInfo}
 use Rattle.tva_shim.specs.Packets.{PacketData}
 use Rattle.tva_host.specs.History.{History}
-use Rattle.tva_host.specs.Receiving.{brought_by, reply_of, upper_of, claim_in, answer_to, before_reply, received, stray, receipt_of}
+use Rattle.tva_host.specs.Receiving.{brought_by, reply_of, upper_of, claim_in, answer_to_claim, before_reply, received, stray, receipt_of}
 
 brought : (node : ℕ) (plan : HostPlan) (h : History) (now : ℕ) (src : Address) (answer : Option ReturnInfo) (above : Upper)
     → upper_of (reply_of node plan h now src (brought_by above answer) above) ≡ above
@@ -27,18 +27,18 @@ pub answer_is_shown : (node : ℕ) (plan : HostPlan) (h : History) (now : ℕ) (
     → upper_of (receipt_of node plan h now p above).reply ≡ above
 unfolding receipt_of
 answer_is_shown node plan h now p above here =
-    rw here (brought node plan (before_reply plan p.flow.src p.carried h) now p.flow.src (answer_to plan h.deeds p.flow.src p.carried (claim_in p.carried)) above)
+    rw here (brought node plan (before_reply plan p.flow.src p.carried h) now p.flow.src (answer_to_claim plan h.deeds p.flow.src p.carried (claim_in p.carried)) above)
 
 -- where there is nothing to answer, the reply has no upper part
 pub nothing_is_shown : (node : ℕ) (plan : HostPlan) (h : History) (now : ℕ) (p : PacketData) → upper_of (receipt_of node plan h now p upper.Nothing).reply ≡ upper.Nothing
 unfolding receipt_of
 nothing_is_shown node plan h now p =
     elim (eqb p.flow.dst.0 plan.address.0) as (λ b. upper_of (cond b (received node plan h now p.flow.src p.carried upper.Nothing) stray).reply ≡ upper.Nothing)
-    [ true ↦ brought node plan (before_reply plan p.flow.src p.carried h) now p.flow.src (answer_to plan h.deeds p.flow.src p.carried (claim_in p.carried)) upper.Nothing | false ↦ refl ]
+    [ true ↦ brought node plan (before_reply plan p.flow.src p.carried h) now p.flow.src (answer_to_claim plan h.deeds p.flow.src p.carried (claim_in p.carried)) upper.Nothing | false ↦ refl ]
 
 -- each reply has it
 pub reply_is_shown : (node : ℕ) (plan : HostPlan) (h : History) (now : ℕ) (p : PacketData) (above : Upper) → IfSome (receipt_of node plan h now p above).reply (λ made. made.packet.upper ≡ above)
 unfolding receipt_of
 reply_is_shown node plan h now p above =
     elim (eqb p.flow.dst.0 plan.address.0) as (λ b. IfSome (cond b (received node plan h now p.flow.src p.carried above) stray).reply (λ made. made.packet.upper ≡ above))
-    [ true ↦ brings node plan (before_reply plan p.flow.src p.carried h) now p.flow.src (brought_by above (answer_to plan h.deeds p.flow.src p.carried (claim_in p.carried))) above | false ↦ tt ]
+    [ true ↦ brings node plan (before_reply plan p.flow.src p.carried h) now p.flow.src (brought_by above (answer_to_claim plan h.deeds p.flow.src p.carried (claim_in p.carried))) above | false ↦ tt ]

@@ -12,7 +12,7 @@ use Rattle.tva_sender.proofs.Taking.{taken_fits}
 use Rattle.tva_shim.specs.declared.kinds.ReturnInfo.{ReturnInfo}
 use Rattle.tva_shim.specs.declared.kinds.ReturnInfo.TheVariants as backs
 use Rattle.tva_shim.specs.Shims.{IsReturn}
-use Rattle.tva_policy.specs.Grants.{Deed, Sent, decision, is_granted}
+use Rattle.tva_policy.specs.Grants.{Deed, Sent, grant_decision, is_granted}
 use Rattle.tva_policy.specs.Notes as policy
 use Rattle.tva_sender.specs.declared.shape.Shape.{Shape}
 use Rattle.tva_sender.specs.Contacts.{Contact, Prepared, Taken, takes}
@@ -131,7 +131,7 @@ keeps-sent v notes dst h (Ok x) k more = keeps-deed v notes (Sent dst) h k (more
 keeps-sent v notes dst h (Err e) k more = tt
 
 -- the rights that a policy decides on are those of its plan
-pub rights-fit : (version : ℕ) (plan : PolicyPlan) (d : List Deed) (src : Address) (tags : List ℕ) (rights : Option Rights) → AreRights version plan.rights → rights ≡ decision plan d src tags
+pub rights-fit : (version : ℕ) (plan : PolicyPlan) (d : List Deed) (src : Address) (tags : List ℕ) (rights : Option Rights) → AreRights version plan.rights → rights ≡ grant_decision plan d src tags
     → IfSome rights (AreRights version)
 rights-fit version plan d src tags rights fits e =
     subst (λ (o : Option Rights). IfSome o (AreRights version)) (sym e) (elim (is_granted plan d src tags) as (λ b. IfSome (cond b (Some plan.rights) None) (AreRights version)) [ true ↦ fits | false ↦ tt ])

@@ -37,5 +37,5 @@ with_prepared version now dst shape body h = record h {
 
 -- the nonce that is offered next: the plan's, and one more for each packet that was prepared, in 48
 -- bits
-abbrev pub offered : HostPlan → History → ℕ
-offered plan h = (plan.nonce + h.prepared) % 2 ^ 48
+abbrev pub next_nonce : HostPlan → History → ℕ
+next_nonce plan h = (plan.nonce + h.prepared) % 2 ^ 48

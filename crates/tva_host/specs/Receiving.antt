@@ -22,7 +22,7 @@ use Rattle.tva_shim.specs.Changes.{nonzero_tags}
 use Rattle.tva_shim.specs.Layout.{return_size}
 use Rattle.tva_shim.specs.Packets.{PacketData, upper_size}
 use Rattle.tva_caps.specs.Formula.{capability_of}
-use Rattle.tva_policy.specs.Grants.{Deed, Decided, decision}
+use Rattle.tva_policy.specs.Grants.{Deed, Decided, grant_decision}
 use Rattle.tva_sender.specs.Contacts.{Contact, Taken, Notice, takes}
 use Rattle.tva_sender.specs.Book.{of_peer}
 use Rattle.tva_host.specs.declared.made.Made.{Made}
@@ -57,9 +57,9 @@ what_kind (kinds.Request entries) = what.Request
 what_kind (kinds.Renewal shown) = what.Renewal
 what_kind _ = what.Regular
 
-abbrev pub what_of : Carried → WhatKind
-what_of (carried.Shim shim) = if shim.demoted then what.Demoted else what_kind shim.kind
-what_of _ = what.Legacy
+abbrev pub what_came : Carried → WhatKind
+what_came (carried.Shim shim) = if shim.demoted then what.Demoted else what_kind shim.kind
+what_came _ = what.Legacy
 
 -- a packet's claim on a grant: the tags that are judged, and the pre-capabilities
 pub record ClaimData : Type 0 where
@@ -100,13 +100,14 @@ granted None precaps = None
 granted (Some rights) precaps = Some (backs.Grant rights (map (λ p. capability_of p rights) precaps))
 
 -- third, what the host answers: to a claim, by its policy
-abbrev pub answer_to : HostPlan → List Deed → Address → Carried → Option ClaimData → Option ReturnInfo
-answer_to plan deeds src carries None = notice_for carries
-answer_to plan deeds src carries (Some claim) = granted (decision plan.policy deeds src claim.tags) claim.precaps
+abbrev pub answer_to_claim : HostPlan → List Deed → Address → Carried → Option ClaimData → Option ReturnInfo
+answer_to_claim plan deeds src carries None = notice_for carries
+answer_to_claim plan deeds src carries (Some claim) =
+    granted (grant_decision plan.policy deeds src claim.tags) claim.precaps
 
 abbrev pub decided_on : HostPlan → List Deed → Address → Option ClaimData → List Deed
 decided_on plan deeds src None = []
-decided_on plan deeds src (Some claim) = Decided src (is_some (decision plan.policy deeds src claim.tags)) ∷ []
+decided_on plan deeds src (Some claim) = Decided src (is_some (grant_decision plan.policy deeds src claim.tags)) ∷ []
 
 abbrev pub after_answer : HostPlan → Address → Carried → History → History
 after_answer plan src carries h = record h { deeds = h.deeds ++ decided_on plan h.deeds src (claim_in carries) }
@@ -149,10 +150,10 @@ before_reply plan src carries h = after_answer plan src carries (after_back plan
 -- what a host tells of a packet for it
 abbrev pub received : ℕ → HostPlan → History → ℕ → Address → Carried → Upper → Receipt
 received node plan h now src carries above = record {
-  what = what_of carries;
+  what = what_came carries;
   back = became_of plan.version h.contacts src (back_in carries);
   reply = reply_of node plan (before_reply plan src carries h) now src
-      (brought_by above (answer_to plan h.deeds src carries (claim_in carries))) above;
+      (brought_by above (answer_to_claim plan h.deeds src carries (claim_in carries))) above;
 }
 
 -- the receipt of a packet with an upper part that is to be answered, over what the host did and met
@@ -164,6 +165,6 @@ unfoldable pub after_receipt : HostPlan → History → ℕ → PacketData → U
 after_receipt plan h now p above =
     if p.flow.dst.0 == plan.address.0
     then after_reply plan now p.flow.src
-    (brought_by above (answer_to plan h.deeds p.flow.src p.carried (claim_in p.carried))) above
+    (brought_by above (answer_to_claim plan h.deeds p.flow.src p.carried (claim_in p.carried))) above
     (before_reply plan p.flow.src p.carried h)
     else h

@@ -24,7 +24,7 @@ use Rattle.tva_sender.specs.declared.shape.Shape.TheVariants as shapes
 use Rattle.tva_sender.specs.Shapes.{shape_of}
 use Rattle.tva_sender.specs.Book.{of_peer}
 use Rattle.tva_host.specs.declared.made.Made.{Made}
-use Rattle.tva_host.specs.History.{History, with_deed, with_packet, with_prepared, offered}
+use Rattle.tva_host.specs.History.{History, with_deed, with_packet, with_prepared, next_nonce}
 
 -- what is told of a shape
 abbrev pub kind_shown_of : Shape → ShapeKind
@@ -39,14 +39,14 @@ is_legacy shapes.Legacy = true
 is_legacy _ = false
 
 -- what is held of a grant, for the first router to check
-abbrev pub shown_of : Held → Shown
-shown_of held = record { nonce = held.nonce; pointer = 0; rights = held.rights; caps = held.caps }
+abbrev pub held_shown : Held → Shown
+held_shown held = record { nonce = held.nonce; pointer = 0; rights = held.rights; caps = held.caps }
 
 -- the kind of a packet in that shape: what shows nothing is a request, which has no entries yet
 abbrev pub kind_of : Shape → Kind
-kind_of (shapes.List held) = kinds.List (shown_of held)
+kind_of (shapes.List held) = kinds.List (held_shown held)
 kind_of (shapes.NonceOnly nonce) = kinds.Nonce nonce
-kind_of (shapes.Renewal held) = kinds.Renewal (shown_of held)
+kind_of (shapes.Renewal held) = kinds.Renewal (held_shown held)
 kind_of _ = kinds.Request []
 
 -- the shim of that version of a packet in that shape with return info, marked where the shape shows nothing
@@ -75,7 +75,7 @@ next_packet node h flow payload carries = next_with node h flow payload carries 
 -- the shape of the next packet for a peer, with a body of so many bytes
 abbrev pub next_shape : HostPlan → History → ℕ → Address → ℕ → Shape
 next_shape plan h now dst body =
-    shape_of plan.margin plan.retry plan.version (of_peer dst h.contacts) now body (offered plan h)
+    shape_of plan.margin plan.retry plan.version (of_peer dst h.contacts) now body (next_nonce plan h)
 
 -- the next packet of the host for a peer, in that shape
 abbrev pub next_made : ℕ → HostPlan → History → Address → ℕ → Carried → Upper → Shape → Made

@@ -4,7 +4,7 @@ use Rattle.tva_base.specs.declared.plan.HostPlan.{HostPlan}
 use Rattle.tva_base.specs.Ordinals.{ordinal_behind}
 use Rattle.tva_policy.specs.Notes as policy
 use Rattle.tva_sender.specs.Book as sender
-use Rattle.tva_host.specs.History.{History, offered}
+use Rattle.tva_host.specs.History.{History, next_nonce}
 use Rattle.tva_host.specs.Calls.{Call, history_of, last_time, NeverFall}
 
 -- a host: its node's number, its plan, the ordinal of its next packet, the nonce that it offers next,
@@ -26,7 +26,7 @@ host_data node plan next offered last notes book =
 -- behind its packets, and the nonce that is offered next is the one after those that were offered
 pub record Keeps (v : HostData) (h : History) : Type 0 where
   pub next : v.next ≡ ordinal_behind h.made
-  pub offered : v.offered ≡ offered v.plan h
+  pub offered : v.offered ≡ next_nonce v.plan h
   pub margin : v.sender.margin ≡ v.plan.margin
   pub retry : v.sender.retry ≡ v.plan.retry
   pub version : v.sender.version ≡ v.plan.version

@@ -9,7 +9,7 @@ ghost use Rattle.tva_policy.specs.Grants.{Sent};
 ghost use Rattle.tva_sender.specs.Showable.{IsShowable};
 ghost use Rattle.tva_host.specs.History.{History, with_deed, with_packet, with_prepared};
 ghost use Rattle.tva_host.specs.Sending.{next_packet, next_with, next_shape, intended};
-ghost use Rattle.tva_host.specs.Receiving.{taken_or_ignored, became_of, after_back, claim_in, answer_to, after_answer, brought_by, body_of, reply_of, after_reply, receipt_of};
+ghost use Rattle.tva_host.specs.Receiving.{taken_or_ignored, became_of, after_back, claim_in, answer_to_claim, after_answer, brought_by, body_of, reply_of, after_reply, receipt_of};
 ghost use Rattle.tva_host.specs.Calls.{Call, Intended, Injected, Received, history_of};
 ghost use Rattle.tva_host.specs.Stands.{Keeps, StandsFor, with_room, at_time};
 
@@ -324,7 +324,7 @@ impl Host {
         carried: &Carried,
     ) -> Result<Option<ReturnInfo>, AllocError>
         ensures answer { (h : History) → Keeps self.old h
-            → IfOk result (λ answer. answer ≡ answer_to self.old.plan h.deeds src carried.now (claim_in carried.now)) }
+            → IfOk result (λ answer. answer ≡ answer_to_claim self.old.plan h.deeds src carried.now (claim_in carried.now)) }
         ensures keeps { (h : History) → Keeps self.old h
             → IfOk result (λ answer. Keeps self.new (after_answer self.old.plan src carried.now h)) }
         ensures fits { IfOk result (λ answer. IfSome answer (IsReturn self.old.plan.version)) }

@@ -4,7 +4,7 @@ ghost use Rattle.tva_base.specs.Versions.{IsVersion};
 ghost use Rattle.tva_shim.specs.Shims.{IsKind, IsShown, IsReturn};
 ghost use Rattle.tva_shim.specs.Packets.{IsCarried};
 ghost use Rattle.tva_sender.specs.Showable.{IsShowable, IsShowableHeld};
-ghost use Rattle.tva_host.specs.Sending.{kind_shown_of, is_legacy, shown_of, kind_of, shim_of, carried_by};
+ghost use Rattle.tva_host.specs.Sending.{kind_shown_of, is_legacy, held_shown, kind_of, shim_of, carried_by};
 
 use tva_base::ShapeKind;
 use tva_sender::{Held, Shape};
@@ -36,7 +36,7 @@ fn is_legacy(shape: &Shape) -> bool
 }
 
 fn shown_of(held: Held) -> Shown
-    ensures shown { result ≡ shown_of held }
+    ensures shown { result ≡ held_shown held }
     ensures fits { (version : ℕ) → IsShowableHeld version held → IsShown version result }
 {
     let Held {

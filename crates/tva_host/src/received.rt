@@ -6,7 +6,7 @@ ghost use Rattle.tva_shim.specs.Shims.{IsReturn};
 ghost use Rattle.tva_shim.specs.Changes.{nonzero_tags};
 ghost use Rattle.tva_shim.specs.Layout.{return_size};
 ghost use Rattle.tva_caps.specs.Formula.{capability_of};
-ghost use Rattle.tva_host.specs.Receiving.{what_kind, what_of, claim_of, claim_in, shows_grant, is_nothing, notice_for, granted, stray, brought_by};
+ghost use Rattle.tva_host.specs.Receiving.{what_kind, what_came, claim_of, claim_in, shows_grant, is_nothing, notice_for, granted, stray, brought_by};
 ghost use Rattle.tva_host.specs.Claims.{claim_view};
 
 use crate::made::Receipt;
@@ -36,7 +36,7 @@ pub fn stray() -> Receipt
 
 /// What a host takes a packet for by what it carries.
 pub fn what_of(carried: &Carried) -> WhatKind
-    ensures { result ≡ what_of carried.now }
+    ensures { result ≡ what_came carried.now }
 {
     match carried {
         Carried::Nothing | Carried::Malformed(_) => WhatKind::Legacy,

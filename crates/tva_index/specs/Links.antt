@@ -1,6 +1,16 @@
 -- Kit: the chains of places in buckets, for the invariant and the contracts of the functions on them.
-use Rattle.std.specs.Prelude.{◌≡◌, ℕ, ◌<◌, ◌≤◌, List, length, slice_index_or, slice_set, Option, Some, None}
+use Rattle.std.specs.Prelude.{◌≡◌, ℕ, zero, suc, ◌<◌, ◌≤◌, List, length, slice_index_or, slice_set, Option, Some, None}
 use Rattle.tva_index.specs.Buckets.{home, IsLastBelow}
+
+-- where a step leads: its code is one more than the place, or 0
+abbrev pub step_to : ℕ → Option ℕ
+step_to zero = None
+step_to (suc place) = Some place
+
+-- the code of a step
+abbrev pub step_code : Option ℕ → ℕ
+step_code None = zero
+step_code (Some place) = suc place
 
 -- each chain has the places of its bucket, from the last to the first
 pub record AreLinked (last before homes : List (Option ℕ)) : Type 0 where

@@ -16,7 +16,7 @@ pub struct Buckets {
 }
 
 impl Model for Buckets {
-    ghost use Rattle.std.specs.Prelude.{length};
+    ghost use Rattle.std.specs.Prelude.{◌^◌, ◌<◌, length};
     ghost use Rattle.tva_index.specs.Buckets.{Placed, placed};
     ghost use Rattle.tva_index.specs.Links.{AreLinked};
 
@@ -24,7 +24,8 @@ impl Model for Buckets {
 
     ghost view = { λ a. placed (length a.links.last.items) a.links.homes.items };
 
-    ghost invariant = { λ a. AreLinked a.links.last.items a.links.before.items a.links.homes.items };
+    ghost invariant = { λ a. AreLinked a.links.last.items a.links.before.items a.links.homes.items
+        × (length a.links.homes.items < 2 ^ 32) × (length a.links.last.items < 2 ^ 32) };
 }
 
 impl Buckets {
@@ -41,7 +42,7 @@ impl Buckets {
         requires { bucket < self.now.count }
         ensures { IsLastBelow self.now.homes (length self.now.homes) bucket result }
     {
-        self.links.last[bucket as usize]
+        self.links.last[bucket as usize].place()
     }
 
     /// The last place before this one in the bucket that it is in.
@@ -50,7 +51,7 @@ impl Buckets {
         ensures { (b : ℕ) → home self.now.homes place ≡ Some b
             → IsLastBelow self.now.homes place b result }
     {
-        self.links.before[place as usize]
+        self.links.before[place as usize].place()
     }
 
     /// Puts a place into a bucket, out of the one that it was in.

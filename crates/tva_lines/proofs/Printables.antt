@@ -34,7 +34,7 @@ use Rattle.tva_plan.specs.declared.config.NodePlan.{NodePlan}
 use Rattle.tva_plan.specs.Names.{is_name_byte, name_at}
 use Rattle.tva_plan.specs.Valid.{IsConfig, IsName}
 use Rattle.tva_lines.specs.Words.{class_word, cause_word, drop_word, shape_word, what_word, back_word}
-use Rattle.tva_lines.specs.Lines.{name_of, name_before, name_behind, id_word, from_word, outcome_word, cause_or_dash, reply_word, range_words, happened_words, text_of_event, text_of_totals}
+use Rattle.tva_lines.specs.Lines.{name_of_node, name_before, name_behind, id_word, from_word, outcome_word, cause_or_dash, reply_word, range_words, happened_words, text_of_event, text_of_totals}
 
 abbrev IsPlain : List ℕ → Type 0
 IsPlain text = All IsPrintable text
@@ -159,10 +159,10 @@ named [] number are = none
 named (p ∷ ps) zero are = name_plain (name_at p) (All-head IsName (name_at p) (map name_at ps) are).bytes
 named (p ∷ ps) (suc number) are = named ps number (All-tail IsName (name_at p) (map name_at ps) are)
 
-node_plain : (config : Config) (number : ℕ) → IsConfig config → IsPlain (name_of config number)
+node_plain : (config : Config) (number : ℕ) → IsConfig config → IsPlain (name_of_node config number)
 node_plain config number valid = named config.nodes number valid.named
 
-end_plain : (config : Config) (l : Option LinkPlan) (at : LinkPlan → ℕ) → IsConfig config → IsPlain (option_map_or (λ l. name_of config (at l)) l [])
+end_plain : (config : Config) (l : Option LinkPlan) (at : LinkPlan → ℕ) → IsConfig config → IsPlain (option_map_or (λ l. name_of_node config (at l)) l [])
 end_plain config None at valid = none
 end_plain config (Some l) at valid = node_plain config (at l) valid
 
@@ -176,8 +176,8 @@ behind_plain config link valid = end_plain config (slice_get config.links link) 
 
 id_plain : (config : Config) (id : PacketId) → IsConfig config → IsPlain (id_word config id)
 id_plain config id valid =
-    both (name_of config id.node ++ codes "#") (decimal id.ordinal)
-    (both (name_of config id.node) (codes "#") (node_plain config id.node valid) (tested (codes "#") refl)) (decimal_plain id.ordinal)
+    both (name_of_node config id.node ++ codes "#") (decimal id.ordinal)
+    (both (name_of_node config id.node) (codes "#") (node_plain config id.node valid) (tested (codes "#") refl)) (decimal_plain id.ordinal)
 
 from_plain : (config : Config) (from : Option ℕ) → IsConfig config → IsPlain (from_word config from)
 from_plain config None valid = tested (codes "trace") refl
@@ -277,7 +277,7 @@ happened_plain config Ticked valid = (tested (codes "tick") refl, tt)
 
 pub event_printable : (config : Config) (event : Event) → IsConfig config → All IsPrintable (text_of_event config event)
 event_printable config event valid =
-    joined 32 (omega arith, omega arith) (decimal event.time.0 ∷ name_of config event.node ∷ happened_words config event.happened)
+    joined 32 (omega arith, omega arith) (decimal event.time.0 ∷ name_of_node config event.node ∷ happened_words config event.happened)
     (decimal_plain event.time.0, (node_plain config event.node valid, happened_plain config event.happened valid))
 
 counted : (name : List ℕ) (n : ℕ) → list_all is_printable name ≡ true → IsPlain (name ++ decimal n)

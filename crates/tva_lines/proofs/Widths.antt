@@ -33,7 +33,7 @@ use Rattle.tva_plan.specs.declared.config.NodePlan.{NodePlan}
 use Rattle.tva_plan.specs.Names.{name_at}
 use Rattle.tva_plan.specs.Valid.{IsConfig, IsName}
 use Rattle.tva_lines.specs.Words.{class_word, drop_word, shape_word, what_word, back_word}
-use Rattle.tva_lines.specs.Lines.{FitsEvent, FitsHappened, FitsId, FitsRange, FitsReply, FitsTotals, name_of, name_before, name_behind, id_word, from_word, outcome_word, cause_or_dash, reply_word, range_words, happened_words, text_of_event, text_of_totals}
+use Rattle.tva_lines.specs.Lines.{FitsEvent, FitsHappened, FitsId, FitsRange, FitsReply, FitsTotals, name_of_node, name_before, name_behind, id_word, from_word, outcome_word, cause_or_dash, reply_word, range_words, happened_words, text_of_event, text_of_totals}
 use Rattle.tva_lines.proofs.Printables.{event_printable, totals_printable}
 
 -- ---- words
@@ -99,10 +99,10 @@ named [] number are = omega arith
 named (p ∷ ps) zero are = (All-head IsName (name_at p) (map name_at ps) are).size.1
 named (p ∷ ps) (suc number) are = named ps number (All-tail IsName (name_at p) (map name_at ps) are)
 
-node_short : (config : Config) (number : ℕ) → IsConfig config → length (name_of config number) ≤ 16
+node_short : (config : Config) (number : ℕ) → IsConfig config → length (name_of_node config number) ≤ 16
 node_short config number valid = named config.nodes number valid.named
 
-end_short : (config : Config) (l : Option LinkPlan) (at : LinkPlan → ℕ) → IsConfig config → length (option_map_or (λ l. name_of config (at l)) l []) ≤ 16
+end_short : (config : Config) (l : Option LinkPlan) (at : LinkPlan → ℕ) → IsConfig config → length (option_map_or (λ l. name_of_node config (at l)) l []) ≤ 16
 end_short config None at valid = omega arith
 end_short config (Some l) at valid = node_short config (at l) valid
 
@@ -179,7 +179,7 @@ event_line config event valid fits = record {
   some = event_some config event;
   short = omega (
     arith,
-    joined 32 (decimal event.time.0 ∷ name_of config event.node ∷ happened_words config event.happened),
+    joined 32 (decimal event.time.0 ∷ name_of_node config event.node ∷ happened_words config event.happened),
     number_short event.time.0 fits.time,
     node_short config event.node valid,
     happened_short config event.happened valid fits.happened,

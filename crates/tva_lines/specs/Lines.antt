@@ -18,19 +18,19 @@ use Rattle.tva_plan.specs.Names.{name_at}
 use Rattle.tva_lines.specs.Words.{class_word, cause_word, drop_word, shape_word, what_word, back_word}
 
 -- the name of the node with that number
-abbrev pub name_of : Config → ℕ → List ℕ
-name_of config number = option_map_or name_at (slice_get config.nodes number) []
+abbrev pub name_of_node : Config → ℕ → List ℕ
+name_of_node config number = option_map_or name_at (slice_get config.nodes number) []
 
 -- the name of the node before a link, and of the node behind it
 abbrev pub name_before : Config → ℕ → List ℕ
-name_before config link = option_map_or (λ l. name_of config l.from) (slice_get config.links link) []
+name_before config link = option_map_or (λ l. name_of_node config l.from) (slice_get config.links link) []
 
 abbrev pub name_behind : Config → ℕ → List ℕ
-name_behind config link = option_map_or (λ l. name_of config l.to) (slice_get config.links link) []
+name_behind config link = option_map_or (λ l. name_of_node config l.to) (slice_get config.links link) []
 
 -- a packet's name: its node, `#` and its ordinal there
 abbrev pub id_word : Config → PacketId → List ℕ
-id_word config id = name_of config id.node ++ codes "#" ++ decimal id.ordinal
+id_word config id = name_of_node config id.node ++ codes "#" ++ decimal id.ordinal
 
 -- where a packet came from: the node before the link, or the trace
 abbrev pub from_word : Config → Option ℕ → List ℕ
@@ -76,7 +76,7 @@ happened_words config Ticked = codes "tick" ∷ []
 -- the text of an event, and that of the sums
 abbrev pub text_of_event : Config → Event → List ℕ
 text_of_event config event =
-    join_with_byte 32 (decimal event.time.0 ∷ name_of config event.node ∷ happened_words config event.happened)
+    join_with_byte 32 (decimal event.time.0 ∷ name_of_node config event.node ∷ happened_words config event.happened)
 
 abbrev pub text_of_totals : Totals → List ℕ
 text_of_totals t =

@@ -2,7 +2,7 @@
 ghost use Rattle.std.specs.Prelude.{◌≡◌, ◌≤◌, ◌+◌, ◌∷◌, [], ◌++◌, codes, decimal, length};
 ghost use Rattle.std.specs.List.{join_with_byte};
 ghost use Rattle.tva_lines.specs.Words.{shape_word};
-ghost use Rattle.tva_lines.specs.Lines.{HasLink, HasNode, HasOutcome, HasReply, HasSource, LinksJoinNodes, cause_or_dash, from_word, id_word, name_behind, name_before, name_of, outcome_word, reply_word};
+ghost use Rattle.tva_lines.specs.Lines.{HasLink, HasNode, HasOutcome, HasReply, HasSource, LinksJoinNodes, cause_or_dash, from_word, id_word, name_behind, name_before, name_of_node, outcome_word, reply_word};
 
 use crate::words::{back_word, cause_word, drop_word, shape_word};
 use arrayvec::ArrayString;
@@ -40,7 +40,7 @@ fn put_short(line: &mut ArrayString<256>, number: u16)
 /// The name of a node.
 pub fn node_name(config: &Config, node: u16) -> &str
     requires { HasNode config.now node }
-    ensures name { result.now ≡ name_of config.now node }
+    ensures name { result.now ≡ name_of_node config.now node }
     ensures short { length result.now ≤ 16 }
 {
     match &config.nodes.as_slice()[usize::from(node)] {

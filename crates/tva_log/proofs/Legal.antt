@@ -125,7 +125,7 @@ short_follows : (l : LinkLimits) (before : List port.Entry) (e : port.Entry) →
 short_follows l before (port.Queued time class key packet) f = f.sized.1
 short_follows l before (port.Started time class packet) f = tt
 
-short_from : (l : LinkLimits) (before es : List port.Entry) → ports.GoesOn l before es → AllByRecursion IsShort es
+short_from : (l : LinkLimits) (before es : List port.Entry) → ports.AllFollow l before es → AllByRecursion IsShort es
 short_from l before [] g = tt
 short_from l before (e ∷ es) g = (short_follows l before e g.0, short_from l (before ++ e ∷ []) es g.1)
 
@@ -192,7 +192,7 @@ module _ (site : Site) where
   none_by until log time link (Some x) f m l =
       let more : time + 1 ≡ suc time = omega arith in
       let rests : RestsAt x.1 (port_logs (cut entry_time (suc time) log) link) time =
-      subst (λ (z : List port.Entry). RestsAt x.1 z time) (ap (λ n. port.cut n (port_logs log link)) more ∙ sym (logs-cut link (suc time) log)) (m x f time l) in
+      subst (λ (z : List port.Entry). RestsAt x.1 z time) (ap (λ n. port.entries_before n (port_logs log link)) more ∙ sym (logs-cut link (suc time) log)) (m x f time l) in
       resting_starts_none x.1 (port_logs (cut entry_time (suc time) log) link) time rests
 
   pub legal_is_log : (inputs : List Input) (until : ℕ) (log : List Entry) → IsLegalLog site inputs until log → IsNodeLog site inputs until log

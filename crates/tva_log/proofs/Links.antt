@@ -25,7 +25,7 @@ use Rattle.tva_port.specs.Decide.{decision, is_start, RestsAt, MissesNone}
 use Rattle.tva_port.specs.Legal.{Follows}
 use Rattle.tva_router.specs.declared.judged.Judged.{Judged}
 use Rattle.tva_router.specs.Judging.{judge}
-use Rattle.tva_router.specs.Handling.{Logs, offered, outcome_of, sent, outgoing_link, way_to, arrival, goes_on, stopped, forwarded, handle}
+use Rattle.tva_router.specs.Handling.{PortLogs, offered, outcome_of, sent, outgoing_link, way_to, arrival, goes_on, stopped, forwarded, handle}
 use Rattle.tva_router.specs.Routes.{link_to}
 use Rattle.tva_router.specs.Boots.{charges_at}
 use Rattle.tva_host.specs.declared.made.Made.{Made}
@@ -146,16 +146,16 @@ past_all link time (e ∷ es) a = past_option time (entry_time e) (port_entry li
 pub logs_past : (link time : ℕ) (log : List Entry) → AllByRecursion (λ e. entry_time e ≤ time) log → port.NoneLater time (port_logs log link)
 logs_past link time log a = All-from_recursion (λ (x : port.Entry). port.entry_time x ≤ time) (port_logs log link) (past_all link time log a)
 
-cut_keep : (until t : ℕ) (o : Option port.Entry) (xs : List port.Entry) → t < until → IfSome o (λ x. port.entry_time x ≡ t) → port.cut until (cons_option o xs) ≡ cons_option o (port.cut until xs)
+cut_keep : (until t : ℕ) (o : Option port.Entry) (xs : List port.Entry) → t < until → IfSome o (λ x. port.entry_time x ≡ t) → port.entries_before until (cons_option o xs) ≡ cons_option o (port.entries_before until xs)
 cut_keep until t None xs l e = refl
 cut_keep until t (Some x) xs l e = filter-true (λ (y : port.Entry). nat_lt (port.entry_time y) until) x xs (lt-ltb (port.entry_time x) until (let k : port.entry_time x ≡ t = e in omega (arith, k)))
 
-cut_drop : (until t : ℕ) (o : Option port.Entry) (xs : List port.Entry) → until ≤ t → IfSome o (λ x. port.entry_time x ≡ t) → port.cut until (cons_option o xs) ≡ port.cut until xs
+cut_drop : (until t : ℕ) (o : Option port.Entry) (xs : List port.Entry) → until ≤ t → IfSome o (λ x. port.entry_time x ≡ t) → port.entries_before until (cons_option o xs) ≡ port.entries_before until xs
 cut_drop until t None xs l e = refl
 cut_drop until t (Some x) xs l e = filter-false (λ (y : port.Entry). nat_lt (port.entry_time y) until) x xs (le-ltb (port.entry_time x) until (let k : port.entry_time x ≡ t = e in omega (arith, k)))
 
 -- what a link's log has before a time
-pub logs-cut : (link until : ℕ) (log : List Entry) → port_logs (cut entry_time until log) link ≡ port.cut until (port_logs log link)
+pub logs-cut : (link until : ℕ) (log : List Entry) → port_logs (cut entry_time until log) link ≡ port.entries_before until (port_logs log link)
 logs-cut link until [] = refl
 logs-cut link until (e ∷ es) = elim (cases_lt (entry_time e) until) [
   | inl l ↦
@@ -172,7 +172,7 @@ logs-cut link until (e ∷ es) = elim (cases_lt (entry_time e) until) [
 abbrev pub MayFollow : LinkLimits → List port.Entry → port.Entry → Type 0
 MayFollow l log e = IsShort e → Follows l log e
 
-queued_by_link : (site : Site) (link : ℕ) (l : LinkLimits) (logs : Logs) (time : ℕ) (class : Class) (p : PacketData) (k : ℕ) (m : LinkLimits) (o : Offered PacketData) (b : Bool)
+queued_by_link : (site : Site) (link : ℕ) (l : LinkLimits) (logs : PortLogs) (time : ℕ) (class : Class) (p : PacketData) (k : ℕ) (m : LinkLimits) (o : Offered PacketData) (b : Bool)
     → limits_out site link ≡ Some (link, l) → limits_out site k ≡ Some (k, m) → port.NoneLater time (logs link) → offered m (logs k) class p ≡ o → (link == k) ≡ b
     → o ≡ offers.Queued → IfSome (cond b (Some (port.Queued time class (key_of class p) p)) None) (MayFollow l (logs link))
 queued_by_link site link l logs time class p k m o false out way past e t q = tt
@@ -184,7 +184,7 @@ queued_by_link site link l logs time class p k m o true out way past e t q = λ 
     ap (λ (x : LinkLimits). offered x (logs link) class p) (sym limits) ∙ (ap (λ (j : ℕ). offered m (logs j) class p) same ∙ (e ∙ q)) in
     record { order = past; sized = (omega arith, short); offer = offer }
 
-queued_by_offer : (site : Site) (link : ℕ) (l : LinkLimits) (logs : Logs) (time : ℕ) (class : Class) (p : PacketData) (k : ℕ) (m : LinkLimits) (o : Offered PacketData)
+queued_by_offer : (site : Site) (link : ℕ) (l : LinkLimits) (logs : PortLogs) (time : ℕ) (class : Class) (p : PacketData) (k : ℕ) (m : LinkLimits) (o : Offered PacketData)
     → limits_out site link ≡ Some (link, l) → limits_out site k ≡ Some (k, m) → port.NoneLater time (logs link) → offered m (logs k) class p ≡ o
     → IfSome (queued_at link time (outcome_of k o) class p) (MayFollow l (logs link))
 queued_by_offer site link l logs time class p k m offers.Queued out way past e = queued_by_link site link l logs time class p k m offers.Queued (link == k) out way past e refl refl
@@ -192,7 +192,7 @@ queued_by_offer site link l logs time class p k m (offers.NoQueue q) out way pas
 queued_by_offer site link l logs time class p k m (offers.QueueFull q) out way past e = tt
 
 -- a packet that goes its way
-sent_follows : (site : Site) (link : ℕ) (l : LinkLimits) (logs : Logs) (time : ℕ) (class : Class) (p : PacketData) (way : Option (ℕ × LinkLimits))
+sent_follows : (site : Site) (link : ℕ) (l : LinkLimits) (logs : PortLogs) (time : ℕ) (class : Class) (p : PacketData) (way : Option (ℕ × LinkLimits))
     → limits_out site link ≡ Some (link, l) → IsWayOut site way → port.NoneLater time (logs link)
     → IfSome (queued_at link time (sent logs class p way) class p) (MayFollow l (logs link))
 sent_follows site link l logs time class p None out way past = tt
@@ -322,4 +322,4 @@ misses_none site until log link l out none time before =
     let before_now : List Entry = cut entry_time (suc time) log in
     let k : start_after l (port_logs before_now link) time ≡ None = sym (ap (option_and_then (λ (o : ℕ × LinkLimits). start_after o.1 (port_logs before_now link) time)) out) ∙ none time link before in
     let more : suc time ≡ time + 1 = omega arith in
-    subst (λ (z : List port.Entry). RestsAt l z time) (logs-cut link (suc time) log ∙ ap (λ n. port.cut n (port_logs log link)) more) (rests_by l (port_logs before_now link) time k)
+    subst (λ (z : List port.Entry). RestsAt l z time) (logs-cut link (suc time) log ∙ ap (λ n. port.entries_before n (port_logs log link)) more) (rests_by l (port_logs before_now link) time k)

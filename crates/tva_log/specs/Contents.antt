@@ -30,7 +30,7 @@ use Rattle.tva_log.specs.declared.kinds.Input.{Input}
 use Rattle.tva_log.specs.declared.kinds.Input.TheVariants.{FromTrace, Arrival}
 use Rattle.tva_log.specs.Sites.{Site, limits_out}
 use Rattle.tva_log.specs.Entries.{Content, Arrived, Sent, Ticked, Received, Entry}
-use Rattle.tva_log.specs.Parts.{charges, port_logs, rows_in, calls, files}
+use Rattle.tva_log.specs.Parts.{charges, port_logs, count_of_rows, calls, files}
 
 -- ## at a router
 
@@ -41,9 +41,10 @@ packet_of_row id _ = None
 
 -- the next packet from the trace: they are numbered from 1 on, and those of links are not counted
 abbrev pub next_id : ℕ → List Entry → PacketId
-next_id number before = record { node = number; ordinal = ordinal_behind (rows_in before) }
+next_id number before = record { node = number; ordinal = ordinal_behind (count_of_rows before) }
 
--- what becomes of a packet that comes in on a link, or from the trace: by the plan in force, over the charges of the boot
+-- what becomes of a packet that comes in on a link, or from the trace: by the plan in force, over the charges of the
+-- boot
 abbrev pub handled : RouterPlan → List Entry → ℕ → Option ℕ → PacketData → Handled
 handled plan before now from packet =
     handle (in_force plan now) (charges_at plan now (charges before)) (port_logs before) now from packet
@@ -82,8 +83,8 @@ abbrev pub sent_out : Site → HostPlan → List Entry → Option Made → Conte
 sent_out site plan before None = Ticked
 sent_out site plan before (Some made) = Sent made (goes_out site plan before made.packet)
 
-abbrev pub received : Site → HostPlan → List Entry → ℕ → PacketData → Receipt → Option DataLine → Content
-received site plan before link packet receipt range =
+abbrev pub receipt_content : Site → HostPlan → List Entry → ℕ → PacketData → Receipt → Option DataLine → Content
+receipt_content site plan before link packet receipt range =
     Received link packet receipt (option_map (λ made. goes_out site plan before made.packet) receipt.reply) range
 
 -- a packet that comes in is answered, and delivers, by what the host knows of files
@@ -92,7 +93,7 @@ hosted site plan before (FromTrace row) =
     sent_out site plan before
     (made_for site.number plan (history_of plan (calls before)) (files plan before) row.time.0 row.what)
 hosted site plan before (Arrival time link packet) =
-    received site plan before link packet
+    receipt_content site plan before link packet
     (receipt_of site.number plan (history_of plan (calls before)) time.0 packet
     (answered plan.address (files plan before) packet))
     (delivered plan.address (files plan before) packet)

@@ -21,7 +21,8 @@ pub data Content : Type 0 where
   Ticked : Content
   -- a host: the link on which a packet came, the packet, what the host made of it, where its reply
   -- ended up, and the range of a file that it delivered
-  Received : (from : ℕ) (packet : PacketData) (receipt : Receipt) (went : Option Outcome) (range : Option DataLine) → Content
+  Received : (from : ℕ) (packet : PacketData) (receipt : Receipt) (went : Option Outcome) (range : Option DataLine)
+      → Content
 
 -- an entry of a node's log: an input is taken, or at a time a link starts a packet of a class
 pub data Entry : Type 0 where

@@ -13,7 +13,7 @@ use Rattle.tva_shim.specs.Packets.{PacketData, packet_length, class_by_shim}
 use Rattle.tva_shim.specs.Shows.{key_of, nonce_in}
 use Rattle.tva_flow.specs.Charges.{Charge, charge}
 use Rattle.tva_port.specs.Log as port
-use Rattle.tva_router.specs.Handling.{Logs}
+use Rattle.tva_router.specs.Handling.{PortLogs}
 use Rattle.tva_host.specs.declared.made.Made.{Made}
 use Rattle.tva_host.specs.Calls.{Call, Intended, Injected, Received}
 use Rattle.tva_host.specs.Receiving.{upper_of}
@@ -53,7 +53,7 @@ port_entry link (Started time on class packet) =
     if link == on then Some (port.Started time class packet) else None
 
 -- the log of each link's port
-abbrev pub port_logs : List Entry → Logs
+abbrev pub port_logs : List Entry → PortLogs
 port_logs log link = filter_map (port_entry link) log
 
 -- ## a router's charges
@@ -75,8 +75,8 @@ abbrev pub is_row : Entry → Bool
 is_row (Took (FromTrace row) content) = true
 is_row _ = false
 
-abbrev pub rows_in : List Entry → ℕ
-rows_in log = count_by is_row log
+abbrev pub count_of_rows : List Entry → ℕ
+count_of_rows log = count_by is_row log
 
 -- ## the calls on a host
 

@@ -25,8 +25,8 @@ at_time time = record { 0 = time }
 -- ## starts
 
 -- when the link is free again on which a packet starts at a time
-abbrev pub end_of : Site → ℕ → ℕ → PacketData → ℕ
-end_of site time link packet =
+abbrev pub free_again : Site → ℕ → ℕ → PacketData → ℕ
+free_again site time link packet =
     option_map_or (λ o. time + packet_length packet * o.1.limits.ns_per_byte) (link_out site link) time
 
 -- when a packet arrives at the link's other end
@@ -74,7 +74,7 @@ content_told (Received from packet receipt went range) =
 abbrev pub entry_told : Site → Entry → happened.Happened
 entry_told site (Took input content) = content_told content
 entry_told site (Started time link class packet) =
-    happens.Started packet.id (packet_length packet) link class (at_time (end_of site time link packet))
+    happens.Started packet.id (packet_length packet) link class (at_time (free_again site time link packet))
 
 -- the event of an entry
 abbrev pub event_of : Site → Entry → Event

@@ -6,8 +6,9 @@ use Rattle.tva_base.specs.declared.plan.LinkPlan.{LinkPlan}
 use Rattle.tva_log.specs.declared.kinds.Input.{Input}
 use Rattle.tva_log.specs.declared.kinds.Sending.{Sending}
 use Rattle.tva_log.specs.Entries.{input_time}
-use Rattle.tva_node.specs.States.{NodeState, Fits, Stands}
+use Rattle.tva_node.specs.States.{NodeState, Fits, Stands, gone_after}
 use Rattle.tva_run.specs.Reaching.{arrival}
+use Rattle.tva_mail.specs.Places.{IsElsewhere}
 
 -- ## what nodes get
 
@@ -52,6 +53,13 @@ IsGoneAsBefore old new =
 pub record Forgot (old new : NodeState) : Type 0 where
   pub same : new ≡ record old { gone = new.gone }
   pub gone : HadGone old → HadGone new
+
+-- the nodes in these places forgot what they need not keep; nothing else happened to them, and nothing to the others
+pub record HaveForgotten (places : List ℕ) (old new : List NodeState) : Type 0 where
+  pub count : length new ≡ length old
+  pub there : (n : ℕ) (d : NodeState) → n < length old → (IsElsewhere places n → ⊥)
+      → slice_index_or new n d ≡ record (slice_index_or old n d) { gone = gone_after (slice_index_or old n d) }
+  pub elsewhere : (n : ℕ) (d : NodeState) → IsElsewhere places n → slice_index_or new n d ≡ slice_index_or old n d
 
 -- a node got this mail, and nothing else happened to it
 pub record GotMail (mail : List Input) (old new : NodeState) : Type 0 where

@@ -17,11 +17,7 @@ use tva_index::Lowest;
 use tva_log::{Input, Sending};
 use tva_node::Node;
 
-/// Posts what the nodes sent behind their first so many sendings, where it arrives by the horizon,
-/// in nanoseconds: node after node, each in the order of its sendings. Then all of their sendings
-/// are posted, it is noted when each node has work next, and the nodes forget what they need not keep.
-/// Only nodes in these places sent anything. The error is want of memory; the count of those that are
-/// posted then stays.
+// Posts what the nodes sent, notes when each has work next, and lets them forget.
 fn post_all(
     nodes: &mut [Node],
     times: &mut Lowest,
@@ -48,7 +44,11 @@ fn post_all(
     Ok(())
 }
 
-/// The same, and something else: at once with it where there is much to be posted.
+/// Posts what the nodes sent behind their first so many sendings, where it arrives by the horizon, in
+/// nanoseconds: node after node, each in the order of its sendings. Then all of their sendings are posted,
+/// it is noted when each node has work next, and the nodes forget what they need not keep. Only nodes in
+/// these places sent anything. Something else is done besides: at once with it where there is much to be
+/// posted, and else before it. The error is want of memory; the count of those that are posted then stays.
 #[tactic(auto, using(tva_node::proofs::Crosses::node_send))]
 pub fn post_beside<R: Threads + Sync, F: FnMut() -> A + Send, A: Send>(
     rt: &R,

@@ -15,10 +15,10 @@ use Rattle.tva_base.specs.declared.packet.Time.{Time}
 use Rattle.tva_base.specs.declared.plan.Route.{Route}
 use Rattle.tva_base.specs.declared.plan.RouterPlan.{RouterPlan}
 use Rattle.tva_base.specs.Plan.{AreRising, IsRouterPlan, links_of}
-use Rattle.tva_base.specs.Changes.{boot_at, changed, has_come, in_force, last_of, master_at, of_prefix, route_at, same_prefix}
+use Rattle.tva_base.specs.Changes.{boot_at, changed_plan, has_come, in_force, last_of, master_at, of_prefix, route_at, same_prefix}
 use Rattle.tva_flow.specs.Charges.{Charge}
 use Rattle.tva_router.specs.Boots.{charges_of_boot}
-use Rattle.tva_router.specs.Handling.{Logs, outgoing_link}
+use Rattle.tva_router.specs.Handling.{PortLogs, outgoing_link}
 use Rattle.tva_router.specs.Routes.{rerouted}
 use Rattle.tva_router.specs.Stands as router
 use Rattle.tva_router.specs.Stands.{RouterData}
@@ -107,7 +107,7 @@ up_to now r b next_boot next_move =
     let master : last_of plan.master (map (λ c. c.1) (take boot plan.restarts)) ≡ master_at plan now = ap (λ (cs : List (Time × List ℕ)). last_of plan.master (map (λ c. c.1) cs)) (sym restarts) in
     record {
       boot = sym (sym (length-filter (λ (c : Time × List ℕ). has_come now c.0) plan.restarts) ∙ (ap length restarts ∙ length-take-le boot plan.restarts b.restarted.few));
-      plan = b.plan ∙ ap₂ (λ (m : List ℕ) (rs : List Route). changed m rs plan) master (same_routes (route_after made) (route_at plan now) each plan.routes);
+      plan = b.plan ∙ ap₂ (λ (m : List ℕ) (rs : List Route). changed_plan m rs plan) master (same_routes (route_after made) (route_at plan now) each plan.routes);
     }
 
 -- ## one step
@@ -183,8 +183,8 @@ with_boot r v boot = record { router = v; next = r.next; changes = record { boot
 -- restarts have come
 pub restarts_on : (now : ℕ) (r : Routed) (v : RouterData) (boot : ℕ) (master : List ℕ) → IsRoutedBy now r
     → IsRestarted r.router.built.restarts now r.changes.boot boot (Some master) → v.last ≡ now → v.built ≡ r.router.built
-    → v.plan ≡ changed master r.router.plan.routes r.router.plan
-    → ((h : List Charge) (logs : Logs) → router.StandsFor r.router h logs → router.StandsFor v [] logs)
+    → v.plan ≡ changed_plan master r.router.plan.routes r.router.plan
+    → ((h : List Charge) (logs : PortLogs) → router.StandsFor r.router h logs → router.StandsFor v [] logs)
     → StandsOn now r (with_boot r v boot)
 restarts_on now r v boot master b is last built plan stands =
     let file = r.router.built in
@@ -192,8 +192,8 @@ restarts_on now r v boot master b is last built plan stands =
     let made = take r.changes.moved moves in
     let later = is.last.0 in
     let plan' : v.plan ≡ plan_after file boot made =
-    plan ∙ (ap (λ (p : RouterPlan). changed master p.routes p) b.plan
-    ∙ ap (λ (m : List ℕ). changed m (map (route_after made) file.routes) file) (sym (is.last.1 file.master))) in
+    plan ∙ (ap (λ (p : RouterPlan). changed_plan master p.routes p) b.plan
+    ∙ ap (λ (m : List ℕ). changed_plan m (map (route_after made) file.routes) file) (sym (is.last.1 file.master))) in
     record {
       by = record {
         last = omega (arith, last);
@@ -250,8 +250,8 @@ with_move r v = record { router = v; next = r.next; changes = record { boot = r.
 -- the next change of a route has come
 pub moves_on : (now : ℕ) (r : Routed) (v : RouterData) (d : Time × Prefix × ℕ) → IsRoutedBy now r → r.changes.moved < length r.changes.moves.items
     → (get_or r.changes.moves.items r.changes.moved d).0.0 ≤ now → v.last ≡ now → v.built ≡ r.router.built
-    → v.plan ≡ changed r.router.plan.master (rerouted (get_or r.changes.moves.items r.changes.moved d).1 (get_or r.changes.moves.items r.changes.moved d).2 r.router.plan.routes) r.router.plan
-    → ((h : List Charge) (logs : Logs) → router.StandsFor r.router h logs → router.StandsFor v h logs)
+    → v.plan ≡ changed_plan r.router.plan.master (rerouted (get_or r.changes.moves.items r.changes.moved d).1 (get_or r.changes.moves.items r.changes.moved d).2 r.router.plan.routes) r.router.plan
+    → ((h : List Charge) (logs : PortLogs) → router.StandsFor r.router h logs → router.StandsFor v h logs)
     → StandsOn now r (with_move r v)
 moves_on now r v d b within come last built plan stands =
     let file = r.router.built in
@@ -261,8 +261,8 @@ moves_on now r v d b within come last built plan stands =
     let x = get_or moves moved d in
     let more : take (moved + 1) moves ≡ take moved moves ++ x ∷ [] = take_more moves moved d within in
     let plan' : v.plan ≡ plan_after file boot (take (moved + 1) moves) =
-    plan ∙ (ap (λ (p : RouterPlan). changed p.master (rerouted x.1 x.2 p.routes) p) b.plan
-    ∙ ap (λ (rs : List Route). changed (last_of file.master (map (λ c. c.1) (take boot file.restarts))) rs file)
+    plan ∙ (ap (λ (p : RouterPlan). changed_plan p.master (rerouted x.1 x.2 p.routes) p) b.plan
+    ∙ ap (λ (rs : List Route). changed_plan (last_of file.master (map (λ c. c.1) (take boot file.restarts))) rs file)
     (routes_more (take moved moves) x file.routes ∙ ap (λ (cs : List (Time × Prefix × ℕ)). map (route_after cs) file.routes) (sym more))) in
     record {
       by = record {
@@ -328,5 +328,5 @@ routed_first v plan moves valid built same last boot moved by =
       moves = subst (λ (p : RouterPlan). AreByTime p.reroutes moves.moves.items) (sym built) by;
       restarted = none_made restart_time v.built.restarts;
       moved = none_made move_time moves.moves.items;
-      plan = same ∙ (ap (λ (rs : List Route). changed plan.master rs plan) (sym (none_after plan.routes)) ∙ ap (λ (p : RouterPlan). plan_after p 0 []) (sym built));
+      plan = same ∙ (ap (λ (rs : List Route). changed_plan plan.master rs plan) (sym (none_after plan.routes)) ∙ ap (λ (p : RouterPlan). plan_after p 0 []) (sym built));
     })

@@ -44,12 +44,12 @@ use Rattle.tva_host.specs.History.{History}
 use Rattle.tva_host.specs.Receiving.{receipt_of, upper_of}
 use Rattle.tva_host.specs.Calls.{Call, Received, history_of}
 use Rattle.tva_host.proofs.Shown.{answer_is_shown, nothing_is_shown}
-use Rattle.tva_transfer.specs.Files.{Files, Act, Came, answer_to, answered, delivered, is_for}
+use Rattle.tva_transfer.specs.Files.{Files, Act, Came, answer_to, answered, delivered, is_addressed_to}
 use Rattle.tva_transfer.specs.Stands as courier
 use Rattle.tva_transfer.specs.Stands.{CourierData}
 use Rattle.tva_trace.specs.declared.rows.Row.{Row}
 use Rattle.tva_router.specs.Boots.{charges_at, charges_of_boot}
-use Rattle.tva_router.specs.Handling.{Logs, charged_by, entered_by, handle, outcome_of, outgoing_link, sent}
+use Rattle.tva_router.specs.Handling.{PortLogs, charged_by, entered_by, handle, outcome_of, outgoing_link, sent}
 use Rattle.tva_router.specs.Stands as router
 use Rattle.tva_router.specs.Stands.{◌with◌, started_on}
 use Rattle.tva_router.proofs.Known.{known}
@@ -61,7 +61,7 @@ use Rattle.tva_log.specs.declared.kinds.Input.TheVariants.{FromTrace, Arrival}
 use Rattle.tva_log.specs.Sites.{Site, IsSite, IsPlanned, limits_out}
 use Rattle.tva_log.specs.Entries.{Content, Arrived, Sent, Entry, Took, Started, input_time}
 use Rattle.tva_log.specs.Entries as entry
-use Rattle.tva_log.specs.Parts.{act_of, act_of_input, act_of_row, acts, call_of, call_of_input, call_of_row, files, reply_at, calls, charge_of, charged, charges, content_at, is_row, port_entry, port_logs, queued_at, rows_in}
+use Rattle.tva_log.specs.Parts.{act_of, act_of_input, act_of_row, acts, call_of, call_of_input, call_of_row, files, reply_at, calls, charge_of, charged, charges, content_at, is_row, port_entry, port_logs, queued_at, count_of_rows}
 use Rattle.tva_log.specs.Contents.{arrived, content_by, goes_out, handled, hosted, made_for, routed, sent_out}
 use Rattle.tva_log.specs.Told.{content_told, reply_told}
 use Rattle.tva_log.proofs.Joins.{each-append, each-weaker}
@@ -180,13 +180,13 @@ charged_is time packet None = refl
 charged_is time packet (Some grant) = refl
 
 -- the ordinal behind one more row
-rows_more : (log : List Entry) (e : Entry) → rows_in (log ++ e ∷ []) ≡ rows_in log + cond (is_row e) 1 0
+rows_more : (log : List Entry) (e : Entry) → count_of_rows (log ++ e ∷ []) ≡ count_of_rows log + cond (is_row e) 1 0
 rows_more log e = sum_by_push (λ x. cond (is_row x) 1 0) log e
 
-pub ordinal_row : (log : List Entry) (row : Row) (made : Content) (next : ℕ) → next ≡ ordinal_behind (rows_in log) → min (next + 1) 18446744073709551615 ≡ ordinal_behind (rows_in (log ++ Took (FromTrace row) made ∷ []))
+pub ordinal_row : (log : List Entry) (row : Row) (made : Content) (next : ℕ) → next ≡ ordinal_behind (count_of_rows log) → min (next + 1) 18446744073709551615 ≡ ordinal_behind (count_of_rows (log ++ Took (FromTrace row) made ∷ []))
 ordinal_row log row made next e = omega (arith, e, rows_more log (Took (FromTrace row) made))
 
-pub ordinal_arrival : (log : List Entry) (time : Time) (link : ℕ) (packet : PacketData) (made : Content) (next : ℕ) → next ≡ ordinal_behind (rows_in log) → next ≡ ordinal_behind (rows_in (log ++ Took (Arrival time link packet) made ∷ []))
+pub ordinal_arrival : (log : List Entry) (time : Time) (link : ℕ) (packet : PacketData) (made : Content) (next : ℕ) → next ≡ ordinal_behind (count_of_rows log) → next ≡ ordinal_behind (count_of_rows (log ++ Took (Arrival time link packet) made ∷ []))
 ordinal_arrival log time link packet made next e = omega (arith, e, rows_more log (Took (Arrival time link packet) made))
 
 -- what is charged at a time
@@ -199,7 +199,7 @@ pub router_took : (r new : Routed) (log : List Entry) (input : Input) (from : Op
     → (let h = charges_of_boot r.router.built r.changes.boot (charges log) in
     let is = handle r.router.plan h (port_logs log) (input_time input) from packet in router.StandsFor new.router (h ++ is.charges) (port_logs log with is.queued))
     → new.router.built ≡ r.router.built → new.changes ≡ r.changes
-    → new.next ≡ ordinal_behind (rows_in (log ++ Took input (arrived r.router.built log (input_time input) from packet) ∷ []))
+    → new.next ≡ ordinal_behind (count_of_rows (log ++ Took input (arrived r.router.built log (input_time input) from packet) ∷ []))
     → StandsAsRouter new (log ++ Took input (arrived r.router.built log (input_time input) from packet) ∷ [])
 unfolding arrived
 router_took r new log input from packet up h st built changes next =
@@ -230,7 +230,7 @@ router_took r new log input from packet up h st built changes next =
     (λ link. logs_more log entry link ∙ ap (λ (es : List port.Entry). port_logs log link ++ es) (entered_is link time is.fate.outcome is.fate.class is.onward ∙ sym (queued_told (in_force plan time) g (port_logs log) time from packet link))) in
     record {
       router = subst (λ (k : List Charge). router.StandsFor new.router k (port_logs (log ++ entry ∷ []))) (sym in_boot)
-          (subst (λ (k : Logs). router.StandsFor new.router (g ++ is.charges) k) (λ i link. sym (logs link) i) st');
+          (subst (λ (k : PortLogs). router.StandsFor new.router (g ++ is.charges) k) (λ i link. sym (logs link) i) st');
       boots = subst (λ (p : RouterPlan). AllByRecursion (λ (c : Charge). boot_at p c.time ≤ new.changes.boot) (charges (log ++ entry ∷ []))) (sym built)
           (subst (λ (k : Changes). AllByRecursion (λ (c : Charge). boot_at plan c.time ≤ k.boot) (charges (log ++ entry ∷ []))) (sym changes)
           (subst (AllByRecursion (λ (c : Charge). boot_at plan c.time ≤ boot)) (sym more) no_later));
@@ -249,10 +249,10 @@ charges_started log now link (Start class packet) = charges_more log (Started no
 charges_started log now link (WaitUntil time) = ap charges (append-nil log)
 charges_started log now link Idle = ap charges (append-nil log)
 
-rows_started : (log : List Entry) (now link : ℕ) (d : Decision) → rows_in (log ++ started_by link now d) ≡ rows_in log
+rows_started : (log : List Entry) (now link : ℕ) (d : Decision) → count_of_rows (log ++ started_by link now d) ≡ count_of_rows log
 rows_started log now link (Start class packet) = omega (arith, rows_more log (Started now link class packet))
-rows_started log now link (WaitUntil time) = ap rows_in (append-nil log)
-rows_started log now link Idle = ap rows_in (append-nil log)
+rows_started log now link (WaitUntil time) = ap count_of_rows (append-nil log)
+rows_started log now link Idle = ap count_of_rows (append-nil log)
 
 calls_started : (log : List Entry) (now link : ℕ) (d : Decision) → calls (log ++ started_by link now d) ≡ calls log
 calls_started log now link (Start class packet) = filter_map-append call_of log (Started now link class packet ∷ []) ∙ append-nil (calls log)
@@ -293,7 +293,7 @@ router_decided r new log link now d h st built changes next =
     ∙ ap (charges_of_boot r.router.built r.changes.boot) same) in
     record {
       router = subst (λ (g : List Charge). router.StandsFor new.router g (port_logs (log ++ started_by link now d))) (sym boot)
-          (subst (λ (k : Logs). router.StandsFor new.router (charges_of_boot r.router.built r.changes.boot (charges log)) k) (λ i on. sym (logs_started log now link d on) i) st);
+          (subst (λ (k : PortLogs). router.StandsFor new.router (charges_of_boot r.router.built r.changes.boot (charges log)) k) (λ i on. sym (logs_started log now link d on) i) st);
       boots = subst (λ (p : RouterPlan). AllByRecursion (λ (c : Charge). boot_at p c.time ≤ new.changes.boot) (charges (log ++ started_by link now d))) (sym built)
           (subst (λ (k : Changes). AllByRecursion (λ (c : Charge). boot_at r.router.built c.time ≤ k.boot) (charges (log ++ started_by link now d))) (sym changes)
           (subst (AllByRecursion (λ (c : Charge). boot_at r.router.built c.time ≤ r.changes.boot)) (sym same) h.boots));
@@ -372,7 +372,7 @@ pub router_takes : (r mid new : Routed) (number : ℕ) (plan : RouterPlan) (log 
     → (let h = charges_of_boot r.router.built r.changes.boot (charges log) in
     let is = handle mid.router.plan h (port_logs log) (input_time input) from packet in router.StandsFor new.router (h ++ is.charges) (port_logs log with is.queued))
     → new.router.built ≡ mid.router.built → new.changes ≡ mid.changes
-    → new.next ≡ ordinal_behind (rows_in (log ++ Took input (arrived plan log (input_time input) from packet) ∷ []))
+    → new.next ≡ ordinal_behind (count_of_rows (log ++ Took input (arrived plan log (input_time input) from packet) ∷ []))
     → RouterTook number plan log input told new
 router_takes r mid new number plan log input from packet told up h own e f content is st built changes next =
     let time = input_time input in
@@ -383,7 +383,7 @@ router_takes r mid new number plan log input from packet told up h own e f conte
       arrived plan log time from packet,
       content,
       is ∙ (ap₂ (λ (p : RouterPlan) (g : List Charge). happens.Arrived packet.id (packet_length packet) from (handle p g (port_logs log) time from packet).fate) plan_now there ∙ sym (arrived_told plan log time from packet)),
-      subst (λ (p : RouterPlan). new.next ≡ ordinal_behind (rows_in (log ++ Took input (arrived p log time from packet) ∷ [])) → StandsAsRouter new (log ++ Took input (arrived p log time from packet) ∷ [])) own
+      subst (λ (p : RouterPlan). new.next ≡ ordinal_behind (count_of_rows (log ++ Took input (arrived p log time from packet) ∷ [])) → StandsAsRouter new (log ++ Took input (arrived p log time from packet) ∷ [])) own
           (router_took r new log input from packet up h
           (subst (λ (p : RouterPlan). router.StandsFor new.router (k ++ (handle p k (port_logs log) time from packet).charges) (port_logs log with (handle p k (port_logs log) time from packet).queued)) same st)
           (built ∙ ap (λ (v : router.RouterData). v.built) e) (changes ∙ f)) next,
@@ -449,11 +449,11 @@ nothing_answered known source = refl
 -- the upper part of the reply is the answer; a packet for another host has none
 answer_shown : (node : ℕ) (plan : HostPlan) (h : History) (known : Files) (now : ℕ) (p : PacketData)
     → upper_of (receipt_of node plan h now p (answered plan.address known p)).reply ≡ answered plan.address known p
-answer_shown node plan h known now p = elim (cases_Bool (is_for plan.address p)) [
+answer_shown node plan h known now p = elim (cases_Bool (is_addressed_to plan.address p)) [
   | inl here ↦ answer_is_shown node plan h now p (answered plan.address known p) here
   | inr away ↦
       let silent : answered plan.address known p ≡ upper.Nothing =
-      ap (answer_to known p.flow.src) (cond-false (is_for plan.address p) p.upper upper.Nothing away) ∙ nothing_answered known p.flow.src in
+      ap (answer_to known p.flow.src) (cond-false (is_addressed_to plan.address p) p.upper upper.Nothing away) ∙ nothing_answered known p.flow.src in
       subst (λ (above : Upper). upper_of (receipt_of node plan h now p above).reply ≡ above) (sym silent) (nothing_is_shown node plan h now p)
 ]
 

@@ -10,7 +10,7 @@ use Rattle.tva_router.specs.Stands as router
 use Rattle.tva_transfer.specs.Stands as courier
 use Rattle.tva_log.specs.Sites.{Site, limits_out}
 use Rattle.tva_log.specs.Entries.{Entry, input_time}
-use Rattle.tva_log.specs.Parts.{port_logs, charges, rows_in, calls, acts}
+use Rattle.tva_log.specs.Parts.{port_logs, charges, count_of_rows, calls, acts}
 use Rattle.tva_log.specs.NodeLog.{in_turn, due}
 use Rattle.tva_log.specs.Next.{next_on}
 use Rattle.tva_node.specs.declared.role.Role.{Role}
@@ -29,7 +29,7 @@ use Rattle.tva_node.specs.Nodes.{AreLeft, Fits, NodeState, role_plan}
 pub record StandsAsRouter (r : Routed) (log : List Entry) : Type 0 where
   pub router : router.StandsFor r.router (charges_of_boot r.router.built r.changes.boot (charges log)) (port_logs log)
   pub boots : AllByRecursion (λ c. boot_at r.router.built c.time ≤ r.changes.boot) (charges log)
-  pub next : r.next ≡ ordinal_behind (rows_in log)
+  pub next : r.next ≡ ordinal_behind (count_of_rows log)
 
 -- a host stands for its calls and its files, and the port of its one link for that link's log
 pub record StandsAsHost (site : Site) (h : Hosted) (log : List Entry) : Type 0 where

@@ -5,7 +5,7 @@ use Rattle.tva_base.specs.declared.addresses.Prefix.{Prefix}
 use Rattle.tva_base.specs.declared.packet.Time.{Time}
 use Rattle.tva_base.specs.declared.plan.Route.{Route}
 use Rattle.tva_base.specs.declared.plan.RouterPlan.{RouterPlan}
-use Rattle.tva_base.specs.Changes.{changed, last_of, of_prefix}
+use Rattle.tva_base.specs.Changes.{changed_plan, last_of, of_prefix}
 use Rattle.tva_log.specs.Joins.{NeverFalls}
 
 abbrev pub restart_time : Time × List ℕ → ℕ
@@ -33,4 +33,5 @@ route_after moves route =
 -- a plan after so many of its restarts, and after these changes of routes
 abbrev pub plan_after : RouterPlan → ℕ → List (Time × Prefix × ℕ) → RouterPlan
 plan_after plan boot moves =
-    changed (last_of plan.master (map (λ c. c.1) (take boot plan.restarts))) (map (route_after moves) plan.routes) plan
+    changed_plan (last_of plan.master (map (λ c. c.1) (take boot plan.restarts)))
+    (map (route_after moves) plan.routes) plan

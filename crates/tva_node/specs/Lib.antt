@@ -1,8 +1,8 @@
 pub mod Changes
 pub mod Pairs
-pub mod Links
 pub mod Nodes
 pub mod States
+pub mod Links
 pub mod Besides
 pub mod Keeping
 pub mod Making

@@ -8,7 +8,9 @@ use Rattle.tva_log.specs.NodeLog.{IsNodeLog, in_turn}
 use Rattle.tva_log.specs.Told.{events, sendings}
 use Rattle.tva_log.specs.Next.{IsWorkAt}
 use Rattle.tva_node.specs.Besides.{StandsBesides}
-pub use Rattle.tva_node.specs.Nodes.{AreLeft, Fits, FitsRow, Gone, Holds, KeepsAll, KeepsEvents, NodeState, gone_after, gone_by, restarts_in, role_plan, router_in, router_number, site_at, state_of}
+pub use Rattle.tva_node.specs.Nodes.{AreLeft, Fits, FitsRow, Gone, Holds, KeepsAll, KeepsEvents, NodeState}
+pub use Rattle.tva_node.specs.Nodes.{gone_after, gone_by, restarts_in, role_plan}
+pub use Rattle.tva_node.specs.Nodes.{router_in, router_number, site_at, state_of}
 
 -- the node stands for the log: it is the log over the node's inputs up to the time up to which it is worked, its events
 -- and sendings are the node's, and what the node keeps besides is by it

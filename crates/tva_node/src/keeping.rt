@@ -9,7 +9,8 @@ use tva_log::Sending;
 use tva_waiting::Memory;
 
 impl Parts {
-    /// Hands out what the links sent behind the first so many.
+    /// Hands out what the links sent behind the first so many. The outbox gets room for as many as it had, so
+    /// that it need not grow anew. The error is want of memory.
     pub fn hand_over(&mut self, place: usize) -> Result<Vec<Sending>, AllocError>
         requires held { HoldsSome self.old }
         requires gone { self.old.outbox.gone ≤ place }

@@ -104,7 +104,7 @@ impl Node {
         })
     }
 
-    /// Makes room for so many more inputs, so many of which are more than rows that carry nothing. The
+    /// Makes room for `count` more inputs, of which `carrying` are packets or rows that carry something. The
     /// error is want of memory; nothing changes.
     pub fn reserve(&mut self, count: usize, carrying: usize) -> Result<(), AllocError>
         ensures { self.new ≡ self.old }

@@ -9,7 +9,7 @@ use crate::links::Links;
 use crate::role::Role;
 use std::alloc::{AllocError, Global};
 use std::cmp;
-use tva_base::{Class, Event, Happened, LinkPlan, Outcome, Time};
+use tva_base::{Class, Event, Happened, Outcome, Time};
 use tva_log::{Input, Sending};
 use tva_past::Kept;
 use tva_port::Decision;

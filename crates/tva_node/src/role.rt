@@ -9,7 +9,7 @@ ghost use Rattle.tva_shim.specs.Shows.{back_in};
 ghost use Rattle.tva_flow.specs.Charges.{Charge};
 ghost use Rattle.tva_port.specs.Log.{Entry as PortEntry, free_after};
 ghost use Rattle.tva_port.specs.Stands.{StandsFor as PortStandsFor};
-ghost use Rattle.tva_router.specs.Handling.{Logs, entered_by, handle, outcome_of};
+ghost use Rattle.tva_router.specs.Handling.{PortLogs, entered_by, handle};
 ghost use Rattle.tva_router.specs.Stands.{StandsFor as RouterStandsFor, ◌with◌};
 ghost use Rattle.tva_host.specs.Calls.{Call, history_of};
 ghost use Rattle.tva_transfer.specs.Files.{Act};
@@ -27,14 +27,11 @@ ghost use Rattle.tva_node.specs.Steps.{Decides, HostTook, RouterTook, Takes, rep
 
 use crate::changes::Changes;
 use std::alloc::{AllocError, Global};
-use tva_base::{
-    BackKind, Class, DropCause, Happened, Outcome, PacketId, ReplyLine, ShapeKind, Time,
-};
-use tva_drr::Offered;
+use tva_base::{BackKind, Happened, Outcome, PacketId, ReplyLine, ShapeKind, Time};
 use tva_host::{Made, Receipt};
 use tva_log::Input;
 use tva_port::{Decision, Port};
-use tva_router::Router;
+use tva_router::{Router, outcome_of};
 use tva_shim::{Carried, Packet, ReturnInfo, class_of, length, queue_key};
 use tva_trace::{Row, RowWhat};
 use tva_transfer::{Courier, Landed};
@@ -164,10 +161,10 @@ impl Routed {
     fn arrive(&mut self, now: Time, from: Option<u16>, packet: Packet) -> Happened
         requires time { self.old.router.last ≤ now.0 }
         requires horizon { now.0 ≤ 1000000000000000 }
-        ensures told { (h : List Charge) (logs : Logs) → RouterStandsFor self.old.router h logs
+        ensures told { (h : List Charge) (logs : PortLogs) → RouterStandsFor self.old.router h logs
             → result ≡ happens.Arrived packet.id (packet_length packet) from
             (handle self.old.router.plan h logs now.0 from packet).fate }
-        ensures stands { (h : List Charge) (logs : Logs) → RouterStandsFor self.old.router h logs
+        ensures stands { (h : List Charge) (logs : PortLogs) → RouterStandsFor self.old.router h logs
             → RouterStandsFor self.new.router (h ++ (handle self.old.router.plan h logs now.0 from packet).charges)
             (logs with (handle self.old.router.plan h logs now.0 from packet).queued) }
         ensures plan { (self.new.router.plan ≡ self.old.router.plan) × (self.new.router.built ≡ self.old.router.built) }
@@ -341,16 +338,6 @@ impl Hosted {
         let class = class_of(&packet);
         let key = queue_key(class, &packet);
         outcome_of(self.uplink, &self.port.queue(now, class, key, packet))
-    }
-}
-
-fn outcome_of(link: u16, offered: &Offered<Packet>) -> Outcome
-    ensures { result ≡ outcome_of link offered.now }
-{
-    match offered {
-        Offered::Queued => Outcome::Queued(link),
-        Offered::NoQueue(_) => Outcome::Dropped(DropCause::NoQueue),
-        Offered::QueueFull(_) => Outcome::Dropped(DropCause::QueueFull),
     }
 }
 

@@ -6,9 +6,9 @@ use Rattle.std.specs.Cmp.Lexicographic.{slice_cmp}
 use Rattle.std.specs.FinMap.{FinMap, get}
 
 -- from names, each as its bytes, to what is held there
-abbrev pub Held : Type 0
-Held = FinMap (slice_cmp nat_cmp) (List ℕ)
+abbrev pub HeldByName : Type 0
+HeldByName = FinMap (slice_cmp nat_cmp) (List ℕ)
 
 -- the bytes that are held under a name, if any are
-abbrev pub bytes_at : Held → List ℕ → Option (List ℕ)
+abbrev pub bytes_at : HeldByName → List ℕ → Option (List ℕ)
 bytes_at files name = get files name

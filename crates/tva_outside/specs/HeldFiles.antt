@@ -6,17 +6,17 @@ use Rattle.std.specs.BTreeMap.{BTreeMap}
 use Rattle.std.specs.FinMap.{empty, insert}
 use Rattle.tva_outside.specs.declared.shelf.Loaded.{Loaded}
 use Rattle.tva_outside.specs.declared.shelf.Loaded.TheVariants.{Bytes, Failed, TooLarge, OutOfMemory}
-use Rattle.tva_outside.specs.Held.{Held, bytes_at}
+use Rattle.tva_outside.specs.Held.{HeldByName, bytes_at}
 
-abbrev pub held_of : List (String Global × Vec ℕ Global) → Held
+abbrev pub held_of : List (String Global × Vec ℕ Global) → HeldByName
 held_of [] = empty
 held_of (e ∷ es) = insert (held_of es) (string_bytes e.0) e.1.items
 
-abbrev pub held_in : BTreeMap (String Global) (Vec ℕ Global) → Held
+abbrev pub held_in : BTreeMap (String Global) (Vec ℕ Global) → HeldByName
 held_in files = held_of files.entries
 
 -- what a copy of what is held under a name, of at most so many bytes, comes to
-abbrev pub IsCopy : Held → List ℕ → ℕ → Loaded → Type 0
+abbrev pub IsCopy : HeldByName → List ℕ → ℕ → Loaded → Type 0
 IsCopy files name max (Bytes bytes) = (bytes_at files name ≡ Some bytes.items) × (length bytes.items ≤ max)
 IsCopy files name max Failed = bytes_at files name ≡ None
 IsCopy files name max (TooLarge k) = IsSomeAnd (bytes_at files name) (λ bytes. max < length bytes) × (k ≡ max + 1)

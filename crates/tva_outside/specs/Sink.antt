@@ -7,13 +7,13 @@ use Rattle.tva_outside.specs.declared.sink.Sent.TheVariants as sent_as
 use Rattle.tva_outside.specs.Faults.{Rose}
 
 -- the bytes of the piece that a write took
-abbrev pub taken : wrote.Wrote → List ℕ → List ℕ
-taken (wrote_as.Count n) piece = take n piece
-taken wrote_as.Failed piece = []
-taken wrote_as.OutOfMemory piece = []
+abbrev pub bytes_taken : wrote.Wrote → List ℕ → List ℕ
+bytes_taken (wrote_as.Count n) piece = take n piece
+bytes_taken wrote_as.Failed piece = []
+bytes_taken wrote_as.OutOfMemory piece = []
 
--- what a write of the piece may answer, where the count of faults went from before to now: it rises at a failure, and at
--- nothing else
+-- what a write of the piece may answer, where the count of faults went from before to now: it rises at a failure, and
+-- at nothing else
 abbrev pub IsWrote : List ℕ → ℕ → ℕ → wrote.Wrote → Type 0
 IsWrote piece before now (wrote_as.Count n) = (n ≤ length piece) × (n ≡ 0 → piece ≡ []) × (now ≡ before)
 IsWrote piece before now wrote_as.Failed = Rose before now

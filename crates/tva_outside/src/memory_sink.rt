@@ -1,7 +1,7 @@
 // A sink in memory, which may be told to fail.
 ghost use Rattle.std.specs.Prelude.{◌≡◌, ◌≤◌, [], OnErr, OnOk, Some, ◌++◌, ◌∷◌};
 ghost use Rattle.std.specs.Io.KnownBytes.{append_known};
-ghost use Rattle.tva_outside.specs.Sink.{IsWrote, taken};
+ghost use Rattle.tva_outside.specs.Sink.{IsWrote, bytes_taken};
 ghost use Rattle.tva_outside.specs.MemorySink.{after_write, AnswersWrite};
 
 use crate::calls::is_due;
@@ -71,7 +71,7 @@ impl Sink for MemorySink {
     ghost faults = { λ s. s.faults };
 
     fn write(&mut self, piece: &[u8]) -> Wrote
-        ensures written { Some self.new.bytes ≡ append_known (Some self.old.bytes) (taken result piece.now) }
+        ensures written { Some self.new.bytes ≡ append_known (Some self.old.bytes) (bytes_taken result piece.now) }
         ensures never_falls { self.old.faults ≤ self.new.faults }
         ensures answer { IsWrote piece.now self.old.faults self.new.faults result }
         ensures state { self.new ≡ after_write self.old piece.now result }

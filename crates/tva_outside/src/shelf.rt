@@ -1,7 +1,7 @@
 // Where files come from.
 ghost use Rattle.std.specs.Prelude.{◌≡◌, ◌≤◌, ◌^◌, ℕ};
 ghost use Rattle.std.specs.declared.option.Option.{Option};
-ghost use Rattle.tva_outside.specs.Shelf.{Held, IsLoaded};
+ghost use Rattle.tva_outside.specs.Shelf.{HeldByName, IsLoaded};
 
 use std::alloc::Global;
 
@@ -21,7 +21,7 @@ pub enum Loaded {
 /// A place of named files.
 pub trait Shelf {
     /// The bytes that are held under each name, where the shelf tells them.
-    ghost held: { Self → Option Held };
+    ghost held: { Self → Option HeldByName };
 
     /// How often a load has failed. The count never falls, and stands still at 2^64-1.
     ghost faults: { Self → ℕ };

@@ -2,7 +2,7 @@
 ghost use Rattle.std.specs.Prelude.{◌≡◌, ◌≤◌, List, [], ℕ};
 ghost use Rattle.std.specs.declared.option.Option.{Option};
 ghost use Rattle.std.specs.Io.KnownBytes.{append_known};
-ghost use Rattle.tva_outside.specs.Sink.{IsWrote, IsSent, taken, sent};
+ghost use Rattle.tva_outside.specs.Sink.{IsWrote, IsSent, bytes_taken, sent};
 
 /// What a write answers.
 #[derive(Clone, Copy, Debug, PartialEq, Eq)]
@@ -37,7 +37,7 @@ pub trait Sink {
 
     /// Writes as many bytes of the piece as the sink takes at once, at least one where there are any.
     fn write(&mut self, piece: &[u8]) -> Wrote
-        ensures written { written self.new ≡ append_known (written self.old) (taken result piece.now) }
+        ensures written { written self.new ≡ append_known (written self.old) (bytes_taken result piece.now) }
         ensures never_falls { faults self.old ≤ faults self.new }
         ensures answer { IsWrote piece.now (faults self.old) (faults self.new) result };
 }

@@ -111,7 +111,8 @@ impl<T> Kept<T> {
         self.held.clear();
     }
 
-    /// Hands out all that memory holds, and forgets it. What is put in then goes where there is room.
+    /// Hands out all that memory holds, and forgets it. The list goes on in `room`, which is empty, so that
+    /// putting in takes no memory until that is full.
     pub fn take(&mut self, room: Vec<T>) -> Vec<T>
         requires { room.items ≡ [] }
         ensures taken { result.items ≡ held self.old }

@@ -29,7 +29,7 @@ use Rattle.tva_host.specs.History.{History}
 use Rattle.tva_host.specs.Calls.{history_of}
 use Rattle.tva_host.specs.Sending.{intended}
 use Rattle.tva_host.specs.Receiving as receiving
-use Rattle.tva_host.specs.Receiving.{receipt_of, reply_of, stray, before_reply, answer_to, claim_in, brought_by}
+use Rattle.tva_host.specs.Receiving.{receipt_of, reply_of, stray, before_reply, answer_to_claim, claim_in, brought_by}
 use Rattle.tva_plan.specs.declared.config.Config.{Config}
 use Rattle.tva_plan.specs.declared.config.NodePlan.{NodePlan}
 use Rattle.tva_plan.specs.declared.config.NodePlan.TheVariants as plans
@@ -204,7 +204,7 @@ keeps_on a b c k l = record {
   upper = l.upper ∙ k.upper;
 }
 
-pub onward_keeps : (plan : RouterPlan) (h : List Charge) (logs : handling.Logs) (now : ℕ) (from : Option ℕ) (p : PacketData)
+pub onward_keeps : (plan : RouterPlan) (h : List Charge) (logs : handling.PortLogs) (now : ℕ) (from : Option ℕ) (p : PacketData)
     → Keeps p (handle plan h logs now from p).onward
 unfolding handle
 onward_keeps plan h logs now from p =
@@ -289,7 +289,7 @@ unfolding receipt_of
 receipt_is number plan h now p above =
     receipt_by number (eqb p.flow.dst.0 plan.address.0) (receiving.received number plan h now p.flow.src p.carried above) stray
     (reply_by number plan (before_reply plan p.flow.src p.carried h) now p.flow.src
-    (brought_by above (answer_to plan h.deeds p.flow.src p.carried (claim_in p.carried))) above) (none_of number)
+    (brought_by above (answer_to_claim plan h.deeds p.flow.src p.carried (claim_in p.carried))) above) (none_of number)
 
 hosted_of : (site : Site) (plan : HostPlan) (before : List Entry) (i : Input) → IsOf site.number (made_in (hosted site plan before i))
 hosted_of site plan before (FromTrace row) =
@@ -333,7 +333,7 @@ module _ (config : Config) (rows : List Row) (until : ℕ) (logs : Logs) (valid 
         keeps = same_packet p;
       }
 
-  hands_on : (plan : RouterPlan) (h : List Charge) (links : handling.Logs) (now : ℕ) (from : Option ℕ) (p : PacketData)
+  hands_on : (plan : RouterPlan) (h : List Charge) (links : handling.PortLogs) (now : ℕ) (from : Option ℕ) (p : PacketData)
       → HasOrigin logs p → HasOrigin logs (handle plan h links now from p).onward
   hands_on plan h links now from p o =
       let k = onward_keeps plan h links now from p in

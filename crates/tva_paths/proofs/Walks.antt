@@ -176,7 +176,7 @@ module _ (P : PacketData → Type 0) (W : RowWhat → Type 0) where
   abbrev pub Makes : Content → Type 0
   Makes c = (p : PacketData) → made_in c ≡ Some p → P p
 
-  module _ (hands_on : (plan : RouterPlan) (h : List Charge) (logs : handling.Logs) (now : ℕ) (from : Option ℕ) (p : PacketData) → P p
+  module _ (hands_on : (plan : RouterPlan) (h : List Charge) (logs : handling.PortLogs) (now : ℕ) (from : Option ℕ) (p : PacketData) → P p
       → P (handle plan h logs now from p).onward) where
     arrived_goes : (plan : RouterPlan) (before : List Entry) (now : ℕ) (from : Option ℕ) (p : PacketData) → P p
         → Goes (arrived plan before now from p)

@@ -5,7 +5,7 @@ use Rattle.std.proofs.lemmas.List.Sums.{sum_by_push}
 use Rattle.std.proofs.lemmas.Bool.Decides.{nat_tests}
 use Rattle.tva_base.specs.declared.addresses.Address.{Address}
 use Rattle.tva_base.specs.declared.plan.PolicyPlan.{PolicyPlan}
-use Rattle.tva_policy.specs.Grants.{Deed, Sent, Decided, is_sending_to, is_grant_to, has_address, has_tag, is_granted, decision}
+use Rattle.tva_policy.specs.Grants.{Deed, Sent, Decided, is_sending_to, is_grant_to, has_address, has_tag, is_granted, grant_decision}
 use Rattle.tva_policy.specs.Notes.{Notes, StandsFor, grants_kept, lets_through}
 use Rattle.tva_policy.proofs.Compared.{list_any_same}
 
@@ -44,15 +44,15 @@ stands_decided plan v h src is_grant granted s e = record {
   granted = λ a. let more = sum_by_push (λ d. cond (is_grant_to a d) 1 0) h (Decided src is_grant) in let new = e a in let old = s.granted a in grind (arith, nat_tests);
 }
 
-pub too_often : (plan : PolicyPlan) (v : Notes) (h : List Deed) (src : Address) (tags : List ℕ) (n : ℕ) → StandsFor plan v h → n ≡ grants_kept v.granted src → v.grants ≤ n → None ≡ decision plan h src tags
+pub too_often : (plan : PolicyPlan) (v : Notes) (h : List Deed) (src : Address) (tags : List ℕ) (n : ℕ) → StandsFor plan v h → n ≡ grants_kept v.granted src → v.grants ≤ n → None ≡ grant_decision plan h src tags
 too_often plan v h src tags n s found over =
     let many : ltb (grants_kept v.granted src) v.grants ≡ false = rw (← found) (grind (arith, nat_tests)) in
     rw (by_notes plan v h src tags s, many) (elim (lets_through v src tags) as (λ b. None ≡ cond (b && false) (Some plan.rights) None) [ true ↦ refl | false ↦ refl ])
 
-pub not_let_through : (plan : PolicyPlan) (v : Notes) (h : List Deed) (src : Address) (tags : List ℕ) → StandsFor plan v h → lets_through v src tags ≡ false → None ≡ decision plan h src tags
+pub not_let_through : (plan : PolicyPlan) (v : Notes) (h : List Deed) (src : Address) (tags : List ℕ) → StandsFor plan v h → lets_through v src tags ≡ false → None ≡ grant_decision plan h src tags
 not_let_through plan v h src tags s stopped = rw (by_notes plan v h src tags s, stopped) refl
 
-pub granted : (plan : PolicyPlan) (v : Notes) (h : List Deed) (src : Address) (tags : List ℕ) (n : ℕ) → StandsFor plan v h → n ≡ grants_kept v.granted src → n < v.grants → lets_through v src tags ≡ true → Some v.rights ≡ decision plan h src tags
+pub granted : (plan : PolicyPlan) (v : Notes) (h : List Deed) (src : Address) (tags : List ℕ) (n : ℕ) → StandsFor plan v h → n ≡ grants_kept v.granted src → n < v.grants → lets_through v src tags ≡ true → Some v.rights ≡ grant_decision plan h src tags
 granted plan v h src tags n s found under passed =
     let few : ltb (grants_kept v.granted src) v.grants ≡ true = rw (← found) (grind (arith, nat_tests)) in
     rw (by_notes plan v h src tags s, passed, few) (ap Some s.rights)

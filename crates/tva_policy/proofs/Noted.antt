@@ -5,7 +5,7 @@ use Rattle.std.proofs.lemmas.List.Sums.{sum_by-append}
 use Rattle.std.proofs.lemmas.Bool.Decides.{nat_tests}
 use Rattle.tva_base.specs.declared.addresses.Address.{Address}
 use Rattle.tva_base.specs.declared.plan.PolicyPlan.{PolicyPlan}
-use Rattle.tva_policy.specs.Grants.{Deed, Sent, is_sending_to, is_grant_to, was_sent_to, grants_before, is_granted, decision}
+use Rattle.tva_policy.specs.Grants.{Deed, Sent, is_sending_to, is_grant_to, was_sent_to, grants_before, is_granted, grant_decision}
 
 same_sent : (h : List Deed) (a dst : Address) → a.0 ≡ dst.0 → was_sent_to h a ≡ was_sent_to h dst
 same_sent h a dst e = ap (λ (n : ℕ). was_sent_to h (record { 0 = n })) e
@@ -23,6 +23,6 @@ grants_again h more dst a =
     let counted = λ (d : Deed). cond (is_grant_to a d) 1 0 in
     sum_by-append counted h (Sent dst ∷ more) ∙ sym (sum_by-append counted h more)
 
-pub noted_again : (plan : PolicyPlan) (h more : List Deed) (dst src : Address) (tags : List ℕ) → was_sent_to h dst ≡ true → decision plan (h ++ Sent dst ∷ more) src tags ≡ decision plan (h ++ more) src tags
+pub noted_again : (plan : PolicyPlan) (h more : List Deed) (dst src : Address) (tags : List ℕ) → was_sent_to h dst ≡ true → grant_decision plan (h ++ Sent dst ∷ more) src tags ≡ grant_decision plan (h ++ more) src tags
 unfolding is_granted
 noted_again plan h more dst src tags sent = rw (sent_again h more dst src sent, grants_again h more dst src) refl

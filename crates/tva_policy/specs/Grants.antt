@@ -50,5 +50,5 @@ is_granted plan h src tags =
     && not (list_any (has_tag plan.deny_tags) tags) && nat_lt (grants_before h src) plan.grants
 
 -- the decision: the plan's rights, or none
-abbrev pub decision : PolicyPlan → List Deed → Address → List ℕ → Option Rights
-decision plan h src tags = if is_granted plan h src tags then Some plan.rights else None
+abbrev pub grant_decision : PolicyPlan → List Deed → Address → List ℕ → Option Rights
+grant_decision plan h src tags = if is_granted plan h src tags then Some plan.rights else None

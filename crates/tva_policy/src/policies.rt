@@ -1,7 +1,7 @@
 // A policy: whom it granted, and whom it would grant.
 ghost use Rattle.std.specs.Prelude.{◌≡◌, List, [], ◌∷◌, ◌++◌, is_some, IfOk, IfNone, OnOk, OnErr};
 ghost use Rattle.tva_base.specs.declared.plan.PolicyPlan.{PolicyPlan};
-ghost use Rattle.tva_policy.specs.Grants.{Deed, Sent, Decided, decision, lets_in};
+ghost use Rattle.tva_policy.specs.Grants.{Deed, Sent, Decided, grant_decision, lets_in};
 ghost use Rattle.tva_policy.specs.Notes.{StandsFor, lets_through};
 
 use crate::sets::{has_any, set_of};
@@ -63,7 +63,7 @@ impl Policy {
         src: Address,
         tags: &[u16],
     ) -> Result<Option<Rights>, AllocError>
-        ensures answer { (plan : PolicyPlan) (h : List Deed) → StandsFor plan self.old h → IfOk result (λ answer. answer ≡ decision plan h src tags.now) }
+        ensures answer { (plan : PolicyPlan) (h : List Deed) → StandsFor plan self.old h → IfOk result (λ answer. answer ≡ grant_decision plan h src tags.now) }
         ensures stands { (plan : PolicyPlan) (h : List Deed) → StandsFor plan self.old h → IfOk result (λ answer. StandsFor plan self.new (h ++ Decided src (is_some answer) ∷ [])) }
         ensures refused { IfOk result (λ answer. IfNone answer (self.new ≡ self.old)) }
         ensures err { OnErr result (self.new ≡ self.old) }

@@ -21,7 +21,7 @@ use Rattle.tva_port.specs.declared.requests.RequestQueues.TheVariants.{OneLevel,
 use Rattle.tva_port.specs.Levels.{request_answer, request_leaves, requests_with}
 use Rattle.tva_port.specs.Log.{Entry, Queued}
 use Rattle.tva_port.specs.Waiting.{waiting_after}
-use Rattle.tva_port.specs.Legal.{GoesOn, IsQueued, IsLegal}
+use Rattle.tva_port.specs.Legal.{AllFollow, IsQueued, IsLegal}
 use Rattle.tva_port.specs.Bounds.{waiting_with, requests_until, StartsBy}
 use Rattle.tva_port.proofs.Logs.{legal-front, requests-push, regulars-push}
 use Rattle.tva_port.proofs.Idling.{within}
@@ -29,15 +29,15 @@ use Rattle.tva_port.proofs.Tracking.{IsQueueing, regulars_now, Tracks}
 use Rattle.tva_port.proofs.RequestTracking as requests
 use Rattle.tva_port.proofs.Going.{Finds}
 
-pub goes_rest : (l : LinkLimits) (past log rest : List Entry) → GoesOn l past (log ++ rest) → GoesOn l (past ++ log) rest
-goes_rest l past [] rest g = subst (λ z. GoesOn l z rest) (sym (append-nil past)) g
-goes_rest l past (e ∷ es) rest g = subst (λ z. GoesOn l z rest) (append_assoc past (e ∷ []) es) (goes_rest l (past ++ e ∷ []) es rest g.1)
+pub goes_rest : (l : LinkLimits) (past log rest : List Entry) → AllFollow l past (log ++ rest) → AllFollow l (past ++ log) rest
+goes_rest l past [] rest g = subst (λ z. AllFollow l z rest) (sym (append-nil past)) g
+goes_rest l past (e ∷ es) rest g = subst (λ z. AllFollow l z rest) (append_assoc past (e ∷ []) es) (goes_rest l (past ++ e ∷ []) es rest g.1)
 
-pub legal_rest : (l : LinkLimits) (before : List Entry) (e : Entry) (rest : List Entry) → IsLegal l (before ++ e ∷ rest) → GoesOn l (before ++ e ∷ []) rest
-legal_rest l before e rest g = goes_rest l [] (before ++ e ∷ []) rest (subst (λ z. GoesOn l [] z) (sym (append_assoc before (e ∷ []) rest)) g)
+pub legal_rest : (l : LinkLimits) (before : List Entry) (e : Entry) (rest : List Entry) → IsLegal l (before ++ e ∷ rest) → AllFollow l (before ++ e ∷ []) rest
+legal_rest l before e rest g = goes_rest l [] (before ++ e ∷ []) rest (subst (λ z. AllFollow l [] z) (sym (append_assoc before (e ∷ []) rest)) g)
 
 pub legal_up : (l : LinkLimits) (before : List Entry) (e : Entry) (rest : List Entry) → IsLegal l (before ++ e ∷ rest) → IsLegal l (before ++ e ∷ [])
-legal_up l before e rest g = legal-front l [] (before ++ e ∷ []) rest (subst (λ z. GoesOn l [] z) (sym (append_assoc before (e ∷ []) rest)) g)
+legal_up l before e rest g = legal-front l [] (before ++ e ∷ []) rest (subst (λ z. AllFollow l [] z) (sym (append_assoc before (e ∷ []) rest)) g)
 
 -- a queued item goes last
 queued_items : {A : Type 0} (b c : Bool) (p : PacketData) (f g : A) (P : A → Type 0)

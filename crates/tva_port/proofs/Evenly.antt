@@ -21,9 +21,9 @@ use Rattle.tva_port.specs.Levels.{next_in, single_queues}
 use Rattle.tva_port.specs.Log.{Entry, Queued, Started}
 use Rattle.tva_port.specs.Waiting.{same_class, request_step, waiting_after}
 use Rattle.tva_port.specs.Decide.{credit_after}
-use Rattle.tva_port.specs.Legal.{Follows, GoesOn, IsStarted, IsLegal}
+use Rattle.tva_port.specs.Legal.{Follows, AllFollow, IsStarted, IsLegal}
 use Rattle.tva_port.specs.Keeps.{AreWithin, IsWithinLimits}
-use Rattle.tva_port.specs.Bounds.{queues_of, bytes_started, IsNeverEmpty}
+use Rattle.tva_port.specs.Bounds.{class_queues, bytes_started, IsNeverEmpty}
 use Rattle.tva_port.proofs.Logs.{legal-front, fair_step, requests-push, goes_on-push}
 use Rattle.tva_port.proofs.Deciding.{covered_pays}
 use Rattle.tva_port.proofs.Legality.{started_is}
@@ -70,8 +70,8 @@ step_single f (Started t d x) = by_test (same_class d Request)
 -- the queues of the class under their limits, after one more entry
 queues-step : (l : LinkLimits) (c : Class) (log : List Entry) (e : Entry) → HasKeys l c
     → IsWithinLimits l (waiting_after l log)
-    → queues_of c (waiting_after l (log ++ e ∷ [])) ≡
-    (fair_step c (fair (limits_of l c) (queues_of c (waiting_after l log))) e).queues
+    → class_queues c (waiting_after l (log ++ e ∷ [])) ≡
+    (fair_step c (fair (limits_of l c) (class_queues c (waiting_after l log))) e).queues
 queues-step l Request log e q w =
     let rs : RequestQueues = (waiting_after l log).requests in
     ap (λ (z : RequestQueues). single_queues z) (requests-push l log e)
@@ -81,7 +81,7 @@ queues-step l Regular log e q w = regulars-step l log e w
 queues-step l Legacy log e q w = absurd q
 
 fair_now : (l : LinkLimits) (c : Class) (log : List Entry) → HasKeys l c → IsWithinLimits l (waiting_after l log)
-    → IsFair packet_length (fair (limits_of l c) (queues_of c (waiting_after l log)))
+    → IsFair packet_length (fair (limits_of l c) (class_queues c (waiting_after l log)))
 fair_now l Request log q w = (one_level l (waiting_after l log).requests q w.requests).1
 fair_now l Regular log q w = regulars_now l log w
 fair_now l Legacy log q w = absurd q
@@ -99,7 +99,7 @@ steps_of c (e ∷ es) = step_of c e ++ steps_of c es
 
 -- the queues of a class under their limits
 abbrev state : LinkLimits → Class → List Entry → Fair PacketData
-state l c log = fair (limits_of l c) (queues_of c (waiting_after l log))
+state l c log = fair (limits_of l c) (class_queues c (waiting_after l log))
 
 offer_limits : (d : DrrLimits) (qs : List (Queue PacketData)) (k : ℕ) (x : PacketData) → offer_leaves packet_length (fair d qs) k x ≡ fair d (offer_leaves packet_length (fair d qs) k x).queues
 offer_limits d qs k x = offer_cases (lacks_queue (fair d qs) k) (lacks_room packet_length (fair d qs) k x) (fair d qs) (fair d (put d.quantum k x qs)) (λ (g : Fair PacketData). g ≡ fair d g.queues) refl (λ _ _. refl)
@@ -129,7 +129,7 @@ next_single l (OneLevel f) n w = refl
 next_single l (TwoLevels h) n w = absurd (let k : None ≡ Some h.inner = sym n ∙ w.0 in cc)
 
 head_started : (l : LinkLimits) (c : Class) (log : List Entry) (t : ℕ) (x : PacketData) → HasKeys l c
-    → IsWithinLimits l (waiting_after l log) → IsStarted l log t c x → head (queues_of c (waiting_after l log)) ≡ Some x
+    → IsWithinLimits l (waiting_after l log) → IsStarted l log t c x → head (class_queues c (waiting_after l log)) ≡ Some x
 head_started l Request log t x q w f =
     next_single l (waiting_after l log).requests q w.requests
     ∙ (covered_pays l (credit_after l log t) (next_in (waiting_after l log).requests) x
@@ -143,7 +143,7 @@ module _ (l : LinkLimits) (c : Class) (q : HasKeys l c) (a : AreLinkLimits l) wh
 
   -- the packet that starts is the first of the front
   starts_head : (log : List Entry) (t : ℕ) (x : PacketData) → IsLegal l log → IsStarted l log t c x
-      → head (queues_of c (waiting_after l log)) ≡ Some x
+      → head (class_queues c (waiting_after l log)) ≡ Some x
   starts_head log t x g f = head_started l c log t x q (within l log a g) f
 
   -- one more entry, by whether it is of the class
@@ -152,33 +152,33 @@ module _ (l : LinkLimits) (c : Class) (q : HasKeys l c) (a : AreLinkLimits l) wh
   started_one key log (Queued t d k x) es g f h =
       let s = state-step log (Queued t d k x) g in
       by_test (same_class d c) (λ b. fair (limits_of l c) (cond b (offer_leaves packet_length (state l c log) k x) (state l c log)).queues ≡ state l c (log ++ Queued t d k x ∷ []) → 0 + bytes_started l c key (log ++ Queued t d k x ∷ []) es ≡ bytes_from packet_length key (state l c log) (cond b (Offer k x ∷ []) [] ++ steps_of c es))
-      (λ _ e. zero-add (bytes_started l c key (log ++ Queued t d k x ∷ []) es) ∙ h ∙ ap (λ z. bytes_from packet_length key z (steps_of c es)) (sym e ∙ sym (offer_limits (limits_of l c) (queues_of c (waiting_after l log)) k x)))
+      (λ _ e. zero-add (bytes_started l c key (log ++ Queued t d k x ∷ []) es) ∙ h ∙ ap (λ z. bytes_from packet_length key z (steps_of c es)) (sym e ∙ sym (offer_limits (limits_of l c) (class_queues c (waiting_after l log)) k x)))
       (λ _ e. zero-add (bytes_started l c key (log ++ Queued t d k x ∷ []) es) ∙ h ∙ ap (λ z. bytes_from packet_length key z (steps_of c es)) (sym e))
       (sym s)
   started_one key log (Started t d x) es g f h =
       let s = state-step log (Started t d x) g in
       by_test (same_class d c) (λ b. (same_class d c ≡ b) → fair (limits_of l c) (cond b (take_leaves packet_length (state l c log)) (state l c log)).queues ≡ state l c (log ++ Started t d x ∷ [])
-      → cond (b && is_front key (queues_of c (waiting_after l log))) (packet_length x) 0 + bytes_started l c key (log ++ Started t d x ∷ []) es ≡ bytes_from packet_length key (state l c log) (cond b (Take ∷ []) [] ++ steps_of c es))
+      → cond (b && is_front key (class_queues c (waiting_after l log))) (packet_length x) 0 + bytes_started l c key (log ++ Started t d x ∷ []) es ≡ bytes_from packet_length key (state l c log) (cond b (Take ∷ []) [] ++ steps_of c es))
       (λ _ w e.
       let own : IsStarted l log t c x = subst (λ z. IsStarted l log t z x) (same_own d c w) f in
-      let bytes : packet_length x ≡ head_bytes packet_length (queues_of c (waiting_after l log)) = sym
-      (head_of (queues_of c (waiting_after l log)) x (starts_head log t x g own)) in
-      ap (λ z. cond (is_front key (queues_of c (waiting_after l log))) z 0 + bytes_started l c key (log ++ Started t d x ∷ []) es) bytes
-      ∙ ap (λ z. cond (is_front key (queues_of c (waiting_after l log))) (head_bytes packet_length (queues_of c (waiting_after l log))) 0 + z) (h ∙ ap (λ z. bytes_from packet_length key z (steps_of c es)) (sym e)))
+      let bytes : packet_length x ≡ head_bytes packet_length (class_queues c (waiting_after l log)) = sym
+      (head_of (class_queues c (waiting_after l log)) x (starts_head log t x g own)) in
+      ap (λ z. cond (is_front key (class_queues c (waiting_after l log))) z 0 + bytes_started l c key (log ++ Started t d x ∷ []) es) bytes
+      ∙ ap (λ z. cond (is_front key (class_queues c (waiting_after l log))) (head_bytes packet_length (class_queues c (waiting_after l log))) 0 + z) (h ∙ ap (λ z. bytes_from packet_length key z (steps_of c es)) (sym e)))
       (λ _ _ e. zero-add (bytes_started l c key (log ++ Started t d x ∷ []) es) ∙ h ∙ ap (λ z. bytes_from packet_length key z (steps_of c es)) (sym e))
       refl (sym s)
 
-  started_are : (key : ℕ) (log es : List Entry) → IsLegal l log → GoesOn l log es → bytes_started l c key log es ≡ bytes_from packet_length key (state l c log) (steps_of c es)
+  started_are : (key : ℕ) (log es : List Entry) → IsLegal l log → AllFollow l log es → bytes_started l c key log es ≡ bytes_from packet_length key (state l c log) (steps_of c es)
   started_are key log [] g r = refl
   started_are key log (e ∷ es) g r = started_one key log e es g r.0 (started_are key (log ++ e ∷ []) es (goes_on-push l [] log e g r.0) r.1)
 
   -- so it is with what waits all along
-  waits_one : (key : ℕ) (log : List Entry) (e : Entry) (es : List Entry) → IsLegal l log → has_key key (queues_of c (waiting_after l log)) ≡ true → drr.AlwaysWaits packet_length key (state l c (log ++ e ∷ [])) (steps_of c es)
+  waits_one : (key : ℕ) (log : List Entry) (e : Entry) (es : List Entry) → IsLegal l log → has_key key (class_queues c (waiting_after l log)) ≡ true → drr.AlwaysWaits packet_length key (state l c (log ++ e ∷ [])) (steps_of c es)
       → drr.AlwaysWaits packet_length key (state l c log) (step_of c e ++ steps_of c es)
   waits_one key log (Queued t d k x) es g w h =
       let s = state-step log (Queued t d k x) g in
       by_test (same_class d c) (λ b. fair (limits_of l c) (cond b (offer_leaves packet_length (state l c log) k x) (state l c log)).queues ≡ state l c (log ++ Queued t d k x ∷ []) → drr.AlwaysWaits packet_length key (state l c log) (cond b (Offer k x ∷ []) [] ++ steps_of c es))
-      (λ _ e. (w, subst (λ z. drr.AlwaysWaits packet_length key z (steps_of c es)) (sym e ∙ sym (offer_limits (limits_of l c) (queues_of c (waiting_after l log)) k x)) h))
+      (λ _ e. (w, subst (λ z. drr.AlwaysWaits packet_length key z (steps_of c es)) (sym e ∙ sym (offer_limits (limits_of l c) (class_queues c (waiting_after l log)) k x)) h))
       (λ _ e. subst (λ z. drr.AlwaysWaits packet_length key z (steps_of c es)) (sym e) h)
       (sym s)
   waits_one key log (Started t d x) es g w h =
@@ -188,11 +188,11 @@ module _ (l : LinkLimits) (c : Class) (q : HasKeys l c) (a : AreLinkLimits l) wh
       (λ _ e. subst (λ z. drr.AlwaysWaits packet_length key z (steps_of c es)) (sym e) h)
       (sym s)
 
-  waits_all : (key : ℕ) (log es : List Entry) → IsLegal l log → GoesOn l log es → IsNeverEmpty l c key log es → drr.AlwaysWaits packet_length key (state l c log) (steps_of c es)
+  waits_all : (key : ℕ) (log es : List Entry) → IsLegal l log → AllFollow l log es → IsNeverEmpty l c key log es → drr.AlwaysWaits packet_length key (state l c log) (steps_of c es)
   waits_all key log [] g r w = w
   waits_all key log (e ∷ es) g r w = waits_one key log e es g w.0 (waits_all key (log ++ e ∷ []) es (goes_on-push l [] log e g r.0) r.1 w.1)
 
-  offers_all : (log es : List Entry) → GoesOn l log es → (limits_of l c).max ≡ 2048 → AreOffers packet_length (limits_of l c).max (steps_of c es)
+  offers_all : (log es : List Entry) → AllFollow l log es → (limits_of l c).max ≡ 2048 → AreOffers packet_length (limits_of l c).max (steps_of c es)
   offers_all log [] r m = tt
   offers_all log (Queued t d k x ∷ es) r m =
       let h = offers_all (log ++ Queued t d k x ∷ []) es r.1 m in
@@ -208,7 +208,7 @@ most_of l Legacy a = a.regular.max
 
 -- what waits all along waits at first
 waits_first : (l : LinkLimits) (c : Class) (key : ℕ) (before between : List Entry)
-    → IsNeverEmpty l c key before between → has_key key (queues_of c (waiting_after l before)) ≡ true
+    → IsNeverEmpty l c key before between → has_key key (class_queues c (waiting_after l before)) ≡ true
 waits_first l c key before [] w = w
 waits_first l c key before (e ∷ es) w = w.0
 
@@ -232,5 +232,5 @@ even l c before between a b r v g n w u =
       started_are l c q v a before between legal rest,
       started_are l c q v b before between legal rest,
       most_of l c v,
-      fairly a b n packet_length (limits_of l c) (queues_of c (waiting_after l before)) (steps_of c between) now (offers_all l c q v before between rest (most_of l c v)) (waits_all l c q v a before between legal rest w) (waits_all l c q v b before between legal rest u),
+      fairly a b n packet_length (limits_of l c) (class_queues c (waiting_after l before)) (steps_of c between) now (offers_all l c q v before between rest (most_of l c v)) (waits_all l c q v a before between legal rest w) (waits_all l c q v b before between legal rest u),
     )

@@ -14,12 +14,12 @@ use Rattle.tva_port.specs.declared.decision.Decision.{Decision}
 use Rattle.tva_port.specs.declared.decision.Decision.TheVariants.{Start}
 use Rattle.tva_port.specs.Requests.{cost}
 use Rattle.tva_port.specs.Levels.{next_in}
-use Rattle.tva_port.specs.Log.{Entry, Queued, Started, entry_time, NoneLater, cut, free_after}
+use Rattle.tva_port.specs.Log.{Entry, Queued, Started, entry_time, NoneLater, entries_before, free_after}
 use Rattle.tva_port.specs.Waiting.{waiting_after, queued_legacy}
 use Rattle.tva_port.specs.Decide.{covered, start_or, decision, credit_after, is_start, RestsAt}
-use Rattle.tva_port.specs.Legal.{Follows, GoesOn, IsStarted, IsLegal}
+use Rattle.tva_port.specs.Legal.{Follows, AllFollow, IsStarted, IsLegal}
 use Rattle.tva_port.specs.Bounds.{starts_first, start_among}
-use Rattle.tva_port.proofs.Logs.{later-front, cut-all, free-queued, free-started, legal-all, queued-push, goes_on-push}
+use Rattle.tva_port.proofs.Logs.{later-front, entries_before-all, free-queued, free-started, legal-all, queued-push, goes_on-push}
 use Rattle.tva_port.proofs.Deciding.{Rests, none_starts, covered_pays}
 use Rattle.tva_port.proofs.Legality.{started_is}
 use Rattle.tva_port.proofs.Levels.{head_sized, request_sized}
@@ -52,16 +52,16 @@ abbrev ComeFrom : ℕ → List Entry → Type 0
 ComeFrom time [] = Unit {0}
 ComeFrom time (e ∷ es) = (time ≤ entry_time e) × ComeFrom time es
 
-come_from : (l : LinkLimits) (time : ℕ) (before es : List Entry) → GoesOn l before es → ((t : ℕ) → NoneLater t before → time ≤ t) → ComeFrom time es
+come_from : (l : LinkLimits) (time : ℕ) (before es : List Entry) → AllFollow l before es → ((t : ℕ) → NoneLater t before → time ≤ t) → ComeFrom time es
 come_from l time before [] g h = tt
 come_from l time before (e ∷ es) g h = (h (entry_time e) (order_of l before e g.0), come_from l time (before ++ e ∷ []) es g.1 (λ t n. h t (later-front t before e n).0))
 
-cut_none : (until : ℕ) (es : List Entry) → ComeFrom until es → cut until es ≡ []
+cut_none : (until : ℕ) (es : List Entry) → ComeFrom until es → entries_before until es ≡ []
 cut_none until [] c = refl
 cut_none until (e ∷ es) c =
     elim (leb_tells (suc (entry_time e)) until) [
       | inl k ↦ absurd (omega (arith, k.1, c.0))
-      | inr k ↦ subst (λ b. cond b (e ∷ cut until es) (cut until es) ≡ []) (sym k.0) (cut_none until es c.1)
+      | inr k ↦ subst (λ b. cond b (e ∷ entries_before until es) (entries_before until es) ≡ []) (sym k.0) (cut_none until es c.1)
     ]
 
 later_from : (time until : ℕ) (es : List Entry) → until ≤ time → ComeFrom time es → ComeFrom until es
@@ -69,11 +69,11 @@ later_from time until [] h c = tt
 later_from time until (e ∷ es) h c = (omega (arith, h, c.0), later_from time until es h c.1)
 
 -- just before an entry, the log up to then stands
-pub cut_here : (l : LinkLimits) (log : List Entry) (e : Entry) (es : List Entry) (time until : ℕ) → IsLegal l (log ++ e ∷ []) → GoesOn l (log ++ e ∷ []) es → NoneLater time log → time < until → until ≤ entry_time e → cut until (log ++ e ∷ es) ≡ log
+pub cut_here : (l : LinkLimits) (log : List Entry) (e : Entry) (es : List Entry) (time until : ℕ) → IsLegal l (log ++ e ∷ []) → AllFollow l (log ++ e ∷ []) es → NoneLater time log → time < until → until ≤ entry_time e → entries_before until (log ++ e ∷ es) ≡ log
 cut_here l log e es time until g r n h k =
     let after : ComeFrom (entry_time e) es = come_from l (entry_time e) (log ++ e ∷ []) es r (λ t m. (later-front t log e m).1) in
-    let none : cut until (e ∷ es) ≡ [] = cut_none until (e ∷ es) (k, later_from (entry_time e) until es k after) in
-    filter-append (λ (x : Entry). ltb (entry_time x) until) log (e ∷ es) ∙ (ap (λ zs. cut until log ++ zs) none ∙ (append-nil (cut until log) ∙ cut-all time until log h n))
+    let none : entries_before until (e ∷ es) ≡ [] = cut_none until (e ∷ es) (k, later_from (entry_time e) until es k after) in
+    filter-append (λ (x : Entry). ltb (entry_time x) until) log (e ∷ es) ∙ (ap (λ zs. entries_before until log ++ zs) none ∙ (append-nil (entries_before until log) ∙ entries_before-all time until log h n))
 
 -- where no start was missed, and the log up to a time is this one, a link that is free starts nothing then
 pub rests_free : (l : LinkLimits) (log : List Entry) (time : ℕ) → RestsAt l log time → free_after l log ≤ time → is_start (decision l log time) ≡ false

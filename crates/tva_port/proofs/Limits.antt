@@ -25,7 +25,7 @@ use Rattle.tva_port.specs.declared.requests.RequestQueues.TheVariants.{OneLevel,
 use Rattle.tva_port.specs.Levels.{none_under, request_leaves, request_taken}
 use Rattle.tva_port.specs.Log.{Entry, Queued, Started}
 use Rattle.tva_port.specs.Waiting.{Waiting, waiting_after, lacks_legacy_room}
-use Rattle.tva_port.specs.Legal.{Follows, GoesOn, IsLegal}
+use Rattle.tva_port.specs.Legal.{Follows, AllFollow, IsLegal}
 use Rattle.tva_port.specs.Keeps.{AreWithin, IsWithinLimits, StaysWithinLimits}
 use Rattle.tva_port.specs.Steps.{put_leaves, start_leaves}
 use Rattle.tva_port.proofs.Logs.{FewStarted, legal-all, legal-front}
@@ -160,4 +160,4 @@ begins l a = (
 )
 
 pub stays_within : (l : LinkLimits) (log : List Entry) → AreLinkLimits l → IsLegal l log → StaysWithinLimits l log
-stays_within l log a g = λ before rest e. (legal-all l (IsBounded l) (begins l a) (bounded-step l a) before (legal-front l [] before rest (subst (λ z. GoesOn l [] z) e g))).0
+stays_within l log a g = λ before rest e. (legal-all l (IsBounded l) (begins l a) (bounded-step l a) before (legal-front l [] before rest (subst (λ z. AllFollow l [] z) e g))).0

@@ -15,9 +15,9 @@ use Rattle.tva_drr.specs.Take.{take_leaves}
 use Rattle.tva_port.specs.declared.requests.RequestQueues.{RequestQueues}
 use Rattle.tva_port.specs.Levels.{no_requests}
 use Rattle.tva_port.specs.Requests.{Start}
-use Rattle.tva_port.specs.Log.{Entry, Queued, Started, entry_time, NoneLater, cut, request_start, request_starts, free_from}
+use Rattle.tva_port.specs.Log.{Entry, Queued, Started, entry_time, NoneLater, entries_before, request_start, request_starts, free_from}
 use Rattle.tva_port.specs.Waiting.{request_step, regular_step, class_step, queued_legacy, is_legacy_start, legacy_after}
-use Rattle.tva_port.specs.Legal.{Follows, GoesOn, IsLegal}
+use Rattle.tva_port.specs.Legal.{Follows, AllFollow, IsLegal}
 use Rattle.tva_port.proofs.Debts.{AreBy}
 
 -- ## times
@@ -47,23 +47,23 @@ starts_by time (e ∷ es) n =
     (starts_one time e (request_starts es) (All-head (λ (x : Entry). entry_time x ≤ time) e es n) (starts_by time es (All-tail (λ (x : Entry). entry_time x ≤ time) e es n)))
 
 -- all entries are before a later time
-pub cut-all : (time until : ℕ) (log : List Entry) → time < until → NoneLater time log → cut until log ≡ log
-cut-all time until [] h n = refl
-cut-all time until (e ∷ es) h n =
+pub entries_before-all : (time until : ℕ) (log : List Entry) → time < until → NoneLater time log → entries_before until log ≡ log
+entries_before-all time until [] h n = refl
+entries_before-all time until (e ∷ es) h n =
     let first : entry_time e ≤ time = All-head (λ (x : Entry). entry_time x ≤ time) e es n in
-    let rest = cut-all time until es h (All-tail (λ (x : Entry). entry_time x ≤ time) e es n) in
+    let rest = entries_before-all time until es h (All-tail (λ (x : Entry). entry_time x ≤ time) e es n) in
     elim (leb_tells (suc (entry_time e)) until) [
-      | inl k ↦ subst (λ b. cond b (e ∷ cut until es) (cut until es) ≡ e ∷ es) (sym k.0) (ap (λ (z : List Entry). e ∷ z) rest)
+      | inl k ↦ subst (λ b. cond b (e ∷ entries_before until es) (entries_before until es) ≡ e ∷ es) (sym k.0) (ap (λ (z : List Entry). e ∷ z) rest)
       | inr k ↦ absurd (omega (arith, k.1))
     ]
 
 -- an entry that is no earlier is cut away
-pub cut-push : (until : ℕ) (log : List Entry) (e : Entry) → until ≤ entry_time e → cut until (log ++ e ∷ []) ≡ cut until log
-cut-push until log e h =
+pub entries_before-push : (until : ℕ) (log : List Entry) (e : Entry) → until ≤ entry_time e → entries_before until (log ++ e ∷ []) ≡ entries_before until log
+entries_before-push until log e h =
     filter-append (λ (x : Entry). ltb (entry_time x) until) log (e ∷ []) ∙
     elim (leb_tells (suc (entry_time e)) until) [
       | inl k ↦ absurd (omega (arith, k.1))
-      | inr k ↦ subst (λ b. cut until log ++ cond b (e ∷ []) [] ≡ cut until log) (sym k.0) (append-nil (cut until log))
+      | inr k ↦ subst (λ b. entries_before until log ++ cond b (e ∷ []) [] ≡ entries_before until log) (sym k.0) (append-nil (entries_before until log))
     ]
 
 -- ## sums
@@ -149,13 +149,13 @@ legacy-started log t p =
 
 -- ## legal logs
 
-pub goes_on-push : (l : LinkLimits) (before log : List Entry) (e : Entry) → GoesOn l before log → Follows l (before ++ log) e → GoesOn l before (log ++ e ∷ [])
+pub goes_on-push : (l : LinkLimits) (before log : List Entry) (e : Entry) → AllFollow l before log → Follows l (before ++ log) e → AllFollow l before (log ++ e ∷ [])
 goes_on-push l before [] e g f = (subst (λ z. Follows l z e) (append-nil before) f, tt)
 goes_on-push l before (d ∷ ds) e g f =
     (g.0, goes_on-push l (before ++ d ∷ []) ds e g.1 (subst (λ z. Follows l z e) (sym (append_assoc before (d ∷ []) ds)) f))
 
 -- what each entry keeps is true of every legal log
-along : (l : LinkLimits) (P : List Entry → Type 0) → ((before : List Entry) (e : Entry) → Follows l before e → P before → P (before ++ e ∷ [])) → (before es : List Entry) → P before → GoesOn l before es → P (before ++ es)
+along : (l : LinkLimits) (P : List Entry → Type 0) → ((before : List Entry) (e : Entry) → Follows l before e → P before → P (before ++ e ∷ [])) → (before es : List Entry) → P before → AllFollow l before es → P (before ++ es)
 along l P s before [] b g = subst P (sym (append-nil before)) b
 along l P s before (e ∷ es) b g = subst P (append_assoc before (e ∷ []) es) (along l P s (before ++ e ∷ []) es (s before e g.0 b) g.1)
 
@@ -163,10 +163,10 @@ pub legal-all : (l : LinkLimits) (P : List Entry → Type 0) → P [] → ((befo
 legal-all l P b s log g = along l P s [] log b g
 
 -- the entries before any place of a legal log are legal, and the entry there follows them
-pub legal-front : (l : LinkLimits) (before log rest : List Entry) → GoesOn l before (log ++ rest) → GoesOn l before log
+pub legal-front : (l : LinkLimits) (before log rest : List Entry) → AllFollow l before (log ++ rest) → AllFollow l before log
 legal-front l before [] rest g = tt
 legal-front l before (e ∷ es) rest g = (g.0, legal-front l (before ++ e ∷ []) es rest g.1)
 
-pub legal-here : (l : LinkLimits) (before log : List Entry) (e : Entry) (rest : List Entry) → GoesOn l before (log ++ e ∷ rest) → Follows l (before ++ log) e
+pub legal-here : (l : LinkLimits) (before log : List Entry) (e : Entry) (rest : List Entry) → AllFollow l before (log ++ e ∷ rest) → Follows l (before ++ log) e
 legal-here l before [] e rest g = subst (λ z. Follows l z e) (sym (append-nil before)) g.0
 legal-here l before (d ∷ ds) e rest g = subst (λ z. Follows l z e) (append_assoc before (d ∷ []) ds) (legal-here l (before ++ d ∷ []) ds e rest g.1)

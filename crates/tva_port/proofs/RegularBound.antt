@@ -15,13 +15,13 @@ use Rattle.tva_drr.proofs.Falling.{by_test}
 use Rattle.tva_drr.proofs.Until.{some_head}
 use Rattle.tva_drr.proofs.Ceil.{ceil_times}
 use Rattle.tva_port.specs.Requests.{cost, cap, debt, start}
-use Rattle.tva_port.specs.Log.{Entry, Queued, Started, entry_time, NoneLater, cut, request_starts, free_after}
+use Rattle.tva_port.specs.Log.{Entry, Queued, Started, entry_time, NoneLater, entries_before, request_starts, free_after}
 use Rattle.tva_port.specs.Waiting.{waiting_after}
 use Rattle.tva_port.specs.Decide.{RestsAt, MissesNone}
-use Rattle.tva_port.specs.Legal.{Follows, GoesOn, IsStarted, IsLegal}
+use Rattle.tva_port.specs.Legal.{Follows, AllFollow, IsStarted, IsLegal}
 use Rattle.tva_port.specs.Bounds.{waiting_with, bytes_with, regular_bound, AreServed, StartsBy}
 use Rattle.tva_port.proofs.Debts.{AreBy, debt-later, debt-push}
-use Rattle.tva_port.proofs.Logs.{cut-all, legal-front, legal-here, later-push, later-weaker, later-front, starts_by, starts-push, starts-same, free-queued, free-started, goes_on-push}
+use Rattle.tva_port.proofs.Logs.{entries_before-all, legal-front, legal-here, later-push, later-weaker, later-front, starts_by, starts-push, starts-same, free-queued, free-started, goes_on-push}
 use Rattle.tva_port.proofs.Legality.{started_is, debt_capped}
 use Rattle.tva_port.proofs.Idling.{within}
 use Rattle.tva_port.proofs.Tracking.{regulars_now, regulars-step, Tracks, waits, tracks-offer, takes, head_among}
@@ -199,17 +199,17 @@ module _ (l : LinkLimits) (key : ℕ) (p : PacketData) (begin most : ℕ) (a : A
         let soon = in_time log before sent asked time from bytes t w same near in
         no_rest log last w.legal (waits l.regular key p most (regulars l log) before sent w.tracks) (r last h (omega arith)) (omega (arith, soon, bound))
 
-    quiet : (log : List Entry) (e : Entry) (es : List Entry) (time later : ℕ) → whole ≡ log ++ e ∷ es → IsLegal l log → Follows l log e → GoesOn l (log ++ e ∷ []) es → NoneLater time log → later ≤ entry_time e → later ≤ until → (v : ℕ) → time ≤ v → v < later → RestsAt l log v
+    quiet : (log : List Entry) (e : Entry) (es : List Entry) (time later : ℕ) → whole ≡ log ++ e ∷ es → IsLegal l log → Follows l log e → AllFollow l (log ++ e ∷ []) es → NoneLater time log → later ≤ entry_time e → later ≤ until → (v : ℕ) → time ≤ v → v < later → RestsAt l log v
     quiet log e es time later q g f r n h u v i k =
-        subst (λ z. RestsAt l z v) (ap (λ z. cut (v + 1) z) q ∙ cut_here l log e es time (v + 1) (goes_on-push l [] log e g f) r n (omega arith) (omega arith)) (none v (omega arith))
+        subst (λ z. RestsAt l z v) (ap (λ z. entries_before (v + 1) z) q ∙ cut_here l log e es time (v + 1) (goes_on-push l [] log e g f) r n (omega arith) (omega arith)) (none v (omega arith))
 
     quiet_end : (log : List Entry) (time : ℕ) → whole ≡ log → NoneLater time log → (v : ℕ) → time ≤ v → v < last + 1 → RestsAt l log v
-    quiet_end log time q n v i k = subst (λ z. RestsAt l z v) (ap (λ z. cut (v + 1) z) q ∙ cut-all time (v + 1) log (omega arith) n) (none v (omega arith))
+    quiet_end log time q n v i k = subst (λ z. RestsAt l z v) (ap (λ z. entries_before (v + 1) z) q ∙ entries_before-all time (v + 1) log (omega arith) n) (none v (omega arith))
 
     abbrev Goes : List Entry → Type 0
-    Goes es = (log : List Entry) (before : List PacketData) (sent asked time from : ℕ) → whole ≡ log ++ es → GoesOn l log es → time ≤ last → Serving l key p begin most log before sent asked time from → Finds l Regular key p (length before) log es last
+    Goes es = (log : List Entry) (before : List PacketData) (sent asked time from : ℕ) → whole ≡ log ++ es → AllFollow l log es → time ≤ last → Serving l key p begin most log before sent asked time from → Finds l Regular key p (length before) log es last
 
-    serve_one : (e : Entry) (es log : List Entry) (before : List PacketData) (sent asked time from : ℕ) → Goes es → whole ≡ (log ++ e ∷ []) ++ es → Follows l log e → GoesOn l (log ++ e ∷ []) es → entry_time e ≤ last → Serving l key p begin most log before sent asked time from
+    serve_one : (e : Entry) (es log : List Entry) (before : List PacketData) (sent asked time from : ℕ) → Goes es → whole ≡ (log ++ e ∷ []) ++ es → Follows l log e → AllFollow l (log ++ e ∷ []) es → entry_time e ≤ last → Serving l key p begin most log before sent asked time from
         → entry_time e ≤ ready l begin log → Finds l Regular key p (length before) log (e ∷ es) last
     serve_one (Queued s c k x) es log before sent asked time from next q f g h w i =
         finds_later l Regular key p (length before) log (Queued s c k x) es last refl (next (log ++ Queued s c k x ∷ []) before sent asked s from q g h (queued log before sent asked time from s c k x w f i))
@@ -233,7 +233,7 @@ module _ (l : LinkLimits) (key : ℕ) (p : PacketData) (begin most : ℕ) (a : A
               refl z
         ]
 
-    serve : (rest log : List Entry) (before : List PacketData) (sent asked time from : ℕ) → whole ≡ log ++ rest → GoesOn l log rest → time ≤ last → Serving l key p begin most log before sent asked time from → Finds l Regular key p (length before) log rest last
+    serve : (rest log : List Entry) (before : List PacketData) (sent asked time from : ℕ) → whole ≡ log ++ rest → AllFollow l log rest → time ≤ last → Serving l key p begin most log before sent asked time from → Finds l Regular key p (length before) log rest last
     serve [] log before sent asked time from q g h w = absurd (never log before sent asked time from w h (quiet_end log time (q ∙ append-nil log) w.past))
     serve (e ∷ es) log before sent asked time from q g h w =
         elim (cases_lt last (entry_time e)) [

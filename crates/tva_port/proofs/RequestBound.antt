@@ -13,13 +13,13 @@ use Rattle.tva_drr.proofs.Falling.{by_test}
 use Rattle.tva_port.specs.declared.requests.RequestQueues.{RequestQueues}
 use Rattle.tva_port.specs.Levels.{next_in, request_taken, are_next}
 use Rattle.tva_port.specs.Requests.{cost, cap, debt, start}
-use Rattle.tva_port.specs.Log.{Entry, Queued, Started, entry_time, NoneLater, cut, request_starts, free_after}
+use Rattle.tva_port.specs.Log.{Entry, Queued, Started, entry_time, NoneLater, entries_before, request_starts, free_after}
 use Rattle.tva_port.specs.Waiting.{waiting_after}
 use Rattle.tva_port.specs.Decide.{covered, credit_after, RestsAt, MissesNone}
-use Rattle.tva_port.specs.Legal.{Follows, GoesOn, IsStarted, IsLegal}
+use Rattle.tva_port.specs.Legal.{Follows, AllFollow, IsStarted, IsLegal}
 use Rattle.tva_port.specs.Bounds.{waiting_with, bytes_with, requests_until, request_bound, AreServed, StartsBy}
 use Rattle.tva_port.proofs.Debts.{AreBy, debt-later, debt-push}
-use Rattle.tva_port.proofs.Logs.{cut-all, legal-front, legal-here, later-push, later-weaker, later-front, starts_by, starts-push, starts-same, requests-push, free-queued, free-started, goes_on-push}
+use Rattle.tva_port.proofs.Logs.{entries_before-all, legal-front, legal-here, later-push, later-weaker, later-front, starts_by, starts-push, starts-same, requests-push, free-queued, free-started, goes_on-push}
 use Rattle.tva_port.proofs.Deciding.{lacking, covered_pays}
 use Rattle.tva_port.proofs.Legality.{started_is, debt_capped}
 use Rattle.tva_port.proofs.Beginning.{legal_rest, legal_up, queued_last, request_first, starts_by_found}
@@ -239,17 +239,17 @@ module _ (l : LinkLimits) (key : ℕ) (p : PacketData) (begin most : ℕ) (a : A
         omega (arith, lack, d, c, small, most2, cost-add l 2048 2048, w.owed, le, sum, cost-add l most 2048, enough)
 
     -- while the log so far stands at each time before the next entry
-    quiet : (log : List Entry) (e : Entry) (es : List Entry) (time later : ℕ) → whole ≡ log ++ e ∷ es → IsLegal l log → Follows l log e → GoesOn l (log ++ e ∷ []) es → NoneLater time log → later ≤ entry_time e → later ≤ until → (v : ℕ) → time ≤ v → v < later → RestsAt l log v
+    quiet : (log : List Entry) (e : Entry) (es : List Entry) (time later : ℕ) → whole ≡ log ++ e ∷ es → IsLegal l log → Follows l log e → AllFollow l (log ++ e ∷ []) es → NoneLater time log → later ≤ entry_time e → later ≤ until → (v : ℕ) → time ≤ v → v < later → RestsAt l log v
     quiet log e es time later same g f r n h u v t k =
-        subst (λ z. RestsAt l z v) (ap (λ z. cut (v + 1) z) same ∙ cut_here l log e es time (v + 1) (goes_on-push l [] log e g f) r n (omega arith) (omega arith)) (none v (omega arith))
+        subst (λ z. RestsAt l z v) (ap (λ z. entries_before (v + 1) z) same ∙ cut_here l log e es time (v + 1) (goes_on-push l [] log e g f) r n (omega arith) (omega arith)) (none v (omega arith))
 
     quiet_end : (log : List Entry) (time : ℕ) → whole ≡ log → NoneLater time log → (v : ℕ) → time ≤ v → v < last + 1 → RestsAt l log v
-    quiet_end log time same n v t k = subst (λ z. RestsAt l z v) (ap (λ z. cut (v + 1) z) same ∙ cut-all time (v + 1) log (omega arith) n) (none v (omega arith))
+    quiet_end log time same n v t k = subst (λ z. RestsAt l z v) (ap (λ z. entries_before (v + 1) z) same ∙ entries_before-all time (v + 1) log (omega arith) n) (none v (omega arith))
 
     abbrev Goes : List Entry → Type 0
-    Goes es = (log : List Entry) (before : List PacketData) (sent time from : ℕ) → whole ≡ log ++ es → GoesOn l log es → time ≤ last → Serving l key p begin most log before sent time from → Finds l Request key p (length before) log es last
+    Goes es = (log : List Entry) (before : List PacketData) (sent time from : ℕ) → whole ≡ log ++ es → AllFollow l log es → time ≤ last → Serving l key p begin most log before sent time from → Finds l Request key p (length before) log es last
 
-    serve_one : (e : Entry) (es log : List Entry) (before : List PacketData) (sent time from : ℕ) → Goes es → whole ≡ (log ++ e ∷ []) ++ es → Follows l log e → GoesOn l (log ++ e ∷ []) es → entry_time e ≤ last → Serving l key p begin most log before sent time from
+    serve_one : (e : Entry) (es log : List Entry) (before : List PacketData) (sent time from : ℕ) → Goes es → whole ≡ (log ++ e ∷ []) ++ es → Follows l log e → AllFollow l (log ++ e ∷ []) es → entry_time e ≤ last → Serving l key p begin most log before sent time from
         → ((v : ℕ) → ready l begin log ≤ v → v < entry_time e → cap l < debt_at l log v + next_cost l log) → Finds l Request key p (length before) log (e ∷ es) last
     serve_one (Queued s c k x) es log before sent time from next same f g t w i =
         finds_later l Request key p (length before) log (Queued s c k x) es last refl (next (log ++ Queued s c k x ∷ []) before sent s from same g t (queued log before sent time from s c k x w f i))
@@ -281,7 +281,7 @@ module _ (l : LinkLimits) (key : ℕ) (p : PacketData) (begin most : ℕ) (a : A
               refl z
         ]
 
-    serve : (rest log : List Entry) (before : List PacketData) (sent time from : ℕ) → whole ≡ log ++ rest → GoesOn l log rest → time ≤ last → Serving l key p begin most log before sent time from → Finds l Request key p (length before) log rest last
+    serve : (rest log : List Entry) (before : List PacketData) (sent time from : ℕ) → whole ≡ log ++ rest → AllFollow l log rest → time ≤ last → Serving l key p begin most log before sent time from → Finds l Request key p (length before) log rest last
     serve [] log before sent time from same g t w = absurd (never log before sent time from w t (quiet_end log time (same ∙ append-nil log) w.past))
     serve (e ∷ es) log before sent time from same g t w =
         elim (cases_lt last (entry_time e)) [

@@ -10,13 +10,13 @@ use Rattle.tva_port.specs.declared.decision.Decision.{Decision}
 use Rattle.tva_port.specs.declared.decision.Decision.TheVariants.{Start, WaitUntil, Idle}
 use Rattle.tva_port.specs.Requests.{cost, cap}
 use Rattle.tva_port.specs.Levels.{next_in}
-use Rattle.tva_port.specs.Log.{Entry, Started, NoneLater, cut, request_starts}
+use Rattle.tva_port.specs.Log.{Entry, Started, NoneLater, entries_before, request_starts}
 use Rattle.tva_port.specs.Waiting.{Waiting, waiting_after}
 use Rattle.tva_port.specs.Decide.{covered, wait_for, decision, decide_on, credit_after, is_start, started_by, RestsAt, MissesNone, NoneDueBefore, IsFirstCovered}
 use Rattle.tva_port.specs.Legal.{IsLegal}
 use Rattle.tva_port.specs.Steps.{freed}
 use Rattle.tva_port.proofs.Debts.{debt-later}
-use Rattle.tva_port.proofs.Logs.{later-push, starts_by, cut-all, cut-push, free-started}
+use Rattle.tva_port.proofs.Logs.{later-push, starts_by, entries_before-all, entries_before-push, free-started}
 use Rattle.tva_port.proofs.Deciding.{Rests, none_starts, rests_is, rests_no_start, lacking, not_covered}
 use Rattle.tva_port.proofs.Legality.{debt_capped}
 
@@ -97,10 +97,10 @@ rests l log now free (Start class p) until time g n e i h k = inl (subst (λ z. 
 rests l log now free (WaitUntil u) until time g n e i h k = rests_same l log time (waits_until l log now time u g n e h (omega arith))
 rests l log now free Idle until time g n e i h k = rests_same l log time (stays_idle l log now time e)
 
-pub cut_away : (log : List Entry) (d : Decision) (until now : ℕ) → until ≤ now → cut until (log ++ started_by d now) ≡ cut until log
-cut_away log (Start class p) until now h = cut-push until log (Started now class p) h
-cut_away log (WaitUntil u) until now h = ap (λ z. cut until z) (append-nil log)
-cut_away log Idle until now h = ap (λ z. cut until z) (append-nil log)
+pub cut_away : (log : List Entry) (d : Decision) (until now : ℕ) → until ≤ now → entries_before until (log ++ started_by d now) ≡ entries_before until log
+cut_away log (Start class p) until now h = entries_before-push until log (Started now class p) h
+cut_away log (WaitUntil u) until now h = ap (λ z. entries_before until z) (append-nil log)
+cut_away log Idle until now h = ap (λ z. entries_before until z) (append-nil log)
 
 pub none_later : (log : List Entry) (d : Decision) (now : ℕ) → NoneLater now log → NoneLater now (log ++ started_by d now)
 none_later log (Start class p) now n = later-push now log (Started now class p) n (omega arith)
@@ -111,7 +111,7 @@ none_later log Idle now n = subst (λ z. NoneLater now z) (sym (append-nil log))
 pub misses : (l : LinkLimits) (log : List Entry) (now free : ℕ) (d : Decision) (until : ℕ) → IsLegal l log → NoneLater now log → d ≡ decision l log now → MissesNone l now log → NoneDueBefore d (freed l free now d) until → MissesNone l until (log ++ started_by d now)
 misses l log now free d until g n e m i = λ time k. elim (leb_tells (suc time) now) [
   | inl h ↦ subst (λ z. RestsAt l z time) (sym (cut_away log d (time + 1) now (omega (arith, h.1)))) (m time (omega (arith, h.1)))
-  | inr h ↦ subst (λ z. RestsAt l z time) (sym (cut-all now (time + 1) (log ++ started_by d now) (omega (arith, h.1)) (none_later log d now n))) (rests l log now free d until time g n e i (omega (arith, h.1)) k)
+  | inr h ↦ subst (λ z. RestsAt l z time) (sym (entries_before-all now (time + 1) (log ++ started_by d now) (omega (arith, h.1)) (none_later log d now n))) (rests l log now free d until time g n e i (omega (arith, h.1)) k)
 ]
 
 -- no packet costs more than the cap

@@ -9,7 +9,7 @@ use Rattle.tva_port.specs.Log.{Entry, NoneLater}
 use Rattle.tva_port.specs.Decide.{decision, started_by, RestsAt, MissesNone}
 use Rattle.tva_port.specs.Legal.{IsLegal}
 use Rattle.tva_port.specs.Bounds.{request_bound, regular_bound, AreServed, ServesAlike}
-use Rattle.tva_port.proofs.Logs.{cut-all, legal-front}
+use Rattle.tva_port.proofs.Logs.{entries_before-all, legal-front}
 use Rattle.tva_port.proofs.Resting.{cut_away, none_later}
 use Rattle.tva_port.proofs.Steady.{none_again}
 use Rattle.tva_port.proofs.Evenly.{even}
@@ -20,7 +20,7 @@ use Rattle.tva_port.proofs.RegularBound.{regulars_served}
 misses_now : (l : LinkLimits) (log : List Entry) (now : ℕ) (d : Decision) → AreLinkLimits l → NoneLater now log → d ≡ decision l log now → MissesNone l now log → MissesNone l (now + 1) (log ++ started_by d now)
 misses_now l log now d a n e m = λ time k. elim (leb_tells (suc time) now) [
   | inl h ↦ subst (λ z. RestsAt l z time) (sym (cut_away log d (time + 1) now (omega (arith, h.1)))) (m time (omega (arith, h.1)))
-  | inr h ↦ subst (λ z. RestsAt l z time) (sym (cut-all now (time + 1) (log ++ started_by d now) (omega (arith, h.1)) (none_later log d now n)))
+  | inr h ↦ subst (λ z. RestsAt l z time) (sym (entries_before-all now (time + 1) (log ++ started_by d now) (omega (arith, h.1)) (none_later log d now n)))
       (subst (λ z. RestsAt l (log ++ started_by d now) z) (let q : now ≡ time = omega (arith, h.1) in q) (none_again l log now d a e))
 ]
 

@@ -17,7 +17,7 @@ use Rattle.tva_port.specs.Waiting.{waiting_after, next_request, queued_by}
 use Rattle.tva_port.specs.Decide.{wait_for, decision, credit_after, is_start, started_by, RestsAt, MissesNone, NoneDueBefore}
 use Rattle.tva_port.specs.Legal.{IsLegal}
 use Rattle.tva_port.specs.Steps.{freed}
-use Rattle.tva_port.proofs.Logs.{later-push, cut-all, cut-push, free-queued, free-started}
+use Rattle.tva_port.proofs.Logs.{later-push, entries_before-all, entries_before-push, free-queued, free-started}
 use Rattle.tva_port.proofs.Deciding.{Rests, rests_is}
 use Rattle.tva_port.proofs.Legality.{occupies}
 use Rattle.tva_port.proofs.Levels.{none_first, request_sized}
@@ -96,8 +96,8 @@ misses_empty l until = λ time k. inr (ap is_start
 pub misses_queued : (l : LinkLimits) (log : List Entry) (now until : ℕ) (class : Class) (key : ℕ) (p : PacketData) → NoneLater now log → until ≤ max now (free_after l log) → MissesNone l until log → MissesNone l until (log ++ Queued now class key p ∷ [])
 misses_queued l log now until class key p n i m = let x = Queued now class key p in
     λ time k. elim (leb_tells (suc time) now) [
-      | inl h ↦ subst (λ z. RestsAt l z time) (sym (cut-push (time + 1) log x (omega (arith, h.1)))) (m time k)
-      | inr h ↦ subst (λ z. RestsAt l z time) (sym (cut-all now (time + 1) (log ++ x ∷ []) (omega (arith, h.1)) (later-push now log x n (omega arith))))
+      | inl h ↦ subst (λ z. RestsAt l z time) (sym (entries_before-push (time + 1) log x (omega (arith, h.1)))) (m time k)
+      | inr h ↦ subst (λ z. RestsAt l z time) (sym (entries_before-all now (time + 1) (log ++ x ∷ []) (omega (arith, h.1)) (later-push now log x n (omega arith))))
           (inl (subst (λ z. time < z) (sym (free-queued l 0 log now class key p)) (omega (arith, h.1))))
     ]
 

@@ -42,7 +42,8 @@ starts_first l class key packet before (Started time c p) =
 abbrev pub start_among : LinkLimits → Class → ℕ → PacketData → ℕ → List Entry → List Entry → Option Entry
 start_among l class key packet ahead before [] = None
 start_among l class key packet zero before (e ∷ es) =
-    if starts_first l class key packet before e then Some e else start_among l class key packet zero (before ++ e ∷ []) es
+    if starts_first l class key packet before e then Some e
+    else start_among l class key packet zero (before ++ e ∷ []) es
 start_among l class key packet (suc n) before (e ∷ es) =
     start_among l class key packet (if starts_first l class key packet before e then n else suc n) (before ++ e ∷ []) es
 
@@ -73,8 +74,8 @@ regular_bound l bytes = div_ceil (cost l (most_until l.regular bytes + l.regular
 abbrev pub bytes_with : LinkLimits → Class → ℕ → PacketData → List Entry → ℕ
 bytes_with l class key packet log = bytes_in packet_length (waiting_with l class key packet log)
 
--- each packet of a class in a log whose bound is over by that time has started within it; the bound comes so much after
--- the packet was queued, by the bytes that waited with it then
+-- each packet of a class in a log whose bound is over by that time has started by its bound, which is so many
+-- nanoseconds after it was queued: those that `wait` gives for the bytes that waited with it then
 abbrev pub AreServed : LinkLimits → Class → (ℕ → ℕ) → ℕ → List Entry → Type 0
 AreServed l class wait now log =
     (before later : List Entry) (time key bound : ℕ) (packet : PacketData)
@@ -83,16 +84,16 @@ AreServed l class wait now log =
     → bound ≤ now → StartsBy l class key packet (before ++ Queued time class key packet ∷ []) later bound
 
 -- the queues of a class by its keys alone; legacy packets have none, and requests on a link with two levels neither
-abbrev pub queues_of : Class → Waiting → List (Queue PacketData)
-queues_of Request w = single_queues w.requests
-queues_of Regular w = w.regulars.queues
-queues_of Legacy w = []
+abbrev pub class_queues : Class → Waiting → List (Queue PacketData)
+class_queues Request w = single_queues w.requests
+class_queues Regular w = w.regulars.queues
+class_queues Legacy w = []
 
 -- after the entries before it, the bytes of an entry that is the start of the first packet under a key
 abbrev pub bytes_of_start : LinkLimits → Class → ℕ → List Entry → Entry → ℕ
 bytes_of_start l class key before (Queued time c k packet) = 0
 bytes_of_start l class key before (Started time c packet) =
-    if same_class c class && is_front key (queues_of class (waiting_after l before)) then packet_length packet else 0
+    if same_class c class && is_front key (class_queues class (waiting_after l before)) then packet_length packet else 0
 
 -- the bytes that start under a key among some entries
 abbrev pub bytes_started : LinkLimits → Class → ℕ → List Entry → List Entry → ℕ
@@ -102,9 +103,9 @@ bytes_started l class key before (e ∷ es) =
 
 -- before and after each of some entries something waits under the key
 abbrev pub IsNeverEmpty : LinkLimits → Class → ℕ → List Entry → List Entry → Type 0
-IsNeverEmpty l class key before [] = has_key key (queues_of class (waiting_after l before)) ≡ true
+IsNeverEmpty l class key before [] = has_key key (class_queues class (waiting_after l before)) ≡ true
 IsNeverEmpty l class key before (e ∷ es) =
-    (has_key key (queues_of class (waiting_after l before)) ≡ true) × IsNeverEmpty l class key (before ++ e ∷ []) es
+    (has_key key (class_queues class (waiting_after l before)) ≡ true) × IsNeverEmpty l class key (before ++ e ∷ []) es
 
 -- from one place of a log to another, two keys of a class under which something waits all along start less than so many
 -- bytes more than each other

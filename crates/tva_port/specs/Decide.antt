@@ -11,7 +11,7 @@ use Rattle.tva_drr.specs.Queues.{first, head}
 use Rattle.tva_port.specs.declared.decision.Decision.{Decision}
 use Rattle.tva_port.specs.declared.decision.Decision.TheVariants.{Start, WaitUntil, Idle}
 use Rattle.tva_port.specs.Requests.{cost, credit}
-use Rattle.tva_port.specs.Log.{Entry, Started, request_starts, free_after, cut}
+use Rattle.tva_port.specs.Log.{Entry, Started, request_starts, free_after, entries_before}
 use Rattle.tva_port.specs.Waiting.{Waiting, waiting_after, next_request}
 
 -- the next request, where the credit covers its cost
@@ -64,7 +64,7 @@ RestsAt l log time = (time < free_after l log) ⊎ (is_start (decision l log tim
 
 -- no start was missed before `until`: after all entries up to each earlier time, the link rests then
 abbrev pub MissesNone : LinkLimits → ℕ → List Entry → Type 0
-MissesNone l until log = (time : ℕ) → time < until → RestsAt l (cut (time + 1) log) time
+MissesNone l until log = (time : ℕ) → time < until → RestsAt l (entries_before (time + 1) log) time
 
 -- after the decision nothing is due before that time: not while a packet that started occupies
 -- the link, nor while a request waits, and never while the link is idle

@@ -21,8 +21,8 @@ abbrev pub NoneLater : ℕ → List Entry → Type 0
 NoneLater time log = All (λ e. entry_time e ≤ time) log
 
 -- the entries before a time
-abbrev pub cut : ℕ → List Entry → List Entry
-cut until log = filter (λ e. nat_lt (entry_time e) until) log
+abbrev pub entries_before : ℕ → List Entry → List Entry
+entries_before until log = filter (λ e. nat_lt (entry_time e) until) log
 
 abbrev pub request_start : Entry → Option Start
 request_start (Started time Request packet) = Some (start time (packet_length packet))

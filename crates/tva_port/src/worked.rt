@@ -6,7 +6,7 @@ ghost use Rattle.tva_port.specs.Log.{Started};
 ghost use Rattle.tva_port.specs.Waiting.{waiting_after};
 ghost use Rattle.tva_port.specs.Decide.{MissesNone};
 ghost use Rattle.tva_port.specs.Legal.{IsLegal};
-ghost use Rattle.tva_port.specs.Bounds.{bytes_with, request_bound, regular_bound, queues_of, start_among, bytes_started, IsNeverEmpty};
+ghost use Rattle.tva_port.specs.Bounds.{bytes_with, request_bound, regular_bound, class_queues, start_among, bytes_started, IsNeverEmpty};
 ghost use Rattle.tva_port.specs.Worked.{three_queues, regulars_queued, burst_started, regulars_started, long, two_levels, requests_queued, requests_started, tagged, queues_in};
 
 /// In a worked log, which a port can have, something waits all along under two keys while regular packets
@@ -27,7 +27,7 @@ pub fn a_regular_packet_waits_half_its_bound()
     ensures limits { AreLinkLimits three_queues }
     ensures legal { IsLegal three_queues (regulars_queued ++ burst_started ++ regulars_started) }
     ensures missed { MissesNone three_queues 10100 (regulars_queued ++ burst_started ++ regulars_started) }
-    ensures queues { length (queues_of Regular (waiting_after three_queues regulars_queued)) ≡ 3 }
+    ensures queues { length (class_queues Regular (waiting_after three_queues regulars_queued)) ≡ 3 }
     ensures start { start_among three_queues Regular 3 (long 9) 0 regulars_queued (burst_started ++ regulars_started)
         ≡ Some (Started 8480 Regular (long 9)) }
     ensures bound { regular_bound three_queues (bytes_with three_queues Regular 3 (long 9) regulars_queued) ≡ 15972 }

@@ -14,7 +14,7 @@ use Rattle.tva_base.specs.Changes.{boot_at}
 use Rattle.tva_base.specs.Plan.{IsHostPlan}
 use Rattle.tva_shim.specs.Packets.{PacketData}
 use Rattle.tva_flow.specs.Charges.{Charge}
-use Rattle.tva_flow.specs.Stands.{NoneLater, AreNext}
+use Rattle.tva_flow.specs.Stands.{NoChargeLater, AreNext}
 use Rattle.tva_flow.specs.Budget.{IsWithinSeconds, AreTimely}
 use Rattle.tva_flow.proofs.Pushes.{next-push}
 use Rattle.tva_port.specs.Log as port
@@ -80,7 +80,7 @@ past_all : (now : ℕ) (log : List Entry) → AllByRecursion (λ e. entry_time e
 past_all now [] a = tt
 past_all now (e ∷ es) a = past_option now (entry_time e) (charge_of e) (charges es) a.0 (charge_time e) (past_all now es a.1)
 
-charges_past : (plan : RouterPlan) (boot now : ℕ) (log : List Entry) → AllByRecursion (λ e. entry_time e ≤ now) log → NoneLater now (charges_of_boot plan boot (charges log))
+charges_past : (plan : RouterPlan) (boot now : ℕ) (log : List Entry) → AllByRecursion (λ e. entry_time e ≤ now) log → NoChargeLater now (charges_of_boot plan boot (charges log))
 charges_past plan boot now log a =
     All-from_recursion (λ (c : Charge). c.time ≤ now) (charges_of_boot plan boot (charges log))
     (each-filter (λ (c : Charge). c.time ≤ now) (λ c. boot_at plan c.time == boot) (charges log) (past_all now log a))

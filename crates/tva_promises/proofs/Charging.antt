@@ -26,7 +26,7 @@ use Rattle.tva_flow.specs.declared.verdicts.Verdict.{Verdict}
 use Rattle.tva_flow.specs.declared.verdicts.Verdict.TheVariants as verdict
 use Rattle.tva_flow.specs.Charges.{Charge, charge, same_flow, of_flow, last_or, last_charge}
 use Rattle.tva_flow.specs.Verdicts.{list_verdict, nonce_verdict}
-use Rattle.tva_flow.specs.Stands.{IsChargeable, NoneLater, IsNext, AreNext}
+use Rattle.tva_flow.specs.Stands.{IsChargeable, NoChargeLater, IsNext, AreNext}
 use Rattle.tva_flow.specs.Budget.{IsWithinSeconds, AreTimely}
 use Rattle.tva_flow.proofs.Same.{flow_is}
 use Rattle.tva_flow.proofs.Rows.{list_rows, held}
@@ -34,7 +34,7 @@ use Rattle.tva_flow.proofs.Timely.{held-timely}
 use Rattle.tva_log.proofs.Joins.{each-filter, each-passes}
 use Rattle.tva_router.specs.declared.judged.Arrival.{Arrival}
 use Rattle.tva_router.specs.Judging.{Answer, tag_of, second_of, fresh_for, answer_of, answer_to_checked, answer_to_cap, answer_to_shown, answer_to_nonce, judged, marked, judged_by, judged_request, judged_kind, judged_shim, judge}
-use Rattle.tva_router.specs.Handling.{Logs, arrival, stopped, forwarded, handle}
+use Rattle.tva_router.specs.Handling.{PortLogs, arrival, stopped, forwarded, handle}
 
 -- ## a valid capability
 
@@ -82,7 +82,7 @@ chargeable slots offset before (c ∷ cs) a = (a.0.packet, chargeable slots offs
 pub record IsReady (plan : RouterPlan) (h : List Charge) (a : Arrival) : Type 0 where
   pub clock : plan.clock_offset ≤ 1000000000000000
   pub time : a.time.0 ≤ 1000000000000000
-  pub past : NoneLater a.time.0 h
+  pub past : NoChargeLater a.time.0 h
   pub legal : AreNext plan.slots plan.clock_offset [] h
   pub timely : AreTimely plan.clock_offset h
   pub sized : (20 ≤ a.bytes) × (a.bytes ≤ 2048)
@@ -184,7 +184,7 @@ by_judge plan h a (carried.Malformed size) g r e = absurd (cc)
 by_judge plan h a (carried.Shim shim) g r e = by_shim plan h a shim g r e
 
 -- what an arrival is charged to
-pub charge_next : (plan : RouterPlan) (h : List Charge) (logs : Logs) (now : ℕ) (from : Option ℕ) (p : PacketData) (g : Grant) → IsReady plan h (arrival now from p) → (handle plan h logs now from p).fate.charge ≡ Some g → IsCharged plan h (arrival now from p) (nonce_in p.carried) g
+pub charge_next : (plan : RouterPlan) (h : List Charge) (logs : PortLogs) (now : ℕ) (from : Option ℕ) (p : PacketData) (g : Grant) → IsReady plan h (arrival now from p) → (handle plan h logs now from p).fate.charge ≡ Some g → IsCharged plan h (arrival now from p) (nonce_in p.carried) g
 unfolding handle
 charge_next plan h logs now from p g r e =
     let a : Arrival = arrival now from p in

@@ -13,10 +13,10 @@ use Rattle.tva_base.specs.Plan.{IsRouterPlan, IsHostPlan}
 use Rattle.tva_shim.specs.Packets.{PacketData, IsSizedPacket, class_by_shim, made_packet}
 use Rattle.tva_shim.proofs.Lengths.{carried_fits}
 use Rattle.tva_flow.specs.Charges.{Charge}
-use Rattle.tva_flow.specs.Stands.{NoneLater, IsNext, AreNext}
+use Rattle.tva_flow.specs.Stands.{NoChargeLater, IsNext, AreNext}
 use Rattle.tva_flow.specs.Budget.{IsWithinSeconds, AreTimely}
 use Rattle.tva_port.specs.Log as port
-use Rattle.tva_router.specs.Handling.{Logs, Handled, handle, arrival, way_to}
+use Rattle.tva_router.specs.Handling.{PortLogs, Handled, handle, arrival, way_to}
 use Rattle.tva_router.specs.Boots.{charges_at}
 use Rattle.tva_router.proofs.InForce.{force_valid}
 use Rattle.tva_host.specs.declared.made.Made.{Made}
@@ -161,7 +161,7 @@ took_good site link l before input made valid out past met known s c = took_by s
 abbrev pub IsNextCharge : RouterPlan → List Charge → Charge → Type 0
 IsNextCharge plan h c = IsNext plan.slots plan.clock_offset h c × IsWithinSeconds plan.clock_offset c.time c.grant
 
-charge_by : (plan : RouterPlan) (h : List Charge) (logs : Logs) (now : ℕ) (from : Option ℕ) (p : PacketData) (o : Option Grant) → IsReady plan h (arrival now from p) → (handle plan h logs now from p).fate.charge ≡ o
+charge_by : (plan : RouterPlan) (h : List Charge) (logs : PortLogs) (now : ℕ) (from : Option ℕ) (p : PacketData) (o : Option Grant) → IsReady plan h (arrival now from p) → (handle plan h logs now from p).fate.charge ≡ o
     → IfSome (option_map (charged now p) o) (IsNextCharge plan h)
 charge_by plan h logs now from p None r e = tt
 charge_by plan h logs now from p (Some g) r e = let k = charge_next plan h logs now from p g r e in (k.next, k.seconds)
@@ -179,7 +179,7 @@ arrived_charge plan before input from p r =
     charge_by (in_force plan now) (charges_at plan now (charges before)) (port_logs before) now from p (handled plan before now from p).fate.charge r refl
 
 -- what an input is charged to
-pub took_charge : (site : Site) (plan : RouterPlan) (before : List Entry) (input : Input) (made : Content) → IsSite site → site.plan ≡ plans.Router plan → input_time input ≤ 1000000000000000 → NoneLater (input_time input) (charges_at plan (input_time input) (charges before))
+pub took_charge : (site : Site) (plan : RouterPlan) (before : List Entry) (input : Input) (made : Content) → IsSite site → site.plan ≡ plans.Router plan → input_time input ≤ 1000000000000000 → NoChargeLater (input_time input) (charges_at plan (input_time input) (charges before))
     → AreNext plan.slots plan.clock_offset [] (charges_at plan (input_time input) (charges before)) → AreTimely plan.clock_offset (charges_at plan (input_time input) (charges before)) → IsSizedInput input → content site before input ≡ Some made → IsCharging plan before input made
 unfolding in_force
 took_charge site plan before input made valid e time past legal timely s c =

@@ -25,7 +25,7 @@ use Rattle.tva_flow.specs.Verdicts.{supersedes, list_verdict, nonce_rows, nonce_
 use Rattle.tva_router.specs.declared.judged.Arrival.{Arrival}
 use Rattle.tva_router.specs.declared.judged.Judged.{Judged}
 use Rattle.tva_router.specs.Judging.{Answer, tag_of, second_of, fresh_for, answer_of, answer_to_checked, answer_to_cap, answer_to_shown, answer_to_nonce, judged, marked, judged_by, judged_request, judged_kind, judged_shim, judge}
-use Rattle.tva_router.specs.Handling.{Logs, arrival, sent, way_to, stopped, forwarded, handle}
+use Rattle.tva_router.specs.Handling.{PortLogs, arrival, sent, way_to, stopped, forwarded, handle}
 use Rattle.tva_router.proofs.Fates.{mark_told}
 use Rattle.tva_promises.proofs.Only.{charged_only}
 use Rattle.tva_promises.specs.Fates.{cause_of_kind, cause_in, cause_of, NoRowRefusesShown, NoRowRefusesNonce, NoRowRefusesKind, NoRowRefuses, IsFate}
@@ -67,7 +67,7 @@ judge_cause plan h a carried.Nothing = refl
 judge_cause plan h a (carried.Malformed size) = refl
 judge_cause plan h a (carried.Shim shim) = shim_cause plan h a shim
 
-named : (plan : RouterPlan) (h : List Charge) (logs : Logs) (now : ℕ) (from : Option ℕ) (p : PacketData) → (handle plan h logs now from p).fate.cause ≡ cause_of plan h (arrival now from p) p
+named : (plan : RouterPlan) (h : List Charge) (logs : PortLogs) (now : ℕ) (from : Option ℕ) (p : PacketData) → (handle plan h logs now from p).fate.cause ≡ cause_of plan h (arrival now from p) p
 unfolding handle
 named plan h logs now from p =
     let a : Arrival = arrival now from p in
@@ -78,12 +78,12 @@ named plan h logs now from p =
 
 -- ## the hop limit, and the way
 
-pub at_limit : (plan : RouterPlan) (h : List Charge) (logs : Logs) (now : ℕ) (from : Option ℕ) (p : PacketData) → 32 ≤ p.hops
+pub at_limit : (plan : RouterPlan) (h : List Charge) (logs : PortLogs) (now : ℕ) (from : Option ℕ) (p : PacketData) → 32 ≤ p.hops
     → ((handle plan h logs now from p).fate.cause ≡ None) × ((handle plan h logs now from p).fate.charge ≡ None) × ((handle plan h logs now from p).fate.outcome ≡ Dropped HopLimit)
 unfolding handle
 at_limit plan h logs now from p l = rw (le-leb 32 p.hops l) (refl, refl, refl)
 
-pub on_way : (plan : RouterPlan) (h : List Charge) (logs : Logs) (now : ℕ) (from : Option ℕ) (p : PacketData) → p.hops < 32
+pub on_way : (plan : RouterPlan) (h : List Charge) (logs : PortLogs) (now : ℕ) (from : Option ℕ) (p : PacketData) → p.hops < 32
     → (handle plan h logs now from p).fate.outcome ≡ sent logs (handle plan h logs now from p).fate.class (handle plan h logs now from p).onward (way_to plan p.flow.dst)
 unfolding handle
 on_way plan h logs now from p l = rw (lt-leb 32 p.hops l) refl
@@ -167,7 +167,7 @@ judge_taken plan h a carried.Nothing g n = absurd n
 judge_taken plan h a (carried.Malformed size) g n = absurd n
 judge_taken plan h a (carried.Shim shim) g n = shim_taken plan h a shim g n.0 n.1
 
-taken : (plan : RouterPlan) (h : List Charge) (logs : Logs) (now : ℕ) (from : Option ℕ) (p : PacketData) (g : Grant) → p.hops < 32 → NoRowRefuses plan h (arrival now from p) p.carried g
+taken : (plan : RouterPlan) (h : List Charge) (logs : PortLogs) (now : ℕ) (from : Option ℕ) (p : PacketData) (g : Grant) → p.hops < 32 → NoRowRefuses plan h (arrival now from p) p.carried g
     → (handle plan h logs now from p).fate.charge ≡ Some g
 unfolding handle
 taken plan h logs now from p g l n = rw (lt-leb 32 p.hops l) (judge_taken plan h (arrival now from p) p.carried g n)
@@ -209,14 +209,14 @@ judge_regular plan h a carried.Nothing = (λ e. absurd (cc), λ e. absurd (cc))
 judge_regular plan h a (carried.Malformed size) = (λ e. absurd (cc), λ e. absurd (cc))
 judge_regular plan h a (carried.Shim shim) = shim_regular plan h a shim
 
-regular : (plan : RouterPlan) (h : List Charge) (logs : Logs) (now : ℕ) (from : Option ℕ) (p : PacketData) → p.hops < 32
+regular : (plan : RouterPlan) (h : List Charge) (logs : PortLogs) (now : ℕ) (from : Option ℕ) (p : PacketData) → p.hops < 32
     → ((handle plan h logs now from p).fate.class ≡ class.Regular) ↔ (is_some (handle plan h logs now from p).fate.charge ≡ true)
 unfolding handle
 regular plan h logs now from p l = rw (lt-leb 32 p.hops l) (judge_regular plan h (arrival now from p) p.carried)
 
 -- ## fates
 
-pub is_fate : (plan : RouterPlan) (h : List Charge) (logs : Logs) (now : ℕ) (from : Option ℕ) (p : PacketData) → IsFate plan h logs now from p (handle plan h logs now from p).fate (handle plan h logs now from p).onward
+pub is_fate : (plan : RouterPlan) (h : List Charge) (logs : PortLogs) (now : ℕ) (from : Option ℕ) (p : PacketData) → IsFate plan h logs now from p (handle plan h logs now from p).fate (handle plan h logs now from p).onward
 is_fate plan h logs now from p = record {
   named = named plan h logs now from p;
   stopped = λ l. at_limit plan h logs now from p l;
@@ -248,7 +248,7 @@ uncharged None k e = cc
 uncharged (Some g) k e = k g refl
 
 -- what has a cause isn't regular
-pub refused : (plan : RouterPlan) (h : List Charge) (logs : Logs) (now : ℕ) (from : Option ℕ) (p : PacketData) (fate : Fate) (onward : PacketData) (c : Cause) → IsFate plan h logs now from p fate onward → fate.cause ≡ Some c → fate.class ≡ class.Regular → ⊥
+pub refused : (plan : RouterPlan) (h : List Charge) (logs : PortLogs) (now : ℕ) (from : Option ℕ) (p : PacketData) (fate : Fate) (onward : PacketData) (c : Cause) → IsFate plan h logs now from p fate onward → fate.cause ≡ Some c → fate.class ≡ class.Regular → ⊥
 refused plan h logs now from p fate onward c f is e =
     let a : Arrival = arrival now from p in
     elim (cases_lt p.hops 32) [

@@ -24,7 +24,7 @@ use Rattle.tva_port.specs.Log as port
 use Rattle.tva_port.specs.Decide.{decision, is_start, RestsAt, MissesNone}
 use Rattle.tva_port.specs.Legal.{IsStarted, Follows, IsLegal}
 use Rattle.tva_port.proofs.Logs.{goes_on-push}
-use Rattle.tva_router.specs.Handling.{Logs, offered, outcome_of, sent, outgoing_link, way_to}
+use Rattle.tva_router.specs.Handling.{PortLogs, offered, outcome_of, sent, outgoing_link, way_to}
 use Rattle.tva_router.specs.Routes.{link_to}
 use Rattle.tva_host.specs.declared.made.Made.{Made}
 use Rattle.tva_plan.specs.declared.config.NodePlan.{NodePlan}
@@ -109,7 +109,7 @@ router_way site plan now dst s e =
 abbrev pub IsGood : LinkLimits → List port.Entry → port.Entry → Type 0
 IsGood l log e = Follows l log e × IsSizedPort e
 
-queued_by_link : (site : Site) (link : ℕ) (l : LinkLimits) (logs : Logs) (time : ℕ) (class : Class) (p : PacketData) (k : ℕ) (m : LinkLimits) (o : Offered PacketData) (b : Bool)
+queued_by_link : (site : Site) (link : ℕ) (l : LinkLimits) (logs : PortLogs) (time : ℕ) (class : Class) (p : PacketData) (k : ℕ) (m : LinkLimits) (o : Offered PacketData) (b : Bool)
     → limits_out site link ≡ Some (link, l) → limits_out site k ≡ Some (k, m) → port.NoneLater time (logs link) → IsSizedPacket p → offered m (logs k) class p ≡ o → (link == k) ≡ b
     → o ≡ offers.Queued → IfSome (cond b (Some (port.Queued time class (key_of class p) p)) None) (IsGood l (logs link))
 queued_by_link site link l logs time class p k m o false out way past s e t q = tt
@@ -121,7 +121,7 @@ queued_by_link site link l logs time class p k m o true out way past s e t q =
     ap (λ (x : LinkLimits). offered x (logs link) class p) (sym limits) ∙ (ap (λ (j : ℕ). offered m (logs j) class p) same ∙ (e ∙ q)) in
     (record { order = past; sized = sized_length p s; offer = offer }, s)
 
-queued_by_offer : (site : Site) (link : ℕ) (l : LinkLimits) (logs : Logs) (time : ℕ) (class : Class) (p : PacketData) (k : ℕ) (m : LinkLimits) (o : Offered PacketData)
+queued_by_offer : (site : Site) (link : ℕ) (l : LinkLimits) (logs : PortLogs) (time : ℕ) (class : Class) (p : PacketData) (k : ℕ) (m : LinkLimits) (o : Offered PacketData)
     → limits_out site link ≡ Some (link, l) → limits_out site k ≡ Some (k, m) → port.NoneLater time (logs link) → IsSizedPacket p → offered m (logs k) class p ≡ o
     → IfSome (queued_at link time (outcome_of k o) class p) (IsGood l (logs link))
 queued_by_offer site link l logs time class p k m offers.Queued out way past s e = queued_by_link site link l logs time class p k m offers.Queued (link == k) out way past s e refl refl
@@ -129,7 +129,7 @@ queued_by_offer site link l logs time class p k m (offers.NoQueue q) out way pas
 queued_by_offer site link l logs time class p k m (offers.QueueFull q) out way past s e = tt
 
 -- a packet that goes its way
-pub queued_good : (site : Site) (link : ℕ) (l : LinkLimits) (logs : Logs) (time : ℕ) (class : Class) (p : PacketData) (way : Option (ℕ × LinkLimits))
+pub queued_good : (site : Site) (link : ℕ) (l : LinkLimits) (logs : PortLogs) (time : ℕ) (class : Class) (p : PacketData) (way : Option (ℕ × LinkLimits))
     → limits_out site link ≡ Some (link, l) → IsWayOut site way → port.NoneLater time (logs link) → IsSizedPacket p
     → IfSome (queued_at link time (sent logs class p way) class p) (IsGood l (logs link))
 queued_good site link l logs time class p None out way past s = tt
@@ -217,16 +217,16 @@ logs_past link time log a = All-from_recursion (λ (x : port.Entry). port.entry_
 
 -- ## no start is missed
 
-cut_keep : (until t : ℕ) (o : Option port.Entry) (xs : List port.Entry) → t < until → IfSome o (λ x. port.entry_time x ≡ t) → port.cut until (cons_option o xs) ≡ cons_option o (port.cut until xs)
+cut_keep : (until t : ℕ) (o : Option port.Entry) (xs : List port.Entry) → t < until → IfSome o (λ x. port.entry_time x ≡ t) → port.entries_before until (cons_option o xs) ≡ cons_option o (port.entries_before until xs)
 cut_keep until t None xs l e = refl
 cut_keep until t (Some x) xs l e = filter-true (λ (y : port.Entry). nat_lt (port.entry_time y) until) x xs (lt-ltb (port.entry_time x) until (let k : port.entry_time x ≡ t = e in omega (arith, k)))
 
-cut_drop : (until t : ℕ) (o : Option port.Entry) (xs : List port.Entry) → until ≤ t → IfSome o (λ x. port.entry_time x ≡ t) → port.cut until (cons_option o xs) ≡ port.cut until xs
+cut_drop : (until t : ℕ) (o : Option port.Entry) (xs : List port.Entry) → until ≤ t → IfSome o (λ x. port.entry_time x ≡ t) → port.entries_before until (cons_option o xs) ≡ port.entries_before until xs
 cut_drop until t None xs l e = refl
 cut_drop until t (Some x) xs l e = filter-false (λ (y : port.Entry). nat_lt (port.entry_time y) until) x xs (le-ltb (port.entry_time x) until (let k : port.entry_time x ≡ t = e in omega (arith, k)))
 
 -- what a link's log has before a time
-logs-cut : (link until : ℕ) (log : List Entry) → port_logs (cut entry_time until log) link ≡ port.cut until (port_logs log link)
+logs-cut : (link until : ℕ) (log : List Entry) → port_logs (cut entry_time until log) link ≡ port.entries_before until (port_logs log link)
 logs-cut link until [] = refl
 logs-cut link until (e ∷ es) = elim (cases_lt (entry_time e) until) [
   | inl l ↦
@@ -254,4 +254,4 @@ misses_none site until log link l out none time before =
     let before_now : List Entry = cut entry_time (suc time) log in
     let k : start_after l (port_logs before_now link) time ≡ None = sym (ap (option_and_then (λ (o : ℕ × LinkLimits). start_after o.1 (port_logs before_now link) time)) out) ∙ none time link before in
     let more : suc time ≡ time + 1 = omega arith in
-    subst (λ (z : List port.Entry). RestsAt l z time) (logs-cut link (suc time) log ∙ ap (λ n. port.cut n (port_logs log link)) more) (rests_by l (port_logs before_now link) time k)
+    subst (λ (z : List port.Entry). RestsAt l z time) (logs-cut link (suc time) log ∙ ap (λ n. port.entries_before n (port_logs log link)) more) (rests_by l (port_logs before_now link) time k)

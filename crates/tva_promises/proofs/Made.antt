@@ -27,7 +27,7 @@ use Rattle.tva_shim.specs.Packets.{PacketData, Fills, IsWithinWidths, IsSizedPac
 use Rattle.tva_shim.proofs.Lengths.{carried_fits}
 use Rattle.tva_caps.specs.Formula.{capability_of}
 use Rattle.tva_caps.proofs.Stamps.{capability_of-lt}
-use Rattle.tva_policy.specs.Grants.{Deed, Sent, is_granted, decision}
+use Rattle.tva_policy.specs.Grants.{Deed, Sent, is_granted, grant_decision}
 use Rattle.tva_sender.specs.declared.shape.Held.{Held}
 use Rattle.tva_sender.specs.declared.shape.Shape.{Shape}
 use Rattle.tva_sender.specs.declared.shape.Shape.TheVariants as shape
@@ -38,9 +38,9 @@ use Rattle.tva_sender.specs.Showable.{IsShowableHeld, IsShowable, IsShowableCont
 use Rattle.tva_sender.specs.Book.{of_peer}
 use Rattle.tva_sender.proofs.Showing.{showable_peer, showable_grant, showable_shape}
 use Rattle.tva_host.specs.declared.made.Made.{Made}
-use Rattle.tva_host.specs.History.{History, offered, with_deed}
-use Rattle.tva_host.specs.Sending.{is_legacy, shown_of, shim_of, carried_by, next_packet, next_shape, next_with, with_made, intended, after_intending}
-use Rattle.tva_host.specs.Receiving.{met_by, ClaimData, claim_of, claim_in, shows_grant, is_nothing, notice_for, granted, answer_to, body_of, brought_by, reply_of, after_reply, before_reply, stray, received, receipt_of, after_receipt}
+use Rattle.tva_host.specs.History.{History, next_nonce, with_deed}
+use Rattle.tva_host.specs.Sending.{is_legacy, held_shown, shim_of, carried_by, next_packet, next_shape, next_with, with_made, intended, after_intending}
+use Rattle.tva_host.specs.Receiving.{met_by, ClaimData, claim_of, claim_in, shows_grant, is_nothing, notice_for, granted, answer_to_claim, body_of, brought_by, reply_of, after_reply, before_reply, stray, received, receipt_of, after_receipt}
 use Rattle.tva_host.specs.Calls.{Call, Intended, Injected, Received, after_call}
 use Rattle.tva_host.proofs.Standing.{back-some, showable-push, showable-granted}
 use Rattle.tva_transfer.specs.Files.{Files, first_segment, segment_due}
@@ -132,7 +132,7 @@ record FitsShape (version : ℕ) (s : Shape) : Type 0 where
   showable : IsShowable version s
   caps : ShowsCaps s
 
-offered_fits : (plan : HostPlan) (h : History) → offered plan h < 2 ^ 48
+offered_fits : (plan : HostPlan) (h : History) → next_nonce plan h < 2 ^ 48
 offered_fits plan h = mod-lt (plan.nonce + h.prepared) (omega arith)
 
 shape_fits : (plan : HostPlan) (h : History) (now : ℕ) (dst : Address) (body : ℕ) → AreMet plan.version h.contacts → FitsShape plan.version (next_shape plan h now dst body)
@@ -140,9 +140,9 @@ shape_fits plan h now dst body k =
     let asks : Bool = may_ask plan.retry (asked_at (of_peer dst h.contacts)) now in
     let grant : Option Grant = grant_held (of_peer dst h.contacts) in
     record {
-      showable = showable_shape plan.margin plan.version asks grant now body (offered plan h)
+      showable = showable_shape plan.margin plan.version asks grant now body (next_nonce plan h)
           (showable_grant plan.version (of_peer dst h.contacts) (showable_peer plan.version dst h.contacts k.showable)) (offered_fits plan h);
-      caps = caps_by plan.margin plan.version asks grant now body (offered plan h) (grant_caps (of_peer dst h.contacts) (caps_peer dst h.contacts k.caps));
+      caps = caps_by plan.margin plan.version asks grant now body (next_nonce plan h) (grant_caps (of_peer dst h.contacts) (caps_peer dst h.contacts k.caps));
     }
 
 -- ## packets
@@ -164,7 +164,7 @@ nothing_fits version = record { fits = tt; caps = no_caps }
 notice_fits : (version : ℕ) → FitsBack version backs.Notice
 notice_fits version = record { fits = tt; caps = no_caps }
 
-shown_fits : (version : ℕ) (held : Held) → IsShowableHeld version held → IsShown version (shown_of held)
+shown_fits : (version : ℕ) (held : Held) → IsShowableHeld version held → IsShown version (held_shown held)
 shown_fits version held k = record { nonce = k.nonce; pointer = omega arith; rights = k.rights }
 
 shim_fits : (version : ℕ) (s : Shape) (back : ReturnInfo) → IsVersion version → FitsShape version s → FitsBack version back → IsShim (shim_of version s back)
@@ -256,7 +256,7 @@ granted_fits version (Some rights) precaps r k = record {
   };
 }
 
-decision_fits : (plan : HostPlan) (deeds : List Deed) (src : Address) (tags : List ℕ) → IsHostPlan plan → IfSome (decision plan.policy deeds src tags) (AreRights plan.version)
+decision_fits : (plan : HostPlan) (deeds : List Deed) (src : Address) (tags : List ℕ) → IsHostPlan plan → IfSome (grant_decision plan.policy deeds src tags) (AreRights plan.version)
 decision_fits plan deeds src tags v =
     elim (is_granted plan.policy deeds src tags) as (λ b. IfSome (cond b (Some plan.policy.rights) None) (AreRights plan.version)) [ true ↦ v.rights | false ↦ tt ]
 
@@ -267,10 +267,10 @@ notice_for_fits version (carried.Shim shim) =
     [ true ↦ notice_fits version | false ↦ tt ]
 notice_for_fits version (carried.Malformed size) = tt
 
-answer_fits : (plan : HostPlan) (deeds : List Deed) (src : Address) (c : Carried) (claim : Option ClaimData) → IsHostPlan plan → IfSome claim HasCapsClaimed → IfSome (answer_to plan deeds src c claim) (FitsBack plan.version)
+answer_fits : (plan : HostPlan) (deeds : List Deed) (src : Address) (c : Carried) (claim : Option ClaimData) → IsHostPlan plan → IfSome claim HasCapsClaimed → IfSome (answer_to_claim plan deeds src c claim) (FitsBack plan.version)
 answer_fits plan deeds src c None v k = notice_for_fits plan.version c
 answer_fits plan deeds src c (Some claim) v k =
-    granted_fits plan.version (decision plan.policy deeds src claim.tags) claim.precaps (decision_fits plan deeds src claim.tags v) k
+    granted_fits plan.version (grant_decision plan.policy deeds src claim.tags) claim.precaps (decision_fits plan deeds src claim.tags v) k
 
 brought_fits : (version : ℕ) (above : Upper) (answer : Option ReturnInfo) → IfSome answer (FitsBack version) → IfSome (brought_by above answer) (FitsBack version)
 brought_fits version above (Some back) b = b
@@ -318,7 +318,7 @@ pub receipt_sized : (node : ℕ) (plan : HostPlan) (h : History) (now : ℕ) (p 
     → IfSome (receipt_of node plan h now p above).reply IsSizedMade
 unfolding receipt_of
 receipt_sized node plan h now p above v k s u =
-    let answer : Option ReturnInfo = answer_to plan h.deeds p.flow.src p.carried (claim_in p.carried) in
+    let answer : Option ReturnInfo = answer_to_claim plan h.deeds p.flow.src p.carried (claim_in p.carried) in
     elim (eqb p.flow.dst.0 plan.address.0) as (λ b. IfSome (cond b (received node plan h now p.flow.src p.carried above) stray).reply IsSizedMade) [
       | true ↦ reply_sized node plan (before_reply plan p.flow.src p.carried h) now p.flow.src (brought_by above answer) above v
           (before_met plan h p.flow.src p.carried v k s.widths)
@@ -349,7 +349,7 @@ intending_met plan h now dst payload k = made_met plan now dst payload (with_dee
 receiving_met : (plan : HostPlan) (h : History) (now : ℕ) (p : PacketData) (above : Upper) → IsHostPlan plan → IsSizedPacket p → AreMet plan.version h.contacts → AreMet plan.version (after_receipt plan h now p above).contacts
 unfolding after_receipt
 receiving_met plan h now p above v s k =
-    let answer : Option ReturnInfo = brought_by above (answer_to plan h.deeds p.flow.src p.carried (claim_in p.carried)) in
+    let answer : Option ReturnInfo = brought_by above (answer_to_claim plan h.deeds p.flow.src p.carried (claim_in p.carried)) in
     elim (eqb p.flow.dst.0 plan.address.0) as (λ b. AreMet plan.version (cond b (after_reply plan now p.flow.src answer above (before_reply plan p.flow.src p.carried h)) h).contacts) [
       | true ↦ replied_met plan now p.flow.src answer above (before_reply plan p.flow.src p.carried h) (before_met plan h p.flow.src p.carried v k s.widths)
       | false ↦ k

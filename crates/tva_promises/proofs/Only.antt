@@ -20,7 +20,7 @@ use Rattle.tva_flow.specs.Verdicts.{supersedes, list_verdict, nonce_rows, nonce_
 use Rattle.tva_flow.proofs.Same.{and_false}
 use Rattle.tva_router.specs.declared.judged.Arrival.{Arrival}
 use Rattle.tva_router.specs.Judging.{second_of, fresh_for, answer_to_checked, answer_to_cap, answer_to_shown, answer_to_nonce, judged, judged_kind, judged_shim, judge}
-use Rattle.tva_router.specs.Handling.{Logs, arrival, stopped, forwarded, handle}
+use Rattle.tva_router.specs.Handling.{PortLogs, arrival, stopped, forwarded, handle}
 use Rattle.tva_promises.specs.Fates.{NoRowRefusesShown, NoRowRefusesNonce, NoRowRefusesKind, NoRowRefuses}
 use Rattle.tva_promises.proofs.Charging.{before_end, no_sooner, authorised_by, by_answer, no_request}
 
@@ -130,7 +130,7 @@ judge_only plan h a (carried.Malformed size) g e = cc
 judge_only plan h a (carried.Shim shim) g e = shim_only plan h a shim g e
 
 -- a charged packet is below the hop limit, and no row refuses it
-pub charged_only : (plan : RouterPlan) (h : List Charge) (logs : Logs) (now : ℕ) (from : Option ℕ) (p : PacketData) (g : Grant) → (handle plan h logs now from p).fate.charge ≡ Some g → (p.hops < 32) × NoRowRefuses plan h (arrival now from p) p.carried g
+pub charged_only : (plan : RouterPlan) (h : List Charge) (logs : PortLogs) (now : ℕ) (from : Option ℕ) (p : PacketData) (g : Grant) → (handle plan h logs now from p).fate.charge ≡ Some g → (p.hops < 32) × NoRowRefuses plan h (arrival now from p) p.carried g
 unfolding handle
 charged_only plan h logs now from p g e =
     let a : Arrival = arrival now from p in

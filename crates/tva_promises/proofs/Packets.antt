@@ -25,7 +25,7 @@ use Rattle.tva_caps.proofs.Stamps.{precap_of-lt}
 use Rattle.tva_flow.specs.Charges.{Charge}
 use Rattle.tva_router.specs.declared.judged.Arrival.{Arrival}
 use Rattle.tva_router.specs.Judging.{Answer, tag_of, second_of, fresh_for, answer_to_cap, answer_to_shown, answer_to_nonce, judged, marked, judged_by, judged_request, judged_kind, judged_shim, judge}
-use Rattle.tva_router.specs.Handling.{Logs, arrival, stopped, forwarded, handle}
+use Rattle.tva_router.specs.Handling.{PortLogs, arrival, stopped, forwarded, handle}
 
 -- a packet has 20 to 2,048 bytes
 pub sized_length : (p : PacketData) → IsSizedPacket p → (20 ≤ packet_length p) × (packet_length p ≤ 2048)
@@ -170,7 +170,7 @@ judge_fits plan h a (carried.Shim shim) v s = by_shim plan h a shim v s
 one_further : (n : ℕ) → leb 32 n ≡ false → n + 1 ≤ 32
 one_further n e = grind (arith, nat_tests)
 
-pub onward_sized : (plan : RouterPlan) (h : List Charge) (logs : Logs) (now : ℕ) (from : Option ℕ) (p : PacketData) → IsRouterPlan plan → IsSizedPacket p → IsSizedPacket (handle plan h logs now from p).onward
+pub onward_sized : (plan : RouterPlan) (h : List Charge) (logs : PortLogs) (now : ℕ) (from : Option ℕ) (p : PacketData) → IsRouterPlan plan → IsSizedPacket p → IsSizedPacket (handle plan h logs now from p).onward
 unfolding handle
 onward_sized plan h logs now from p v s =
     let j = judge plan h (arrival now from p) p.carried in

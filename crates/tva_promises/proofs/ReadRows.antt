@@ -16,8 +16,8 @@ use Rattle.tva_trace.specs.declared.rows.TraceRule.TheVariants as rule
 use Rattle.tva_trace.specs.declared.said.SaidRow.{SaidRow}
 use Rattle.tva_trace.specs.declared.said.SaidWhat.{SaidWhat}
 use Rattle.tva_trace.specs.declared.said.SaidWhat.TheVariants as say
-use Rattle.tva_trace.specs.Items.{shim_of}
-use Rattle.tva_trace.specs.Rows.{Judged, ◌>>=◌, behind, demand, fault_at, field, filed_by, filing_of, flow_from, hold, injection_of, is_empty, is_header, kind_at, positive, records_in, row_of, rows_from, rows_under, sending_of, then_rows, ticking_of, times, what_of}
+use Rattle.tva_trace.specs.Items.{row_shim}
+use Rattle.tva_trace.specs.Rows.{Ruled, ◌>>=◌, behind, demand, row_fault, field, filed_by, filing_of, flow_from, hold, injection_of, is_empty, is_header, kind_at, positive, records_in, row_of, rows_from, rows_under, sending_of, then_rows, ticking_of, times, what_of}
 use Rattle.std.specs.Prelude.{nat_le, nat_lt, ◌==◌}
 use Rattle.tva_trace.specs.Meaning.{AreRows, Means, MeansWhat}
 use Rattle.tva_trace.specs.Valid.{IsSaidShim}
@@ -27,14 +27,14 @@ use Rattle.tva_promises.proofs.SaidShims.{decimal_fits, shim_fits}
 
 -- ## steps that gave something
 
-pub ok_one : {A : Type 0} (x y : A) → ◌≡◌ {A = Judged A} (Ok x) (Ok y) → x ≡ y
+pub ok_one : {A : Type 0} (x y : A) → ◌≡◌ {A = Ruled A} (Ok x) (Ok y) → x ≡ y
 ok_one x y e = cc
 
 pub ok_rows : (a b : List SaidRow) → ◌≡◌ {A = Result (List SaidRow) TraceFault} (Ok a) (Ok b) → a ≡ b
 ok_rows a b e = cc
 
 -- a chain of steps: each value is a variable where the next step is looked at
-pub when_held : {A B : Type 0} (P : B → Type 0) (r : Judged A) (next : A → Judged B) (y : B)
+pub when_held : {A B : Type 0} (P : B → Type 0) (r : Ruled A) (next : A → Ruled B) (y : B)
     → (r >>= next) ≡ Ok y → ((x : A) → r ≡ Ok x → next x ≡ Ok y → P y) → P y
 when_held P (Ok x) next y gave go = go x refl gave
 when_held P (Err broken) next y gave go = absurd (cc)
@@ -74,10 +74,10 @@ injection_sized plans k fields w gave =
     when_held IsSizedSaid (demand rule.Src (address_of (field fields 3))) _ w gave (λ src k1 g1.
     when_held IsSizedSaid (demand rule.Dst (address_of (field fields 4))) _ w g1 (λ dst k2 g2.
     when_held IsSizedSaid (demand rule.Payload (decimal_of (field fields 5) 1600)) _ w g2 (λ payload k3 g3.
-    when_held IsSizedSaid (demand rule.Shim (shim_of plans k (flow_from src dst) (field fields 6))) _ w g3 (λ shim k4 g4.
+    when_held IsSizedSaid (demand rule.Shim (row_shim plans k (flow_from src dst) (field fields 6))) _ w g3 (λ shim k4 g4.
     let made : SaidWhat = say.Inject (flow_from src dst) payload shim in
     let fits = decimal_fits (field fields 5) 1600 payload (demanded rule.Payload (decimal_of (field fields 5) 1600) payload k3) in
-    let within = shim_fits plans k (flow_from src dst) (field fields 6) shim (demanded rule.Shim (shim_of plans k (flow_from src dst) (field fields 6)) shim k4) in
+    let within = shim_fits plans k (flow_from src dst) (field fields 6) shim (demanded rule.Shim (row_shim plans k (flow_from src dst) (field fields 6)) shim k4) in
     let sized : IsSizedSaid made = (fits, within) in
     subst IsSizedSaid (ok_one made w g4) sized))))
 
@@ -151,7 +151,7 @@ behind_sized : (row : SaidRow) (r : Result (List SaidRow) TraceFault) (said : Li
 behind_sized row (Ok rest) said s more gave = subst AreSized (ok_rows (row ∷ rest) said gave) (s, more rest refl)
 behind_sized row (Err fault) said s more gave = absurd (cc)
 
-then_sized : (number : ℕ) (r : Judged SaidRow) (next : SaidRow → Result (List SaidRow) TraceFault) (said : List SaidRow)
+then_sized : (number : ℕ) (r : Ruled SaidRow) (next : SaidRow → Result (List SaidRow) TraceFault) (said : List SaidRow)
     → ((row : SaidRow) → r ≡ Ok row → IsSizedRowSaid row)
     → ((row : SaidRow) (rest : List SaidRow) → next row ≡ Ok rest → AreSized rest) → then_rows number r next ≡ Ok said → AreSized said
 then_sized number (Err broken) next said own more gave = absurd (cc)
@@ -170,7 +170,7 @@ rows_said config number last filed (fields ∷ records) said gave =
 -- behind a header
 pub headed_by : (P : List SaidRow → Type 0) (b : Bool) (r : Result (List SaidRow) TraceFault) (said : List SaidRow)
     → (r ≡ Ok said → P said)
-    → cond b r (Err (fault_at 1 rule.Header)) ≡ Ok said → P said
+    → cond b r (Err (row_fault 1 rule.Header)) ≡ Ok said → P said
 headed_by P true r said rest gave = rest gave
 headed_by P false r said rest gave = absurd (cc)
 

@@ -26,7 +26,7 @@ use Rattle.tva_trace.specs.declared.rows.RowKind as kinds
 use Rattle.tva_trace.specs.declared.rows.RowKind.TheVariants as kind
 use Rattle.tva_trace.specs.declared.said.SaidShim.{SaidShim}
 use Rattle.tva_trace.specs.declared.said.SaidShim.TheVariants.{Bytes, Built}
-use Rattle.tva_trace.specs.Items.{caps_of, decoded, each_of, few, hex_bytes_of, hex_number_of, item_in, item_of, items_in, minted_of, plain_shim, raw_of, rights_from, rights_of, shim_of, shown_from, shown_of}
+use Rattle.tva_trace.specs.Items.{caps_of_items, decoded, each_of, few, hex_bytes_of, hex_number_of, item_in, item_of, items_in, minted_of, plain_shim, raw_of, rights_from, rights_of, row_shim, shown_from, shown_of}
 use Rattle.tva_trace.specs.Names.{master_named}
 use Rattle.tva_trace.specs.Valid.{IsSaidShim}
 
@@ -133,8 +133,8 @@ each_fits plans flow rights (item ∷ items) caps gave =
     let all : All IsCap (cap ∷ more) = All-cons IsCap cap more (item_fits plans flow rights item cap k1) (each_fits plans flow rights items more k2) in
     subst (All IsCap) (some_one (cap ∷ more) caps g2) all))
 
-caps_fit : (plans : List NodePlan) (flow : Flow) (rights : Rights) (text caps : List ℕ) → caps_of plans flow rights text ≡ Some caps → AreCaps caps
-unfolding caps_of
+caps_fit : (plans : List NodePlan) (flow : Flow) (rights : Rights) (text caps : List ℕ) → caps_of_items plans flow rights text ≡ Some caps → AreCaps caps
+unfolding caps_of_items
 caps_fit plans flow rights text caps gave =
     when_some AreCaps (few (items_in text)) _ caps gave
     (λ items k g. record { few = omega (arith, few_items (items_in text) items k, each_long plans flow rights items caps g); each = each_fits plans flow rights items caps g })
@@ -164,7 +164,7 @@ shown_fits plans flow text s gave =
     when_some AreShown (parted 47 third.1) _ s g3 (λ fourth k4 g4.
     when_some AreShown (hex_number_of 6 first.0) _ s g4 (λ nonce k5 g5.
     when_some AreShown (rights_of second.0 third.0) _ s g5 (λ rights k6 g6.
-    when_some AreShown (caps_of plans flow rights fourth.1) _ s g6 (λ caps k7 g7.
+    when_some AreShown (caps_of_items plans flow rights fourth.1) _ s g6 (λ caps k7 g7.
     when_some AreShown (decimal_of fourth.0 (length caps)) _ s g7 (λ pointer k8 g8.
     let made : Shown = shown_from nonce pointer rights caps in
     let shows : IsShown 2 made = record {
@@ -224,8 +224,8 @@ nonce_fits nonce short = record {
 }
 
 pub shim_fits : (plans : List NodePlan) (k : kinds.RowKind) (flow : Flow) (text : List ℕ) (s : SaidShim)
-    → shim_of plans k flow text ≡ Some s → IsSaidShim s
-unfolding shim_of
+    → row_shim plans k flow text ≡ Some s → IsSaidShim s
+unfolding row_shim
 shim_fits plans kind.Send flow text s gave = absurd (cc)
 shim_fits plans kind.File flow text s gave = absurd (cc)
 shim_fits plans kind.Tick flow text s gave = absurd (cc)

@@ -23,7 +23,7 @@ use Rattle.tva_flow.specs.Charges.{Charge, lives, holder, used, living_count}
 use Rattle.tva_flow.specs.Verdicts.{supersedes}
 use Rattle.tva_router.specs.declared.judged.Arrival.{Arrival}
 use Rattle.tva_router.specs.Judging.{second_of, answer_to_shown, answer_to_nonce}
-use Rattle.tva_router.specs.Handling.{Logs, arrival, sent, way_to}
+use Rattle.tva_router.specs.Handling.{PortLogs, arrival, sent, way_to}
 use Rattle.tva_router.specs.Marks.{is_marked, calls_for_mark}
 
 -- ## causes
@@ -88,7 +88,7 @@ NoRowRefuses plan h a _ grant = ⊥
 -- dropped or queued as its way and its link's port give; it is charged to a grant exactly where no row refuses it, and
 -- regular exactly where it is charged. It goes on with the mark exactly where it had it, or has a cause other than a
 -- malformed shim.
-pub record IsFate (plan : RouterPlan) (h : List Charge) (logs : Logs) (now : ℕ) (from : Option ℕ) (p : PacketData)
+pub record IsFate (plan : RouterPlan) (h : List Charge) (logs : PortLogs) (now : ℕ) (from : Option ℕ) (p : PacketData)
     (fate : Fate) (onward : PacketData) : Type 0 where
   pub named : fate.cause ≡ cause_of plan h (arrival now from p) p
   pub stopped : 32 ≤ p.hops → (fate.cause ≡ None) × (fate.charge ≡ None) × (fate.outcome ≡ Dropped HopLimit)

@@ -6,7 +6,7 @@ use Rattle.tva_base.specs.declared.plan.RouterPlan.{RouterPlan}
 use Rattle.tva_base.specs.Changes.{in_force}
 use Rattle.tva_router.specs.Boots.{charges_of_boot, charges_at}
 use Rattle.tva_flow.specs.Charges.{Charge, living_count}
-use Rattle.tva_flow.specs.Stands.{NoneLater, AreNext}
+use Rattle.tva_flow.specs.Stands.{NoChargeLater, AreNext}
 use Rattle.tva_flow.specs.Budget.{AreTimely, IsWithinBudget}
 use Rattle.tva_port.specs.Log as port
 use Rattle.tva_port.specs.Decide.{MissesNone}
@@ -27,7 +27,7 @@ pub record KeepsGrants (plan : RouterPlan) (h : List Charge) : Type 0 where
   pub legal : AreNext plan.slots plan.clock_offset [] h
   pub timely : AreTimely plan.clock_offset h
   pub budget : IsWithinBudget h
-  pub living : (now : ℕ) → NoneLater now h → living_count h now ≤ plan.slots
+  pub living : (now : ℕ) → NoChargeLater now h → living_count h now ≤ plan.slots
 
 -- the log of a link's port up to a time: it is one that a port can have, the requests that start from any time to any
 -- other keep their rate, what waits is within the limits at each place, no start was missed, each request and each

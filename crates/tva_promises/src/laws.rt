@@ -26,7 +26,7 @@ ghost use Rattle.tva_promises.specs.Promises.{KeepsPromises};
 /// What a router refuses is never regular: a fate with a cause, such as that of a list over its grant's
 /// units, has another class.
 pub fn refused_is_not_regular()
-    ensures { (plan : RouterPlan) (h : List Charge) (logs : router.Logs) (now : ℕ) (from : Option ℕ) (p : PacketData)
+    ensures { (plan : RouterPlan) (h : List Charge) (logs : router.PortLogs) (now : ℕ) (from : Option ℕ) (p : PacketData)
         (fate : Fate) (onward : PacketData) (cause : Cause) → IsFate plan h logs now from p fate onward
         → fate.cause ≡ Some cause → fate.class ≢ Regular }
 {}

@@ -6,7 +6,7 @@ use Rattle.std.proofs.lemmas.List.Elements.{All-nil, All-map, All-weaker}
 use Rattle.std.proofs.lemmas.List.Quantifiers.{position-Some}
 use Rattle.std.proofs.lemmas.Iterator.Adapters.{position_from-zero}
 use Rattle.tva_base.specs.Plan.{IsRouterPlan, IsPrefix, AreDistinct, links_of}
-use Rattle.tva_base.specs.Changes.{same_prefix, changed}
+use Rattle.tva_base.specs.Changes.{same_prefix, changed_plan}
 use Rattle.tva_base.specs.declared.addresses.Prefix.{Prefix}
 use Rattle.tva_base.specs.declared.plan.Route.{Route}
 use Rattle.tva_base.specs.declared.plan.RouterPlan.{RouterPlan}
@@ -15,7 +15,7 @@ use Rattle.tva_flow.specs.Budget.{IsWithinSeconds}
 use Rattle.tva_flow.specs.Stands as flows
 use Rattle.tva_port.specs.Stands as port
 use Rattle.tva_router.specs.Routes.{route_with, rerouted}
-use Rattle.tva_router.specs.Handling.{Logs}
+use Rattle.tva_router.specs.Handling.{PortLogs}
 use Rattle.tva_router.specs.Stands.{router_data, StandsFor}
 use Rattle.tva_router.specs.Steps.{IsGuard, IsSound}
 use Rattle.tva_router.specs.Tables.{has_prefix, IsTableOf, AreWays}
@@ -30,16 +30,16 @@ use Rattle.tva_router.proofs.Ways.{here, there, both, not_true}
 -- ## the plan in force
 
 -- a plan under its own master and routes
-pub force_same : (plan built : RouterPlan) → plan ≡ built → plan ≡ changed plan.master plan.routes built
-force_same plan built e = subst (λ (z : RouterPlan). plan ≡ changed plan.master plan.routes z) e refl
+pub force_same : (plan built : RouterPlan) → plan ≡ built → plan ≡ changed_plan plan.master plan.routes built
+force_same plan built e = subst (λ (z : RouterPlan). plan ≡ changed_plan plan.master plan.routes z) e refl
 
 -- after another change it still differs from the one built by master and routes alone
-pub force_changed : (plan built : RouterPlan) (master : List ℕ) (routes : List Route) → plan ≡ changed plan.master plan.routes built → changed master routes plan ≡ changed master routes built
-force_changed plan built master routes e = ap (changed master routes) e
+pub force_changed : (plan built : RouterPlan) (master : List ℕ) (routes : List Route) → plan ≡ changed_plan plan.master plan.routes built → changed_plan master routes plan ≡ changed_plan master routes built
+force_changed plan built master routes e = ap (changed_plan master routes) e
 
 -- a plan stays valid where its routes keep their prefixes, and their links are the plan's
 pub changed_valid : (plan : RouterPlan) (master : List ℕ) (routes : List Route) → IsRouterPlan plan → map (λ (r : Route). r.prefix) routes ≡ map (λ (r : Route). r.prefix) plan.routes
-    → All (λ (r : Route). Contains (links_of plan.outgoing) r.link) routes → All (λ (r : Route). IsPrefix r.prefix) routes → IsRouterPlan (changed master routes plan)
+    → All (λ (r : Route). Contains (links_of plan.outgoing) r.link) routes → All (λ (r : Route). IsPrefix r.prefix) routes → IsRouterPlan (changed_plan master routes plan)
 changed_valid plan master routes k same links prefixes = record {
   clock_offset = k.clock_offset;
   slots = k.slots;
@@ -57,11 +57,11 @@ changed_valid plan master routes k same links prefixes = record {
   turns = k.turns;
 }
 
-pub restarted_valid : (plan : RouterPlan) (master : List ℕ) → IsRouterPlan plan → IsRouterPlan (changed master plan.routes plan)
+pub restarted_valid : (plan : RouterPlan) (master : List ℕ) → IsRouterPlan plan → IsRouterPlan (changed_plan master plan.routes plan)
 restarted_valid plan master k = changed_valid plan master plan.routes k refl k.links k.prefixes
 
 -- what judges packets by a plan looks at no routes
-pub guard_kept : (plan : RouterPlan) (last : ℕ) (g : Guard) (routes : List Route) → IsGuard plan last g → IsGuard (changed plan.master routes plan) last g
+pub guard_kept : (plan : RouterPlan) (last : ℕ) (g : Guard) (routes : List Route) → IsGuard plan last g → IsGuard (changed_plan plan.master routes plan) last g
 guard_kept plan last g routes k = record {
   master = k.master;
   clock = k.clock;
@@ -74,7 +74,7 @@ guard_kept plan last g routes k = record {
 }
 
 -- the ways are found as before under another master
-pub ways_kept : (plan : RouterPlan) (master : List ℕ) (w : Ways) → AreWays plan w → AreWays (changed master plan.routes plan) w
+pub ways_kept : (plan : RouterPlan) (master : List ℕ) (w : Ways) → AreWays plan w → AreWays (changed_plan master plan.routes plan) w
 ways_kept plan master w k = record { routes = k.routes; places = k.places }
 
 -- ## a route with another link
@@ -109,10 +109,10 @@ table_kept prefix link routes table t = record {
   places = λ bits address. t.places bits address ∙ sym (place_kept bits address prefix link 0 routes);
 }
 
-pub ways_rerouted : (plan : RouterPlan) (prefix : Prefix) (link : ℕ) (w : Ways) → AreWays plan w → AreWays (changed plan.master (rerouted prefix link plan.routes) plan) w
+pub ways_rerouted : (plan : RouterPlan) (prefix : Prefix) (link : ℕ) (w : Ways) → AreWays plan w → AreWays (changed_plan plan.master (rerouted prefix link plan.routes) plan) w
 ways_rerouted plan prefix link w k = record { routes = table_kept prefix link plan.routes w.routes k.routes; places = k.places }
 
-pub rerouted_valid : (plan : RouterPlan) (prefix : Prefix) (link : ℕ) → Contains (links_of plan.outgoing) link → IsRouterPlan plan → IsRouterPlan (changed plan.master (rerouted prefix link plan.routes) plan)
+pub rerouted_valid : (plan : RouterPlan) (prefix : Prefix) (link : ℕ) → Contains (links_of plan.outgoing) link → IsRouterPlan plan → IsRouterPlan (changed_plan plan.master (rerouted prefix link plan.routes) plan)
 rerouted_valid plan prefix link there k =
     changed_valid plan plan.master (rerouted prefix link plan.routes) k (rerouted_prefixes prefix link plan.routes)
     (rerouted_all (λ (r : Route). Contains (links_of plan.outgoing) r.link) prefix link plan.routes (λ r a. there) k.links)
@@ -173,30 +173,30 @@ rerouted_none prefix link routes none =
 
 -- ## the router
 
-pub restarted_sound : (built plan : RouterPlan) (last now : ℕ) (g f : Guard) (w : Ways) (ps : List port.PortData) (master : List ℕ) → last ≤ now → IsSound built plan last g w ps → IsGuard (changed master plan.routes plan) last f
-    → IsSound built (changed master plan.routes plan) now f w ps
+pub restarted_sound : (built plan : RouterPlan) (last now : ℕ) (g f : Guard) (w : Ways) (ps : List port.PortData) (master : List ℕ) → last ≤ now → IsSound built plan last g w ps → IsGuard (changed_plan master plan.routes plan) last f
+    → IsSound built (changed_plan master plan.routes plan) now f w ps
 restarted_sound built plan last now g f w ps master le s k = record {
   valid = restarted_valid plan master s.valid;
   in_force = force_changed plan built master plan.routes s.in_force;
-  guard = guard-later (changed master plan.routes plan) last now f le k;
+  guard = guard-later (changed_plan master plan.routes plan) last now f le k;
   ways = ways_kept plan master w s.ways;
   ports = ports-later plan.outgoing last now ps le s.ports;
 }
 
-pub restarted_stands : (built plan : RouterPlan) (last now : ℕ) (g f : Guard) (w : Ways) (ps : List port.PortData) (master : List ℕ) (h : List Charge) (logs : Logs)
-    → StandsFor (router_data built plan last g.minter g.cache ps) h logs → IsSound built (changed master plan.routes plan) now f w ps → flows.StandsFor f.cache []
-    → StandsFor (router_data built (changed master plan.routes plan) now f.minter f.cache ps) [] logs
+pub restarted_stands : (built plan : RouterPlan) (last now : ℕ) (g f : Guard) (w : Ways) (ps : List port.PortData) (master : List ℕ) (h : List Charge) (logs : PortLogs)
+    → StandsFor (router_data built plan last g.minter g.cache ps) h logs → IsSound built (changed_plan master plan.routes plan) now f w ps → flows.StandsFor f.cache []
+    → StandsFor (router_data built (changed_plan master plan.routes plan) now f.minter f.cache ps) [] logs
 restarted_stands built plan last now g f w ps master h logs s k none = record {
-  plan = by-plan built (changed master plan.routes plan) now f w ps k;
+  plan = by-plan built (changed_plan master plan.routes plan) now f w ps k;
   charges = none;
   timely = All-nil (λ (x : Charge). IsWithinSeconds plan.clock_offset x.time x.grant);
   links = s.links;
 }
 
 pub rerouted_sound : (built plan : RouterPlan) (last now : ℕ) (g : Guard) (w : Ways) (ps : List port.PortData) (prefix : Prefix) (link : ℕ) → last ≤ now → Contains (links_of plan.outgoing) link → IsSound built plan last g w ps
-    → IsSound built (changed plan.master (rerouted prefix link plan.routes) plan) now g w ps
+    → IsSound built (changed_plan plan.master (rerouted prefix link plan.routes) plan) now g w ps
 rerouted_sound built plan last now g w ps prefix link le there s =
-    let after : RouterPlan = changed plan.master (rerouted prefix link plan.routes) plan in
+    let after : RouterPlan = changed_plan plan.master (rerouted prefix link plan.routes) plan in
     record {
       valid = rerouted_valid plan prefix link there s.valid;
       in_force = force_changed plan built plan.master (rerouted prefix link plan.routes) s.in_force;
@@ -205,11 +205,11 @@ rerouted_sound built plan last now g w ps prefix link le there s =
       ports = ports-later plan.outgoing last now ps le s.ports;
     }
 
-pub rerouted_stands : (built plan : RouterPlan) (last now : ℕ) (g : Guard) (w : Ways) (ps : List port.PortData) (routes : List Route) (h : List Charge) (logs : Logs)
-    → StandsFor (router_data built plan last g.minter g.cache ps) h logs → IsSound built (changed plan.master routes plan) now g w ps
-    → StandsFor (router_data built (changed plan.master routes plan) now g.minter g.cache ps) h logs
+pub rerouted_stands : (built plan : RouterPlan) (last now : ℕ) (g : Guard) (w : Ways) (ps : List port.PortData) (routes : List Route) (h : List Charge) (logs : PortLogs)
+    → StandsFor (router_data built plan last g.minter g.cache ps) h logs → IsSound built (changed_plan plan.master routes plan) now g w ps
+    → StandsFor (router_data built (changed_plan plan.master routes plan) now g.minter g.cache ps) h logs
 rerouted_stands built plan last now g w ps routes h logs s k = record {
-  plan = by-plan built (changed plan.master routes plan) now g w ps k;
+  plan = by-plan built (changed_plan plan.master routes plan) now g w ps k;
   charges = s.charges;
   timely = s.timely;
   links = s.links;

@@ -30,7 +30,7 @@ use Rattle.tva_router.specs.declared.judged.Arrival.{Arrival}
 use Rattle.tva_router.specs.Judging.{Answer, tag_of, second_of, fresh_for, answer_of, answer_to_checked, answer_to_cap, answer_to_shown, answer_to_nonce, judged, marked, judged_by, judged_request, judged_kind, judged_shim, judge}
 use Rattle.tva_router.specs.declared.judged.Judged.{Judged}
 use Rattle.tva_shim.specs.Shows.{key_of, nonce_in}
-use Rattle.tva_router.specs.Handling.{Logs, Handled, offered, outcome_of, sent, queued, entered_by, entered, goes_on, charged_by, arrival, way_to, stopped, forwarded, handle}
+use Rattle.tva_router.specs.Handling.{PortLogs, Handled, offered, outcome_of, sent, queued, entered_by, entered, goes_on, charged_by, arrival, way_to, stopped, forwarded, handle}
 use Rattle.tva_router.specs.Marks.{is_marked, calls_for_mark}
 
 -- ## the mark
@@ -103,7 +103,7 @@ or_false : (b : Bool) → b ≡ (b || false)
 or_false true = refl
 or_false false = refl
 
-pub mark_told : (plan : RouterPlan) (h : List Charge) (logs : Logs) (now : ℕ) (from : Option ℕ) (p : PacketData) → is_marked (handle plan h logs now from p).onward.carried ≡ (is_marked p.carried || calls_for_mark (handle plan h logs now from p).fate.cause)
+pub mark_told : (plan : RouterPlan) (h : List Charge) (logs : PortLogs) (now : ℕ) (from : Option ℕ) (p : PacketData) → is_marked (handle plan h logs now from p).onward.carried ≡ (is_marked p.carried || calls_for_mark (handle plan h logs now from p).fate.cause)
 unfolding handle
 mark_told plan h logs now from p =
     elim (leb 32 p.hops) as (λ b. is_marked (cond b (stopped p) (forwarded plan logs now p (judge plan h (arrival now from p) p.carried))).onward.carried
@@ -114,7 +114,7 @@ mark_told plan h logs now from p =
 
 -- ## what an arrival adds
 
-pub charges_told : (plan : RouterPlan) (h : List Charge) (logs : Logs) (now : ℕ) (from : Option ℕ) (p : PacketData) → (handle plan h logs now from p).charges ≡ charged_by (handle plan h logs now from p).fate.charge now (nonce_in p.carried) (packet_length p)
+pub charges_told : (plan : RouterPlan) (h : List Charge) (logs : PortLogs) (now : ℕ) (from : Option ℕ) (p : PacketData) → (handle plan h logs now from p).charges ≡ charged_by (handle plan h logs now from p).fate.charge now (nonce_in p.carried) (packet_length p)
 unfolding handle
 charges_told plan h logs now from p =
     elim (leb 32 p.hops) as (λ b. (cond b (stopped p) (forwarded plan logs now p (judge plan h (arrival now from p) p.carried))).charges
@@ -132,11 +132,11 @@ by_offer now class p k link offers.Queued = refl
 by_offer now class p k link (offers.NoQueue q) = nothing_by (eqb link k) []
 by_offer now class p k link (offers.QueueFull q) = nothing_by (eqb link k) []
 
-by_way : (logs : Logs) (now : ℕ) (class : Class) (p : PacketData) (way : Option (ℕ × LinkLimits)) (link : ℕ) → queued logs now class p way link ≡ entered_by (sent logs class p way) now class p link
+by_way : (logs : PortLogs) (now : ℕ) (class : Class) (p : PacketData) (way : Option (ℕ × LinkLimits)) (link : ℕ) → queued logs now class p way link ≡ entered_by (sent logs class p way) now class p link
 by_way logs now class p None link = refl
 by_way logs now class p (Some (k, limits)) link = by_offer now class p k link (offered limits (logs k) class p)
 
-pub queued_told : (plan : RouterPlan) (h : List Charge) (logs : Logs) (now : ℕ) (from : Option ℕ) (p : PacketData) (link : ℕ) → (handle plan h logs now from p).queued link ≡ entered (handle plan h logs now from p).fate now (handle plan h logs now from p).onward link
+pub queued_told : (plan : RouterPlan) (h : List Charge) (logs : PortLogs) (now : ℕ) (from : Option ℕ) (p : PacketData) (link : ℕ) → (handle plan h logs now from p).queued link ≡ entered (handle plan h logs now from p).fate now (handle plan h logs now from p).onward link
 unfolding handle
 queued_told plan h logs now from p link =
     elim (leb 32 p.hops) as (λ b. (cond b (stopped p) (forwarded plan logs now p (judge plan h (arrival now from p) p.carried))).queued link
@@ -149,7 +149,7 @@ queued_told plan h logs now from p link =
 
 module _ {A : Type 0} where
   -- what is the same of packets that went on is the same of all
-  pub same_over : (f : Handled → A) (plan : RouterPlan) (h : List Charge) (logs others : Logs) (now : ℕ) (from : Option ℕ) (p : PacketData)
+  pub same_over : (f : Handled → A) (plan : RouterPlan) (h : List Charge) (logs others : PortLogs) (now : ℕ) (from : Option ℕ) (p : PacketData)
       → ((j : Judged) → f (forwarded plan logs now p j) ≡ f (forwarded plan others now p j)) → f (handle plan h logs now from p) ≡ f (handle plan h others now from p)
   unfolding handle
   same_over f plan h logs others now from p e =

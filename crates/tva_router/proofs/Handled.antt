@@ -18,7 +18,7 @@ use Rattle.tva_router.specs.declared.judged.Judged.{Judged}
 use Rattle.tva_router.specs.declared.finding.Ways.{Ways}
 use Rattle.tva_router.specs.Judging.{judge}
 use Rattle.tva_shim.specs.Shows.{nonce_in}
-use Rattle.tva_router.specs.Handling.{Logs, Handled, arrival, goes_on, handle, stopped, fate_of, forwarded, sent, queued, way_to, charged_by}
+use Rattle.tva_router.specs.Handling.{PortLogs, Handled, arrival, goes_on, handle, stopped, fate_of, forwarded, sent, queued, way_to, charged_by}
 use Rattle.tva_router.specs.Stands.{RouterData, router_data, IsByPlan, StandsFor, StandForLogs, ◌with◌}
 use Rattle.tva_router.specs.Steps.{ArePorts, IsSound, Keeps}
 use Rattle.tva_router.proofs.Answers.{guard-later}
@@ -66,17 +66,17 @@ by-plan-later built plan last now m c ps le b = record {
   ports = All-weaker (λ (p : port.PortData). p.last ≤ last) (λ (p : port.PortData). p.last ≤ now) (λ p k. omega (arith, k, le)) ps b.ports;
 }
 
-pub handle-stopped : (plan : RouterPlan) (h : List Charge) (logs : Logs) (now : ℕ) (from : Option ℕ) (p : PacketData) → leb 32 p.hops ≡ true → handle plan h logs now from p ≡ stopped p
+pub handle-stopped : (plan : RouterPlan) (h : List Charge) (logs : PortLogs) (now : ℕ) (from : Option ℕ) (p : PacketData) → leb 32 p.hops ≡ true → handle plan h logs now from p ≡ stopped p
 unfolding handle
 handle-stopped plan h logs now from p full = rw full refl
 
-pub handle-forwarded : (plan : RouterPlan) (h : List Charge) (logs : Logs) (now : ℕ) (from : Option ℕ) (p : PacketData) → leb 32 p.hops ≡ false
+pub handle-forwarded : (plan : RouterPlan) (h : List Charge) (logs : PortLogs) (now : ℕ) (from : Option ℕ) (p : PacketData) → leb 32 p.hops ≡ false
     → handle plan h logs now from p ≡ forwarded plan logs now p (judge plan h (arrival now from p) p.carried)
 unfolding handle
 handle-forwarded plan h logs now from p free = rw free refl
 
 -- nothing became of it
-pub stands-stopped : (built plan : RouterPlan) (last now : ℕ) (m : MinterState) (c : flows.Cache) (ps : List port.PortData) (h : List Charge) (logs : Logs) (from : Option ℕ) (p : PacketData) → leb 32 p.hops ≡ true → last ≤ now
+pub stands-stopped : (built plan : RouterPlan) (last now : ℕ) (m : MinterState) (c : flows.Cache) (ps : List port.PortData) (h : List Charge) (logs : PortLogs) (from : Option ℕ) (p : PacketData) → leb 32 p.hops ≡ true → last ≤ now
     → StandsFor (router_data built plan last m c ps) h logs
     → StandsFor (router_data built plan now m c ps) (h ++ (handle plan h logs now from p).charges) (logs with (handle plan h logs now from p).queued)
 stands-stopped built plan last now m c ps h logs from p many le s =
@@ -89,7 +89,7 @@ stands-stopped built plan last now m c ps h logs from p many le s =
     })
 
 -- the fate of an arrival that was judged, and whose packet then went there
-pub fate-forwarded : (plan : RouterPlan) (h : List Charge) (logs : Logs) (now : ℕ) (from : Option ℕ) (p : PacketData) (j : Judged) (o : Outcome) → leb 32 p.hops ≡ false
+pub fate-forwarded : (plan : RouterPlan) (h : List Charge) (logs : PortLogs) (now : ℕ) (from : Option ℕ) (p : PacketData) (j : Judged) (o : Outcome) → leb 32 p.hops ≡ false
     → j ≡ judge plan h (arrival now from p) p.carried → o ≡ sent logs j.class (goes_on p j.carried) (way_to plan p.flow.dst)
     → fate_of j o ≡ (handle plan h logs now from p).fate
 fate-forwarded plan h logs now from p j o few judged went =
@@ -97,7 +97,7 @@ fate-forwarded plan h logs now from p j o few judged went =
     ∙ ap (λ (z : Judged). (forwarded plan logs now p z).fate) judged
     ∙ sym (ap (λ (z : Handled). z.fate) (handle-forwarded plan h logs now from p few))
 
-pub stands-forwarded : (built plan : RouterPlan) (last now : ℕ) (m n : MinterState) (c d : flows.Cache) (ps qs : List port.PortData) (h : List Charge) (logs : Logs) (from : Option ℕ) (p : PacketData) (j : Judged) → leb 32 p.hops ≡ false
+pub stands-forwarded : (built plan : RouterPlan) (last now : ℕ) (m n : MinterState) (c d : flows.Cache) (ps qs : List port.PortData) (h : List Charge) (logs : PortLogs) (from : Option ℕ) (p : PacketData) (j : Judged) → leb 32 p.hops ≡ false
     → j ≡ judge plan h (arrival now from p) p.carried → StandsFor (router_data built plan last m c ps) h logs
     → Keeps plan (arrival now from p) j.charge (nonce_in p.carried) c d
     → StandForLogs plan.outgoing qs (logs with queued logs now j.class (goes_on p j.carried) (way_to plan p.flow.dst))
@@ -108,16 +108,16 @@ stands-forwarded built plan last now m n c d ps qs h logs from p j few judged s 
     (ap (forwarded plan logs now p) judged ∙ sym (handle-forwarded plan h logs now from p few))
     (record { plan = by; charges = keeps.stands h s.charges; timely = keeps.timely h s.charges s.timely; links = links })
 
-uncharged_if : (b : Bool) (plan : RouterPlan) (logs : Logs) (now : ℕ) (p : PacketData) (j : Judged) → (cond b (stopped p) (forwarded plan logs now p j)).fate.charge ≡ None → (cond b (stopped p) (forwarded plan logs now p j)).charges ≡ []
+uncharged_if : (b : Bool) (plan : RouterPlan) (logs : PortLogs) (now : ℕ) (p : PacketData) (j : Judged) → (cond b (stopped p) (forwarded plan logs now p j)).fate.charge ≡ None → (cond b (stopped p) (forwarded plan logs now p j)).charges ≡ []
 uncharged_if true plan logs now p j e = refl
 uncharged_if false plan logs now p j e = ap (λ (z : Option Grant). charged_by z now (nonce_in p.carried) (packet_length p)) e
 
-uncharged : (plan : RouterPlan) (h : List Charge) (logs : Logs) (now : ℕ) (from : Option ℕ) (p : PacketData) → (handle plan h logs now from p).fate.charge ≡ None → (handle plan h logs now from p).charges ≡ []
+uncharged : (plan : RouterPlan) (h : List Charge) (logs : PortLogs) (now : ℕ) (from : Option ℕ) (p : PacketData) → (handle plan h logs now from p).fate.charge ≡ None → (handle plan h logs now from p).charges ≡ []
 unfolding handle
 uncharged plan h logs now from p e = uncharged_if (leb 32 p.hops) plan logs now p (judge plan h (arrival now from p) p.carried) e
 
 -- an arrival without a charge leaves the charges as they were
-pub stands-uncharged : (v : RouterData) (plan : RouterPlan) (h : List Charge) (logs after : Logs) (now : ℕ) (from : Option ℕ) (p : PacketData) (fate : Fate) → fate ≡ (handle plan h logs now from p).fate
+pub stands-uncharged : (v : RouterData) (plan : RouterPlan) (h : List Charge) (logs after : PortLogs) (now : ℕ) (from : Option ℕ) (p : PacketData) (fate : Fate) → fate ≡ (handle plan h logs now from p).fate
     → StandsFor v (h ++ (handle plan h logs now from p).charges) after → fate.charge ≡ None → StandsFor v h after
 stands-uncharged v plan h logs after now from p fate told s none =
     let empty : (handle plan h logs now from p).charges ≡ [] = uncharged plan h logs now from p (ap (λ (z : Fate). z.charge) (sym told) ∙ none) in

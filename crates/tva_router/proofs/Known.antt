@@ -20,7 +20,7 @@ use Rattle.tva_port.proofs.Logs.{later-weaker}
 use Rattle.tva_port.proofs.Steady.{misses_offered}
 use Rattle.tva_router.specs.Judging.{judge}
 use Rattle.tva_shim.specs.Shows.{key_of}
-use Rattle.tva_router.specs.Handling.{Logs, outgoing_link, offered, queued, goes_on, arrival, way_to, stopped, forwarded, handle}
+use Rattle.tva_router.specs.Handling.{PortLogs, outgoing_link, offered, queued, goes_on, arrival, way_to, stopped, forwarded, handle}
 use Rattle.tva_router.specs.Stands.{RouterData, StandForLogs, StandsFor, free_in, free_of, started_on, ◌with◌}
 
 -- the port of a link: it has the link's limits, and stands for the link's log
@@ -30,7 +30,7 @@ record IsPort (last : ℕ) (limits : LinkLimits) (log : List Entry) (end : ℕ) 
   early : p.last ≤ last
   end_is : end ≡ p.free_at
 
-port_for : (os : List (ℕ × LinkLimits)) (last : ℕ) (ps : List PortData) (logs : Logs) (link : ℕ) (limits : LinkLimits) → StandForLogs os ps logs → All (λ (p : PortData). p.last ≤ last) ps
+port_for : (os : List (ℕ × LinkLimits)) (last : ℕ) (ps : List PortData) (logs : PortLogs) (link : ℕ) (limits : LinkLimits) → StandForLogs os ps logs → All (λ (p : PortData). p.last ≤ last) ps
     → find (λ o. eqb o.0 link) os ≡ Some (link, limits) → (p : PortData) × IsPort last limits (logs link) (free_in os ps link) p
 port_for [] last ps logs link limits s e f = absurd (cc)
 port_for (o ∷ os) last [] logs link limits s e f = absurd s
@@ -63,7 +63,7 @@ pub record IsKnown (limits : LinkLimits) (log : List Entry) (now : ℕ) : Type 0
   pub legal : IsLegal limits log
   pub later : NoneLater now log
 
-pub known : (v : RouterData) (h : List Charge) (logs : Logs) (link : ℕ) (limits : LinkLimits) (now : ℕ) → StandsFor v h logs → outgoing_link v.plan link ≡ Some (link, limits) → v.last ≤ now → IsKnown limits (logs link) now
+pub known : (v : RouterData) (h : List Charge) (logs : PortLogs) (link : ℕ) (limits : LinkLimits) (now : ℕ) → StandsFor v h logs → outgoing_link v.plan link ≡ Some (link, limits) → v.last ≤ now → IsKnown limits (logs link) now
 known v h logs link limits now s f le =
     let q = port_for v.plan.outgoing v.last v.ports logs link limits s.links s.plan.ports f in
     record {
@@ -73,7 +73,7 @@ known v h logs link limits now s f le =
     }
 
 -- a link is free at the end of its last start
-pub free_is : (v : RouterData) (h : List Charge) (logs : Logs) (link : ℕ) (limits : LinkLimits) → StandsFor v h logs → outgoing_link v.plan link ≡ Some (link, limits) → free_of v link ≡ free_after limits (logs link)
+pub free_is : (v : RouterData) (h : List Charge) (logs : PortLogs) (link : ℕ) (limits : LinkLimits) → StandsFor v h logs → outgoing_link v.plan link ≡ Some (link, limits) → free_of v link ≡ free_after limits (logs link)
 free_is v h logs link limits s f =
     let q = port_for v.plan.outgoing v.last v.ports logs link limits s.links s.plan.ports f in
     q.1.end_is ∙ q.1.stands.free ∙ ap (λ (l : LinkLimits). free_after l (logs link)) q.1.limits_are
@@ -86,18 +86,18 @@ pub started_here : (link : ℕ) (d : Decision) (now : ℕ) → started_on link d
 started_here link d now = ap (λ (b : Bool). cond b (started_by d now) []) (same link)
 
 -- after a decision its link is free at the end of the last start
-pub free_then : (v : RouterData) (h : List Charge) (logs : Logs) (link : ℕ) (limits : LinkLimits) (d : Decision) (now : ℕ) → StandsFor v h (logs with started_on link d now) → outgoing_link v.plan link ≡ Some (link, limits)
+pub free_then : (v : RouterData) (h : List Charge) (logs : PortLogs) (link : ℕ) (limits : LinkLimits) (d : Decision) (now : ℕ) → StandsFor v h (logs with started_on link d now) → outgoing_link v.plan link ≡ Some (link, limits)
     → free_of v link ≡ free_after limits (logs link ++ started_by d now)
 free_then v h logs link limits d now s f =
     free_is v h (logs with started_on link d now) link limits s f ∙ ap (λ (z : List Entry). free_after limits (logs link ++ z)) (started_here link d now)
 
-pub due_then : (v : RouterData) (h : List Charge) (logs : Logs) (link : ℕ) (limits : LinkLimits) (d : Decision) (now until : ℕ) → StandsFor v h (logs with started_on link d now) → outgoing_link v.plan link ≡ Some (link, limits)
+pub due_then : (v : RouterData) (h : List Charge) (logs : PortLogs) (link : ℕ) (limits : LinkLimits) (d : Decision) (now until : ℕ) → StandsFor v h (logs with started_on link d now) → outgoing_link v.plan link ≡ Some (link, limits)
     → NoneDueBefore d (free_of v link) until → NoneDueBefore d (free_after limits (logs link ++ started_by d now)) until
 due_then v h logs link limits d now until s f i = subst (λ (n : ℕ). NoneDueBefore d n until) (free_then v h logs link limits d now s f) i
 
 -- ## an arrival
 
-missed_added : (limits : LinkLimits) (logs : Logs) (link until now : ℕ) (class : Class) (p : PacketData) (way : Option (ℕ × LinkLimits)) → NoneLater now (logs link) → until ≤ max now (free_after limits (logs link)) → MissesNone limits until (logs link)
+missed_added : (limits : LinkLimits) (logs : PortLogs) (link until now : ℕ) (class : Class) (p : PacketData) (way : Option (ℕ × LinkLimits)) → NoneLater now (logs link) → until ≤ max now (free_after limits (logs link)) → MissesNone limits until (logs link)
     → MissesNone limits until (logs link ++ queued logs now class p way link)
 missed_added limits logs link until now class p None n i m = subst (λ (z : List Entry). MissesNone limits until z) (sym (append-nil (logs link))) m
 missed_added limits logs link until now class p (Some (k, l)) n i m =
@@ -107,7 +107,7 @@ missed_added limits logs link until now class p (Some (k, l)) n i m =
     ]
 
 -- on no link a start is missed by an arrival
-pub missed_handled : (plan : RouterPlan) (h : List Charge) (logs : Logs) (now : ℕ) (from : Option ℕ) (p : PacketData) (link until : ℕ) (limits : LinkLimits) → NoneLater now (logs link) → until ≤ max now (free_after limits (logs link)) → MissesNone limits until (logs link)
+pub missed_handled : (plan : RouterPlan) (h : List Charge) (logs : PortLogs) (now : ℕ) (from : Option ℕ) (p : PacketData) (link until : ℕ) (limits : LinkLimits) → NoneLater now (logs link) → until ≤ max now (free_after limits (logs link)) → MissesNone limits until (logs link)
     → MissesNone limits until ((logs with (handle plan h logs now from p).queued) link)
 unfolding handle
 missed_handled plan h logs now from p link until limits n i m =

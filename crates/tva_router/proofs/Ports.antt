@@ -8,7 +8,7 @@ use Rattle.tva_base.specs.Plan.{AreDistinct, links_of}
 use Rattle.tva_base.specs.declared.limits.LinkLimits.{LinkLimits}
 use Rattle.tva_port.specs.Log.{Entry}
 use Rattle.tva_port.specs.Stands.{PortData, StandsFor}
-use Rattle.tva_router.specs.Handling.{Logs}
+use Rattle.tva_router.specs.Handling.{PortLogs}
 use Rattle.tva_router.specs.Stands.{StandForLogs, free_in, ◌with◌}
 use Rattle.tva_router.specs.Steps.{ArePorts}
 use Rattle.tva_router.proofs.Links.{IsAt}
@@ -42,7 +42,7 @@ ports-set (x ∷ xs) last (y ∷ ys) zero p d a within l k = (l, k, a.2)
 ports-set (x ∷ xs) last (y ∷ ys) (suc i) p d a within l k = (a.0, a.1, ports-set xs last ys i p d a.2 (omega (arith, within)) l k)
 
 -- the port of a link stands for its log
-pub stands-get : (os : List (ℕ × LinkLimits)) (ps : List PortData) (logs : Logs) (i link : ℕ) (p : PortData) → StandForLogs os ps logs → IsAt os i link
+pub stands-get : (os : List (ℕ × LinkLimits)) (ps : List PortData) (logs : PortLogs) (i link : ℕ) (p : PortData) → StandForLogs os ps logs → IsAt os i link
     → length ps ≡ length os → p ≡ get_or ps i p → StandsFor p (logs link)
 stands-get [] ps logs i link p s at n here = absurd at
 stands-get (o ∷ os) [] logs i link p s at n here = absurd s
@@ -51,7 +51,7 @@ stands-get (o ∷ os) (y ∷ ys) logs zero link p s at n here =
 stands-get (o ∷ os) (y ∷ ys) logs (suc i) link p s at n here = stands-get os ys logs i link p s.2 at.1 (omega (arith, n)) here
 
 -- nothing was added
-pub stands-nothing : (os : List (ℕ × LinkLimits)) (ps : List PortData) (logs : Logs) → StandForLogs os ps logs → StandForLogs os ps (logs with λ k. [])
+pub stands-nothing : (os : List (ℕ × LinkLimits)) (ps : List PortData) (logs : PortLogs) → StandForLogs os ps logs → StandForLogs os ps (logs with λ k. [])
 stands-nothing [] ps logs s = tt
 stands-nothing (o ∷ os) [] logs s = absurd s
 stands-nothing (o ∷ os) (p ∷ ps) logs s =
@@ -72,21 +72,21 @@ others (o ∷ os) link absent = (same_or_not o.0 link (λ e. absent (0, omega ar
 pub same_link : (a b : ℕ) → eqb a b ≡ true → a ≡ b
 same_link a b e = grind (arith, nat_tests)
 
-added_other : (p : PortData) (logs : Logs) (k link : ℕ) (added : List Entry) → eqb k link ≡ false → StandsFor p (logs k) → StandsFor p (logs k ++ cond (eqb k link) added [])
+added_other : (p : PortData) (logs : PortLogs) (k link : ℕ) (added : List Entry) → eqb k link ≡ false → StandsFor p (logs k) → StandsFor p (logs k ++ cond (eqb k link) added [])
 added_other p logs k link added other s = rw other (subst (λ (z : List Entry). StandsFor p z) (sym (append-nil (logs k))) s)
 
-stands-others : (os : List (ℕ × LinkLimits)) (ps : List PortData) (logs : Logs) (link : ℕ) (added : List Entry) → AreOthers os link
+stands-others : (os : List (ℕ × LinkLimits)) (ps : List PortData) (logs : PortLogs) (link : ℕ) (added : List Entry) → AreOthers os link
     → StandForLogs os ps logs → StandForLogs os ps (logs with λ k. cond (eqb k link) added [])
 stands-others [] ps logs link added apart s = tt
 stands-others (o ∷ os) [] logs link added apart s = absurd s
 stands-others (o ∷ os) (p ∷ ps) logs link added apart s =
     (s.0, added_other p logs o.0 link added apart.0 s.1, stands-others os ps logs link added apart.1 s.2)
 
-added_here : (p : PortData) (logs : Logs) (k link : ℕ) (added : List Entry) → eqb k link ≡ true → StandsFor p (logs link ++ added) → StandsFor p (logs k ++ cond (eqb k link) added [])
+added_here : (p : PortData) (logs : PortLogs) (k link : ℕ) (added : List Entry) → eqb k link ≡ true → StandsFor p (logs link ++ added) → StandsFor p (logs k ++ cond (eqb k link) added [])
 added_here p logs k link added here s = rw here (subst (λ (z : ℕ). StandsFor p (logs z ++ added)) (sym (same_link k link here)) s)
 
 -- one port has more in its log
-pub stands-set : (os : List (ℕ × LinkLimits)) (ps : List PortData) (logs : Logs) (i link : ℕ) (p : PortData) (added : List Entry) (d : ℕ × LinkLimits) → AreDistinct (links_of os) → IsAt os i link
+pub stands-set : (os : List (ℕ × LinkLimits)) (ps : List PortData) (logs : PortLogs) (i link : ℕ) (p : PortData) (added : List Entry) (d : ℕ × LinkLimits) → AreDistinct (links_of os) → IsAt os i link
     → StandForLogs os ps logs → p.limits ≡ (get_or os i d).1 → StandsFor p (logs link ++ added)
     → StandForLogs os (set ps i p) (logs with λ k. cond (eqb k link) added [])
 stands-set [] ps logs i link p added d apart at s l new = absurd at
@@ -122,7 +122,7 @@ ports-push [] last (y ∷ ys) o p a l k = absurd a
 ports-push (x ∷ xs) last [] o p a l k = absurd a
 ports-push (x ∷ xs) last (y ∷ ys) o p a l k = (a.0, a.1, ports-push xs last ys o p a.2 l k)
 
-stands-push : (os : List (ℕ × LinkLimits)) (last : ℕ) (ps : List PortData) (logs : Logs) (o : ℕ × LinkLimits) (p : PortData) → ArePorts os last ps → StandForLogs os ps logs → p.limits ≡ o.1 → StandsFor p (logs o.0) → StandForLogs (os ++ o ∷ []) (ps ++ p ∷ []) logs
+stands-push : (os : List (ℕ × LinkLimits)) (last : ℕ) (ps : List PortData) (logs : PortLogs) (o : ℕ × LinkLimits) (p : PortData) → ArePorts os last ps → StandForLogs os ps logs → p.limits ≡ o.1 → StandsFor p (logs o.0) → StandForLogs (os ++ o ∷ []) (ps ++ p ∷ []) logs
 stands-push [] last [] logs o p a s l k = (l, k, tt)
 stands-push [] last (y ∷ ys) logs o p a s l k = absurd a
 stands-push (x ∷ xs) last [] logs o p a s l k = absurd a

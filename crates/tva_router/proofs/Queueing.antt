@@ -10,7 +10,7 @@ use Rattle.tva_port.specs.Log.{Entry}
 use Rattle.tva_port.specs.Waiting.{waiting_after, queue_answer, queued_by}
 use Rattle.tva_port.specs.Stands.{PortData, StandsFor}
 use Rattle.tva_shim.specs.Shows.{key_of}
-use Rattle.tva_router.specs.Handling.{Logs, offered, outcome_of, sent, queued}
+use Rattle.tva_router.specs.Handling.{PortLogs, offered, outcome_of, sent, queued}
 use Rattle.tva_router.specs.Stands.{StandForLogs, ◌with◌}
 use Rattle.tva_router.specs.Steps.{ArePorts}
 use Rattle.tva_router.proofs.Links.{is_at, at_within, at_link, find_there}
@@ -23,7 +23,7 @@ found os i link d h =
     ∙ ap (λ (z : ℕ). Some (z, (get_or os i d).1)) (same_link (get_or os i d).0 link (at_link os i link d (is_at os i link h)))
 
 -- the answer of the link's port to a packet, for logs for which the ports stand
-pub answered : (os : List (ℕ × LinkLimits)) (last : ℕ) (ps : List PortData) (logs : Logs) (i link : ℕ) (d : ℕ × LinkLimits) (p : PortData) (class : Class) (key : ℕ) (packet : PacketData) (r : Offered PacketData)
+pub answered : (os : List (ℕ × LinkLimits)) (last : ℕ) (ps : List PortData) (logs : PortLogs) (i link : ℕ) (d : ℕ × LinkLimits) (p : PortData) (class : Class) (key : ℕ) (packet : PacketData) (r : Offered PacketData)
     → position (λ o. eqb o.0 link) os ≡ Some i → ArePorts os last ps → StandForLogs os ps logs → p ≡ get_or ps i p → key ≡ key_of class packet
     → ((log : List Entry) → StandsFor p log → r ≡ queue_answer p.limits (waiting_after p.limits log) class key packet)
     → r ≡ offered (get_or os i d).1 (logs link) class packet
@@ -33,11 +33,11 @@ answered os last ps logs i link d p class key packet r h a s here k answer =
     ∙ ap (λ (z : LinkLimits). queue_answer z (waiting_after z (logs link)) class key packet) (port-get os last ps i p d a (at_within os i link at) here).0
     ∙ ap (λ (z : ℕ). queue_answer (get_or os i d).1 (waiting_after (get_or os i d).1 (logs link)) class z packet) k
 
-pub sent-at : (logs : Logs) (class : Class) (packet : PacketData) (link : ℕ) (limits : LinkLimits) (way : Option (ℕ × LinkLimits)) (r : Offered PacketData)
+pub sent-at : (logs : PortLogs) (class : Class) (packet : PacketData) (link : ℕ) (limits : LinkLimits) (way : Option (ℕ × LinkLimits)) (r : Offered PacketData)
     → way ≡ Some (link, limits) → r ≡ offered limits (logs link) class packet → outcome_of link r ≡ sent logs class packet way
 sent-at logs class packet link limits way r f e = ap (outcome_of link) e ∙ sym (ap (sent logs class packet) f)
 
-queued-at : (logs : Logs) (now : ℕ) (class : Class) (key : ℕ) (packet : PacketData) (link : ℕ) (limits : LinkLimits) (way : Option (ℕ × LinkLimits)) (r : Offered PacketData)
+queued-at : (logs : PortLogs) (now : ℕ) (class : Class) (key : ℕ) (packet : PacketData) (link : ℕ) (limits : LinkLimits) (way : Option (ℕ × LinkLimits)) (r : Offered PacketData)
     → way ≡ Some (link, limits) → r ≡ offered limits (logs link) class packet → key ≡ key_of class packet
     → queued logs now class packet way ≡ (λ k. cond (eqb k link) (queued_by r now class key packet) [])
 queued-at logs now class key packet link limits way r f e same =
@@ -46,7 +46,7 @@ queued-at logs now class key packet link limits way r f e same =
     ∙ ap (λ (z : ℕ). λ (k : ℕ). cond (eqb k link) (queued_by r now class z packet) []) (sym same)
 
 -- the ports then stand for the logs with what was queued
-pub stands-queued : (os : List (ℕ × LinkLimits)) (last : ℕ) (ps : List PortData) (logs : Logs) (i link : ℕ) (d : ℕ × LinkLimits) (p new : PortData) (now : ℕ) (class : Class) (key : ℕ) (packet : PacketData) (r : Offered PacketData)
+pub stands-queued : (os : List (ℕ × LinkLimits)) (last : ℕ) (ps : List PortData) (logs : PortLogs) (i link : ℕ) (d : ℕ × LinkLimits) (p new : PortData) (now : ℕ) (class : Class) (key : ℕ) (packet : PacketData) (r : Offered PacketData)
     → AreDistinct (links_of os) → position (λ o. eqb o.0 link) os ≡ Some i → ArePorts os last ps → StandForLogs os ps logs → p ≡ get_or ps i p → key ≡ key_of class packet
     → ((log : List Entry) → StandsFor p log → r ≡ queue_answer p.limits (waiting_after p.limits log) class key packet)
     → ((log : List Entry) → StandsFor p log → StandsFor new (log ++ queued_by r now class key packet))
@@ -54,7 +54,7 @@ pub stands-queued : (os : List (ℕ × LinkLimits)) (last : ℕ) (ps : List Port
     → StandForLogs os (set ps i new) (logs with queued logs now class packet (find (λ o. eqb o.0 link) os))
 stands-queued os last ps logs i link d p new now class key packet r apart h a s here k answer stands l =
     let at = is_at os i link h in
-    subst (λ (z : Logs). StandForLogs os (set ps i new) (logs with z))
+    subst (λ (z : PortLogs). StandForLogs os (set ps i new) (logs with z))
     (sym (queued-at logs now class key packet link (get_or os i d).1 (find (λ o. eqb o.0 link) os) r (found os i link d h) (answered os last ps logs i link d p class key packet r h a s here k answer) k))
     (stands-set os ps logs i link new (queued_by r now class key packet) d apart at s
     (l ∙ (port-get os last ps i p d a (at_within os i link at) here).0)

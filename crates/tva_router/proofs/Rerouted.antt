@@ -5,7 +5,7 @@ use Rattle.tva_base.specs.declared.packet.Class.TheVariants as class
 use Rattle.tva_base.specs.declared.packet.Cause.TheVariants as cause
 use Rattle.tva_base.specs.declared.plan.Route.{Route}
 use Rattle.tva_base.specs.declared.plan.RouterPlan.{RouterPlan}
-use Rattle.tva_base.specs.Changes.{changed}
+use Rattle.tva_base.specs.Changes.{changed_plan}
 use Rattle.tva_shim.specs.declared.kinds.Shown.{Shown}
 use Rattle.tva_shim.specs.declared.kinds.Kind.{Kind}
 use Rattle.tva_shim.specs.declared.kinds.Kind.TheVariants as kinds
@@ -21,7 +21,7 @@ use Rattle.tva_flow.specs.Charges.{Charge}
 use Rattle.tva_router.specs.declared.judged.Arrival.{Arrival}
 use Rattle.tva_router.specs.declared.judged.Judged.{Judged}
 use Rattle.tva_router.specs.Judging.{Answer, tag_of, second_of, fresh_for, answer_to_checked, answer_to_cap, answer_to_shown, answer_to_nonce, judged, marked, judged_by, judged_request, judged_kind, judged_shim, judge}
-use Rattle.tva_router.specs.Handling.{Logs, Handled, arrival, stopped, forwarded, with_routes, handle}
+use Rattle.tva_router.specs.Handling.{PortLogs, Handled, arrival, stopped, forwarded, with_routes, handle}
 use Rattle.tva_router.specs.Stands.{RouterData}
 
 module _ (plan : RouterPlan) (routes : List Route) (h : List Charge) (a : Arrival) where
@@ -69,7 +69,7 @@ module _ (plan : RouterPlan) (routes : List Route) (h : List Charge) (a : Arriva
 
 module _ {A : Type 0} where
   -- what is the same of packets that went on is the same of all
-  pub same_by_routes : (f : Handled → A) (plan : RouterPlan) (routes : List Route) (h : List Charge) (logs others : Logs) (now : ℕ) (from : Option ℕ) (p : PacketData)
+  pub same_by_routes : (f : Handled → A) (plan : RouterPlan) (routes : List Route) (h : List Charge) (logs others : PortLogs) (now : ℕ) (from : Option ℕ) (p : PacketData)
       → ((j : Judged) → f (forwarded (with_routes routes plan) logs now p j) ≡ f (forwarded plan others now p j))
       → f (handle (with_routes routes plan) h logs now from p) ≡ f (handle plan h others now from p)
   unfolding handle
@@ -83,14 +83,14 @@ module _ {A : Type 0} where
       ]
 
   -- two routers of one plan under one master differ by their routes alone
-  pub same_by_masters : (f : Handled → A) (v w : RouterData) (h : List Charge) (logs others : Logs) (now : ℕ) (from : Option ℕ) (p : PacketData)
-      → v.plan ≡ changed v.plan.master v.plan.routes v.built → w.plan ≡ changed w.plan.master w.plan.routes w.built → v.built ≡ w.built → v.plan.master ≡ w.plan.master
+  pub same_by_masters : (f : Handled → A) (v w : RouterData) (h : List Charge) (logs others : PortLogs) (now : ℕ) (from : Option ℕ) (p : PacketData)
+      → v.plan ≡ changed_plan v.plan.master v.plan.routes v.built → w.plan ≡ changed_plan w.plan.master w.plan.routes w.built → v.built ≡ w.built → v.plan.master ≡ w.plan.master
       → ((j : Judged) → f (forwarded (with_routes w.plan.routes v.plan) others now p j) ≡ f (forwarded v.plan logs now p j))
       → f (handle w.plan h others now from p) ≡ f (handle v.plan h logs now from p)
   same_by_masters f v w h logs others now from p force forced built master e =
       let same : w.plan ≡ with_routes w.plan.routes v.plan =
       forced
-      ∙ ap (λ (m : List ℕ). changed m w.plan.routes w.built) (sym master)
-      ∙ ap (λ (z : RouterPlan). changed v.plan.master w.plan.routes z) (sym built)
+      ∙ ap (λ (m : List ℕ). changed_plan m w.plan.routes w.built) (sym master)
+      ∙ ap (λ (z : RouterPlan). changed_plan v.plan.master w.plan.routes z) (sym built)
       ∙ sym (ap (with_routes w.plan.routes) force) in
       ap (λ (z : RouterPlan). f (handle z h others now from p)) same ∙ same_by_routes f v.plan w.plan.routes h others logs now from p e

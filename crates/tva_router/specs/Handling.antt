@@ -26,8 +26,8 @@ use Rattle.tva_router.specs.Routes.{link_to}
 use Rattle.tva_router.specs.Judging.{judge}
 
 -- the log of each link's port, by the link's number
-abbrev pub Logs : Type 0
-Logs = ℕ → List Entry
+abbrev pub PortLogs : Type 0
+PortLogs = ℕ → List Entry
 
 -- what a packet of so many bytes adds to the charges
 abbrev pub charged_by : Option Grant → ℕ → ℕ → ℕ → List Charge
@@ -52,12 +52,12 @@ outcome_of link (offers.NoQueue p) = outcome.Dropped drop.NoQueue
 outcome_of link (offers.QueueFull p) = outcome.Dropped drop.QueueFull
 
 -- where a packet of a class ends up, by its way
-abbrev pub sent : Logs → Class → PacketData → Option (ℕ × LinkLimits) → Outcome
+abbrev pub sent : PortLogs → Class → PacketData → Option (ℕ × LinkLimits) → Outcome
 sent logs class p None = outcome.Dropped drop.NoRoute
 sent logs class p (Some (link, limits)) = outcome_of link (offered limits (logs link) class p)
 
 -- what it adds to the log of each link
-abbrev pub queued : Logs → ℕ → Class → PacketData → Option (ℕ × LinkLimits) → Logs
+abbrev pub queued : PortLogs → ℕ → Class → PacketData → Option (ℕ × LinkLimits) → PortLogs
 queued logs now class p None k = []
 queued logs now class p (Some (link, limits)) k =
     if k == link then queued_by (offered limits (logs link) class p) now class (key_of class p) p else []
@@ -68,12 +68,13 @@ pub record Handled : Type 0 where
   pub fate : Fate
   pub onward : PacketData
   pub charges : List Charge
-  pub queued : Logs
+  pub queued : PortLogs
 
 -- a packet at the hop limit
 abbrev pub stopped : PacketData → Handled
 stopped p = record {
-  fate = record { class = class_by_shim p.carried; cause = None; charge = None; outcome = outcome.Dropped drop.HopLimit };
+  fate =
+      record { class = class_by_shim p.carried; cause = None; charge = None; outcome = outcome.Dropped drop.HopLimit };
   onward = p;
   charges = [];
   queued = λ k. [];
@@ -84,7 +85,7 @@ abbrev pub goes_on : PacketData → Carried → PacketData
 goes_on p carries = record p { hops = p.hops + 1; carried = carries }
 
 -- what a packet of a class that ended up there adds to the log of each link
-abbrev pub entered_by : Outcome → ℕ → Class → PacketData → Logs
+abbrev pub entered_by : Outcome → ℕ → Class → PacketData → PortLogs
 entered_by (outcome.Queued link) now class p k = if k == link then Queued now class (key_of class p) p ∷ [] else []
 entered_by (outcome.Dropped cause) now class p k = []
 
@@ -93,7 +94,7 @@ abbrev pub fate_of : Judged → Outcome → Fate
 fate_of j outcome = record { class = j.class; cause = j.cause; charge = j.charge; outcome = outcome }
 
 -- a packet that was judged
-abbrev pub forwarded : RouterPlan → Logs → ℕ → PacketData → Judged → Handled
+abbrev pub forwarded : RouterPlan → PortLogs → ℕ → PacketData → Judged → Handled
 forwarded plan logs now p j = record {
   fate = fate_of j (sent logs j.class (goes_on p j.carried) (way_to plan p.flow.dst));
   onward = goes_on p j.carried;
@@ -102,7 +103,7 @@ forwarded plan logs now p j = record {
 }
 
 -- what a packet with that fate adds to the log of each link, as it goes on
-abbrev pub entered : Fate → ℕ → PacketData → Logs
+abbrev pub entered : Fate → ℕ → PacketData → PortLogs
 entered fate now p k = entered_by fate.outcome now fate.class p k
 
 -- an arrival of the packet, on a link or from the trace
@@ -111,7 +112,7 @@ arrival now from p = record { time = record { 0 = now }; from = from; flow = p.f
 
 -- what becomes of a packet that comes in on a link, or from the trace, at that time, over the router's
 -- charges and the logs of its links' ports so far
-unfoldable pub handle : RouterPlan → List Charge → Logs → ℕ → Option ℕ → PacketData → Handled
+unfoldable pub handle : RouterPlan → List Charge → PortLogs → ℕ → Option ℕ → PacketData → Handled
 handle plan h logs now from p =
     if nat_le 32 p.hops then stopped p
     else forwarded plan logs now p (judge plan h (arrival now from p) p.carried)

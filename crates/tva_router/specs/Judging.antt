@@ -62,7 +62,8 @@ answer_to_checked plan h a checks.BadHash = Err cause.BadHash
 -- the answer by the capability at the pointer: there is none, or it is checked
 abbrev pub answer_to_cap : RouterPlan → List Charge → Arrival → Rights → Option ℕ → Answer
 answer_to_cap plan h a rights None = Err cause.NoCapability
-answer_to_cap plan h a rights (Some cap) = answer_to_checked plan h a (check_of plan.master (second_of plan a) a.flow cap rights)
+answer_to_cap plan h a rights (Some cap) =
+    answer_to_checked plan h a (check_of plan.master (second_of plan a) a.flow cap rights)
 
 -- the answer to an arrival that shows capabilities
 unfoldable pub answer_to_shown : RouterPlan → List Charge → Arrival → Shown → Answer
@@ -88,7 +89,8 @@ judged_by shim changed (Err cause) = marked shim cause
 abbrev pub judged_request : RouterPlan → Arrival → ShimData → Judged
 judged_request plan a shim =
     if length (entries_of shim.kind) == 16 then marked shim cause.PathFull
-    else judged class.Request None None (carried.Shim (with_entry (record { tag = tag_of plan a.from; precap = fresh_for plan a }) shim))
+    else judged class.Request None None
+    (carried.Shim (with_entry (record { tag = tag_of plan a.from; precap = fresh_for plan a }) shim))
 
 -- an unmarked shim by its kind
 abbrev pub judged_kind : RouterPlan → List Charge → Arrival → ShimData → Kind → Judged

@@ -1,7 +1,7 @@
 -- Kit: the parts of a router by its plan, and what they owe.
 use Rattle.std.specs.Prelude.{◌≡◌, ℕ, ◌≤◌, List, [], ◌∷◌, ◌++◌, Option, Some, None, Ok, Err}
 use Rattle.tva_base.specs.Plan.{IsRouterPlan}
-use Rattle.tva_base.specs.Changes.{changed}
+use Rattle.tva_base.specs.Changes.{changed_plan}
 use Rattle.tva_base.specs.declared.limits.LinkLimits.{LinkLimits}
 use Rattle.tva_base.specs.declared.packet.Cause.{Cause}
 use Rattle.tva_base.specs.declared.packet.Class.{Class}
@@ -70,7 +70,7 @@ ArePorts (o ∷ os) last (p ∷ ps) = (p.limits ≡ o.1) × (p.last ≤ last) ×
 -- parts were called no later than that
 pub record IsSound (built plan : RouterPlan) (last : ℕ) (g : Guard) (w : Ways) (ps : List port.PortData) : Type 0 where
   pub valid : IsRouterPlan plan
-  pub in_force : plan ≡ changed plan.master plan.routes built
+  pub in_force : plan ≡ changed_plan plan.master plan.routes built
   pub guard : IsGuard plan last g
   pub ways : AreWays plan w
   pub ports : ArePorts plan.outgoing last ps

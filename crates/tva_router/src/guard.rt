@@ -3,7 +3,7 @@ ghost use Rattle.std.specs.Prelude.{◌≡◌, ◌≤◌, ◌<◌, ◌==◌, ℕ
 ghost use Rattle.std.specs.List.{find};
 ghost use Rattle.std.specs.Option.{option_map_or};
 ghost use Rattle.tva_base.specs.Plan.{IsRouterPlan};
-ghost use Rattle.tva_base.specs.Changes.{changed};
+ghost use Rattle.tva_base.specs.Changes.{changed_plan};
 ghost use Rattle.tva_base.specs.Versions.{AreSomeRights};
 ghost use Rattle.tva_shim.specs.Changes.{IsRequest, PointsAtOne, with_next_pointer, with_fresh, with_mark};
 ghost use Rattle.tva_shim.specs.Packets.{IsCarried};
@@ -55,7 +55,7 @@ impl Guard {
     pub fn restart(&mut self, plan: &RouterPlan, master: [u8; 32])
         requires { IsRouterPlan plan.now }
         ensures guard { (last : ℕ) → IsGuard plan.now last self.old
-            → IsGuard (changed master plan.now.routes plan.now) last self.new }
+            → IsGuard (changed_plan master plan.now.routes plan.now) last self.new }
         ensures stands { StandsFor self.new.cache [] }
     {
         self.minter = Minter::new(master, plan.clock_offset);

@@ -16,7 +16,7 @@ ghost use Rattle.tva_port.specs.Legal.{IsLegal};
 ghost use Rattle.tva_port.specs.Keeps.{IsWithinRate, start_times, AreRising, IsWithinLimits};
 ghost use Rattle.tva_router.specs.Routes.{link_to, IsWay};
 ghost use Rattle.tva_shim.specs.Shows.{nonce_in};
-ghost use Rattle.tva_router.specs.Handling.{Logs, charged_by, outgoing_link, entered, with_routes, handle};
+ghost use Rattle.tva_router.specs.Handling.{PortLogs, charged_by, outgoing_link, entered, with_routes, handle};
 ghost use Rattle.tva_router.specs.Marks.{is_marked, calls_for_mark};
 ghost use Rattle.tva_router.specs.Stands.{RouterData, StandsFor};
 
@@ -26,17 +26,17 @@ ghost use Rattle.tva_router.specs.Stands.{RouterData, StandsFor};
 /// nanoseconds; each start is later than all before it; and no more packets and bytes wait than each class
 /// has room for.
 pub fn links_keep_limits()
-    ensures legal { (v : RouterData) (h : List Charge) (logs : Logs) (link : ℕ) (limits : LinkLimits)
+    ensures legal { (v : RouterData) (h : List Charge) (logs : PortLogs) (link : ℕ) (limits : LinkLimits)
         → StandsFor v h logs → outgoing_link v.plan link ≡ Some (link, limits) → IsLegal limits (logs link) }
-    ensures past { (v : RouterData) (h : List Charge) (logs : Logs) (link : ℕ) (limits : LinkLimits)
+    ensures past { (v : RouterData) (h : List Charge) (logs : PortLogs) (link : ℕ) (limits : LinkLimits)
         → StandsFor v h logs → outgoing_link v.plan link ≡ Some (link, limits) → NoneLater v.last (logs link) }
-    ensures rate { (v : RouterData) (h : List Charge) (logs : Logs) (link : ℕ) (limits : LinkLimits)
+    ensures rate { (v : RouterData) (h : List Charge) (logs : PortLogs) (link : ℕ) (limits : LinkLimits)
         → StandsFor v h logs → outgoing_link v.plan link ≡ Some (link, limits)
         → (before rest : List Entry) → logs link ≡ before ++ rest → IsWithinRate limits before }
-    ensures rising { (v : RouterData) (h : List Charge) (logs : Logs) (link : ℕ) (limits : LinkLimits)
+    ensures rising { (v : RouterData) (h : List Charge) (logs : PortLogs) (link : ℕ) (limits : LinkLimits)
         → StandsFor v h logs → outgoing_link v.plan link ≡ Some (link, limits)
         → (before rest : List Entry) → logs link ≡ before ++ rest → AreRising (start_times before) }
-    ensures room { (v : RouterData) (h : List Charge) (logs : Logs) (link : ℕ) (limits : LinkLimits)
+    ensures room { (v : RouterData) (h : List Charge) (logs : PortLogs) (link : ℕ) (limits : LinkLimits)
         → StandsFor v h logs → outgoing_link v.plan link ≡ Some (link, limits)
         → (before rest : List Entry) → logs link ≡ before ++ rest → IsWithinLimits limits (waiting_after limits before) }
 {}
@@ -46,12 +46,12 @@ pub fn links_keep_limits()
 /// more flows live than the plan has slots, and the charges of each grant so far have less than twice its N
 /// units of 1,024 bytes.
 pub fn charges_keep_slots()
-    ensures legal { (v : RouterData) (h : List Charge) (logs : Logs) → StandsFor v h logs
+    ensures legal { (v : RouterData) (h : List Charge) (logs : PortLogs) → StandsFor v h logs
         → AreNext v.plan.slots v.plan.clock_offset [] h }
-    ensures living { (v : RouterData) (h : List Charge) (logs : Logs) → StandsFor v h logs
+    ensures living { (v : RouterData) (h : List Charge) (logs : PortLogs) → StandsFor v h logs
         → (before rest : List Charge) → h ≡ before ++ rest
         → (now : ℕ) → All (λ c. c.time ≤ now) before → living_count before now ≤ v.plan.slots }
-    ensures budget { (v : RouterData) (h : List Charge) (logs : Logs) → StandsFor v h logs
+    ensures budget { (v : RouterData) (h : List Charge) (logs : PortLogs) → StandsFor v h logs
         → (before rest : List Charge) → h ≡ before ++ rest → IsWithinBudget before }
 {}
 
@@ -68,26 +68,26 @@ pub fn ways_lead()
 /// class, cause, charge and onward packet are the same over all logs. So two routers of one plan that stand
 /// for the same charges judge the same packet alike at the same time.
 pub fn verdicts_need_no_logs()
-    ensures class { (plan : RouterPlan) (h : List Charge) (logs others : Logs) (now : ℕ) (from : Option ℕ) (p : PacketData)
+    ensures class { (plan : RouterPlan) (h : List Charge) (logs others : PortLogs) (now : ℕ) (from : Option ℕ) (p : PacketData)
         → (handle plan h logs now from p).fate.class ≡ (handle plan h others now from p).fate.class }
-    ensures cause { (plan : RouterPlan) (h : List Charge) (logs others : Logs) (now : ℕ) (from : Option ℕ) (p : PacketData)
+    ensures cause { (plan : RouterPlan) (h : List Charge) (logs others : PortLogs) (now : ℕ) (from : Option ℕ) (p : PacketData)
         → (handle plan h logs now from p).fate.cause ≡ (handle plan h others now from p).fate.cause }
-    ensures charge { (plan : RouterPlan) (h : List Charge) (logs others : Logs) (now : ℕ) (from : Option ℕ) (p : PacketData)
+    ensures charge { (plan : RouterPlan) (h : List Charge) (logs others : PortLogs) (now : ℕ) (from : Option ℕ) (p : PacketData)
         → (handle plan h logs now from p).fate.charge ≡ (handle plan h others now from p).fate.charge }
-    ensures onward { (plan : RouterPlan) (h : List Charge) (logs others : Logs) (now : ℕ) (from : Option ℕ) (p : PacketData)
+    ensures onward { (plan : RouterPlan) (h : List Charge) (logs others : PortLogs) (now : ℕ) (from : Option ℕ) (p : PacketData)
         → (handle plan h logs now from p).onward ≡ (handle plan h others now from p).onward }
 {}
 
 /// What a router judges of an arrival, and what it charges, doesn't depend on its routes either, which say
 /// where a packet goes and nothing of what it is.
 pub fn verdicts_need_no_routes()
-    ensures class { (plan : RouterPlan) (routes : List Route) (h : List Charge) (logs others : Logs) (now : ℕ) (from : Option ℕ) (p : PacketData)
+    ensures class { (plan : RouterPlan) (routes : List Route) (h : List Charge) (logs others : PortLogs) (now : ℕ) (from : Option ℕ) (p : PacketData)
         → (handle (with_routes routes plan) h logs now from p).fate.class ≡ (handle plan h others now from p).fate.class }
-    ensures cause { (plan : RouterPlan) (routes : List Route) (h : List Charge) (logs others : Logs) (now : ℕ) (from : Option ℕ) (p : PacketData)
+    ensures cause { (plan : RouterPlan) (routes : List Route) (h : List Charge) (logs others : PortLogs) (now : ℕ) (from : Option ℕ) (p : PacketData)
         → (handle (with_routes routes plan) h logs now from p).fate.cause ≡ (handle plan h others now from p).fate.cause }
-    ensures charge { (plan : RouterPlan) (routes : List Route) (h : List Charge) (logs others : Logs) (now : ℕ) (from : Option ℕ) (p : PacketData)
+    ensures charge { (plan : RouterPlan) (routes : List Route) (h : List Charge) (logs others : PortLogs) (now : ℕ) (from : Option ℕ) (p : PacketData)
         → (handle (with_routes routes plan) h logs now from p).fate.charge ≡ (handle plan h others now from p).fate.charge }
-    ensures onward { (plan : RouterPlan) (routes : List Route) (h : List Charge) (logs others : Logs) (now : ℕ) (from : Option ℕ) (p : PacketData)
+    ensures onward { (plan : RouterPlan) (routes : List Route) (h : List Charge) (logs others : PortLogs) (now : ℕ) (from : Option ℕ) (p : PacketData)
         → (handle (with_routes routes plan) h logs now from p).onward ≡ (handle plan h others now from p).onward }
 {}
 
@@ -95,16 +95,16 @@ pub fn verdicts_need_no_routes()
 /// packet alike at the same time, whatever links their routes have come to take, and whatever waits for
 /// their links.
 pub fn equal_masters_judge_alike()
-    ensures class { (v w : RouterData) (h : List Charge) (logs others : Logs) (now : ℕ) (from : Option ℕ) (p : PacketData)
+    ensures class { (v w : RouterData) (h : List Charge) (logs others : PortLogs) (now : ℕ) (from : Option ℕ) (p : PacketData)
         → StandsFor v h logs → StandsFor w h others → v.built ≡ w.built → v.plan.master ≡ w.plan.master
         → (handle v.plan h logs now from p).fate.class ≡ (handle w.plan h others now from p).fate.class }
-    ensures cause { (v w : RouterData) (h : List Charge) (logs others : Logs) (now : ℕ) (from : Option ℕ) (p : PacketData)
+    ensures cause { (v w : RouterData) (h : List Charge) (logs others : PortLogs) (now : ℕ) (from : Option ℕ) (p : PacketData)
         → StandsFor v h logs → StandsFor w h others → v.built ≡ w.built → v.plan.master ≡ w.plan.master
         → (handle v.plan h logs now from p).fate.cause ≡ (handle w.plan h others now from p).fate.cause }
-    ensures charge { (v w : RouterData) (h : List Charge) (logs others : Logs) (now : ℕ) (from : Option ℕ) (p : PacketData)
+    ensures charge { (v w : RouterData) (h : List Charge) (logs others : PortLogs) (now : ℕ) (from : Option ℕ) (p : PacketData)
         → StandsFor v h logs → StandsFor w h others → v.built ≡ w.built → v.plan.master ≡ w.plan.master
         → (handle v.plan h logs now from p).fate.charge ≡ (handle w.plan h others now from p).fate.charge }
-    ensures onward { (v w : RouterData) (h : List Charge) (logs others : Logs) (now : ℕ) (from : Option ℕ) (p : PacketData)
+    ensures onward { (v w : RouterData) (h : List Charge) (logs others : PortLogs) (now : ℕ) (from : Option ℕ) (p : PacketData)
         → StandsFor v h logs → StandsFor w h others → v.built ≡ w.built → v.plan.master ≡ w.plan.master
         → (handle v.plan h logs now from p).onward ≡ (handle w.plan h others now from p).onward }
 {}
@@ -112,7 +112,7 @@ pub fn equal_masters_judge_alike()
 /// A packet goes on with the mark exactly where it had it, or was judged for a cause other than a
 /// malformed shim.
 pub fn marks_have_causes()
-    ensures mark { (plan : RouterPlan) (h : List Charge) (logs : Logs) (now : ℕ) (from : Option ℕ) (p : PacketData)
+    ensures mark { (plan : RouterPlan) (h : List Charge) (logs : PortLogs) (now : ℕ) (from : Option ℕ) (p : PacketData)
         → is_marked (handle plan h logs now from p).onward.carried
         ≡ (is_marked p.carried || calls_for_mark (handle plan h logs now from p).fate.cause) }
 {}
@@ -120,10 +120,10 @@ pub fn marks_have_causes()
 /// What an arrival adds to the charges and to the log of each link is told by its fate: its charge, and
 /// the link where the onward packet was queued.
 pub fn fates_tell_entries()
-    ensures charges { (plan : RouterPlan) (h : List Charge) (logs : Logs) (now : ℕ) (from : Option ℕ) (p : PacketData)
+    ensures charges { (plan : RouterPlan) (h : List Charge) (logs : PortLogs) (now : ℕ) (from : Option ℕ) (p : PacketData)
         → (handle plan h logs now from p).charges
         ≡ charged_by (handle plan h logs now from p).fate.charge now (nonce_in p.carried) (packet_length p) }
-    ensures queued { (plan : RouterPlan) (h : List Charge) (logs : Logs) (now : ℕ) (from : Option ℕ) (p : PacketData) (link : ℕ)
+    ensures queued { (plan : RouterPlan) (h : List Charge) (logs : PortLogs) (now : ℕ) (from : Option ℕ) (p : PacketData) (link : ℕ)
         → (handle plan h logs now from p).queued link
         ≡ entered (handle plan h logs now from p).fate now (handle plan h logs now from p).onward link }
 {}

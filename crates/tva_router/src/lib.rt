@@ -20,3 +20,4 @@ pub use laws::{
     marks_have_causes, verdicts_need_no_logs, verdicts_need_no_routes, ways_lead,
 };
 pub use router::Router;
+pub use sending::outcome_of;

@@ -1,6 +1,6 @@
 // A router.
 ghost use Rattle.std.specs.Prelude.{◌≡◌, ◌≢◌, ◌≤◌, ◌<◌, ◌↔◌, ℕ, ◌+◌, ◌*◌, max, nat_le, true, false, List, [], ◌++◌, Some, None, IfOk, All, Contains, map};
-ghost use Rattle.tva_base.specs.Changes.{changed};
+ghost use Rattle.tva_base.specs.Changes.{changed_plan};
 ghost use Rattle.tva_base.specs.Plan.{AreRising, IsRouterPlan, AreLinkLimits, links_of};
 ghost use Rattle.tva_shim.specs.Packets.{PacketData, packet_length};
 ghost use Rattle.tva_flow.specs.Charges.{Charge, living_count};
@@ -9,7 +9,7 @@ ghost use Rattle.tva_port.specs.Log.{free_after};
 ghost use Rattle.tva_port.specs.Waiting.{waiting_after, next_request, IsEmpty, IsRequestAlone};
 ghost use Rattle.tva_port.specs.Decide.{decision, is_start, started_by, RestsAt, MissesNone, NoneDueBefore, IsFirstCovered};
 ghost use Rattle.tva_port.specs.declared.decision.Decision.TheVariants.{Start, WaitUntil, Idle};
-ghost use Rattle.tva_router.specs.Handling.{Logs, outgoing_link, arrival, stopped, handle};
+ghost use Rattle.tva_router.specs.Handling.{PortLogs, outgoing_link, arrival, stopped, handle};
 ghost use Rattle.tva_router.specs.Routes.{rerouted};
 ghost use Rattle.tva_router.specs.Stands.{StandsFor, StandForLogs, free_of, started_on, ◌with◌};
 ghost use Rattle.tva_router.specs.Steps.{ArePorts};
@@ -91,16 +91,16 @@ impl Router {
     pub fn arrive(&mut self, now: Time, from: Option<u16>, packet: Packet) -> Fate
         requires time { self.old.last ≤ now.0 }
         requires horizon { now.0 ≤ 1000000000000000 }
-        ensures fate { (h : List Charge) (logs : Logs) → StandsFor self.old h logs
+        ensures fate { (h : List Charge) (logs : PortLogs) → StandsFor self.old h logs
             → result ≡ (handle self.old.plan h logs now.0 from packet).fate }
-        ensures stands { (h : List Charge) (logs : Logs) → StandsFor self.old h logs
+        ensures stands { (h : List Charge) (logs : PortLogs) → StandsFor self.old h logs
             → StandsFor self.new (h ++ (handle self.old.plan h logs now.0 from packet).charges)
             (logs with (handle self.old.plan h logs now.0 from packet).queued) }
         // An arrival without a charge leaves the charges as they were.
-        ensures uncharged { (h : List Charge) (logs : Logs) → StandsFor self.old h logs → result.charge ≡ None
+        ensures uncharged { (h : List Charge) (logs : PortLogs) → StandsFor self.old h logs → result.charge ≡ None
             → StandsFor self.new h (logs with (handle self.old.plan h logs now.0 from packet).queued) }
         // On no link a start is missed up to now, nor while the link is busy.
-        ensures missed { (h : List Charge) (logs : Logs) (link until : ℕ) (limits : LinkLimits)
+        ensures missed { (h : List Charge) (logs : PortLogs) (link until : ℕ) (limits : LinkLimits)
             → StandsFor self.old h logs → outgoing_link self.old.plan link ≡ Some (link, limits)
             → until ≤ max now.0 (free_after limits (logs link)) → MissesNone limits until (logs link)
             → MissesNone limits until ((logs with (handle self.old.plan h logs now.0 from packet).queued) link) }
@@ -136,43 +136,43 @@ impl Router {
         requires horizon { now.0 ≤ 1000000000000000 }
         requires outgoing { outgoing_link self.old.plan link ≢ None }
         requires free { free_of self.old link ≤ now.0 }
-        ensures decision { (h : List Charge) (logs : Logs) (limits : LinkLimits) → StandsFor self.old h logs
+        ensures decision { (h : List Charge) (logs : PortLogs) (limits : LinkLimits) → StandsFor self.old h logs
             → outgoing_link self.old.plan link ≡ Some (link, limits)
             → result ≡ decision limits (logs link) now.0 }
-        ensures stands { (h : List Charge) (logs : Logs) → StandsFor self.old h logs
+        ensures stands { (h : List Charge) (logs : PortLogs) → StandsFor self.old h logs
             → StandsFor self.new h (logs with started_on link result now.0) }
-        ensures idle { (h : List Charge) (logs : Logs) (limits : LinkLimits) → StandsFor self.old h logs
+        ensures idle { (h : List Charge) (logs : PortLogs) (limits : LinkLimits) → StandsFor self.old h logs
             → outgoing_link self.old.plan link ≡ Some (link, limits)
             → ((result ≡ Idle) ↔ IsEmpty (waiting_after limits (logs link))) }
-        ensures alone { (h : List Charge) (logs : Logs) (limits : LinkLimits) (u : Time)
+        ensures alone { (h : List Charge) (logs : PortLogs) (limits : LinkLimits) (u : Time)
             → StandsFor self.old h logs → outgoing_link self.old.plan link ≡ Some (link, limits)
             → result ≡ WaitUntil u
             → (packet : PacketData) × IsRequestAlone (waiting_after limits (logs link)) packet }
         // A wait ends at the first time at which the credit covers the next request.
-        ensures wait { (h : List Charge) (logs : Logs) (limits : LinkLimits) (u : Time) (packet : PacketData)
+        ensures wait { (h : List Charge) (logs : PortLogs) (limits : LinkLimits) (u : Time) (packet : PacketData)
             → StandsFor self.old h logs → outgoing_link self.old.plan link ≡ Some (link, limits)
             → result ≡ WaitUntil u → next_request (waiting_after limits (logs link)) ≡ Some packet
             → IsFirstCovered limits (logs link) packet now.0 u.0 }
-        ensures later { (h : List Charge) (logs : Logs) (limits : LinkLimits) (u : Time)
+        ensures later { (h : List Charge) (logs : PortLogs) (limits : LinkLimits) (u : Time)
             → StandsFor self.old h logs → outgoing_link self.old.plan link ≡ Some (link, limits)
             → result ≡ WaitUntil u → now.0 < u.0 }
         // A link that starts nothing decides the same until the wait is over, or for good.
-        ensures steady { (h : List Charge) (logs : Logs) (limits : LinkLimits) (until time : ℕ)
+        ensures steady { (h : List Charge) (logs : PortLogs) (limits : LinkLimits) (until time : ℕ)
             → StandsFor self.old h logs → outgoing_link self.old.plan link ≡ Some (link, limits)
             → is_start result ≡ false → NoneDueBefore result (free_of self.new link) until
             → now.0 ≤ time → time < until → decision limits (logs link) time ≡ result }
         // Until then, until the end of what started, or for good, nothing else starts.
-        ensures rests { (h : List Charge) (logs : Logs) (limits : LinkLimits) (until time : ℕ)
+        ensures rests { (h : List Charge) (logs : PortLogs) (limits : LinkLimits) (until time : ℕ)
             → StandsFor self.old h logs → outgoing_link self.old.plan link ≡ Some (link, limits)
             → NoneDueBefore result (free_of self.new link) until → now.0 ≤ time → time < until
             → RestsAt limits (logs link ++ started_by result now.0) time }
-        ensures missed { (h : List Charge) (logs : Logs) (limits : LinkLimits) (until : ℕ)
+        ensures missed { (h : List Charge) (logs : PortLogs) (limits : LinkLimits) (until : ℕ)
             → StandsFor self.old h logs → outgoing_link self.old.plan link ≡ Some (link, limits)
             → MissesNone limits now.0 (logs link) → NoneDueBefore result (free_of self.new link) until
             → MissesNone limits until (logs link ++ started_by result now.0) }
         // What starts occupies the link for some time, so that nothing starts twice at one time.
         ensures busy { is_start result ≡ true → now.0 < free_of self.new link }
-        ensures occupied { (h : List Charge) (logs : Logs) (limits : LinkLimits) (class : Class) (packet : PacketData)
+        ensures occupied { (h : List Charge) (logs : PortLogs) (limits : LinkLimits) (class : Class) (packet : PacketData)
             → StandsFor self.old h logs → outgoing_link self.old.plan link ≡ Some (link, limits)
             → result ≡ Start class packet
             → free_of self.new link ≡ now.0 + packet_length packet * limits.ns_per_byte }
@@ -190,7 +190,7 @@ impl Router {
     pub fn free_at(&self, link: u16) -> Time
         requires outgoing { outgoing_link self.now.plan link ≢ None }
         ensures value { result.0 ≡ free_of self.now link }
-        ensures free { (h : List Charge) (logs : Logs) (limits : LinkLimits) → StandsFor self.now h logs
+        ensures free { (h : List Charge) (logs : PortLogs) (limits : LinkLimits) → StandsFor self.now h logs
             → outgoing_link self.now.plan link ≡ Some (link, limits)
             → result.0 ≡ free_after limits (logs link) }
         ensures soon { result.0 ≤ self.now.last + 2048000000 }
@@ -204,8 +204,8 @@ impl Router {
     /// flow that the cache kept.
     pub fn restart(&mut self, now: Time, master: [u8; 32])
         requires { self.old.last ≤ now.0 }
-        ensures stands { (h : List Charge) (logs : Logs) → StandsFor self.old h logs → StandsFor self.new [] logs }
-        ensures plan { self.new.plan ≡ changed master self.old.plan.routes self.old.plan }
+        ensures stands { (h : List Charge) (logs : PortLogs) → StandsFor self.old h logs → StandsFor self.new [] logs }
+        ensures plan { self.new.plan ≡ changed_plan master self.old.plan.routes self.old.plan }
         ensures built { self.new.built ≡ self.old.built }
         ensures last { self.new.last ≡ now.0 }
     {
@@ -221,9 +221,9 @@ impl Router {
         requires time { self.old.last ≤ now.0 }
         requires prefix { Contains (map (λ r. r.prefix) self.old.plan.routes) prefix }
         requires link { Contains (links_of self.old.plan.outgoing) link }
-        ensures stands { (h : List Charge) (logs : Logs) → StandsFor self.old h logs → StandsFor self.new h logs }
+        ensures stands { (h : List Charge) (logs : PortLogs) → StandsFor self.old h logs → StandsFor self.new h logs }
         ensures plan { self.new.plan
-            ≡ changed self.old.plan.master (rerouted prefix link self.old.plan.routes) self.old.plan }
+            ≡ changed_plan self.old.plan.master (rerouted prefix link self.old.plan.routes) self.old.plan }
         ensures built { self.new.built ≡ self.old.built }
         ensures last { self.new.last ≡ now.0 }
     {
@@ -236,10 +236,10 @@ impl Router {
     /// bound is TVA's.
     pub fn slots(&self) -> u32
         ensures slots { result ≡ self.now.plan.slots }
-        ensures timely { (h : List Charge) (logs : Logs) → StandsFor self.now h logs
+        ensures timely { (h : List Charge) (logs : PortLogs) → StandsFor self.now h logs
             → AreTimely self.now.plan.clock_offset h }
-        ensures budget { (h : List Charge) (logs : Logs) → StandsFor self.now h logs → IsWithinBudget h }
-        ensures living { (h : List Charge) (logs : Logs) → StandsFor self.now h logs
+        ensures budget { (h : List Charge) (logs : PortLogs) → StandsFor self.now h logs → IsWithinBudget h }
+        ensures living { (h : List Charge) (logs : PortLogs) → StandsFor self.now h logs
             → (now : ℕ) → self.now.last ≤ now → living_count h now ≤ self.now.plan.slots }
     {
         self.guard.cache.slots()

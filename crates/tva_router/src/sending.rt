@@ -2,7 +2,7 @@
 ghost use Rattle.std.specs.Prelude.{◌≡◌, ◌≢◌, ◌≤◌, ◌<◌, ◌==◌, ◌+◌, ℕ, true, length, position, Some, None};
 ghost use Rattle.tva_base.specs.declared.limits.LinkLimits.{LinkLimits};
 ghost use Rattle.tva_base.specs.Plan.{IsRouterPlan};
-ghost use Rattle.tva_router.specs.Handling.{Logs, outcome_of, outgoing_link, sent, queued, way_to};
+ghost use Rattle.tva_router.specs.Handling.{PortLogs, outcome_of, outgoing_link, sent, queued, way_to};
 ghost use Rattle.tva_port.specs.Decide.{decision, is_start};
 ghost use Rattle.tva_router.specs.Stands.{StandForLogs, free_in, started_on, ◌with◌};
 ghost use Rattle.tva_router.specs.Steps.{ArePorts};
@@ -30,9 +30,9 @@ pub(crate) fn send(
     requires ports { ArePorts plan.now.outgoing now.0 ports.old.items }
     requires horizon { now.0 ≤ 1000000000000000 }
     ensures ports { ArePorts plan.now.outgoing now.0 ports.new.items }
-    ensures outcome { (logs : Logs) → StandForLogs plan.now.outgoing ports.old.items logs
+    ensures outcome { (logs : PortLogs) → StandForLogs plan.now.outgoing ports.old.items logs
         → result ≡ sent logs class packet (way_to plan.now packet.flow.dst) }
-    ensures stands { (logs : Logs) → StandForLogs plan.now.outgoing ports.old.items logs
+    ensures stands { (logs : PortLogs) → StandForLogs plan.now.outgoing ports.old.items logs
         → StandForLogs plan.now.outgoing ports.new.items
         (logs with queued logs now.0 class packet (way_to plan.now packet.flow.dst)) }
 {
@@ -60,9 +60,9 @@ pub(crate) fn decide_on(
     requires outgoing { outgoing_link plan.now link ≢ None }
     requires free { free_in plan.now.outgoing ports.old.items link ≤ now.0 }
     ensures ports { ArePorts plan.now.outgoing now.0 ports.new.items }
-    ensures decision { (logs : Logs) (limits : LinkLimits) → StandForLogs plan.now.outgoing ports.old.items logs
+    ensures decision { (logs : PortLogs) (limits : LinkLimits) → StandForLogs plan.now.outgoing ports.old.items logs
         → outgoing_link plan.now link ≡ Some (link, limits) → result ≡ decision limits (logs link) now.0 }
-    ensures stands { (logs : Logs) → StandForLogs plan.now.outgoing ports.old.items logs
+    ensures stands { (logs : PortLogs) → StandForLogs plan.now.outgoing ports.old.items logs
         → StandForLogs plan.now.outgoing ports.new.items (logs with started_on link result now.0) }
     ensures busy { is_start result ≡ true → now.0 < free_in plan.now.outgoing ports.new.items link }
     ensures soon { free_in plan.now.outgoing ports.new.items link ≤ now.0 + 2048000000 }
@@ -103,9 +103,9 @@ fn queue_at(
     requires ports { ArePorts plan.now.outgoing now.0 ports.old.items }
     requires horizon { now.0 ≤ 1000000000000000 }
     ensures ports { ArePorts plan.now.outgoing now.0 ports.new.items }
-    ensures outcome { (logs : Logs) → StandForLogs plan.now.outgoing ports.old.items logs
+    ensures outcome { (logs : PortLogs) → StandForLogs plan.now.outgoing ports.old.items logs
         → result ≡ sent logs class packet (outgoing_link plan.now link) }
-    ensures stands { (logs : Logs) → StandForLogs plan.now.outgoing ports.old.items logs
+    ensures stands { (logs : PortLogs) → StandForLogs plan.now.outgoing ports.old.items logs
         → StandForLogs plan.now.outgoing ports.new.items
         (logs with queued logs now.0 class packet (outgoing_link plan.now link)) }
 {
@@ -113,8 +113,8 @@ fn queue_at(
     outcome_of(link, &ports[place].queue(now, class, key, packet))
 }
 
-// Where the offer of a packet leaves it.
-fn outcome_of(link: u16, offered: &Offered<Packet>) -> Outcome
+/// Where the offer of a packet to a link, by its number, leaves it.
+pub fn outcome_of(link: u16, offered: &Offered<Packet>) -> Outcome
     ensures { result ≡ outcome_of link offered.now }
 {
     match offered {

@@ -39,7 +39,7 @@ use Rattle.tva_host.specs.Calls.{history_of}
 use Rattle.tva_host.specs.History.{History}
 use Rattle.tva_host.specs.Sending.{intended}
 use Rattle.tva_host.specs.Receiving as receiving
-use Rattle.tva_host.specs.Receiving.{receipt_of, reply_of, stray, before_reply, answer_to, brought_by, claim_in}
+use Rattle.tva_host.specs.Receiving.{receipt_of, reply_of, stray, before_reply, answer_to_claim, brought_by, claim_in}
 use Rattle.tva_transfer.specs.Files.{Files, answered, first_segment, segment_due}
 use Rattle.tva_plan.specs.declared.config.Config.{Config}
 use Rattle.tva_plan.specs.declared.config.NodePlan.{NodePlan}
@@ -168,7 +168,7 @@ module _ (config : Config) where
   outcome_known link (offers.NoQueue p) h = tt
   outcome_known link (offers.QueueFull p) h = tt
 
-  sent_known : (logs : handling.Logs) (class : Class) (p : PacketData) (way : Option (ℕ × LinkLimits))
+  sent_known : (logs : handling.PortLogs) (class : Class) (p : PacketData) (way : Option (ℕ × LinkLimits))
       → ((o : ℕ × LinkLimits) → way ≡ Some o → HasLink config o.0) → HasOutcome config (sent logs class p way)
   sent_known logs class p None known = tt
   sent_known logs class p (Some (link, limits)) known = outcome_known link (offered limits (logs link) class p) (known (link, limits) refl)
@@ -181,13 +181,13 @@ module _ (config : Config) where
   abbrev IsHandledWell : PacketData → Handled → Type 0
   IsHandledWell p h = HasOutcome config h.fate.outcome × (h.onward.id ≡ p.id)
 
-  handled_by : (b : Bool) (plan : RouterPlan) (logs : handling.Logs) (now : ℕ) (p : PacketData) (j : Judged)
+  handled_by : (b : Bool) (plan : RouterPlan) (logs : handling.PortLogs) (now : ℕ) (p : PacketData) (j : Judged)
       → AllByRecursion (λ (x : ℕ × LinkLimits). HasLink config x.0) plan.outgoing → IsHandledWell p (cond b (stopped p) (forwarded plan logs now p j))
   handled_by true plan logs now p j h = (tt, refl)
   handled_by false plan logs now p j h =
       (sent_known logs j.class (goes_on p j.carried) (way_to plan p.flow.dst) (way_known plan (link_to plan.routes p.flow.dst) h), refl)
 
-  handled_known : (plan : RouterPlan) (h : List Charge) (logs : handling.Logs) (now : ℕ) (from : Option ℕ) (p : PacketData)
+  handled_known : (plan : RouterPlan) (h : List Charge) (logs : handling.PortLogs) (now : ℕ) (from : Option ℕ) (p : PacketData)
       → AllByRecursion (λ (x : ℕ × LinkLimits). HasLink config x.0) plan.outgoing → IsHandledWell p (handle plan h logs now from p)
   unfolding handle
   handled_known plan h logs now from p out = handled_by (nat_le 32 p.hops) plan logs now p (judge plan h (arrival now from p) p.carried) out
@@ -275,7 +275,7 @@ module _ (config : Config) where
     receipt_known plan h now p above =
         receipt_by (p.flow.dst.0 == plan.address.0) (receiving.received site.number plan h now p.flow.src p.carried above) stray
         (reply_made plan (before_reply plan p.flow.src p.carried h) now p.flow.src
-        (brought_by above (answer_to plan h.deeds p.flow.src p.carried (claim_in p.carried))) above) tt
+        (brought_by above (answer_to_claim plan h.deeds p.flow.src p.carried (claim_in p.carried))) above) tt
 
     told_known : (plan : HostPlan) (reply : Option Made) → IsReplyKnown reply
         → HasReply config (reply_told reply (option_map (λ (made : Made). goes_out site plan before made.packet) reply))

@@ -29,8 +29,8 @@ abbrev pub all_of : List (List Event) → List Event
 all_of windows = flat_map (λ events. events) windows
 
 -- In a window the run passes the number of events that it may have. Each run up to the end of that window or later
--- begins with these windows, of which it is the last; what happened up to its end is what the windows before it show and
--- what passes the number. The text is the lines of the windows before it
+-- begins with these windows, of which it is the last; what happened up to its end is what the windows before it show
+-- and what passes the number. The text is the lines of the windows before it
 pub record IsCutShort (config : Config) (rows : List Row) (text : List ℕ) : Type 0 where
   pub windows : List Window
   pub until : ℕ

@@ -8,8 +8,13 @@ use Rattle.tva_sender.specs.declared.shape.Shape.TheVariants as shape
 use Rattle.tva_sender.specs.declared.grant.Grant.{Grant}
 use Rattle.tva_sender.specs.Contacts.{Contact, Prepared, Taken, Notice, Taking, taking_in, last_taking, notices, unless_given_up, uses, first_nonce, grant_of, grant_held}
 use Rattle.tva_sender.specs.Shapes.{nonce_of, list_length, nonce_length, renews, takes_nonce, fits, held, without_grant, under_grant, by_grant}
-use Rattle.tva_sender.specs.Showable.{IsNonce, IsShowableHeld, IsShowable, AreShowableContacts, AreShowable}
+use Rattle.tva_sender.specs.Showable.{IsNonce, IsShowableHeld, IsShowable, IsShowableContact, AreShowable}
 use Rattle.tva_sender.specs.Book.{of_peer}
+
+-- a shim could carry all that was prepared or taken
+abbrev AreShowableContacts : ℕ → List Contact → Type 0
+AreShowableContacts version [] = Unit {0}
+AreShowableContacts version (c ∷ cs) = IsShowableContact version c × AreShowableContacts version cs
 
 -- what happened with one peer
 pub showable_peer : (version : ℕ) (a : Address) (h : List (Address × Contact)) → AreShowable version h → AreShowableContacts version (of_peer a h)

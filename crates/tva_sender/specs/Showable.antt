@@ -29,10 +29,6 @@ IsShowableContact version (Prepared time s length) = IsShowable version s
 IsShowableContact version (Taken rights caps) = AreRights version rights
 IsShowableContact version Notice = Unit {0}
 
-abbrev pub AreShowableContacts : ℕ → List Contact → Type 0
-AreShowableContacts version [] = Unit {0}
-AreShowableContacts version (c ∷ cs) = IsShowableContact version c × AreShowableContacts version cs
-
 abbrev pub AreShowable : ℕ → List (Address × Contact) → Type 0
 AreShowable version [] = Unit {0}
 AreShowable version (c ∷ cs) = IsShowableContact version c.1 × AreShowable version cs

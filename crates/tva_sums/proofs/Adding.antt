@@ -23,7 +23,7 @@ use Rattle.tva_sums.specs.declared.charged.Charged.{Charged}
 use Rattle.tva_sums.specs.declared.pairs.Pair.{Pair}
 use Rattle.tva_sums.specs.Charged.{boot_among, of_boot}
 use Rattle.tva_sums.specs.Pairs.{firsts, with_sums}
-use Rattle.tva_sums.specs.Sums.{bytes_of_pair, bytes_under, pair_of, pair_sums, same_pair}
+use Rattle.tva_sums.specs.Sums.{bytes_of_pair, charged_bytes, pair_of, pair_sums, same_pair}
 use Rattle.tva_sums.specs.Table.{add_to, pair_order}
 use Rattle.tva_sums.proofs.Keys.{Tells, sums_push}
 
@@ -123,7 +123,7 @@ module _ (restarts : List (Time × List ℕ)) where
   bytes_cons : (c : Charged) (cs : List Charged) (pair : Pair) → bytes_of_pair restarts (c ∷ cs) pair ≡ cond (same_pair (pair_of restarts c) pair) c.length 0 + bytes_of_pair restarts cs pair
   bytes_cons c cs pair =
       elim (cases_Bool (boot_among restarts c.time.0 == pair.boot)) [
-        | inl e ↦ rw e (sum_by-cons (bytes_under pair.grant) c (of_boot restarts pair.boot cs))
+        | inl e ↦ rw e (sum_by-cons (charged_bytes pair.grant) c (of_boot restarts pair.boot cs))
         | inr e ↦ rw (e, zero-add) refl
       ]
 

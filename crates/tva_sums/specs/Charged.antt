@@ -10,12 +10,13 @@ use Rattle.tva_base.specs.declared.packet.Time.{Time}
 use Rattle.tva_base.specs.Changes.{has_come}
 use Rattle.tva_sums.specs.declared.charged.Charged.{Charged}
 
-abbrev pub charged : Time → ℕ → Grant → Charged
-charged time length grant = record { time = time; grant = grant; length = length }
+-- a packet that was charged to a grant
+abbrev pub charged_at : Time → ℕ → Grant → Charged
+charged_at time length grant = record { time = time; grant = grant; length = length }
 
 -- an arrival that was authorised
 abbrev pub charged_by : Time → Happened → Option Charged
-charged_by time (Arrived id length from fate) = option_map (charged time length) fate.charge
+charged_by time (Arrived id length from fate) = option_map (charged_at time length) fate.charge
 charged_by time (Sent id length shape outcome) = None
 charged_by time (Received id length from payload what back reply range) = None
 charged_by time (Started id length link class end) = None

@@ -21,12 +21,13 @@ pair_of restarts c = record { boot = boot_among restarts c.time.0; grant = c.gra
 abbrev pub pairs_in : List (Time × List ℕ) → List Charged → List Pair
 pairs_in restarts cs = firsts same_pair (map (pair_of restarts) cs)
 
-abbrev pub bytes_under : Grant → Charged → ℕ
-bytes_under grant c = if same_grant c.grant grant then c.length else 0
+-- the bytes of a charge where it is one of the grant
+abbrev pub charged_bytes : Grant → Charged → ℕ
+charged_bytes grant c = if same_grant c.grant grant then c.length else 0
 
 -- the sum of a pair: the bytes of the grant among the charges of the boot
 abbrev pub bytes_of_pair : List (Time × List ℕ) → List Charged → Pair → ℕ
-bytes_of_pair restarts cs pair = sum_by (bytes_under pair.grant) (of_boot restarts pair.boot cs)
+bytes_of_pair restarts cs pair = sum_by (charged_bytes pair.grant) (of_boot restarts pair.boot cs)
 
 abbrev pub pair_sums : List (Time × List ℕ) → List Charged → List (Pair × ℕ)
 pair_sums restarts cs = with_sums (bytes_of_pair restarts cs) (pairs_in restarts cs)

@@ -18,21 +18,21 @@ use Rattle.tva_trace.specs.declared.said.SaidRow.{SaidRow}
 use Rattle.tva_trace.specs.declared.said.SaidWhat.{SaidWhat}
 use Rattle.tva_trace.specs.declared.said.SaidWhat.TheVariants as say
 use Rattle.tva_trace.specs.Files.{FindsRoom}
-use Rattle.tva_trace.specs.Items.{shim_of}
+use Rattle.tva_trace.specs.Items.{row_shim}
 use Rattle.tva_trace.specs.Meaning.{AreRows, Means}
-use Rattle.tva_trace.specs.Rows.{Judged, ◌>>=◌, allowed, behind, demand, fault_at, field, filed_by, filing_of, flow_from, has_room, hold, injection_of, is_empty, is_header, kind_at, kind_of, positive, records_in, row_of, rows_from, rows_under, sending_of, then_rows, ticking_of, times, what_of}
+use Rattle.tva_trace.specs.Rows.{Ruled, ◌>>=◌, allowed, behind, demand, row_fault, field, filed_by, filing_of, flow_from, has_room, hold, injection_of, is_empty, is_header, kind_at, row_kind, positive, records_in, row_of, rows_from, rows_under, sending_of, then_rows, ticking_of, times, what_of}
 use Rattle.tva_trace.specs.Valid.{files_at}
 use Rattle.tva_trace.proofs.FileCounts.{files_more, room_left}
 
 -- ## steps that gave something
 
-ok_one : {A : Type 0} (x y : A) → ◌≡◌ {A = Judged A} (Ok x) (Ok y) → x ≡ y
+ok_one : {A : Type 0} (x y : A) → ◌≡◌ {A = Ruled A} (Ok x) (Ok y) → x ≡ y
 ok_one x y e = cc
 
 ok_rows : (a b : List SaidRow) → ◌≡◌ {A = Result (List SaidRow) TraceFault} (Ok a) (Ok b) → a ≡ b
 ok_rows a b e = cc
 
-when_held : {A B : Type 0} (P : B → Type 0) (r : Judged A) (next : A → Judged B) (y : B)
+when_held : {A B : Type 0} (P : B → Type 0) (r : Ruled A) (next : A → Ruled B) (y : B)
     → (r >>= next) ≡ Ok y → ((x : A) → r ≡ Ok x → next x ≡ Ok y → P y) → P y
 when_held P (Ok x) next y gave go = go x refl gave
 when_held P (Err broken) next y gave go = absurd (cc)
@@ -76,7 +76,7 @@ injection_none plans k fields w gave =
     when_held BeginsNone (demand rule.Src (address_of (field fields 3))) _ w gave (λ src k1 g1.
     when_held BeginsNone (demand rule.Dst (address_of (field fields 4))) _ w g1 (λ dst k2 g2.
     when_held BeginsNone (demand rule.Payload (decimal_of (field fields 5) 1600)) _ w g2 (λ payload k3 g3.
-    when_held BeginsNone (demand rule.Shim (shim_of plans k (flow_from src dst) (field fields 6))) _ w g3 (λ shim k4 g4.
+    when_held BeginsNone (demand rule.Shim (row_shim plans k (flow_from src dst) (field fields 6))) _ w g3 (λ shim k4 g4.
     let made : SaidWhat = say.Inject (flow_from src dst) payload shim in
     let begins : BeginsNone made = λ files node. tt in
     subst BeginsNone (ok_one made w g4) begins))))
@@ -122,7 +122,7 @@ kind_room at_host room (Some k) e = begins_with_room at_host room k e
 kind_at_room : (plans : List NodePlan) (files : ℕ → ℕ) (node : ℕ) (word : List ℕ) → kind_at plans files node word ≡ Some kind.File
     → has_room files node ≡ true
 unfolding kind_at
-kind_at_room plans files node word e = kind_room (is_host plans node) (has_room files node) (kind_of word) e
+kind_at_room plans files node word e = kind_room (is_host plans node) (has_room files node) (row_kind word) e
 
 what_room : (plans : List NodePlan) (files : ℕ → ℕ) (node : ℕ) (word : List ℕ) (k : kinds.RowKind) (fields : List (List ℕ)) (w : SaidWhat)
     → kind_at plans files node word ≡ Some k → what_of plans k fields ≡ Ok w → FindsRoom files node w
@@ -174,7 +174,7 @@ behind_few filed row (Ok rest) said finds more gave =
     (more rest refl (λ n. room_left filed row.node n row.what finds (few n)) node))
 behind_few filed row (Err fault) said finds more gave = absurd (cc)
 
-then_few : (filed : List ℕ) (number : ℕ) (r : Judged SaidRow) (next : SaidRow → Result (List SaidRow) TraceFault) (said : List SaidRow)
+then_few : (filed : List ℕ) (number : ℕ) (r : Ruled SaidRow) (next : SaidRow → Result (List SaidRow) TraceFault) (said : List SaidRow)
     → ((row : SaidRow) → r ≡ Ok row → RowFinds (times filed) row)
     → ((row : SaidRow) (rest : List SaidRow) → next row ≡ Ok rest → AreFew (filed ++ filed_by row.node row.what) rest)
     → then_rows number r next ≡ Ok said → AreFew filed said
@@ -193,7 +193,7 @@ rows_few config number last filed (fields ∷ records) said gave =
     (λ row rest k. rows_few config (number + 1) row.time.0 (filed ++ filed_by row.node row.what) records rest k) gave
 
 headed_few : (b : Bool) (r : Result (List SaidRow) TraceFault) (said : List SaidRow) → (r ≡ Ok said → AreFew [] said)
-    → cond b r (Err (fault_at 1 rule.Header)) ≡ Ok said → AreFew [] said
+    → cond b r (Err (row_fault 1 rule.Header)) ≡ Ok said → AreFew [] said
 headed_few true r said rest gave = rest gave
 headed_few false r said rest gave = absurd (cc)
 

@@ -9,7 +9,7 @@ use Rattle.tva_base.specs.declared.packet.Flow.{Flow}
 use Rattle.tva_base.specs.declared.packet.Rights.{Rights}
 use Rattle.tva_base.specs.Options.{◌>>=◌}
 use Rattle.tva_plan.specs.declared.config.NodePlan.{NodePlan}
-use Rattle.tva_trace.specs.Items.{caps_of, each_of, few, item_of, items_in}
+use Rattle.tva_trace.specs.Items.{caps_of_items, each_of, few, item_of, items_in}
 
 -- capabilities behind those that were read
 abbrev pub behind_caps : List ℕ → Option (List ℕ) → Option (List ℕ)
@@ -62,6 +62,6 @@ read_all plans flow rights items n caps end fits done =
     ∙ done ∙ ap (λ l. behind_caps caps (each_of plans flow rights l)) (drop_all n items (omega arith)) ∙ ap Some (append-nil caps)
 
 -- a text that isn't empty has the capabilities of its items
-pub caps_of-some : (plans : List NodePlan) (flow : Flow) (rights : Rights) (text : List ℕ) (caps : Option (List ℕ)) → (length text == 0) ≡ false → (few (slice_split (λ b. b == 59) text) >>= each_of plans flow rights) ≡ caps → caps_of plans flow rights text ≡ caps
-unfolding caps_of
-caps_of-some plans flow rights text caps some e = ap (λ items. few items >>= each_of plans flow rights) (items_in-some text some) ∙ e
+pub caps_of_items-some : (plans : List NodePlan) (flow : Flow) (rights : Rights) (text : List ℕ) (caps : Option (List ℕ)) → (length text == 0) ≡ false → (few (slice_split (λ b. b == 59) text) >>= each_of plans flow rights) ≡ caps → caps_of_items plans flow rights text ≡ caps
+unfolding caps_of_items
+caps_of_items-some plans flow rights text caps some e = ap (λ items. few items >>= each_of plans flow rights) (items_in-some text some) ∙ e

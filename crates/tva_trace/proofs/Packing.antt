@@ -14,7 +14,8 @@ use Rattle.tva_trace.specs.declared.brief.BriefWhat.TheVariants as brief
 use Rattle.tva_trace.specs.declared.rows.Row.{Row}
 use Rattle.tva_trace.specs.declared.rows.RowWhat.{RowWhat}
 use Rattle.tva_trace.specs.declared.rows.RowWhat.TheVariants as what
-use Rattle.tva_trace.specs.Packed.{AreHeld, Grows, IsLayoutAt, IsWhatHeld, part, row_in, rows_in, shim_in, told_by, what_in}
+use Rattle.tva_trace.specs.Brief.{AreHeld, Grows, IsLayoutAt, IsWhatHeld, part, row_in, rows_in, shim_in, told_by}
+use Rattle.tva_trace.specs.Brief.{what_in}
 
 -- ---- the shim of a layout
 

@@ -21,7 +21,7 @@ use Rattle.tva_trace.specs.declared.rows.TraceRule.TheVariants as rule
 use Rattle.tva_trace.specs.declared.rows.TraceFault.{TraceFault}
 use Rattle.tva_trace.specs.declared.said.SaidRow.{SaidRow}
 use Rattle.tva_trace.specs.Files.{Counts, FindsRoom, filed_in}
-use Rattle.tva_trace.specs.Rows.{Judged, behind, fault_at, filed_by, has_room, is_header, row_of, rows_from, rows_of, rows_under, said_by, some_row, then_rows, times}
+use Rattle.tva_trace.specs.Rows.{Ruled, behind, row_fault, filed_by, has_room, is_header, row_of, rows_from, rows_of, rows_under, said_by, some_row, then_rows, times}
 use Rattle.tva_trace.specs.Meaning.{AreRows, CarriedBy, IsPut, Means, MeansWhat}
 use Rattle.std.proofs.Common.{IfSome, subst}
 use Rattle.std.specs.Prelude.{All}
@@ -72,7 +72,7 @@ pub record IsReadTo (config : Config) (text : List ℕ) (reader : Reader (Bor (L
   pub ends : ends_at 0 rows ≡ last
 
 -- what the first record says, where the test is whether it is the header
-abbrev if_header : Bool → Judged (Option SaidRow)
+abbrev if_header : Bool → Ruled (Option SaidRow)
 if_header b = cond b (Ok None) (Err rule.Header)
 
 not_first : (n : ℕ) → 1 ≤ n → (n + 1 == 1) ≡ false
@@ -83,21 +83,21 @@ abbrev rows_behind : Config → ℕ → List ℕ → List (List (List ℕ)) → 
 rows_behind config number filed records row = rows_from config (number + 1) row.time.0 (filed ++ filed_by row.node row.what) records
 
 -- a record that breaks a rule
-fault_first : (b : Bool) (rest : Result (List SaidRow) TraceFault) (broken : TraceRule) (number : ℕ) → number ≡ 1 → if_header b ≡ Err broken → cond b rest (Err (fault_at 1 rule.Header)) ≡ Err (fault_at number broken)
+fault_first : (b : Bool) (rest : Result (List SaidRow) TraceFault) (broken : TraceRule) (number : ℕ) → number ≡ 1 → if_header b ≡ Err broken → cond b rest (Err (row_fault 1 rule.Header)) ≡ Err (row_fault number broken)
 fault_first true rest broken number one e = cc
 fault_first false rest broken number one e = cc
 
-fault_row : (r : Result SaidRow TraceRule) (broken : TraceRule) (number : ℕ) (more : SaidRow → Result (List SaidRow) TraceFault) → some_row r ≡ Err broken → then_rows number r more ≡ Err (fault_at number broken)
+fault_row : (r : Result SaidRow TraceRule) (broken : TraceRule) (number : ℕ) (more : SaidRow → Result (List SaidRow) TraceFault) → some_row r ≡ Err broken → then_rows number r more ≡ Err (row_fault number broken)
 fault_row (Ok row) broken number more e = cc
 fault_row (Err b) broken number more e = cc
 
-fault_by : (first : Bool) (config : Config) (number last : ℕ) (filed : List ℕ) (fields : List (List ℕ)) (records : List (List (List ℕ))) (broken : TraceRule) → (first ≡ true → number ≡ 1) → said_by first config number last (times filed) fields ≡ Err broken → rows_left first config number last filed (fields ∷ records) ≡ Err (fault_at number broken)
+fault_by : (first : Bool) (config : Config) (number last : ℕ) (filed : List ℕ) (fields : List (List ℕ)) (records : List (List (List ℕ))) (broken : TraceRule) → (first ≡ true → number ≡ 1) → said_by first config number last (times filed) fields ≡ Err broken → rows_left first config number last filed (fields ∷ records) ≡ Err (row_fault number broken)
 unfolding rows_under rows_from
 fault_by true config number last filed fields records broken one e = fault_first (is_header fields) (rows_from config 2 0 [] records) broken number (one refl) e
 fault_by false config number last filed fields records broken one e = fault_row (row_of config number last (times filed) fields) broken number (rows_behind config number filed records) e
 
 -- the first record, which names the fields
-header_first : (b : Bool) (rest : Result (List SaidRow) TraceFault) → if_header b ≡ Ok None → cond b rest (Err (fault_at 1 rule.Header)) ≡ rest
+header_first : (b : Bool) (rest : Result (List SaidRow) TraceFault) → if_header b ≡ Ok None → cond b rest (Err (row_fault 1 rule.Header)) ≡ rest
 header_first true rest e = refl
 header_first false rest e = cc
 
@@ -177,11 +177,11 @@ rest-read config text a b number last files rows fields d r =
     (m.0, m.1, d.rest ∙ ap (λ l. behind d.said (rows_left (number == 1) config number last d.filed l)) m.2)
 
 -- what a record says behind so many rows of each node that begin a transfer
-said_at : (config : Config) (number last : ℕ) (files : ℕ → ℕ) (filed : List ℕ) (fields : List (List ℕ)) (answer : Judged (Option SaidRow)) → files ≡ times filed → said_by (number == 1) config number last files fields ≡ answer → said_by (number == 1) config number last (times filed) fields ≡ answer
+said_at : (config : Config) (number last : ℕ) (files : ℕ → ℕ) (filed : List ℕ) (fields : List (List ℕ)) (answer : Ruled (Option SaidRow)) → files ≡ times filed → said_by (number == 1) config number last files fields ≡ answer → said_by (number == 1) config number last (times filed) fields ≡ answer
 said_at config number last files filed fields answer are e = ap (λ (f : ℕ → ℕ). said_by (number == 1) config number last f fields) (sym are) ∙ e
 
 -- a record that breaks a rule
-pub read-fault : (config : Config) (text : List ℕ) (a b : Source) (number last : ℕ) (files : ℕ → ℕ) (rows : List Row) (fields : List (List ℕ)) (broken : TraceRule) → IsReadTo config text a number last files rows → ReadRecord told a b true fields → said_by (number == 1) config number last files fields ≡ Err broken → rows_of config text ≡ Err (fault_at number broken)
+pub read-fault : (config : Config) (text : List ℕ) (a b : Source) (number last : ℕ) (files : ℕ → ℕ) (rows : List Row) (fields : List (List ℕ)) (broken : TraceRule) → IsReadTo config text a number last files rows → ReadRecord told a b true fields → said_by (number == 1) config number last files fields ≡ Err broken → rows_of config text ≡ Err (row_fault number broken)
 read-fault config text a b number last files rows fields broken d r e =
     let m = rest-read config text a b number last files rows fields d r in
     m.2 ∙ ap (behind d.said) (fault_by (number == 1) config number last d.filed fields (left_of default_config b.state m.0) broken (eqb-true number 1) (said_at config number last files d.filed fields (Err broken) d.counts e))
@@ -291,12 +291,12 @@ rest-none : (config : Config) (text : List ℕ) (a b : Source) (number last : �
 rest-none config text a b number last files rows fields d r =
     d.rest ∙ ap (λ l. behind d.said (rows_left (number == 1) config number last d.filed l)) (left-none default_config a.state d.unread (rows-end told a b fields default_config d.unread d.by_default d.source r))
 
-no_header : (first : Bool) (config : Config) (number last : ℕ) (filed : List ℕ) (said : List SaidRow) → first ≡ true → behind said (rows_left first config number last filed []) ≡ Err (fault_at 1 rule.Header)
+no_header : (first : Bool) (config : Config) (number last : ℕ) (filed : List ℕ) (said : List SaidRow) → first ≡ true → behind said (rows_left first config number last filed []) ≡ Err (row_fault 1 rule.Header)
 unfolding rows_under
 no_header true config number last filed said e = refl
 no_header false config number last filed said e = cc
 
-pub read-nothing : (config : Config) (text : List ℕ) (a b : Source) (number last : ℕ) (files : ℕ → ℕ) (rows : List Row) (fields : List (List ℕ)) → IsReadTo config text a number last files rows → ReadRecord told a b false fields → number ≡ 1 → rows_of config text ≡ Err (fault_at 1 rule.Header)
+pub read-nothing : (config : Config) (text : List ℕ) (a b : Source) (number last : ℕ) (files : ℕ → ℕ) (rows : List Row) (fields : List (List ℕ)) → IsReadTo config text a number last files rows → ReadRecord told a b false fields → number ≡ 1 → rows_of config text ≡ Err (row_fault 1 rule.Header)
 read-nothing config text a b number last files rows fields d r one =
     rest-none config text a b number last files rows fields d r ∙ no_header (number == 1) config number last d.filed d.said (eq-eqb number 1 one)
 

@@ -25,11 +25,12 @@ use Rattle.tva_trace.specs.declared.said.SaidShim as said
 use Rattle.tva_trace.specs.declared.said.SaidShim.TheVariants.{Bytes, Built}
 use Rattle.tva_trace.specs.Names.{master_named}
 
--- the bytes that hexadecimal digits of either case write, if they are
+-- the bytes that were decoded, if any were
 abbrev pub decoded : Result (List ℕ) FromHexError → Option (List ℕ)
 decoded (Ok bytes) = Some bytes
 decoded (Err e) = None
 
+-- the bytes that so many pairs of hexadecimal digits of either case write, if the text is that
 abbrev pub hex_bytes_of : ℕ → List ℕ → Option (List ℕ)
 hex_bytes_of count text = decoded (decode_sized text count)
 
@@ -69,8 +70,8 @@ items_in (byte ∷ bytes) = slice_split (λ b. b == 59) (byte ∷ bytes)
 abbrev pub few : List (List ℕ) → Option (List (List ℕ))
 few items = if nat_le (length items) 16 then Some items else None
 
-unfoldable pub caps_of : List NodePlan → Flow → Rights → List ℕ → Option (List ℕ)
-caps_of plans flow rights text = do
+unfoldable pub caps_of_items : List NodePlan → Flow → Rights → List ℕ → Option (List ℕ)
+caps_of_items plans flow rights text = do
   items ← few (items_in text)
   each_of plans flow rights items
 
@@ -96,7 +97,7 @@ shown_of plans flow text = do
   fourth ← parted 47 third.1
   nonce ← hex_number_of 6 first.0
   rights ← rights_of second.0 third.0
-  caps ← caps_of plans flow rights fourth.1
+  caps ← caps_of_items plans flow rights fourth.1
   pointer ← decimal_of fourth.0 (length caps)
   Some (shown_from nonce pointer rights caps)
 
@@ -110,14 +111,14 @@ plain_shim version k = record { version = version; demoted = false; protocol = 6
 
 -- what a row's shim is, by the row's kind; a row that sends or ticks has none. The version is 2 only where the
 -- rights ask for it
-unfoldable pub shim_of : List NodePlan → kinds.RowKind → Flow → List ℕ → Option said.SaidShim
-shim_of plans kind.Send flow text = None
-shim_of plans kind.File flow text = None
-shim_of plans kind.Tick flow text = None
-shim_of plans kind.Raw flow text = option_map Bytes (raw_of text)
-shim_of plans kind.List flow text =
+unfoldable pub row_shim : List NodePlan → kinds.RowKind → Flow → List ℕ → Option said.SaidShim
+row_shim plans kind.Send flow text = None
+row_shim plans kind.File flow text = None
+row_shim plans kind.Tick flow text = None
+row_shim plans kind.Raw flow text = option_map Bytes (raw_of text)
+row_shim plans kind.List flow text =
     option_map (λ shown. Built (plain_shim (version_for shown.rights) (shims.List shown))) (shown_of plans flow text)
-shim_of plans kind.Renew flow text =
+row_shim plans kind.Renew flow text =
     option_map (λ shown. Built (plain_shim (version_for shown.rights) (shims.Renewal shown))) (shown_of plans flow text)
-shim_of plans kind.Nonce flow text =
+row_shim plans kind.Nonce flow text =
     option_map (λ nonce. Built (plain_shim 1 (shims.Nonce nonce))) (hex_number_of 6 text)

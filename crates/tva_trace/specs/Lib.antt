@@ -7,3 +7,4 @@ pub mod Words
 pub mod Packed
 pub mod Shortage
 pub mod Files
+pub mod Brief

@@ -10,9 +10,9 @@ master_in (Router plan) = Some plan.master
 master_in (Host plan) = None
 
 -- the master of the router of that number
-abbrev pub master_at : List node.NodePlan → ℕ → Option (List ℕ)
-master_at plans number = option_and_then master_in (slice_get plans number)
+abbrev pub router_master : List node.NodePlan → ℕ → Option (List ℕ)
+router_master plans number = option_and_then master_in (slice_get plans number)
 
 -- the master of the router that has a name
 unfoldable pub master_named : List node.NodePlan → List ℕ → Option (List ℕ)
-master_named plans name = option_and_then (master_at plans) (node_named plans name)
+master_named plans name = option_and_then (router_master plans) (node_named plans name)

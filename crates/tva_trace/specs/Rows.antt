@@ -20,24 +20,24 @@ use Rattle.tva_trace.specs.declared.said.SaidWhat as said
 use Rattle.tva_trace.specs.declared.said.SaidWhat.TheVariants as say
 use Rattle.tva_trace.specs.declared.said.SaidRow.{SaidRow}
 use Rattle.tva_plan.specs.Names.{is_host, node_named}
-use Rattle.tva_trace.specs.Items.{shim_of}
+use Rattle.tva_trace.specs.Items.{row_shim}
 
 -- a value, or the rule that is broken
-abbrev pub Judged : Type 0 → Type 0
-Judged A = Result A rules.TraceRule
+abbrev pub Ruled : Type 0 → Type 0
+Ruled A = Result A rules.TraceRule
 
 -- a step after another: the rule that the first breaks comes before those of the second
 infixl 10 ◌>>=◌
-abbrev pub ◌>>=◌ : {A B : Type 0} → Judged A → (A → Judged B) → Judged B
+abbrev pub ◌>>=◌ : {A B : Type 0} → Ruled A → (A → Ruled B) → Ruled B
 (Ok x) >>= next = next x
 (Err broken) >>= next = Err broken
 
 -- a rule that a value meets where there is one
-abbrev pub demand : {A : Type 0} → rules.TraceRule → Option A → Judged A
+abbrev pub demand : {A : Type 0} → rules.TraceRule → Option A → Ruled A
 demand r value = ok_or value r
 
 -- a rule that a test meets
-abbrev pub hold : rules.TraceRule → Bool → Judged (Unit {0})
+abbrev pub hold : rules.TraceRule → Bool → Ruled (Unit {0})
 hold r test = if test then Ok tt else Err r
 
 -- the field at a place
@@ -48,8 +48,8 @@ abbrev pub is_empty : List ℕ → Bool
 is_empty text = length text == 0
 
 -- the kind that a word names
-unfoldable pub kind_of : List ℕ → Option kinds.RowKind
-kind_of word =
+unfoldable pub row_kind : List ℕ → Option kinds.RowKind
+row_kind word =
     if bytes_eq word (codes "send") then Some kind.Send
     else if bytes_eq word (codes "raw") then Some kind.Raw
     else if bytes_eq word (codes "list") then Some kind.List
@@ -78,10 +78,10 @@ abbrev pub has_room : (ℕ → ℕ) → ℕ → Bool
 has_room files node = nat_lt (files node) 65536
 
 unfoldable pub kind_at : List NodePlan → (ℕ → ℕ) → ℕ → List ℕ → Option kinds.RowKind
-kind_at plans files node word = option_and_then (allowed (is_host plans node) (has_room files node)) (kind_of word)
+kind_at plans files node word = option_and_then (allowed (is_host plans node) (has_room files node)) (row_kind word)
 
 -- what a row that sends says: its source and its shim are empty
-unfoldable pub sending_of : List (List ℕ) → Judged said.SaidWhat
+unfoldable pub sending_of : List (List ℕ) → Ruled said.SaidWhat
 sending_of fields = do
   own ← hold rule.Src (is_empty (field fields 3))
   dst ← demand rule.Dst (address_of (field fields 4))
@@ -96,7 +96,7 @@ positive (Some n) = if nat_lt 0 n then Some n else None
 
 -- what a row that begins a transfer says: the bytes of a segment stand where a payload does, those of the file
 -- where a shim does
-unfoldable pub filing_of : List (List ℕ) → Judged said.SaidWhat
+unfoldable pub filing_of : List (List ℕ) → Ruled said.SaidWhat
 filing_of fields = do
   own ← hold rule.Src (is_empty (field fields 3))
   dst ← demand rule.Dst (address_of (field fields 4))
@@ -105,7 +105,7 @@ filing_of fields = do
   Ok (say.File dst size segment)
 
 -- what a tick says: its payload is 0
-unfoldable pub ticking_of : List (List ℕ) → Judged said.SaidWhat
+unfoldable pub ticking_of : List (List ℕ) → Ruled said.SaidWhat
 ticking_of fields = do
   own ← hold rule.Src (is_empty (field fields 3))
   dst ← demand rule.Dst (address_of (field fields 4))
@@ -117,15 +117,15 @@ abbrev pub flow_from : Address → Address → Flow
 flow_from src dst = record { src = src; dst = dst }
 
 -- what a row that injects a packet says
-unfoldable pub injection_of : List NodePlan → kinds.RowKind → List (List ℕ) → Judged said.SaidWhat
+unfoldable pub injection_of : List NodePlan → kinds.RowKind → List (List ℕ) → Ruled said.SaidWhat
 injection_of plans k fields = do
   src ← demand rule.Src (address_of (field fields 3))
   dst ← demand rule.Dst (address_of (field fields 4))
   payload ← demand rule.Payload (decimal_of (field fields 5) 1600)
-  shim ← demand rule.Shim (shim_of plans k (flow_from src dst) (field fields 6))
+  shim ← demand rule.Shim (row_shim plans k (flow_from src dst) (field fields 6))
   Ok (say.Inject (flow_from src dst) payload shim)
 
-abbrev pub what_of : List NodePlan → kinds.RowKind → List (List ℕ) → Judged said.SaidWhat
+abbrev pub what_of : List NodePlan → kinds.RowKind → List (List ℕ) → Ruled said.SaidWhat
 what_of plans kind.Send fields = sending_of fields
 what_of plans kind.Raw fields = injection_of plans kind.Raw fields
 what_of plans kind.List fields = injection_of plans kind.List fields
@@ -136,7 +136,7 @@ what_of plans kind.Tick fields = ticking_of fields
 
 -- what the record of that number says, behind a row of that time, and behind rows of which as many begin a transfer
 -- at each node
-unfoldable pub row_of : Config → ℕ → ℕ → (ℕ → ℕ) → List (List ℕ) → Judged SaidRow
+unfoldable pub row_of : Config → ℕ → ℕ → (ℕ → ℕ) → List (List ℕ) → Ruled SaidRow
 row_of config number last files fields = do
   few ← hold rule.Rows (nat_le number 1000001)
   seven ← hold rule.Fields (length fields == 7)
@@ -148,8 +148,8 @@ row_of config number last files fields = do
   Ok (record { time = record { 0 = time }; node = node; what = what })
 
 -- the rule that a record breaks, with the record's number
-abbrev pub fault_at : ℕ → rules.TraceRule → TraceFault
-fault_at number r = record { row = number; rule = r }
+abbrev pub row_fault : ℕ → rules.TraceRule → TraceFault
+row_fault number r = record { row = number; rule = r }
 
 -- rows behind others
 abbrev pub behind : List SaidRow → Result (List SaidRow) TraceFault → Result (List SaidRow) TraceFault
@@ -164,9 +164,9 @@ filed_by node (say.File dst size segment) = node ∷ []
 filed_by node (say.Tick dst) = []
 
 -- a row and those behind it, or the rule that it breaks
-abbrev pub then_rows : ℕ → Judged SaidRow → (SaidRow → Result (List SaidRow) TraceFault)
+abbrev pub then_rows : ℕ → Ruled SaidRow → (SaidRow → Result (List SaidRow) TraceFault)
     → Result (List SaidRow) TraceFault
-then_rows number (Err broken) more = Err (fault_at number broken)
+then_rows number (Err broken) more = Err (row_fault number broken)
 then_rows number (Ok row) more = behind (row ∷ []) (more row)
 
 -- the rows of records of which the first has that number, behind a row of that time, and behind rows of those nodes
@@ -185,22 +185,23 @@ is_header fields =
     && bytes_eq (field fields 4) (codes "dst") && bytes_eq (field fields 5) (codes "payload")
     && bytes_eq (field fields 6) (codes "shim")
 
--- what a record says: nothing where it is the first
-abbrev pub header_of : List (List ℕ) → Judged (Option SaidRow)
+-- the first record says nothing, where it names the fields
+abbrev pub header_of : List (List ℕ) → Ruled (Option SaidRow)
 header_of fields = if is_header fields then Ok None else Err rule.Header
 
-abbrev pub some_row : Judged SaidRow → Judged (Option SaidRow)
+abbrev pub some_row : Ruled SaidRow → Ruled (Option SaidRow)
 some_row (Ok row) = Ok (Some row)
 some_row (Err broken) = Err broken
 
-abbrev pub said_by : Bool → Config → ℕ → ℕ → (ℕ → ℕ) → List (List ℕ) → Judged (Option SaidRow)
+-- what a record says: nothing where it is the first
+abbrev pub said_by : Bool → Config → ℕ → ℕ → (ℕ → ℕ) → List (List ℕ) → Ruled (Option SaidRow)
 said_by first config number last files fields =
     if first then header_of fields else some_row (row_of config number last files fields)
 
 unfoldable pub rows_under : Config → List (List (List ℕ)) → Result (List SaidRow) TraceFault
-rows_under config [] = Err (fault_at 1 rule.Header)
+rows_under config [] = Err (row_fault 1 rule.Header)
 rows_under config (fields ∷ records) =
-    if is_header fields then rows_from config 2 0 [] records else Err (fault_at 1 rule.Header)
+    if is_header fields then rows_from config 2 0 [] records else Err (row_fault 1 rule.Header)
 
 -- the records that `csv` gives for a text, without a byte order mark
 abbrev pub records_in : List ℕ → List (List (List ℕ))

@@ -1,9 +1,7 @@
 // What a row asks, in little memory: a shim is its layout, among those of all others.
-ghost use Rattle.std.specs.Prelude.{◌≡◌, ◌≤◌, ◌++◌, IfOk, OnErr, length};
+ghost use Rattle.std.specs.Prelude.{◌≡◌, IfOk, OnErr};
 ghost use Rattle.tva_shim.specs.declared.packets.Carried.TheVariants as carried;
-ghost use Rattle.tva_shim.specs.Shims.{IsShim};
-ghost use Rattle.tva_shim.specs.Layout.{layout};
-ghost use Rattle.tva_trace.specs.Packed.{Grows, IsLayoutAt, IsWhatHeld, part, shim_in, what_in};
+ghost use Rattle.tva_trace.specs.Brief.{Grows, IsLayoutAt, IsWhatHeld, part, shim_in, what_in};
 
 use crate::rows::RowWhat;
 use arrayvec::ArrayVec;
@@ -13,7 +11,8 @@ use tva_base::{Address, Flow, Time};
 use tva_shim::{Carried, Shim, decode, encode};
 
 /// What a row asks: of a shim where its layout begins, and how many bytes it has. Short numbers stand
-/// first, so that nothing is left between them.
+/// first, so that nothing is left between them. Payloads, sizes, segments and lengths of shims are in
+/// bytes.
 #[derive(Clone, Copy)]
 pub enum BriefWhat {
     Send {

@@ -2,7 +2,7 @@
 ghost use Rattle.std.specs.Prelude.{◌≡◌, IfSome};
 ghost use Rattle.std.specs.Str.{bytes_eq};
 ghost use Rattle.csv.specs.Records.{fields_of};
-ghost use Rattle.tva_trace.specs.Rows.{allowed, field, is_empty, is_header, kind_at, kind_of};
+ghost use Rattle.tva_trace.specs.Rows.{allowed, field, is_empty, is_header, kind_at, row_kind};
 ghost use Rattle.tva_trace.specs.Valid.{IsAllowed};
 
 use crate::rows::RowKind;
@@ -47,9 +47,9 @@ pub fn is_header(row: &ByteRecord) -> bool
 }
 
 /// The kind that a word names.
-#[tactic(auto, unfolding(crate::specs::Rows::kind_of))]
+#[tactic(auto, unfolding(crate::specs::Rows::row_kind))]
 pub fn kind_of(word: &[u8]) -> Option<RowKind>
-    ensures { result ≡ kind_of word.now }
+    ensures { result ≡ row_kind word.now }
 {
     if is_word(word, "send") {
         return Some(RowKind::Send);

@@ -7,7 +7,7 @@ ghost use Rattle.tva_base.specs.Decimal.{decimal_of};
 ghost use Rattle.tva_base.specs.Versions.{AreSomeRights, IsVersion, seconds_max, units_max, version_for};
 ghost use Rattle.tva_shim.specs.Shims.{IsShown, IsKind};
 ghost use Rattle.tva_trace.specs.declared.said.SaidShim.TheVariants as says;
-ghost use Rattle.tva_trace.specs.Items.{caps_of, hex_number_of, item_of, minted_of, plain_shim, raw_of, rights_of, shim_of, shown_of};
+ghost use Rattle.tva_trace.specs.Items.{caps_of_items, hex_number_of, item_of, minted_of, plain_shim, raw_of, rights_of, row_shim, shown_of};
 ghost use Rattle.tva_plan.specs.Numbers.{Numbers};
 ghost use Rattle.tva_trace.specs.Valid.{IsSaidShim};
 
@@ -114,7 +114,7 @@ fn item_of(
 }
 
 /// The capabilities of items, at most 16.
-#[tactic(auto, unfolding(crate::specs::Items::caps_of))]
+#[tactic(auto, unfolding(crate::specs::Items::caps_of_items))]
 fn caps_of(
     plans: &[NodePlan],
     numbers: &HashMap<&[u8], u16>,
@@ -125,7 +125,7 @@ fn caps_of(
 ) -> Option<Caps>
     requires known { Numbers plans.now numbers.now }
     requires rights { AreSomeRights rights }
-    ensures { result ≡ caps_of plans.now flow rights text.now }
+    ensures { result ≡ caps_of_items plans.now flow rights text.now }
 {
     let mut caps = Caps::new();
     if text.is_empty() {
@@ -201,7 +201,7 @@ fn shown_of(
 }
 
 /// What a row's shim is, by the row's kind.
-#[tactic(auto, unfolding(crate::specs::Items::shim_of))]
+#[tactic(auto, unfolding(crate::specs::Items::row_shim))]
 pub fn shim_of(
     plans: &[NodePlan],
     numbers: &HashMap<&[u8], u16>,
@@ -211,7 +211,7 @@ pub fn shim_of(
     text: &[u8],
 ) -> Option<SaidShim>
     requires { Numbers plans.now numbers.now }
-    ensures value { result ≡ shim_of plans.now kind flow text.now }
+    ensures value { result ≡ row_shim plans.now kind flow text.now }
     ensures valid { IfSome result IsSaidShim }
 {
     match kind {

@@ -1,6 +1,7 @@
 //! Traces. Its contract promises that a trace is read to its rows, which are the only ones, or to the
-//! first rule that its first bad record breaks. The lines of reports and the text of a shim, which it
-//! hands on, are written below.
+//! first rule that its first bad record breaks, and that rows which are held in little memory
+//! (`PackedRows`) are the same list. The lines of reports and the text of a shim, which it hands on, are
+//! written in `tva_lines` and `tva_shim_text`.
 #![tactic(auto)]
 
 mod brief;

@@ -19,7 +19,7 @@ pub struct PackedRows {
 impl Model for PackedRows {
     ghost use Rattle.std.specs.Prelude.{List};
     ghost use Rattle.tva_trace.specs.declared.rows.Row.{Row};
-    ghost use Rattle.tva_trace.specs.Packed.{AreHeld, rows_in};
+    ghost use Rattle.tva_trace.specs.Brief.{AreHeld, rows_in};
 
     ghost Value = { List Row };
 

@@ -11,7 +11,7 @@ use Rattle.tva_base.specs.declared.packet.Upper.TheVariants.{Nothing, Data, Ack}
 use Rattle.tva_base.specs.declared.event.DataLine.{DataLine}
 use Rattle.tva_shim.specs.Packets.{PacketData}
 use Rattle.tva_transfer.specs.declared.transfers.Transfer.{Transfer}
-use Rattle.tva_transfer.specs.Files.{Files, Act, Came, after_act, files_of, heard, is_for, next_of}
+use Rattle.tva_transfer.specs.Files.{Files, Act, Came, after_act, files_of, heard, is_addressed_to, next_of}
 use Rattle.tva_transfer.specs.Couriers.{AreFrom, IsSent, IsWithin, Step, acts_at, files_at, ranges_of, sent_by}
 use Rattle.tva_transfer.proofs.Acts.{acts_at-step, step_at}
 use Rattle.tva_transfer.proofs.History.{HasCome, next_of-rises, ranges_came}
@@ -19,11 +19,11 @@ use Rattle.tva_transfer.proofs.Sent.{IsKept, IsOf, address_is, acked_came, sent_
 use Rattle.tva_transfer.proofs.Standing.{files_of-push}
 
 -- what is heard is of a packet for the host
-heard_is : (home : Address) (p : PacketData) (above : Upper) → above ≢ Nothing → heard home p ≡ above → (is_for home p ≡ true) × (p.upper ≡ above)
+heard_is : (home : Address) (p : PacketData) (above : Upper) → above ≢ Nothing → heard home p ≡ above → (is_addressed_to home p ≡ true) × (p.upper ≡ above)
 heard_is home p above some e = ⊎_elim
     (λ yes. (yes, subst (λ b. cond b p.upper Nothing ≡ above) yes e))
     (λ no. absurd (some (sym (subst (λ b. cond b p.upper Nothing ≡ above) no e))))
-    (cases_Bool (is_for home p))
+    (cases_Bool (is_addressed_to home p))
 
 -- a courier sent with a flow to the host what came in at it
 pub record IsSentTo (home : ℕ → Address) (steps : List Step) (sender receiver : ℕ) (above : Upper) : Type 0 where

@@ -11,7 +11,7 @@ use Rattle.tva_base.specs.declared.event.DataLine.{DataLine}
 use Rattle.tva_shim.specs.Packets.{PacketData}
 use Rattle.tva_transfer.specs.declared.transfers.Transfer.{Transfer}
 use Rattle.tva_transfer.specs.Files.{Files, Act, Filed, Ticked, Came, files_of, first_segment, segment_due, answered}
-use Rattle.tva_transfer.specs.Files.{is_for, is_of}
+use Rattle.tva_transfer.specs.Files.{is_addressed_to, is_of}
 
 -- an act at the courier of that number
 pub record Step : Type 0 where
@@ -48,7 +48,7 @@ IsFrom home before p =
 -- so may each that comes in at a courier and is for it
 abbrev pub AreFrom : (ℕ → Address) → List Step → Type 0
 AreFrom home steps = (before after : List Step) (number : ℕ) (p : PacketData)
-    → steps ≡ before ++ record { at = number; act = Came p } ∷ after → is_for (home number) p ≡ true
+    → steps ≡ before ++ record { at = number; act = Came p } ∷ after → is_addressed_to (home number) p ≡ true
     → IsFrom home before p
 
 -- the ranges of a source's transfer that were delivered

@@ -113,12 +113,13 @@ answer_to files source (Data transfer first bytes) =
 answer_to files source (Ack transfer next) =
     option_map_or (segment_behind source transfer next) (slice_get files.transfers transfer) Nothing
 
-abbrev pub is_for : Address → PacketData → Bool
-is_for home p = p.flow.dst.0 == home.0
+-- the packet is for the host of that address
+abbrev pub is_addressed_to : Address → PacketData → Bool
+is_addressed_to home p = p.flow.dst.0 == home.0
 
 -- the upper part of a packet for the host of that address; a packet for another host is stray, whatever it brings
 abbrev pub heard : Address → PacketData → Upper
-heard home p = if is_for home p then p.upper else Nothing
+heard home p = if is_addressed_to home p then p.upper else Nothing
 
 -- the range that a packet delivers, and what it is answered with
 abbrev pub delivered : Address → Files → PacketData → Option DataLine

@@ -1,4 +1,4 @@
--- Kit: how the inputs of a node that are not taken yet wait: each has a turn in a list, which says all of it or the place at which it is held.
+-- Kit: how inputs wait that are not taken yet: each has a turn in a list, which says all of it or where it is held.
 use Rattle.std.specs.Prelude.{◌≡◌, ℕ, ◌<◌, List, [], ◌∷◌, length, Option, Some, None, MatchOption, get_or, slice_set}
 use Rattle.std.specs.List.{AllByRecursion, cons_option}
 use Rattle.std.specs.Option.{option_map_or}

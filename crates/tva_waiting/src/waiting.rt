@@ -88,6 +88,7 @@ impl Model for Waiting {
 }
 
 impl Waiting {
+    /// No inputs.
     pub fn new(alloc: Global) -> Waiting
         ensures { result ≡ [] }
     {
@@ -98,7 +99,7 @@ impl Waiting {
         }
     }
 
-    /// Makes room for so many more, so many of which are held at places. The error is want of memory.
+    /// Makes room for `count` more, of which `held` are held at places. The error is want of memory.
     pub fn reserve(&mut self, count: usize, held: usize) -> Result<(), AllocError>
         ensures { self.new ≡ self.old }
     {
@@ -106,8 +107,8 @@ impl Waiting {
         self.slots.reserve(held)
     }
 
-    /// Puts one more at its place, behind all before which it need not stand, and behind all in the inbox.
-    /// The error is want of memory, and changes nothing.
+    /// Puts one more at its place, behind all that it need not stand before, and notes it behind all in the
+    /// inbox. The error is want of memory, and changes nothing.
     pub fn put(
         &mut self,
         input: Input,
@@ -145,7 +146,7 @@ impl Waiting {
         }
     }
 
-    /// Takes the next one.
+    /// Takes the next one. There is one where `first_time` tells a time.
     pub fn take(&mut self) -> Input
         requires { self.old ≢ [] }
         ensures { self.old ≡ result ∷ self.new }

@@ -75,6 +75,7 @@ fn expect_listed(
     table: &[(&str, &str)],
 ) -> Result<(), Fail> {
     let again = PackedRows::from_rows(alloc, packed.to_rows(alloc)?)?;
+    assert_eq!(rt; again.len(), table.len());
     for (place, (line, want)) in table.iter().enumerate() {
         expect_at(rt, alloc, &again, place, line, want)?;
     }

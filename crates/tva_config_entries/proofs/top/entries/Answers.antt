@@ -2,7 +2,7 @@ use Rattle.std.proofs.Common.{◌∙◌, ap, drop, map}
 use Rattle.std.proofs.lemmas.List.{drop_all}
 use Rattle.toml.specs.View.{table_view}
 use Rattle.tva_config_entries.specs.Faults.{at}
-use Rattle.tva_config_entries.specs.Tables.{entries_of}
+use Rattle.tva_config_entries.specs.Tables.{table_entries}
 use Rattle.tva_config_entries.specs.Stages.{entry_step}
 use Rattle.tva_config_entries.proofs.InTurn.{next_at, continues_more, continues_ends, one_longer}
 use Rattle.tva_config_entries.proofs.top.entries.Goals as goal
@@ -23,7 +23,7 @@ loop-i-preserved g c =
     }
 
 pub returns-clause-answer : goal.returns-clause-answer
-unfolding entries_of
+unfolding table_entries
 returns-clause-answer g c =
     continues_ends (entry_step c.args.kind (g.T.Entry.entry_of c.args.version)) c.loop-i.read.items (map (λ t. table_view t.now) (drop c.loop-i.i c.args.tables.now))
     (map (λ t. table_view t.now) c.args.tables.now)

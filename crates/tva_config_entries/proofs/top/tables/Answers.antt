@@ -2,8 +2,7 @@ use Rattle.std.proofs.Common.{◌∙◌, refl, map, Vec, Bor, BTreeMap, String, 
 use Rattle.toml.specs.Data.{Members}
 use Rattle.toml.specs.View.{table_view}
 use Rattle.toml.specs.declared.value.Value.{Value}
-use Rattle.tva_config_entries.specs.Stages.{tables_of}
-use Rattle.tva_config_entries.specs.Views.{seen_top}
+use Rattle.tva_config_entries.specs.Stages.{tables_of, seen_top}
 use Rattle.tva_config_entries.proofs.Answered.{error_told, given}
 use Rattle.tva_config_entries.proofs.top.tables.Goals as goal
 

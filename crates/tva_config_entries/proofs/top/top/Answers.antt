@@ -1,7 +1,6 @@
 use Rattle.std.proofs.Common.{◌∙◌, sym}
 use Rattle.toml.specs.View.{table_view}
-use Rattle.tva_config_entries.specs.Stages.{top_of}
-use Rattle.tva_config_entries.specs.Views.{seen_top}
+use Rattle.tva_config_entries.specs.Stages.{top_of, seen_top}
 use Rattle.tva_config_entries.proofs.Answered.{answered_there, fault_told, given, refused}
 use Rattle.tva_config_entries.proofs.top.top.Goals as goal
 

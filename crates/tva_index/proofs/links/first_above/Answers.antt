@@ -1,4 +1,4 @@
-use Rattle.std.proofs.Common.{None, length, subst, sym, ap, arith}
+use Rattle.std.proofs.Common.{None, length, ◌∙◌, subst, sym, ap, arith}
 use Rattle.std.proofs.lemmas.List.{get_or_read}
 use Rattle.tva_index.specs.Buckets.{IsLastBelow}
 use Rattle.tva_index.proofs.Homes.{in_range}
@@ -8,15 +8,16 @@ use Rattle.tva_index.proofs.links.first_above.Goals as goal
 pub loop-at-init : goal.loop-at-init
 loop-at-init c =
     let k = c.args.links.now in
-    subst (IsLastBelow k.homes.items (length k.homes.items) c.args.bucket) (sym (get_or_read k.last.items c.args.bucket c.index-at.result.now c.requires.bucket c.index-at.ensures None)) (c.requires.linked.starts c.args.bucket c.requires.bucket)
+    subst (IsLastBelow k.homes.items (length k.homes.items) c.args.bucket) (sym (c.place-at.ensures ∙ get_or_read k.last.items c.args.bucket c.index.result.now c.requires.bucket c.index.ensures None)) (c.requires.linked.starts c.args.bucket c.requires.bucket)
 
 -- what stands before the place that was passed
-passed : (c : goal.After-at-in-Some-1) → IsLastBelow c.args.links.now.homes.items c.in-Some.other c.args.bucket c.index-at-in-Some.result.now
+passed : (c : goal.After-place-at-in-Some) → IsLastBelow c.args.links.now.homes.items c.in-Some.other c.args.bucket c.place-at-in-Some.result
 passed c =
     let k = c.args.links.now in
     let w = rw c.in-Some.is at c.loop-at.invariant in
     let h = walk_place k.homes.items c.args.place c.args.bucket c.loop-at.above c.in-Some.other w in
-    step_read k.last.items k.before.items k.homes.items c.in-Some.other c.args.bucket c.index-at-in-Some.result.now c.requires.linked (in_range k.homes.items c.in-Some.other c.args.bucket h) c.index-at-in-Some.ensures h
+    subst (IsLastBelow k.homes.items c.in-Some.other c.args.bucket) (sym c.place-at-in-Some.ensures)
+    (step_read k.last.items k.before.items k.homes.items c.in-Some.other c.args.bucket c.index-in-Some.result.now c.requires.linked (in_range k.homes.items c.in-Some.other c.args.bucket h) c.index-in-Some.ensures h)
 
 pub loop-at-preserved : goal.loop-at-preserved
 loop-at-preserved c =
@@ -25,4 +26,4 @@ loop-at-preserved c =
     (c.if-other-place.false, walk_place k.homes.items c.args.place c.args.bucket c.loop-at.above c.in-Some.other w, passed c)
 
 pub loop-at-smaller : goal.loop-at-smaller
-loop-at-smaller c = omega (arith, rank-le c.args.links.now.homes.items c.in-Some.other c.args.bucket c.index-at-in-Some.result.now (passed c), ap rank c.in-Some.is)
+loop-at-smaller c = omega (arith, rank-le c.args.links.now.homes.items c.in-Some.other c.args.bucket c.place-at-in-Some.result (passed c), ap rank c.in-Some.is)

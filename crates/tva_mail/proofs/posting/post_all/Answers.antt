@@ -43,16 +43,16 @@ returns-clause-got c =
     (sym (since_picked (λ v. v.sendings) c.args.nodes.now c.args.posted.now c.args.places.now
     (zip_length (λ v n. n ≤ length v.sendings) c.args.nodes.now c.args.posted.now c.requires.known) c.requires.places c.requires.others))
     c.in_ok-post_each.ensures.got)
-    c.forget_each.ensures
+    c.forget_each.ensures.each
 
 pub returns-clause-posted : goal.returns-clause-posted
 returns-clause-posted c =
     c.note_posted.ensures ∙ sent_counts c.args.nodes.now c.post_each.new.nodes c.in_ok-post_each.ensures.keeps
 
 pub returns-clause-noted : goal.returns-clause-noted
-returns-clause-noted c = noted_forgot c.post_each.new.times c.post_each.new.nodes c.forget_each.new.nodes c.forget_each.ensures c.in_ok-post_each.ensures.noted
+returns-clause-noted c = noted_forgot c.post_each.new.times c.post_each.new.nodes c.forget_each.new.nodes c.forget_each.ensures.each c.in_ok-post_each.ensures.noted
 
 pub returns-clause-keeps : goal.returns-clause-keeps
 returns-clause-keeps c =
     all_keep c.args.nodes.now c.post_each.new.nodes c.forget_each.new.nodes c.in_ok-post_each.ensures.keeps
-    (forgot_keeps c.post_each.new.nodes c.forget_each.new.nodes c.forget_each.ensures)
+    (forgot_keeps c.post_each.new.nodes c.forget_each.new.nodes c.forget_each.ensures.each)

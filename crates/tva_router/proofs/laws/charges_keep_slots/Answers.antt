@@ -5,14 +5,14 @@ use Rattle.tva_flow.specs.Stands.{AreNext}
 use Rattle.tva_flow.proofs.Places.{legal_front, timely_front}
 use Rattle.tva_flow.proofs.Few.{few}
 use Rattle.tva_flow.proofs.Budget.{budget}
-use Rattle.tva_router.specs.Handling.{Logs}
+use Rattle.tva_router.specs.Handling.{PortLogs}
 use Rattle.tva_router.specs.Stands.{RouterData, StandsFor}
 use Rattle.tva_router.proofs.laws.charges_keep_slots.Goals as goal
 
-legal : (v : RouterData) (h : List Charge) (logs : Logs) → StandsFor v h logs → AreNext v.plan.slots v.plan.clock_offset [] h
+legal : (v : RouterData) (h : List Charge) (logs : PortLogs) → StandsFor v h logs → AreNext v.plan.slots v.plan.clock_offset [] h
 legal v h logs s = subst (λ (n : ℕ). AreNext n v.plan.clock_offset [] h) s.plan.slots (subst (λ (n : ℕ). AreNext v.cache.slots n [] h) s.plan.offset s.charges.charges)
 
-front : (v : RouterData) (h before rest : List Charge) (logs : Logs) → StandsFor v h logs → h ≡ before ++ rest → AreNext v.plan.slots v.plan.clock_offset [] before
+front : (v : RouterData) (h before rest : List Charge) (logs : PortLogs) → StandsFor v h logs → h ≡ before ++ rest → AreNext v.plan.slots v.plan.clock_offset [] before
 front v h before rest logs s e = legal_front v.plan.slots v.plan.clock_offset before rest (subst (λ (z : List Charge). AreNext v.plan.slots v.plan.clock_offset [] z) e (legal v h logs s))
 
 pub returns-clause-legal : goal.returns-clause-legal

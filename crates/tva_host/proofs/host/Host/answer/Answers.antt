@@ -1,6 +1,6 @@
 use Rattle.std.proofs.Common.{sym, subst, ap, ◌∙◌}
 use Rattle.std.specs.Option.{is_some}
-use Rattle.tva_policy.specs.Grants.{Decided, decision}
+use Rattle.tva_policy.specs.Grants.{Decided, grant_decision}
 use Rattle.tva_host.specs.Receiving.{after_answer}
 use Rattle.tva_host.specs.Stands.{HostData, host_data, Keeps}
 use Rattle.tva_host.proofs.Standing.{noted, rights-fit, some-fit, has-deed}
@@ -31,5 +31,5 @@ returns-clause-keeps c h k =
     let kept : Keeps v h = subst (λ (w : HostData). Keeps w h) (sym c.self.view_is) k in
     subst (λ (w : HostData). Keeps (noted c.decide.new.self v) (after_answer w.plan c.args.src c.args.carried.now h)) c.self.view_is
     (keeps-answer v c.decide.new.self h c.args.src c.args.carried.now _ c.in_ok-rights.rights kept c.in-Some.ensures
-    (c.in_ok-rights.ensures.answer v.plan.policy h.deeds kept.policy ∙ ap (decision v.plan.policy h.deeds c.args.src) c.as_slice.ensures.value)
+    (c.in_ok-rights.ensures.answer v.plan.policy h.deeds kept.policy ∙ ap (grant_decision v.plan.policy h.deeds c.args.src) c.as_slice.ensures.value)
     (c.in_ok-rights.ensures.stands v.plan.policy h.deeds kept.policy))

@@ -6,7 +6,7 @@ use Rattle.tva_shim.specs.Packets.{PacketData}
 use Rattle.tva_shim.specs.Fields.{packet_of_fields}
 use Rattle.tva_host.specs.declared.made.Receipt.{Receipt}
 use Rattle.tva_shim.specs.Shows.{back_in}
-use Rattle.tva_host.specs.Receiving.{after_back, became_of, claim_in, answer_to, brought_by, after_answer, reply_of, after_reply, before_reply, receipt_of, after_receipt}
+use Rattle.tva_host.specs.Receiving.{after_back, became_of, claim_in, answer_to_claim, brought_by, after_answer, reply_of, after_reply, before_reply, receipt_of, after_receipt}
 use Rattle.tva_host.specs.Calls.{Received, history_of}
 use Rattle.tva_host.specs.Stands.{HostData, host_data, Keeps}
 use Rattle.tva_host.proofs.Standing.{timed, keeps-timed}
@@ -64,7 +64,7 @@ returns-clause-receipt c calls s =
     c.what_of.ensures
     (c.take_back-back.ensures.became (after_answer told.plan src carries h) decided
     ∙ ap (λ (q : HostPlan). became_of q.version h.contacts src (back_in carries)) asked_plan)
-    (c.brought_by.ensures.back ∙ ap (brought_by c.args.upper) (c.in_ok-answer.ensures.answer h roomy ∙ ap (λ (q : HostPlan). answer_to q h.deeds src carries (claim_in carries)) plan))
+    (c.brought_by.ensures.back ∙ ap (brought_by c.args.upper) (c.in_ok-answer.ensures.answer h roomy ∙ ap (λ (q : HostPlan). answer_to_claim q h.deeds src carries (claim_in carries)) plan))
     (replied ∙ ap (λ n. reply_of n c.take_back-back.new.self.plan (before_reply told.plan src carries h) c.args.now.0 src c.brought_by.result c.args.upper) heard_node
     ∙ ap (λ (q : HostPlan). reply_of told.node q (before_reply told.plan src carries h) c.args.now.0 src c.brought_by.result c.args.upper) heard_plan)
     ∙ receipt-here told.node told.plan h c.args.now.0 packet c.args.upper here)
@@ -88,7 +88,7 @@ returns-clause-stands c calls s =
     let asked_plan : c.answer.new.self.plan ≡ told.plan = ap (λ (w : HostData). w.plan) c.in_ok-answer.ensures.rest ∙ plan in
     let heard = subst (λ (q : HostPlan). Keeps c.take_back-back.new.self (after_back q.version src (back_in carries) (after_answer told.plan src carries h))) asked_plan
     (c.take_back-back.ensures.keeps (after_answer told.plan src carries h) decided) in
-    let answers = c.brought_by.ensures.back ∙ ap (brought_by c.args.upper) (c.in_ok-answer.ensures.answer h roomy ∙ ap (λ (q : HostPlan). answer_to q h.deeds src carries (claim_in carries)) plan) in
+    let answers = c.brought_by.ensures.back ∙ ap (brought_by c.args.upper) (c.in_ok-answer.ensures.answer h roomy ∙ ap (λ (q : HostPlan). answer_to_claim q h.deeds src carries (claim_in carries)) plan) in
     let replied = subst (λ (q : HostPlan). Keeps done (after_reply q c.args.now.0 src c.brought_by.result c.args.upper (before_reply told.plan src carries h))) heard_plan
     (c.reply-reply.ensures.keeps (before_reply told.plan src carries h) heard) in
     let last : done.last ≡ c.args.now.0 = c.reply-reply.ensures.rest.2 ∙ ap (λ (w : HostData). w.last) c.take_back-back.ensures.rest ∙ ap (λ (w : HostData). w.last) c.in_ok-answer.ensures.rest ∙ ap (λ (w : HostData). w.last) c.in_ok-make_room.ensures.rest in

@@ -1,7 +1,7 @@
 use Rattle.std.proofs.Common.{ℕ, map, sym, subst, ap₂, ◌∙◌}
 use Rattle.std.specs.Prelude.{Contains}
 use Rattle.tva_base.specs.declared.addresses.Prefix.{Prefix}
-use Rattle.tva_base.specs.Changes.{changed}
+use Rattle.tva_base.specs.Changes.{changed_plan}
 use Rattle.tva_base.specs.Plan.{links_of}
 use Rattle.tva_router.specs.Routes.{rerouted}
 use Rattle.tva_node.specs.declared.changes.Changes.{Changes}
@@ -27,6 +27,6 @@ returns-in-Some-clause-goes c =
     let now = c.args.now.0 in
     let m = c.in-Some.ensures.some in
     let v = c.reroute.new.self in
-    let plan = c.reroute.ensures.plan ∙ ap₂ (λ (p : Prefix) (k : ℕ). changed r.router.plan.master (rerouted p k r.router.plan.routes) r.router.plan) (sym (m.prefix (some_move 0))) (sym (m.link (some_move 0))) in
+    let plan = c.reroute.ensures.plan ∙ ap₂ (λ (p : Prefix) (k : ℕ). changed_plan r.router.plan.master (rerouted p k r.router.plan.routes) r.router.plan) (sym (m.prefix (some_move 0))) (sym (m.link (some_move 0))) in
     subst (λ (x : Changes). StandsOn now r (record { router = v; next = r.next; changes = x })) (λ i. record { boot = sym m.rest.1 i; moves = sym m.rest.0 i; moved = sym m.on i })
     (moves_on now r v (some_move 0) c.requires m.within (m.time (some_move 0)) c.reroute.ensures.last c.reroute.ensures.built plan c.reroute.ensures.stands)
