@@ -86,6 +86,7 @@ impl<T: Measured> FairQueues<T> {
     /// `NoQueue` where the key has no queue and all queues are given, and with `QueueFull` where
     /// the limits of items or bytes in its queue, or of bytes in all, would be passed; a refusal
     /// hands the item back and changes nothing. It takes no memory.
+    #[inline(always)]
     pub fn offer(&mut self, key: u32, item: T) -> Offered<T>
         requires length { (1 ≤ T.measure item) × (T.measure item ≤ self.old.limits.max) }
         ensures answer { result ≡ offer_answer T.measure self.old key item }
@@ -141,6 +142,7 @@ impl<T: Measured> FairQueues<T> {
     /// falls by the item's length. A front without items then leaves the list with its deficit,
     /// and one whose deficit is below its next item's length goes last; either way the queue that
     /// now stands at the front gets the quantum. It takes no memory.
+    #[inline(always)]
     pub fn take(&mut self) -> Option<T>
         ensures value { result ≡ head self.old.queues }
         ensures none { IsNone result ↔ (self.old.queues ≡ []) }

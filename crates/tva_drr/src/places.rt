@@ -103,6 +103,7 @@ fn first_deficit<T: Measured>(waiting: &VecDeque<Slot<T>>, quantum: u32) -> u32
 }
 
 /// Puts the item last at the place of its key's queue, or in a spare slot that goes last.
+#[inline(always)]
 pub(crate) fn put_slot<T: Measured>(
     limits: &DrrLimits,
     waiting: &mut VecDeque<Slot<T>>,

@@ -6,6 +6,7 @@ use circular_buffer::HeapCircularBuffer;
 
 /// Takes the first item of a ring. A single one is taken from behind, so that the next one stands at its
 /// place, which the processor's caches hold.
+#[inline(always)]
 pub fn take_first<T>(ring: &mut HeapCircularBuffer<T>) -> Option<T>
     ensures value { result ≡ first ring.old.items }
     ensures items { ring.new.items ≡ drop 1 ring.old.items }

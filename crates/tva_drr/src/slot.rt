@@ -95,6 +95,7 @@ impl<T: Measured> Slot<T> {
     }
 
     /// Puts an item last. There is a place for it.
+    #[inline(always)]
     pub fn push(&mut self, item: T)
         requires room { length self.old.queue.items < self.old.room }
         requires fits { bytes_in T.measure self.old.queue.items + T.measure item < 2 ^ 32 }
@@ -106,6 +107,7 @@ impl<T: Measured> Slot<T> {
     }
 
     /// Takes the first item, which the deficit covers.
+    #[inline(always)]
     pub fn pop(&mut self) -> Option<T>
         requires { ForSome (first self.old.queue.items) (λ x. T.measure x ≤ self.old.queue.deficit) }
         ensures value { result ≡ first self.old.queue.items }

@@ -27,6 +27,7 @@ fn refill_slot<T: Measured>(waiting: &mut VecDeque<Slot<T>>, quantum: u32)
 }
 
 /// Takes the front's first item, which its deficit covers.
+#[inline(always)]
 pub(crate) fn pop_slot<T: Measured>(waiting: &mut VecDeque<Slot<T>>) -> Option<T>
     requires { ForSome (slice_get (queues_in waiting.old.items) 0)
         (λ q. ForSome (first q.items) (λ x. T.measure x ≤ q.deficit)) }

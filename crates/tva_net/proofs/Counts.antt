@@ -1,15 +1,14 @@
 -- How many rows each node has, one row after another.
-use Rattle.std.proofs.Common.{◌≡◌, ℕ, ◌+◌, ◌<◌, ◌≤◌, Bool, true, false, cond, List, [], ◌∷◌, ◌++◌, length, get_or, set, map, filter, take, refl, sym, subst, ◌∙◌, ap, arith, inl, inr, append-nil, length-append, add-zero}
-use Rattle.std.specs.Int.{from_bool}
+use Rattle.std.proofs.Common.{◌≡◌, ℕ, ◌+◌, ◌<◌, Bool, true, false, cond, List, [], ◌∷◌, ◌++◌, length, get_or, set, map, filter, take, refl, sym, subst, ◌∙◌, ap, arith, inl, inr, length-append, add-zero}
 use Rattle.std.specs.Prelude.{◌==◌}
 use Rattle.std.proofs.lemmas.Bool.{cases_eq, cond-true, cond-false, eq-eqb, ne_eqb}
-use Rattle.std.proofs.lemmas.List.{get_or-set_other, get_or-set_same, length-set, map-append, set-get_or, take_more}
+use Rattle.std.proofs.lemmas.List.{get_or-set_other, get_or-set_same, length-set, map-append, take_more}
 use Rattle.std.proofs.lemmas.List.Elements.{filter-append}
 use Rattle.tva_trace.specs.declared.rows.Row.{Row}
 use Rattle.tva_log.specs.declared.kinds.Input.{Input}
 use Rattle.tva_log.specs.declared.kinds.Input.TheVariants.{FromTrace}
 use Rattle.tva_run.specs.Reaching.{rows_at}
-use Rattle.tva_net.specs.Built.{AreRowCounts, carries}
+use Rattle.tva_net.specs.Built.{AreRowCounts}
 
 one_row : (row : Row) (b : Bool) → length (map FromTrace (cond b (row ∷ []) [])) ≡ cond b 1 0
 one_row row true = refl
@@ -45,36 +44,9 @@ module _ (n : ℕ) (rows : List Row) (row : Row) (counts : List ℕ) (within : r
   pub counts_more : AreRowCounts n (rows ++ row ∷ []) (set counts row.node more)
   counts_more = record { count = length-set counts row.node more ∙ c.count; each = each_more }
 
--- a row that may count
-pub counts_may : (b : Bool) (n : ℕ) (rows : List Row) (row : Row) (counts : List ℕ) → row.node < n → AreRowCounts n rows counts → AreRowCounts n (rows ++ cond b (row ∷ []) []) (set counts row.node (get_or counts row.node 0 + from_bool b))
-counts_may true n rows row counts within c = counts_more n rows row counts within c
-counts_may false n rows row counts within c =
-    subst (λ (rs : List Row). AreRowCounts n rs (set counts row.node (get_or counts row.node 0 + 0))) (sym (append-nil rows))
-    (subst (λ (cs : List ℕ). AreRowCounts n rows cs) (sym (ap (λ k. set counts row.node k) (add-zero (get_or counts row.node 0)) ∙ set-get_or counts row.node 0)) c)
-
 -- the rows up to one more
 pub all_more : (n : ℕ) (rows : List Row) (i : ℕ) (row : Row) (counts : List ℕ) → i < length rows → row ≡ get_or rows i row → row.node < n → AreRowCounts n (take i rows) counts
     → AreRowCounts n (take (i + 1) rows) (set counts row.node (get_or counts row.node 0 + 1))
 all_more n rows i row counts l is within c =
     subst (λ (rs : List Row). AreRowCounts n rs (set counts row.node (get_or counts row.node 0 + 1)))
     (sym (take_more rows i row l ∙ ap (λ (r : Row). take i rows ++ r ∷ []) (sym is))) (counts_more n (take i rows) row counts within c)
-
-pub carrying_more : (n : ℕ) (rows : List Row) (i : ℕ) (row : Row) (counts : List ℕ) → i < length rows → row ≡ get_or rows i row → row.node < n → AreRowCounts n (filter carries (take i rows)) counts
-    → AreRowCounts n (filter carries (take (i + 1) rows)) (set counts row.node (get_or counts row.node 0 + from_bool (carries row)))
-carrying_more n rows i row counts l is within c =
-    subst (λ (rs : List Row). AreRowCounts n rs (set counts row.node (get_or counts row.node 0 + from_bool (carries row))))
-    (sym (ap (filter carries) (take_more rows i row l ∙ ap (λ (r : Row). take i rows ++ r ∷ []) (sym is)) ∙ filter-append carries (take i rows) (row ∷ [])))
-    (counts_may (carries row) n (filter carries (take i rows)) row counts within c)
-
-pub from_bool_few : (b : Bool) → from_bool b ≤ 1
-from_bool_few true = omega arith
-from_bool_few false = omega arith
-
--- no more rows carry something than there are rows
-pub few_carry : (rs : List Row) → length (filter carries rs) ≤ length rs
-few_carry [] = omega arith
-few_carry (r ∷ rs) = one_few (carries r) (few_carry rs)
-  where
-    one_few : (b : Bool) → length (filter carries rs) ≤ length rs → length (cond b (r ∷ filter carries rs) (filter carries rs)) ≤ length (r ∷ rs)
-    one_few true e = omega (arith, e)
-    one_few false e = omega (arith, e)

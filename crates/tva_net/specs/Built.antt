@@ -1,8 +1,7 @@
 -- Kit: what nodes are built with.
-use Rattle.std.specs.Prelude.{◌≡◌, ℕ, ◌<◌, Bool, List, [], length, Some, slice_index, slice_index_or}
+use Rattle.std.specs.Prelude.{◌≡◌, ℕ, ◌<◌, List, [], length, Some, slice_index, slice_index_or}
 use Rattle.tva_plan.specs.declared.config.Config.{Config}
 use Rattle.tva_trace.specs.declared.rows.Row.{Row}
-use Rattle.tva_trace.specs.Packed.{carries_some}
 use Rattle.tva_node.specs.States.{NodeState, Stands}
 use Rattle.tva_run.specs.Reaching.{rows_at, site_at}
 use Rattle.tva_mail.specs.Mail.{HadGone}
@@ -21,10 +20,6 @@ pub record AreFirstNodes (config : Config) (rows : List Row) (nodes : List NodeS
   pub count : length nodes ≡ length config.nodes
   pub each : (number : ℕ) (d : NodeState) → number < length nodes
       → IsFirstNode config rows number (slice_index_or nodes number d)
-
--- a row carries something
-abbrev pub carries : Row → Bool
-carries row = carries_some row.what
 
 -- so many nodes have so many rows
 pub record AreRowCounts (nodes : ℕ) (rows : List Row) (counts : List ℕ) : Type 0 where

@@ -1,12 +1,12 @@
 // The nodes of a configuration, with their rows.
-ghost use Rattle.std.specs.Prelude.{◌≡◌, ◌<◌, ◌≤◌, [], All, IfOk, OnOk, filter, length};
+ghost use Rattle.std.specs.Prelude.{◌≡◌, ◌<◌, ◌≤◌, [], All, IfOk, OnOk, length};
 ghost use Rattle.std.specs.List.{AllZip};
 ghost use Rattle.tva_plan.specs.Valid.{IsConfig};
 ghost use Rattle.tva_trace.specs.Valid.{AreTraceRows};
 ghost use Rattle.tva_log.specs.declared.kinds.Input.TheVariants.{FromTrace};
 ghost use Rattle.tva_run.specs.Reaching.{links_out, rows_at};
 ghost use Rattle.tva_mail.specs.Mail.{CanDeliver, GotMails, KeepsWork};
-ghost use Rattle.tva_net.specs.Built.{AreFirstNodes, AreRowCounts, IsFirstNode, carries};
+ghost use Rattle.tva_net.specs.Built.{AreFirstNodes, AreRowCounts, IsFirstNode};
 
 use std::alloc::{AllocError, Global};
 use tva_base::LinkPlan;
@@ -82,13 +82,6 @@ fn links_out(
     Ok(out)
 }
 
-/// How many rows each node has, and how many of them carry something.
-#[derive(Drop)]
-struct RowCounts {
-    all: Vec<usize>,
-    carrying: Vec<usize>,
-}
-
 // Makes room for the rows of each node.
 fn make_room(alloc: Global, nodes: &mut [Node], rows: &PackedRows) -> Result<(), AllocError>
     requires few { length rows.now ≤ 1000000 }
@@ -97,26 +90,22 @@ fn make_room(alloc: Global, nodes: &mut [Node], rows: &PackedRows) -> Result<(),
 {
     let counts = row_counts(alloc, nodes.len(), rows)?;
     for place in 0..nodes.len() {
-        nodes[place].reserve(counts.all[place], counts.carrying[place])?;
+        nodes[place].reserve(counts[place])?;
     }
     Ok(())
 }
 
-// How many rows each of so many nodes has, and how many of them carry something.
-fn row_counts(alloc: Global, count: usize, rows: &PackedRows) -> Result<RowCounts, AllocError>
+// How many rows each of so many nodes has.
+fn row_counts(alloc: Global, count: usize, rows: &PackedRows) -> Result<Vec<usize>, AllocError>
     requires few { length rows.now ≤ 1000000 }
     requires within { All (λ row. row.node < count) rows.now }
-    ensures all { IfOk result (λ counts. AreRowCounts count rows.now counts.all.items) }
-    ensures carrying { IfOk result (λ counts. AreRowCounts count (filter carries rows.now) counts.carrying.items) }
+    ensures { IfOk result (λ counts. AreRowCounts count rows.now counts.items) }
 {
-    let mut all = vec![in alloc; 0; count]?;
-    let mut carrying = vec![in alloc; 0; count]?;
+    let mut counts = vec![in alloc; 0; count]?;
     for place in 0..rows.len() {
-        let node = usize::from(rows.node_at(place));
-        all[node] += 1;
-        carrying[node] += usize::from(rows.carries_at(place));
+        counts[usize::from(rows.node_at(place))] += 1;
     }
-    Ok(RowCounts { all, carrying })
+    Ok(counts)
 }
 
 // Gives each row to its node.

@@ -104,12 +104,11 @@ impl Node {
         })
     }
 
-    /// Makes room for `count` more inputs, of which `carrying` are packets or rows that carry something. The
-    /// error is want of memory; nothing changes.
-    pub fn reserve(&mut self, count: usize, carrying: usize) -> Result<(), AllocError>
+    /// Makes room for the turns of `count` more inputs. The error is want of memory; nothing changes.
+    pub fn reserve(&mut self, count: usize) -> Result<(), AllocError>
         ensures { self.new ≡ self.old }
     {
-        self.parts.waiting.reserve(count, carrying)
+        self.parts.waiting.reserve(count)
     }
 
     /// The number of the node.

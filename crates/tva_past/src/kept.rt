@@ -72,6 +72,7 @@ impl<T> Kept<T> {
 
     /// Puts an element in. The error is want of memory, also where the count of all elements would pass
     /// the end of its type, and changes nothing.
+    #[inline(always)]
     pub fn push(&mut self, item: T) -> Result<(), AllocError>
     where
         T: Drop,

@@ -14,6 +14,7 @@ use tva_drr::{FairQueues, Offered};
 use tva_shim::{Packet, length};
 
 /// Offers a packet to fair queues.
+#[inline(always)]
 pub(crate) fn offer_to(
     queues: &mut FairQueues<HeldPacket>,
     key: u32,
@@ -29,6 +30,7 @@ pub(crate) fn offer_to(
 }
 
 /// Starts the next packet of fair queues, in that class.
+#[inline(always)]
 pub(crate) fn start_from(queues: &mut FairQueues<HeldPacket>, class: Class) -> Decision
     ensures value { result ≡ start_or class (head queues.old.queues) Idle }
     ensures left { queues.new ≡ take_leaves packet_length queues.old }

@@ -33,6 +33,7 @@ impl Measured for HeldPacket {
 }
 
 /// The answer to an offer, with the packet that it hands back.
+#[inline(always)]
 pub(crate) fn given_back(answer: Offered<HeldPacket>) -> Offered<Packet>
     ensures { result ≡ answer }
 {

@@ -62,6 +62,7 @@ impl LegacyList {
     }
 
     /// Puts a packet last, or hands it back where its place or its bytes are too many.
+    #[inline(always)]
     pub fn offer(&mut self, packet: Packet) -> Offered<Packet>
         ensures answer { result ≡ legacy_answer self.old packet }
         ensures left { self.new ≡ legacy_leaves self.old packet }
@@ -87,6 +88,7 @@ impl LegacyList {
     }
 
     /// Starts the oldest packet.
+    #[inline(always)]
     pub fn start(&mut self) -> Decision
         ensures value { result ≡ start_or Legacy (first self.old.packets) Idle }
         ensures left { self.new ≡ legacy_data self.old.places self.old.most (drop 1 self.old.packets) }

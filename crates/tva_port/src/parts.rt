@@ -35,6 +35,7 @@ fn is_covered(limits: &LinkLimits, credit: u64, requests: &RequestQueues) -> boo
 
 /// How long a link rests that starts nothing: until the credit, which grows by one each nanosecond,
 /// covers the request at the head.
+#[inline(always)]
 fn rest(limits: &LinkLimits, credit: u64, now: u64, requests: &RequestQueues) -> Decision
     requires limits { AreLinkLimits limits.now }
     requires most { (limits_in requests.now).max ≡ 2048 }
@@ -51,6 +52,7 @@ fn rest(limits: &LinkLimits, credit: u64, now: u64, requests: &RequestQueues) ->
 }
 
 /// What a free link starts, which leaves its queue, or how long the link rests.
+#[inline(always)]
 pub(crate) fn start_next(
     limits: &LinkLimits,
     credit: u64,
@@ -86,6 +88,7 @@ pub(crate) fn start_next(
 }
 
 /// Queues a packet in its class, or hands it back.
+#[inline(always)]
 pub(crate) fn put(
     requests: &mut RequestQueues,
     regulars: &mut FairQueues<HeldPacket>,

@@ -90,6 +90,7 @@ impl Port {
     /// packet goes last, whatever its key, and is refused with `QueueFull` exactly where too many
     /// packets or bytes would wait. A refusal hands the packet back, and changes nothing but the
     /// last time. It takes no memory.
+    #[inline(always)]
     pub fn queue(&mut self, now: Time, class: Class, key: u32, packet: Packet) -> Offered<Packet>
         requires time { self.old.last ≤ now.0 }
         requires horizon { now.0 ≤ 1000000000000000 }
@@ -122,6 +123,7 @@ impl Port {
     /// legacy packet; else the link waits until the first time at which the credit covers the request
     /// at the head, and is idle where nothing waits. TVA limits the rate of requests; the credit is
     /// this project's own form of it. It takes no memory.
+    #[inline(always)]
     pub fn decide(&mut self, now: Time) -> Decision
         requires time { self.old.last ≤ now.0 }
         requires horizon { now.0 ≤ 1000000000000000 }

@@ -62,6 +62,7 @@ impl RequestQueues {
 
     /// Offers a request under a key, and within it under its own inner key where there are two
     /// levels.
+    #[inline(always)]
     pub fn offer(&mut self, key: u32, packet: Packet) -> Offered<Packet>
         requires { (limits_in self.old).max ≡ 2048 }
         ensures answer { result ≡ request_answer self.old key packet }
@@ -75,6 +76,7 @@ impl RequestQueues {
     }
 
     /// Starts the next request.
+    #[inline(always)]
     pub fn start(&mut self) -> Decision
         ensures value { result ≡ start_or Request (next_in self.old) Idle }
         ensures left { self.new ≡ request_taken self.old }
@@ -87,6 +89,7 @@ impl RequestQueues {
 }
 
 /// Offers a packet to two-level queues under a key and its inner key.
+#[inline(always)]
 fn offer_within(queues: &mut HierQueues<HeldPacket>, key: u32, packet: Packet) -> Offered<Packet>
     requires { queues.old.limits.max ≡ 2048 }
     ensures answer { result
@@ -101,6 +104,7 @@ fn offer_within(queues: &mut HierQueues<HeldPacket>, key: u32, packet: Packet) -
 }
 
 /// Starts the next packet of two-level queues.
+#[inline(always)]
 fn start_within(queues: &mut HierQueues<HeldPacket>) -> Decision
     ensures value { result ≡ start_or Request (next queues.old.groups) Idle }
     ensures left { queues.new ≡ left_by_take packet_length queues.old }

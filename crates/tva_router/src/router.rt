@@ -88,6 +88,7 @@ impl Router {
     /// malformed one; a request, which gets an entry; a list, a nonce or a renewal, which is authorised
     /// or marked; then the longest prefix, and the offer to its link's port. A charge is there exactly
     /// where the packet was authorised, whatever becomes of it then.
+    #[inline(always)]
     pub fn arrive(&mut self, now: Time, from: Option<u16>, packet: Packet) -> Fate
         requires time { self.old.last ≤ now.0 }
         requires horizon { now.0 ≤ 1000000000000000 }
@@ -131,6 +132,7 @@ impl Router {
 
     /// What an outgoing link does that is free. Times are in nanoseconds and never fall. The decision
     /// is that of the link's port, over the link's log.
+    #[inline(always)]
     pub fn decide(&mut self, now: Time, link: u16) -> Decision
         requires time { self.old.last ≤ now.0 }
         requires horizon { now.0 ≤ 1000000000000000 }

@@ -17,6 +17,7 @@ use tva_port::{Decision, Port};
 use tva_shim::{Packet, queue_key};
 
 /// Queues the packet at the port of the link that leads to its destination.
+#[inline(always)]
 pub(crate) fn send(
     plan: &RouterPlan,
     ways: &Ways,
@@ -46,6 +47,7 @@ pub(crate) fn send(
 }
 
 /// What the outgoing link does.
+#[inline(always)]
 pub(crate) fn decide_on(
     plan: &RouterPlan,
     ways: &Ways,
@@ -88,6 +90,7 @@ pub(crate) fn free_on(plan: &RouterPlan, ways: &Ways, ports: &Vec<Port>, link: u
 }
 
 // Queues the packet at the port in that place, which is the link's.
+#[inline(always)]
 fn queue_at(
     plan: &RouterPlan,
     ports: &mut Vec<Port>,

@@ -41,7 +41,7 @@ layout-grown bytes more start count there = record {
   same = there.same ∙ sym (part-grown bytes more start count there.within);
 }
 
-held-grown : (bytes more : List ℕ) (w : BriefWhat) → IsWhatHeld bytes w → IsWhatHeld (bytes ++ more) w
+pub held-grown : (bytes more : List ℕ) (w : BriefWhat) → IsWhatHeld bytes w → IsWhatHeld (bytes ++ more) w
 held-grown bytes more (brief.Send payload dst) h = tt
 held-grown bytes more (brief.File segment dst size) h = tt
 held-grown bytes more (brief.Tick dst) h = tt
@@ -49,7 +49,7 @@ held-grown bytes more (brief.Bare payload flow) h = tt
 held-grown bytes more (brief.Malformed payload count flow) h = tt
 held-grown bytes more (brief.Shim payload count flow start) h = layout-grown bytes more start count h
 
-what-grown : (bytes more : List ℕ) (w : BriefWhat) → IsWhatHeld bytes w → what_in (bytes ++ more) w ≡ what_in bytes w
+pub what-grown : (bytes more : List ℕ) (w : BriefWhat) → IsWhatHeld bytes w → what_in (bytes ++ more) w ≡ what_in bytes w
 what-grown bytes more (brief.Send payload dst) h = refl
 what-grown bytes more (brief.File segment dst size) h = refl
 what-grown bytes more (brief.Tick dst) h = refl

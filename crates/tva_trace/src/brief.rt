@@ -1,6 +1,7 @@
 // What a row asks, in little memory: a shim is its layout, among those of all others.
 ghost use Rattle.std.specs.Prelude.{◌≡◌, IfOk, OnErr};
 ghost use Rattle.tva_shim.specs.declared.packets.Carried.TheVariants as carried;
+ghost use Rattle.tva_trace.specs.declared.rows.RowWhat.TheVariants as says;
 ghost use Rattle.tva_trace.specs.Brief.{Grows, IsLayoutAt, IsWhatHeld, part, shim_in, what_in};
 
 use crate::rows::RowWhat;
@@ -57,36 +58,52 @@ const _: () = prove!(size_of::<BriefRow>() <= 32);
 
 /// The brief form of what a row asks. The layout of its shim is put behind the others; an error leaves
 /// them as they were.
-pub fn brief_of(layouts: &mut Vec<u8>, what: RowWhat) -> Result<BriefWhat, AllocError>
+pub fn brief_of(layouts: &mut Vec<u8>, what: &RowWhat) -> Result<BriefWhat, AllocError>
     ensures grows { IfOk result (λ brief. Grows layouts.old.items layouts.new.items) }
     ensures held { IfOk result (λ brief. IsWhatHeld layouts.new.items brief) }
-    ensures same { IfOk result (λ brief. what_in layouts.new.items brief ≡ what) }
+    ensures same { IfOk result (λ brief. what_in layouts.new.items brief ≡ what.now) }
     ensures err { OnErr result (layouts.new.items ≡ layouts.old.items) }
 {
     match what {
-        RowWhat::Send { dst, payload } => Ok(BriefWhat::Send { payload, dst }),
-        RowWhat::File { dst, size, segment } => Ok(BriefWhat::File { segment, dst, size }),
-        RowWhat::Tick { dst } => Ok(BriefWhat::Tick { dst }),
+        RowWhat::Send { dst, payload } => Ok(BriefWhat::Send {
+            payload: *payload,
+            dst: *dst,
+        }),
+        RowWhat::File { dst, size, segment } => Ok(BriefWhat::File {
+            segment: *segment,
+            dst: *dst,
+            size: *size,
+        }),
+        RowWhat::Tick { dst } => Ok(BriefWhat::Tick { dst: *dst }),
         RowWhat::Inject {
             flow,
             payload,
-            carried: Carried::Nothing,
-        } => Ok(BriefWhat::Bare { payload, flow }),
-        RowWhat::Inject {
-            flow,
+            carried,
+        } => brief_carried(layouts, *flow, *payload, carried),
+    }
+}
+
+// The brief form of a row that injects a packet.
+fn brief_carried(
+    layouts: &mut Vec<u8>,
+    flow: Flow,
+    payload: u16,
+    carried: &Carried,
+) -> Result<BriefWhat, AllocError>
+    ensures grows { IfOk result (λ brief. Grows layouts.old.items layouts.new.items) }
+    ensures held { IfOk result (λ brief. IsWhatHeld layouts.new.items brief) }
+    ensures same { IfOk result (λ brief. what_in layouts.new.items brief ≡ says.Inject flow payload carried.now) }
+    ensures err { OnErr result (layouts.new.items ≡ layouts.old.items) }
+{
+    match carried {
+        Carried::Nothing => Ok(BriefWhat::Bare { payload, flow }),
+        Carried::Malformed(bytes) => Ok(BriefWhat::Malformed {
             payload,
-            carried: Carried::Malformed(bytes),
-        } => Ok(BriefWhat::Malformed {
-            payload,
-            bytes,
+            bytes: *bytes,
             flow,
         }),
-        RowWhat::Inject {
-            flow,
-            payload,
-            carried: Carried::Shim(shim),
-        } => {
-            let (start, bytes) = put_layout(layouts, &shim)?;
+        Carried::Shim(shim) => {
+            let (start, bytes) = put_layout(layouts, shim)?;
             Ok(BriefWhat::Shim {
                 payload,
                 bytes,

@@ -1,7 +1,7 @@
 //! Traces. Its contract promises that a trace is read to its rows, which are the only ones, or to the
 //! first rule that its first bad record breaks, and that rows which are held in little memory
-//! (`PackedRows`) are the same list. The lines of reports and the text of a shim, which it hands on, are
-//! written in `tva_lines` and `tva_shim_text`.
+//! (`PackedRows`, or one by one their brief forms) are the same. The lines of reports and the text of a
+//! shim, which it hands on, are written in `tva_lines` and `tva_shim_text`.
 #![tactic(auto)]
 
 mod brief;
@@ -18,6 +18,7 @@ mod rows;
 mod said;
 mod secrets;
 
+pub use brief::{BriefWhat, brief_of, what_from};
 pub use laws::{rows_are_there, texts_have_one_meaning, transfers_are_few};
 pub use packed::PackedRows;
 pub use read::{read_packed, read_trace};

@@ -1,9 +1,8 @@
 // The rows of a trace in little memory.
 ghost use Rattle.std.specs.Prelude.{◌≡◌, ◌<◌, [], ◌∷◌, ◌++◌, IfOk, OnErr, OnOk, length, slice_index_or};
 ghost use Rattle.tva_trace.specs.declared.rows.Row.{Row};
-ghost use Rattle.tva_trace.specs.Packed.{carries_some};
 
-use crate::brief::{BriefRow, BriefWhat, brief_of, what_from};
+use crate::brief::{BriefRow, brief_of, what_from};
 use crate::rows::Row;
 use std::alloc::{AllocError, Global};
 use std::marker::Model;
@@ -64,7 +63,7 @@ impl PackedRows {
         ensures err { OnErr result (self.new ≡ self.old) }
     {
         let Row { time, node, what } = row;
-        let what = brief_of(&mut self.layouts, what)?;
+        let what = brief_of(&mut self.layouts, &what)?;
         self.rows.push(BriefRow { time, what, node })?;
         Ok(())
     }
@@ -95,17 +94,6 @@ impl PackedRows {
         ensures { (row : Row) → result ≡ (slice_index_or self.now place row).node }
     {
         self.rows[place].node
-    }
-
-    /// Whether the row at a place injects a packet that carries something.
-    pub fn carries_at(&self, place: usize) -> bool
-        requires { place < length self.now }
-        ensures { (row : Row) → result ≡ carries_some (slice_index_or self.now place row).what }
-    {
-        match self.rows[place].what {
-            BriefWhat::Malformed { .. } | BriefWhat::Shim { .. } => true,
-            _ => false,
-        }
     }
 
     /// The rows as a list. The error is want of memory.

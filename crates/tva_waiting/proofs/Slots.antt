@@ -4,59 +4,71 @@ use Rattle.std.specs.Prelude.{nat_lt, ◌==◌, ◌||◌, ◌&&◌}
 use Rattle.std.specs.List.{AllByRecursion, cons_option}
 use Rattle.std.proofs.lemmas.Bool.{cases_Bool, cond-true, cond-false}
 use Rattle.std.proofs.lemmas.List.{get_or-set_other, get_or-set_same}
+use Rattle.tva_trace.specs.declared.rows.RowWhat.{RowWhat}
+use Rattle.tva_trace.specs.Brief.{Grows, IsWhatHeld, what_in}
+use Rattle.tva_trace.proofs.Packing.{held-grown, what-grown}
 use Rattle.tva_log.specs.Joins.{precedes, put_in}
 use Rattle.tva_log.proofs.Joins.{each-weaker}
 use Rattle.tva_log.proofs.Putting.{each-both, each-put_in, in_order-put_in}
 use Rattle.tva_log.specs.declared.kinds.Input.{Input}
+use Rattle.tva_log.specs.declared.kinds.Input.TheVariants.{FromTrace}
 use Rattle.tva_log.specs.Entries.{input_source, input_time}
 use Rattle.tva_waiting.specs.declared.waiting.Slot.{Slot}
 use Rattle.tva_waiting.specs.declared.waiting.Slot.TheVariants.{Free, Held}
 use Rattle.tva_waiting.specs.declared.waiting.Turn.{Turn}
 use Rattle.tva_waiting.specs.declared.waiting.TurnWhat.{TurnWhat}
 use Rattle.tva_waiting.specs.declared.waiting.TurnWhat.TheVariants as says
-use Rattle.tva_waiting.specs.Waiting.{AreApart, AreWaiting, CanWait, IsApart, IsTurnIn, at_place, in_slot, input_of, inputs_in, place_of, put_at, turn_input, turn_source, turn_time}
+use Rattle.tva_waiting.specs.Waiting.{AreApart, AreWaiting, CanWait, IsApart, IsFreeAt, IsFreeFor, IsRowHeld, IsTurnIn, at_place, in_slot, input_of, inputs_in, place_of, put_at, turn_input, turn_source, turn_time}
 
 none_some : (o : Option Input) (i : Input) → o ≡ None → o ≡ Some i → ⊥
 none_some None i e f = absurd (cc)
 none_some (Some j) i e f = absurd (cc)
 
--- ## slots in which turns have the same inputs
+-- ## layouts and slots in which turns have the same inputs
 
-abbrev SaysSame : List Slot → List Slot → Turn → Type 0
-SaysSame a b t = turn_input b t ≡ turn_input a t
+module _ (rows : List ℕ) (a : List Slot) (more : List ℕ) (b : List Slot) where
+  record StaysSame (t : Turn) : Type 0 where
+    is : turn_input more b t ≡ turn_input rows a t
+    held : IsRowHeld more t.what
 
-same_inputs : (a b : List Slot) (ts : List Turn) → AllByRecursion (SaysSame a b) ts → inputs_in b ts ≡ inputs_in a ts
-same_inputs a b [] h = refl
-same_inputs a b (t ∷ ts) h = ap₂ cons_option h.0 (same_inputs a b ts h.1)
+  same_inputs : (ts : List Turn) → AllByRecursion StaysSame ts → inputs_in more b ts ≡ inputs_in rows a ts
+  same_inputs [] h = refl
+  same_inputs (t ∷ ts) h = ap₂ cons_option h.0.is (same_inputs ts h.1)
 
-turn_same : (a b : List Slot) (t : Turn) → SaysSame a b t → IsTurnIn a t → IsTurnIn b t
-turn_same a b t e k = record { input = k.input; is = e ∙ k.is; time = k.time; source = k.source }
+  turn_same : (t : Turn) → StaysSame t → IsTurnIn rows a t → IsTurnIn more b t
+  turn_same t s k = record { input = k.input; is = s.is ∙ k.is; time = k.time; source = k.source; held = s.held }
 
-each_same : (a b : List Slot) (ts : List Turn) → AllByRecursion (SaysSame a b) ts → AllByRecursion (IsTurnIn a) ts → AllByRecursion (IsTurnIn b) ts
-each_same a b ts h k = each-both (SaysSame a b) (IsTurnIn a) (IsTurnIn b) (λ t e i. turn_same a b t e i) ts h k
+  each_same : (ts : List Turn) → AllByRecursion StaysSame ts → AllByRecursion (IsTurnIn rows a) ts → AllByRecursion (IsTurnIn more b) ts
+  each_same ts h k = each-both StaysSame (IsTurnIn rows a) (IsTurnIn more b) (λ t s i. turn_same t s i) ts h k
 
--- ## slots that hold the same
+-- ## layouts that grew, and slots that hold the same
 
-same_held : (a b : List Slot) → ((p : ℕ) → at_place b p ≡ at_place a p) → (time : ℕ) (what : TurnWhat) → input_of b time what ≡ input_of a time what
-same_held a b e time (says.Held place) = e place
-same_held a b e time (says.Send node dst payload) = refl
-same_held a b e time (says.Inject node flow payload) = refl
-same_held a b e time (says.File node dst size segment) = refl
-same_held a b e time (says.Tick node dst) = refl
+held_grown : (old new : List ℕ) (what : TurnWhat) → Grows old new → IsRowHeld old what → IsRowHeld new what
+held_grown old new (says.Held source place) g h = tt
+held_grown old new (says.Row node brief) g h = subst (λ (bytes : List ℕ). IsWhatHeld bytes brief) (sym g.1) (held-grown old g.0 brief h)
 
-all_same : (a b : List Slot) → ((p : ℕ) → at_place b p ≡ at_place a p) → (ts : List Turn) → AllByRecursion (SaysSame a b) ts
-all_same a b e [] = tt
-all_same a b e (t ∷ ts) = (same_held a b e t.time t.what, all_same a b e ts)
+module _ (old new : List ℕ) (g : Grows old new) (a b : List Slot) (e : (p : ℕ) → at_place b p ≡ at_place a p) where
+  same_held : (time : ℕ) (what : TurnWhat) → IsRowHeld old what → input_of new b time what ≡ input_of old a time what
+  same_held time (says.Held source place) h = e place
+  same_held time (says.Row node brief) h =
+      ap (λ (w : RowWhat). Some (FromTrace (record { time = record { 0 = time }; node = node; what = w })))
+      (ap (λ (bytes : List ℕ). what_in bytes brief) g.1 ∙ what-grown old g.0 brief h)
 
-pub inputs_same : (a b : List Slot) (ts : List Turn) → ((p : ℕ) → at_place b p ≡ at_place a p) → inputs_in b ts ≡ inputs_in a ts
-inputs_same a b ts e = same_inputs a b ts (all_same a b e ts)
+  stays : (t : Turn) → IsTurnIn old a t → StaysSame old a new b t
+  stays t k = record { is = same_held t.time t.what k.held; held = held_grown old new t.what g k.held }
 
-pub waiting_same : (a b : List Slot) (ts : List Turn) → ((p : ℕ) → at_place b p ≡ at_place a p) → AreWaiting a ts → AreWaiting b ts
-waiting_same a b ts e w = record {
-  in_order = w.in_order;
-  each = each_same a b ts (all_same a b e ts) w.each;
-  apart = w.apart;
-}
+  all_same : (ts : List Turn) → AllByRecursion (IsTurnIn old a) ts → AllByRecursion (StaysSame old a new b) ts
+  all_same ts k = each-weaker (IsTurnIn old a) (StaysSame old a new b) stays ts k
+
+  pub inputs_same : (ts : List Turn) → AreWaiting old a ts → inputs_in new b ts ≡ inputs_in old a ts
+  inputs_same ts w = same_inputs old a new b ts (all_same ts w.each)
+
+  pub waiting_same : (ts : List Turn) → AreWaiting old a ts → AreWaiting new b ts
+  waiting_same ts w = record {
+    in_order = w.in_order;
+    each = each_same old a new b ts (all_same ts w.each) w.each;
+    apart = w.apart;
+  }
 
 -- ## a slot that is written
 
@@ -64,64 +76,63 @@ other_at : (slots : List Slot) (place : ℕ) (slot : Slot) (q : ℕ) → (q ≡ 
 other_at slots place slot q n = ap in_slot (get_or-set_other slots place q slot (Free None) n)
 
 -- a turn that does not say that place has its input as before
-same_elsewhere : (slots : List Slot) (at : Option ℕ) (slot : Slot) (time : ℕ) (what : TurnWhat) → ((p : ℕ) → at ≡ Some p → place_of what ≡ Some p → ⊥) → input_of (put_at at slot slots) time what ≡ input_of slots time what
-same_elsewhere slots None slot time what n = refl
-same_elsewhere slots (Some place) slot time (says.Held q) n = other_at slots place slot q (λ e. n place refl (ap Some e))
-same_elsewhere slots (Some place) slot time (says.Send node dst payload) n = refl
-same_elsewhere slots (Some place) slot time (says.Inject node flow payload) n = refl
-same_elsewhere slots (Some place) slot time (says.File node dst size segment) n = refl
-same_elsewhere slots (Some place) slot time (says.Tick node dst) n = refl
+same_elsewhere : (rows : List ℕ) (slots : List Slot) (at : Option ℕ) (slot : Slot) (time : ℕ) (what : TurnWhat) → ((p : ℕ) → at ≡ Some p → place_of what ≡ Some p → ⊥) → input_of rows (put_at at slot slots) time what ≡ input_of rows slots time what
+same_elsewhere rows slots None slot time what n = refl
+same_elsewhere rows slots (Some place) slot time (says.Held source q) n = other_at slots place slot q (λ e. n place refl (ap Some e))
+same_elsewhere rows slots (Some place) slot time (says.Row node brief) n = refl
 
-all_elsewhere : (slots : List Slot) (what : TurnWhat) (slot : Slot) (ts : List Turn) → AllByRecursion (λ t. IsApart what t.what) ts → AllByRecursion (SaysSame slots (put_at (place_of what) slot slots)) ts
-all_elsewhere slots what slot ts h = each-weaker (λ t. IsApart what t.what) (SaysSame slots (put_at (place_of what) slot slots)) (λ t n. same_elsewhere slots (place_of what) slot t.time t.what n) ts h
+all_elsewhere : (rows : List ℕ) (slots : List Slot) (what : TurnWhat) (slot : Slot) (ts : List Turn) → AllByRecursion (λ t. IsApart what t.what) ts → AllByRecursion (IsTurnIn rows slots) ts
+    → AllByRecursion (StaysSame rows slots rows (put_at (place_of what) slot slots)) ts
+all_elsewhere rows slots what slot ts h k =
+    each-both (λ t. IsApart what t.what) (IsTurnIn rows slots) (StaysSame rows slots rows (put_at (place_of what) slot slots))
+    (λ t n i. record { is = same_elsewhere rows slots (place_of what) slot t.time t.what n; held = i.held }) ts h k
 
 -- ## one more
 
 -- what is written where the turn says is its input
-input_there : (slots : List Slot) (input : Input) (what : TurnWhat) → CanWait slots input what → input_of (put_at (place_of what) (Held input) slots) (input_time input) what ≡ Some input
-input_there slots input (says.Held place) can = ap in_slot (get_or-set_same slots place (Held input) (Free None) can.within)
-input_there slots input (says.Send node dst payload) can = can
-input_there slots input (says.Inject node flow payload) can = can
-input_there slots input (says.File node dst size segment) can = can
-input_there slots input (says.Tick node dst) can = can
+input_there : (rows : List ℕ) (slots : List Slot) (input : Input) (what : TurnWhat) → CanWait rows slots input what → input_of rows (put_at (place_of what) (Held input) slots) (input_time input) what ≡ Some input
+input_there rows slots input (says.Held source place) can = ap in_slot (get_or-set_same slots place (Held input) (Free None) can.says.within)
+input_there rows slots input (says.Row node brief) can = can.says
 
 some_place : (a b : ℕ) → Some a ≡ Some b → a ≡ b
 some_place a b e = cc
 
 -- a turn that says a place has what is held there
-input_at : (slots : List Slot) (time : ℕ) (what : TurnWhat) (place : ℕ) → place_of what ≡ Some place → input_of slots time what ≡ at_place slots place
-input_at slots time (says.Held q) place e = ap (at_place slots) (some_place q place e)
-input_at slots time (says.Send node dst payload) place e = absurd (cc)
-input_at slots time (says.Inject node flow payload) place e = absurd (cc)
-input_at slots time (says.File node dst size segment) place e = absurd (cc)
-input_at slots time (says.Tick node dst) place e = absurd (cc)
+input_at : (rows : List ℕ) (slots : List Slot) (time : ℕ) (what : TurnWhat) (place : ℕ) → place_of what ≡ Some place → input_of rows slots time what ≡ at_place slots place
+input_at rows slots time (says.Held source q) place e = ap (at_place slots) (some_place q place e)
+input_at rows slots time (says.Row node brief) place e = absurd (cc)
+
+-- the place that it may say is free
+free_there : (rows : List ℕ) (slots : List Slot) (input : Input) (what : TurnWhat) → CanWait rows slots input what → (place : ℕ) → place_of what ≡ Some place → IsFreeAt slots place
+free_there rows slots input (says.Held source q) can place e = subst (IsFreeAt slots) (some_place q place e) can.says
+free_there rows slots input (says.Row node brief) can place e = absurd (cc)
+
+pub free_for : (rows : List ℕ) (slots : List Slot) (input : Input) (what : TurnWhat) → CanWait rows slots input what → IsFreeFor slots what
+free_for rows slots input (says.Held source place) can = can.says
+free_for rows slots input (says.Row node brief) can = tt
 
 -- no turn says a place that is free
-apart_from : (slots : List Slot) (input : Input) (what : TurnWhat) (t : Turn) → CanWait slots input what → IsTurnIn slots t → IsApart what t.what
-apart_from slots input (says.Held q) t can k = λ place e f. none_some (at_place slots place) k.input (ap (at_place slots) (sym (some_place q place e)) ∙ can.free) (sym (input_at slots t.time t.what place f) ∙ k.is)
-apart_from slots input (says.Send node dst payload) t can k = λ place e f. absurd (cc)
-apart_from slots input (says.Inject node flow payload) t can k = λ place e f. absurd (cc)
-apart_from slots input (says.File node dst size segment) t can k = λ place e f. absurd (cc)
-apart_from slots input (says.Tick node dst) t can k = λ place e f. absurd (cc)
+apart_from : (rows : List ℕ) (slots : List Slot) (input : Input) (what : TurnWhat) (t : Turn) → CanWait rows slots input what → IsTurnIn rows slots t → IsApart what t.what
+apart_from rows slots input what t can k = λ place e f. none_some (at_place slots place) k.input (free_there rows slots input what can place e).free (sym (input_at rows slots t.time t.what place f) ∙ k.is)
 
-put_inputs : (slots : List Slot) (turn : Turn) (input : Input) (ts : List Turn) → turn_input slots turn ≡ Some input → turn.time ≡ input_time input → turn.source ≡ input_source input → AllByRecursion (IsTurnIn slots) ts
-    → inputs_in slots (put_in turn_time turn_source turn ts) ≡ put_in input_time input_source input (inputs_in slots ts)
-put_inputs slots turn input [] a t s h = ap (λ (o : Option Input). cons_option o []) a
-put_inputs slots turn input (u ∷ us) a t s h =
+put_inputs : (rows : List ℕ) (slots : List Slot) (turn : Turn) (input : Input) (ts : List Turn) → turn_input rows slots turn ≡ Some input → turn.time ≡ input_time input → turn_source turn ≡ input_source input → AllByRecursion (IsTurnIn rows slots) ts
+    → inputs_in rows slots (put_in turn_time turn_source turn ts) ≡ put_in input_time input_source input (inputs_in rows slots ts)
+put_inputs rows slots turn input [] a t s h = ap (λ (o : Option Input). cons_option o []) a
+put_inputs rows slots turn input (u ∷ us) a t s h =
     let k = h.0 in
     let first = precedes input_time input_source input k.input in
     let same : precedes turn_time turn_source turn u ≡ first = (λ i. nat_lt (t i) (k.time i) || ((t i == k.time i) && nat_lt (s i) (k.source i))) in
-    let head : inputs_in slots (u ∷ us) ≡ k.input ∷ inputs_in slots us = ap (λ (o : Option Input). cons_option o (inputs_in slots us)) k.is in
+    let head : inputs_in rows slots (u ∷ us) ≡ k.input ∷ inputs_in rows slots us = ap (λ (o : Option Input). cons_option o (inputs_in rows slots us)) k.is in
     elim (cases_Bool first) [
       | inl p ↦
-          ap (inputs_in slots) (cond-true (precedes turn_time turn_source turn u) (turn ∷ u ∷ us) (u ∷ put_in turn_time turn_source turn us) (same ∙ p))
+          ap (inputs_in rows slots) (cond-true (precedes turn_time turn_source turn u) (turn ∷ u ∷ us) (u ∷ put_in turn_time turn_source turn us) (same ∙ p))
           ∙ (ap₂ cons_option a head
-          ∙ (sym (cond-true first (input ∷ k.input ∷ inputs_in slots us) (k.input ∷ put_in input_time input_source input (inputs_in slots us)) p)
+          ∙ (sym (cond-true first (input ∷ k.input ∷ inputs_in rows slots us) (k.input ∷ put_in input_time input_source input (inputs_in rows slots us)) p)
           ∙ ap (put_in input_time input_source input) (sym head)))
       | inr p ↦
-          ap (inputs_in slots) (cond-false (precedes turn_time turn_source turn u) (turn ∷ u ∷ us) (u ∷ put_in turn_time turn_source turn us) (same ∙ p))
-          ∙ (ap₂ cons_option k.is (put_inputs slots turn input us a t s h.1)
-          ∙ (sym (cond-false first (input ∷ k.input ∷ inputs_in slots us) (k.input ∷ put_in input_time input_source input (inputs_in slots us)) p)
+          ap (inputs_in rows slots) (cond-false (precedes turn_time turn_source turn u) (turn ∷ u ∷ us) (u ∷ put_in turn_time turn_source turn us) (same ∙ p))
+          ∙ (ap₂ cons_option k.is (put_inputs rows slots turn input us a t s h.1)
+          ∙ (sym (cond-false first (input ∷ k.input ∷ inputs_in rows slots us) (k.input ∷ put_in input_time input_source input (inputs_in rows slots us)) p)
           ∙ ap (put_in input_time input_source input) (sym head)))
     ]
 
@@ -134,49 +145,49 @@ apart_put turn (u ∷ us) h a = elim (cases_Bool (precedes turn_time turn_source
       (each-put_in turn_time turn_source (λ t. IsApart u.what t.what) turn us (λ place e f. h.0 place f e) a.0, apart_put turn us h.1 a.1)
 ]
 
-module _ (slots : List Slot) (ts : List Turn) (input : Input) (what : TurnWhat) (can : CanWait slots input what) (w : AreWaiting slots ts) where
+module _ (rows : List ℕ) (slots : List Slot) (ts : List Turn) (input : Input) (what : TurnWhat) (can : CanWait rows slots input what) (w : AreWaiting rows slots ts) where
   abbrev after : List Slot
   after = put_at (place_of what) (Held input) slots
 
   abbrev turn : Turn
-  turn = record { time = input_time input; source = input_source input; what = what }
+  turn = record { time = input_time input; what = what }
 
   -- no turn has that place
   elsewhere : AllByRecursion (λ t. IsApart what t.what) ts
-  elsewhere = each-weaker (IsTurnIn slots) (λ t. IsApart what t.what) (λ t k. apart_from slots input what t can k) ts w.each
+  elsewhere = each-weaker (IsTurnIn rows slots) (λ t. IsApart what t.what) (λ t k. apart_from rows slots input what t can k) ts w.each
 
-  as_before : AllByRecursion (SaysSame slots after) ts
-  as_before = all_elsewhere slots what (Held input) ts elsewhere
+  as_before : AllByRecursion (StaysSame rows slots rows after) ts
+  as_before = all_elsewhere rows slots what (Held input) ts elsewhere w.each
 
-  pub waiting_put : AreWaiting after (put_in turn_time turn_source turn ts)
+  pub waiting_put : AreWaiting rows after (put_in turn_time turn_source turn ts)
   waiting_put = record {
     in_order = in_order-put_in turn_time turn_source turn ts w.in_order;
-    each = each-put_in turn_time turn_source (IsTurnIn after) turn ts (record { input = input; is = input_there slots input what can; time = refl; source = refl }) (each_same slots after ts as_before w.each);
+    each = each-put_in turn_time turn_source (IsTurnIn rows after) turn ts (record { input = input; is = input_there rows slots input what can; time = refl; source = can.source; held = can.held }) (each_same rows slots rows after ts as_before w.each);
     apart = apart_put turn ts elsewhere w.apart;
   }
 
-  pub inputs_put : inputs_in after (put_in turn_time turn_source turn ts) ≡ put_in input_time input_source input (inputs_in slots ts)
+  pub inputs_put : inputs_in rows after (put_in turn_time turn_source turn ts) ≡ put_in input_time input_source input (inputs_in rows slots ts)
   inputs_put =
-      put_inputs after turn input ts (input_there slots input what can) refl refl (each_same slots after ts as_before w.each)
-      ∙ ap (put_in input_time input_source input) (same_inputs slots after ts as_before)
+      put_inputs rows after turn input ts (input_there rows slots input what can) refl can.source (each_same rows slots rows after ts as_before w.each)
+      ∙ ap (put_in input_time input_source input) (same_inputs rows slots rows after ts as_before)
 
 -- ## the first
 
-module _ (slots : List Slot) (turn : Turn) (ts : List Turn) (next : Option ℕ) (w : AreWaiting slots (turn ∷ ts)) where
+module _ (rows : List ℕ) (slots : List Slot) (turn : Turn) (ts : List Turn) (next : Option ℕ) (w : AreWaiting rows slots (turn ∷ ts)) where
   abbrev left : List Slot
   left = put_at (place_of turn.what) (Free next) slots
 
-  as_left : AllByRecursion (SaysSame slots left) ts
-  as_left = all_elsewhere slots turn.what (Free next) ts w.apart.0
+  as_left : AllByRecursion (StaysSame rows slots rows left) ts
+  as_left = all_elsewhere rows slots turn.what (Free next) ts w.apart.0 w.each.1
 
-  pub waiting_take : AreWaiting left ts
+  pub waiting_take : AreWaiting rows left ts
   waiting_take = record {
     in_order = w.in_order.1;
-    each = each_same slots left ts as_left w.each.1;
+    each = each_same rows slots rows left ts as_left w.each.1;
     apart = w.apart.1;
   }
 
-  pub inputs_take : (input : Input) → turn_input slots turn ≡ Some input → inputs_in slots (turn ∷ ts) ≡ input ∷ inputs_in left ts
+  pub inputs_take : (input : Input) → turn_input rows slots turn ≡ Some input → inputs_in rows slots (turn ∷ ts) ≡ input ∷ inputs_in rows left ts
   inputs_take input e =
-      ap (λ (o : Option Input). cons_option o (inputs_in slots ts)) e
-      ∙ ap (λ (is : List Input). input ∷ is) (sym (same_inputs slots left ts as_left))
+      ap (λ (o : Option Input). cons_option o (inputs_in rows slots ts)) e
+      ∙ ap (λ (is : List Input). input ∷ is) (sym (same_inputs rows slots rows left ts as_left))

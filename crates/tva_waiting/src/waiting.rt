@@ -3,7 +3,8 @@ ghost use Rattle.std.specs.Prelude.{◌≡◌, ◌≢◌, ◌≤◌, ◌∷◌, 
 ghost use Rattle.tva_log.specs.Joins.{IsInOrder, precedes, put_in};
 ghost use Rattle.tva_log.specs.Entries.{input_source, input_time};
 ghost use Rattle.tva_waiting.specs.Inputs.{HoldsInputs, first_time};
-ghost use Rattle.tva_waiting.specs.Waiting.{CanWait, IsFreeAt, at_place, input_of, place_of, put_at, row_of, turn_source, turn_time};
+ghost use Rattle.tva_waiting.specs.Waiting.{CanWait, IsFreeAt, IsFreeFor, IsRowHeld, at_place, input_of, place_of, put_at, turn_source, turn_time};
+ghost use Rattle.tva_trace.specs.Brief.{Grows};
 
 use crate::memory::{Memory, note_input};
 use std::alloc::{AllocError, Global};
@@ -11,49 +12,28 @@ use std::collections::VecDeque;
 use std::marker::Model;
 use std::mem;
 use std::mem::size_of;
-use tva_base::{Address, Flow, Time};
+use tva_base::Time;
 use tva_log::Input;
 use tva_past::Kept;
-use tva_shim::Carried;
-use tva_trace::{Row, RowWhat};
+use tva_trace::{BriefWhat, Row, brief_of, what_from};
 
 // So many places are worth giving back.
 const MANY: usize = 4_096;
 
-/// When an input comes, in nanoseconds, its source (0 for the trace, else one more than the link's
-/// number), and what comes.
+/// When an input comes, in nanoseconds, and what comes.
 #[derive(Clone, Copy)]
 pub(crate) struct Turn {
     pub time: u64,
-    pub source: u32,
     pub what: TurnWhat,
 }
 
-/// What a turn says: the place at which its input is held, or all of a row that carries nothing but its
-/// time. Such rows are the most that wait, and are short; an input that is held is large.
+/// What a turn says: of a packet that arrives its source, which is one more than the link's number, and the
+/// place at which it is held; of a row its node and what it asks, in brief. Rows are the most that wait, and
+/// are short; a packet that is held is large.
 #[derive(Clone, Copy)]
 pub(crate) enum TurnWhat {
-    Held(usize),
-    Send {
-        node: u16,
-        dst: Address,
-        payload: u16,
-    },
-    Inject {
-        node: u16,
-        flow: Flow,
-        payload: u16,
-    },
-    File {
-        node: u16,
-        dst: Address,
-        size: u32,
-        segment: u16,
-    },
-    Tick {
-        node: u16,
-        dst: Address,
-    },
+    Held { source: u32, place: usize },
+    Row { node: u16, what: BriefWhat },
 }
 
 // A million turns take 32 MB.
@@ -66,13 +46,15 @@ pub(crate) enum Slot {
     Held(Input),
 }
 
-/// Inputs by time, and at one time by source. A row that carries nothing stands in its turn. Any other
-/// input stays at its place while the turns move, and the place of one that is taken is used again.
+/// Inputs by time, and at one time by source. A row stands in its turn, and the layout of its shim behind
+/// those of the others until nothing waits. A packet stays at its place while the turns move, and the place
+/// of one that is taken is used again.
 #[derive(Drop)]
 pub struct Waiting {
     turns: VecDeque<Turn>,
     slots: Vec<Slot>,
     free: Option<usize>,
+    layouts: Vec<u8>,
 }
 
 impl Model for Waiting {
@@ -82,9 +64,9 @@ impl Model for Waiting {
 
     ghost Value = { List Input };
 
-    ghost view = { λ w. inputs_in w.slots.items w.turns.items };
+    ghost view = { λ w. inputs_in w.layouts.items w.slots.items w.turns.items };
 
-    ghost invariant = { λ w. AreWaiting w.slots.items w.turns.items };
+    ghost invariant = { λ w. AreWaiting w.layouts.items w.slots.items w.turns.items };
 }
 
 impl Waiting {
@@ -96,15 +78,15 @@ impl Waiting {
             turns: VecDeque::new(alloc),
             slots: Vec::new(alloc),
             free: None,
+            layouts: Vec::new(alloc),
         }
     }
 
-    /// Makes room for `count` more, of which `held` are held at places. The error is want of memory.
-    pub fn reserve(&mut self, count: usize, held: usize) -> Result<(), AllocError>
+    /// Makes room for the turns of `count` more. The error is want of memory.
+    pub fn reserve(&mut self, count: usize) -> Result<(), AllocError>
         ensures { self.new ≡ self.old }
     {
-        self.turns.reserve(count)?;
-        self.slots.reserve(held)
+        self.turns.reserve(count)
     }
 
     /// Puts one more at its place, behind all that it need not stand before, and notes it behind all in the
@@ -122,12 +104,11 @@ impl Waiting {
         ensures err { OnErr result ((self.new ≡ self.old) × (inbox.new ≡ inbox.old)) }
     {
         self.give_back();
-        let what = said_or_held(&mut self.slots, self.free, &input)?;
+        let what = said_or_held(&mut self.layouts, &mut self.slots, self.free, &input)?;
         self.turns.reserve(1)?;
         note_input(inbox, keeps, &input)?;
         let turn = Turn {
             time: time_of(&input),
-            source: source_of(&input),
             what,
         };
         let at = place_for(&self.turns, &turn);
@@ -154,14 +135,27 @@ impl Waiting {
         let Some(turn) = self.turns.pop_front() else {
             unreachable!()
         };
-        take_said_or_held(&mut self.slots, &mut self.free, turn.time, turn.what)
+        take_said_or_held(
+            &self.layouts,
+            &mut self.slots,
+            &mut self.free,
+            turn.time,
+            turn.what,
+        )
     }
 
-    // Gives back the memory of many places, where nothing waits.
+    // Lets go of all layouts, where nothing waits, and gives back the memory of many places or layouts.
     fn give_back(&mut self)
         ensures { self.new ≡ self.old }
     {
-        if self.turns.is_empty() && self.slots.len() > MANY {
+        if !self.turns.is_empty() {
+            return;
+        }
+        self.layouts.clear();
+        if self.layouts.capacity() > MANY {
+            self.layouts.shrink_to_fit();
+        }
+        if self.slots.len() > MANY {
             self.free = None;
             self.slots.clear();
             self.slots.shrink_to_fit();
@@ -169,109 +163,60 @@ impl Waiting {
     }
 }
 
-// What the turn of an input says: all of a row that carries nothing, and else a place that is free.
+// What the turn of an input says: a row in brief, or a place that is free.
 fn said_or_held(
+    layouts: &mut Vec<u8>,
     slots: &mut Vec<Slot>,
     free: Option<usize>,
     input: &Input,
 ) -> Result<TurnWhat, AllocError>
-    ensures can { IfOk result (CanWait slots.new.items input.now) }
+    ensures can { IfOk result (CanWait layouts.new.items slots.new.items input.now) }
+    ensures grows { Grows layouts.old.items layouts.new.items }
     ensures same { (place : ℕ) → at_place slots.new.items place ≡ at_place slots.old.items place }
 {
-    match row_said(input) {
-        Some(what) => Ok(what),
-        None => Ok(TurnWhat::Held(free_place(slots, free)?)),
+    match input {
+        Input::FromTrace(row) => Ok(TurnWhat::Row {
+            node: row.node,
+            what: brief_of(layouts, &row.what)?,
+        }),
+        Input::Arrival { link, .. } => Ok(TurnWhat::Held {
+            source: u32::from(*link) + 1,
+            place: free_place(slots, free)?,
+        }),
     }
 }
 
-// What a turn says of a row that carries nothing.
-fn row_said(input: &Input) -> Option<TurnWhat>
-    ensures { IfSome result (λ what. row_of (input_time input.now) what ≡ Some input.now) }
-{
-    let Input::FromTrace(row) = input else {
-        return None;
-    };
-    let node = row.node;
-    match row.what {
-        RowWhat::Send { dst, payload } => Some(TurnWhat::Send { node, dst, payload }),
-        RowWhat::Inject {
-            flow,
-            payload,
-            carried: Carried::Nothing,
-        } => Some(TurnWhat::Inject {
-            node,
-            flow,
-            payload,
-        }),
-        RowWhat::Inject { .. } => None,
-        RowWhat::File { dst, size, segment } => Some(TurnWhat::File {
-            node,
-            dst,
-            size,
-            segment,
-        }),
-        RowWhat::Tick { dst } => Some(TurnWhat::Tick { node, dst }),
-    }
-}
-
-// Holds an input at its place, if its turn says one.
+// Holds an input at its place, if its turn says one, which is free.
 fn hold(slots: &mut Vec<Slot>, free: &mut Option<usize>, what: TurnWhat, input: Input)
-    requires { CanWait slots.old.items input what }
+    requires { IsFreeFor slots.old.items what }
     ensures { slots.new.items ≡ put_at (place_of what) (Slot.Held input) slots.old.items }
 {
-    if let TurnWhat::Held(place) = what {
+    if let TurnWhat::Held { place, .. } = what {
         *free = next_free(&slots[place]);
         slots[place] = Slot::Held(input);
     }
 }
 
-// Takes the input of a turn: makes the row again that the turn says, or takes what is held at its place,
-// which is free then.
+// Takes the input of a turn: makes the row again that the turn says in brief, or takes what is held at its
+// place, which is free then.
 fn take_said_or_held(
+    layouts: &Vec<u8>,
     slots: &mut Vec<Slot>,
     free: &mut Option<usize>,
     time: u64,
     what: TurnWhat,
 ) -> Input
-    requires { IsSome (input_of slots.old.items time what) }
-    ensures input { input_of slots.old.items time what ≡ Some result }
+    requires is { IsSome (input_of layouts.now.items slots.old.items time what) }
+    requires held { IsRowHeld layouts.now.items what }
+    ensures input { input_of layouts.now.items slots.old.items time what ≡ Some result }
     ensures left { slots.new.items ≡ put_at (place_of what) (Slot.Free free.old) slots.old.items }
 {
-    let time = Time(time);
     match what {
-        TurnWhat::Held(place) => take_held(slots, free, place),
-        TurnWhat::Send { node, dst, payload } => Input::FromTrace(Row {
-            time,
+        TurnWhat::Held { place, .. } => take_held(slots, free, place),
+        TurnWhat::Row { node, what } => Input::FromTrace(Row {
+            time: Time(time),
             node,
-            what: RowWhat::Send { dst, payload },
-        }),
-        TurnWhat::Inject {
-            node,
-            flow,
-            payload,
-        } => Input::FromTrace(Row {
-            time,
-            node,
-            what: RowWhat::Inject {
-                flow,
-                payload,
-                carried: Carried::Nothing,
-            },
-        }),
-        TurnWhat::File {
-            node,
-            dst,
-            size,
-            segment,
-        } => Input::FromTrace(Row {
-            time,
-            node,
-            what: RowWhat::File { dst, size, segment },
-        }),
-        TurnWhat::Tick { node, dst } => Input::FromTrace(Row {
-            time,
-            node,
-            what: RowWhat::Tick { dst },
+            what: what_from(layouts.as_slice(), what),
         }),
     }
 }
@@ -344,7 +289,17 @@ fn place_for(turns: &VecDeque<Turn>, turn: &Turn) -> usize
 fn precedes(one: &Turn, other: &Turn) -> bool
     ensures { result ≡ precedes turn_time turn_source one.now other.now }
 {
-    one.time < other.time || (one.time == other.time && one.source < other.source)
+    one.time < other.time || (one.time == other.time && source_of(one) < source_of(other))
+}
+
+// The source of what a turn says: 0 for the trace, else one more than the link's number.
+fn source_of(turn: &Turn) -> u32
+    ensures { result ≡ turn_source turn.now }
+{
+    match turn.what {
+        TurnWhat::Held { source, .. } => source,
+        TurnWhat::Row { .. } => 0,
+    }
 }
 
 // When an input comes, in nanoseconds.
@@ -354,15 +309,5 @@ fn time_of(input: &Input) -> u64
     match input {
         Input::FromTrace(row) => row.time.0,
         Input::Arrival { time, .. } => time.0,
-    }
-}
-
-// The source of an input: 0 for the trace, else one more than the link's number.
-fn source_of(input: &Input) -> u32
-    ensures { result ≡ input_source input.now }
-{
-    match input {
-        Input::FromTrace(_) => 0,
-        Input::Arrival { link, .. } => u32::from(*link) + 1,
     }
 }

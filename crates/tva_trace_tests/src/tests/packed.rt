@@ -82,25 +82,12 @@ fn expect_listed(
     Ok(())
 }
 
-// Some of the rows carry something: those with a shim, and those with bytes that are none.
-fn carrying(packed: &PackedRows) -> usize {
-    let mut count = 0usize;
-    for place in 0..packed.len() {
-        if packed.carries_at(place) {
-            count = count.saturating_add(1);
-        }
-    }
-    count
-}
-
 #[test]
 fn rows_come_back(rt: HostRuntime) -> Result<(), Fail> {
     let alloc = rt.alloc();
     let at_routers = expect_back(&rt, alloc, &edge(alloc)?, &AT_ROUTERS)?;
-    assert_eq!(rt; carrying(&at_routers), 18);
     expect_listed(&rt, alloc, &at_routers, &AT_ROUTERS)?;
     let at_hosts = expect_back(&rt, alloc, &walk(alloc)?, &AT_HOSTS)?;
-    assert_eq!(rt; carrying(&at_hosts), 0);
     expect_listed(&rt, alloc, &at_hosts, &AT_HOSTS)
 }
 
