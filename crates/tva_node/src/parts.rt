@@ -1,5 +1,6 @@
 // What a node keeps, and its work.
-ghost use Rattle.std.specs.Prelude.{◌≡◌, ◌≤◌, ◌<◌, ◌+◌, ◌∷◌, [], ◌++◌, min, max, Some, None, true, IfSome, OnOk, length, get_or};
+ghost use Rattle.std.specs.Prelude.{◌≡◌, ◌≤◌, ◌<◌, ◌+◌, ◌∷◌, [], ◌++◌, min, max, Some, None, true, IfSome, IsSome, OnOk, length, get_or};
+ghost use Rattle.tva_shim.specs.Packets.{PacketData, packet_length};
 ghost use Rattle.tva_node.specs.declared.links.Link.{Link};
 ghost use Rattle.tva_node.specs.Links.{sooner, with_next};
 ghost use Rattle.tva_node.specs.States.{BeginsWith, Keeps, Stands, state_of};
@@ -9,10 +10,10 @@ use crate::links::Links;
 use crate::role::Role;
 use std::alloc::{AllocError, Global};
 use std::cmp;
-use tva_base::{Class, Event, Happened, Outcome, Time};
+use tva_base::{Class, Event, Happened, Outcome, PacketId, Time};
 use tva_log::{Input, Sending};
 use tva_past::Kept;
-use tva_port::Decision;
+use tva_port::Next;
 use tva_shim::{Packet, length};
 use tva_waiting::{Memory, Waiting};
 
@@ -188,34 +189,36 @@ impl Parts {
             self.links.put(place, Some(free.0));
             return Ok(());
         }
-        match self.role.decide(Time(now), number) {
-            Decision::Start(class, packet) => self.note_start(place, now, class, packet),
-            Decision::WaitUntil(time) => {
+        let mut hand = None;
+        match self.role.decide(Time(now), number, &mut hand) {
+            Next::Start(class) => self.note_start(place, now, class, &mut hand),
+            Next::WaitUntil(time) => {
                 self.links.put(place, Some(time.0));
                 Ok(())
             }
-            Decision::Idle => {
+            Next::Idle => {
                 self.links.put(place, None);
                 Ok(())
             }
         }
     }
 
-    // Notes that the link in that place starts a packet.
+    // Notes that the link in that place starts the packet in hand.
     fn note_start(
         &mut self,
         place: usize,
         now: u64,
         class: Class,
-        packet: Packet,
+        hand: &mut Option<Packet>,
     ) -> Result<(), AllocError>
         requires within { place < length self.old.links }
         requires fits { (d : Link) → IsStartable now (get_or self.old.links place d) }
-        ensures links { (d : Link) → self.new.links
+        requires held { IsSome hand.old }
+        ensures links { (d : Link) (packet : PacketData) → hand.old ≡ Some packet → self.new.links
             ≡ with_next place (Some (end_on (get_or self.old.links place d) now packet)) self.old.links d }
-        ensures log { (d : Link) → OnOk result (self.new.log.all
+        ensures log { (d : Link) (packet : PacketData) → hand.old ≡ Some packet → OnOk result (self.new.log.all
             ≡ self.old.log.all ++ start_event self.old.number (get_or self.old.links place d) now class packet ∷ []) }
-        ensures outbox { (d : Link) → OnOk result (self.new.outbox.all
+        ensures outbox { (d : Link) (packet : PacketData) → hand.old ≡ Some packet → OnOk result (self.new.outbox.all
             ≡ self.old.outbox.all ++ start_sending (get_or self.old.links place d) now packet ∷ []) }
         ensures more { BeginsWith self.old.log.all self.new.log.all }
         ensures sent { BeginsWith self.old.outbox.all self.new.outbox.all }
@@ -225,26 +228,42 @@ impl Parts {
             × (self.new.outbox.gone ≡ self.old.outbox.gone) }
     {
         let link = self.links.at(place);
-        let bytes = length(&packet);
+        let (id, bytes) = id_and_length(hand);
         let end = now + u64::from(bytes) * link.plan.limits.ns_per_byte;
         self.links.put(place, Some(end));
         self.log.push(Event {
             time: Time(now),
             node: self.number,
             happened: Happened::Started {
-                id: packet.id,
+                id,
                 length: bytes,
                 link: link.number,
                 class,
                 end: Time(end),
             },
         })?;
+        let Some(packet) = hand.take() else {
+            unreachable!()
+        };
         self.outbox.push(Sending {
             link: link.number,
             arrive: Time(end + link.plan.delay),
             packet,
         })?;
         Ok(())
+    }
+}
+
+// The number and the length of the packet in hand.
+fn id_and_length(hand: &Option<Packet>) -> (PacketId, u32)
+    requires { IsSome hand.now }
+    ensures values { (packet : PacketData) → hand.now ≡ Some packet
+        → (result.0 ≡ packet.id) × (result.1 ≡ packet_length packet) }
+    ensures short { result.1 ≤ 2048 }
+{
+    match hand {
+        Some(packet) => (packet.id, length(packet)),
+        None => unreachable!(),
     }
 }
 

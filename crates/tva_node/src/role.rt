@@ -1,5 +1,5 @@
 // What a node is: a router, or a host with the port of its link.
-ghost use Rattle.std.specs.Prelude.{◌≡◌, ℕ, ◌≤◌, ◌+◌, min, List, ◌++◌, [], Some, IfOk};
+ghost use Rattle.std.specs.Prelude.{◌≡◌, ℕ, ◌≤◌, ◌+◌, min, List, ◌++◌, [], Some, None, IfOk};
 ghost use Rattle.std.specs.List.{cons_option};
 ghost use Rattle.std.specs.Option.{option_map};
 ghost use Rattle.tva_base.specs.declared.limits.LinkLimits.{LinkLimits};
@@ -7,6 +7,7 @@ ghost use Rattle.tva_base.specs.declared.event.Happened.TheVariants as happens;
 ghost use Rattle.tva_shim.specs.Packets.{packet_length, class_by_shim};
 ghost use Rattle.tva_shim.specs.Shows.{back_in};
 ghost use Rattle.tva_flow.specs.Charges.{Charge};
+ghost use Rattle.tva_port.specs.Hand.{AreOneDecision, decision_by};
 ghost use Rattle.tva_port.specs.Log.{Entry as PortEntry, free_after};
 ghost use Rattle.tva_port.specs.Stands.{StandsFor as PortStandsFor};
 ghost use Rattle.tva_router.specs.Handling.{PortLogs, entered_by, handle};
@@ -30,7 +31,7 @@ use std::alloc::{AllocError, Global};
 use tva_base::{BackKind, Happened, Outcome, PacketId, ReplyLine, ShapeKind, Time};
 use tva_host::{Made, Receipt};
 use tva_log::Input;
-use tva_port::{Decision, Port};
+use tva_port::{Next, Port};
 use tva_router::{Router, outcome_of};
 use tva_shim::{Carried, Packet, ReturnInfo, class_of, length, queue_key};
 use tva_trace::{Row, RowWhat};
@@ -77,22 +78,25 @@ impl Role {
         }
     }
 
-    /// What a link out does that is free.
-    pub fn decide(&mut self, now: Time, link: u16) -> Decision
+    /// What a link out does that is free. A packet that starts is put into the hand, which is empty.
+    pub fn decide(&mut self, now: Time, link: u16, hand: &mut Option<Packet>) -> Next
         requires time { IsBy now.0 self.old }
         requires horizon { now.0 ≤ 1000000000000000 }
         requires free { role_free self.old link ≤ now.0 }
         requires out { (site : Site) × (limits : LinkLimits) × IsSite site × (site.plan ≡ role_plan self.old)
             × (limits_out site link ≡ Some (link, limits)) }
+        requires empty { hand.old ≡ None }
         ensures decides { (site : Site) (log : List Entry) (limits : LinkLimits) → IsSite site
             → site.plan ≡ role_plan self.old → limits_out site link ≡ Some (link, limits)
-            → RoleStands site self.old log → Decides site log link now.0 limits result self.new }
+            → RoleStands site self.old log
+            → Decides site log link now.0 limits (decision_by result hand.new) self.new }
+        ensures held { AreOneDecision result hand.new }
         ensures plan { role_plan self.new ≡ role_plan self.old }
         ensures last { IsBy now.0 self.new }
     {
         match self {
-            Role::Router(routed) => routed.router.decide(now, link),
-            Role::Host(hosted) => hosted.port.decide(now),
+            Role::Router(routed) => routed.router.decide_into(now, link, hand),
+            Role::Host(hosted) => hosted.port.decide_into(now, hand),
         }
     }
 
@@ -337,7 +341,11 @@ impl Hosted {
     {
         let class = class_of(&packet);
         let key = queue_key(class, &packet);
-        outcome_of(self.uplink, &self.port.queue(now, class, key, packet))
+        let mut hand = Some(packet);
+        outcome_of(
+            self.uplink,
+            self.port.queue_from(now, class, key, &mut hand),
+        )
     }
 }
 

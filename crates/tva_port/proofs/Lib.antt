@@ -4,6 +4,7 @@ pub mod Deciding
 pub mod Legality
 pub mod Waits
 pub mod Levels
+pub mod Hands
 pub mod Holding
 pub mod Limits
 pub mod Standing

@@ -69,7 +69,7 @@ stays-offered l f key p a z s = stays_by (lacks_queue f key) (lacks_room packet_
 stays-taken : (l : DrrLimits) (f : Fair PacketData) → Stays l f → Stays l (take_leaves packet_length f)
 stays-taken l f s = (record { limits = s.0.limits; queues = fair-taken packet_length f.limits f.queues s.0.limits s.0.queues }, s.1)
 
-left_same : (h : Hier PacketData) (o i : ℕ) (x : PacketData)
+pub left_same : (h : Hier PacketData) (o i : ℕ) (x : PacketData)
     → ((left_by_offer packet_length h o i x).limits ≡ h.limits) ×
     ((left_by_offer packet_length h o i x).inner ≡ h.inner)
 left_same h o i x =

@@ -3,6 +3,7 @@ pub mod Log
 pub mod Levels
 pub mod Waiting
 pub mod Decide
+pub mod Hand
 pub mod Legal
 pub mod Stands
 pub mod Keeps

@@ -1,10 +1,15 @@
 // A packet that waits.
-ghost use Rattle.std.specs.Prelude.{◌≡◌};
-ghost use Rattle.tva_shim.specs.Packets.{packet_length};
+ghost use Rattle.std.specs.Prelude.{◌≡◌, ◌≤◌, Some, None, IsSome};
+ghost use Rattle.tva_shim.specs.Packets.{PacketData, packet_length};
+ghost use Rattle.tva_port.specs.Decide.{start_or};
+ghost use Rattle.tva_port.specs.Hand.{AreOneAnswer, AreOneDecision, answer_by, decision_by};
+ghost use Rattle.tva_port.specs.declared.decision.Decision.TheVariants.{Idle};
 
+use crate::hand::{Answer, Next};
 use std::marker::Model;
+use tva_base::Class;
 use tva_drr::{Measured, Offered};
-use tva_shim::Packet;
+use tva_shim::{Packet, length};
 
 /// A packet that waits, with its length in bytes, which is measured once. Contracts see the packet.
 #[derive(Drop)]
@@ -32,14 +37,65 @@ impl Measured for HeldPacket {
     }
 }
 
-/// The answer to an offer, with the packet that it hands back.
+/// Takes the packet in hand, with its length.
 #[inline(always)]
-pub(crate) fn given_back(answer: Offered<HeldPacket>) -> Offered<Packet>
-    ensures { result ≡ answer }
+pub(crate) fn held_in(hand: &mut Option<Packet>) -> HeldPacket
+    requires { IsSome hand.old }
+    ensures packet { hand.old ≡ Some result }
+    ensures left { hand.new ≡ None }
+    ensures sized { (20 ≤ packet_length result) × (packet_length result ≤ 2048) }
 {
-    match answer {
-        Offered::Queued => Offered::Queued,
-        Offered::NoQueue(held) => Offered::NoQueue(held.packet),
-        Offered::QueueFull(held) => Offered::QueueFull(held.packet),
+    let Some(packet) = hand.take() else {
+        unreachable!()
+    };
+    let bytes = length(&packet);
+    HeldPacket { packet, bytes }
+}
+
+/// The length of the packet in hand, in bytes.
+pub(crate) fn length_in(hand: &Option<Packet>) -> u32
+    requires { IsSome hand.now }
+    ensures value { (packet : PacketData) → hand.now ≡ Some packet → result ≡ packet_length packet }
+    ensures short { result ≤ 2048 }
+{
+    match hand {
+        Some(packet) => length(packet),
+        None => unreachable!(),
+    }
+}
+
+/// Gives a packet that is refused back into the hand.
+#[inline(always)]
+pub(crate) fn back_into(hand: &mut Option<Packet>, offered: Offered<HeldPacket>) -> Answer
+    requires { hand.old ≡ None }
+    ensures answer { answer_by result hand.new ≡ offered }
+    ensures held { AreOneAnswer result hand.new }
+{
+    match offered {
+        Offered::Queued => Answer::Queued,
+        Offered::NoQueue(held) => {
+            *hand = Some(held.packet);
+            Answer::NoQueue
+        }
+        Offered::QueueFull(held) => {
+            *hand = Some(held.packet);
+            Answer::QueueFull
+        }
+    }
+}
+
+/// Starts a packet that was taken, if one was.
+#[inline(always)]
+pub(crate) fn start_held(hand: &mut Option<Packet>, taken: Option<HeldPacket>, class: Class) -> Next
+    requires { hand.old ≡ None }
+    ensures value { decision_by result hand.new ≡ start_or class taken Idle }
+    ensures held { AreOneDecision result hand.new }
+{
+    match taken {
+        Some(held) => {
+            *hand = Some(held.packet);
+            Next::Start(class)
+        }
+        None => Next::Idle,
     }
 }

@@ -1,20 +1,21 @@
 // The legacy packets of a link, first in, first out.
-ghost use Rattle.std.specs.Prelude.{◌≡◌, ◌==◌, ◌+◌, ◌^◌, ◌≤◌, nat_lt, ◌||◌, if◌then◌else◌, [], ◌∷◌, ◌++◌, length, drop, IfOk};
+ghost use Rattle.std.specs.Prelude.{◌≡◌, ◌==◌, ◌+◌, ◌^◌, ◌≤◌, nat_lt, ◌||◌, if◌then◌else◌, [], ◌∷◌, ◌++◌, length, drop, Some, None, IsSome, IfOk};
 ghost use Rattle.tva_drr.specs.Queues.{first};
-ghost use Rattle.tva_shim.specs.Packets.{packet_length};
+ghost use Rattle.tva_shim.specs.Packets.{PacketData, packet_length};
 ghost use Rattle.tva_base.specs.declared.packet.Class.TheVariants.{Legacy};
 ghost use Rattle.tva_port.specs.Decide.{start_or};
 ghost use Rattle.tva_port.specs.declared.decision.Decision.TheVariants.{Idle};
+ghost use Rattle.tva_port.specs.Hand.{AreOneAnswer, AreOneDecision, answer_by, decision_by};
 ghost use Rattle.tva_port.specs.Lists.{LegacyData, legacy_data, lacks_room, legacy_answer, legacy_leaves};
 
-use crate::decision::Decision;
-use crate::held::HeldPacket;
+use crate::hand::{Answer, Next};
+use crate::held::{HeldPacket, held_in, length_in, start_held};
 use circular_buffer::HeapCircularBuffer;
 use std::alloc::{AllocError, Global};
 use std::marker::Model;
 use tva_base::Class;
-use tva_drr::{Measured, Offered, take_first};
-use tva_shim::{Packet, length};
+use tva_drr::{Measured, take_first};
+use tva_shim::Packet;
 
 /// Packets in the order in which they came, at most so many and of at most so many bytes in all.
 /// All memory is taken when it is made.
@@ -61,23 +62,27 @@ impl LegacyList {
         })
     }
 
-    /// Puts a packet last, or hands it back where its place or its bytes are too many.
-    #[inline(always)]
-    pub fn offer(&mut self, packet: Packet) -> Offered<Packet>
-        ensures answer { result ≡ legacy_answer self.old packet }
-        ensures left { self.new ≡ legacy_leaves self.old packet }
-        ensures sized { (20 ≤ packet_length packet) × (packet_length packet ≤ 2048) }
+    /// Puts the packet in hand last, or leaves it there where its place or its bytes are too many.
+    pub fn offer(&mut self, hand: &mut Option<Packet>) -> Answer
+        requires { IsSome hand.old }
+        ensures answer { (packet : PacketData) → hand.old ≡ Some packet
+            → answer_by result hand.new ≡ legacy_answer self.old packet }
+        ensures held { AreOneAnswer result hand.new }
+        ensures left { (packet : PacketData) → hand.old ≡ Some packet → self.new ≡ legacy_leaves self.old packet }
+        ensures same { (self.new.places ≡ self.old.places) × (self.new.most ≡ self.old.most) }
+        ensures sized { (packet : PacketData) → hand.old ≡ Some packet
+            → (20 ≤ packet_length packet) × (packet_length packet ≤ 2048) }
     {
-        let bytes = length(&packet);
+        let bytes = length_in(hand);
         if lacks_place(&self.ring) {
-            return Offered::QueueFull(packet);
+            return Answer::QueueFull;
         }
         if self.bytes + bytes > self.most {
-            return Offered::QueueFull(packet);
+            return Answer::QueueFull;
         }
         self.bytes += bytes;
-        let _ = self.ring.push_back(HeldPacket { packet, bytes });
-        Offered::Queued
+        let _ = self.ring.push_back(held_in(hand));
+        Answer::Queued
     }
 
     /// Whether nothing waits.
@@ -88,17 +93,16 @@ impl LegacyList {
     }
 
     /// Starts the oldest packet.
-    #[inline(always)]
-    pub fn start(&mut self) -> Decision
-        ensures value { result ≡ start_or Legacy (first self.old.packets) Idle }
+    pub fn start(&mut self, hand: &mut Option<Packet>) -> Next
+        requires { hand.old ≡ None }
+        ensures value { decision_by result hand.new ≡ start_or Legacy (first self.old.packets) Idle }
+        ensures held { AreOneDecision result hand.new }
         ensures left { self.new ≡ legacy_data self.old.places self.old.most (drop 1 self.old.packets) }
     {
-        match take_first(&mut self.ring) {
-            Some(held) => {
-                self.bytes -= held.length();
-                Decision::Start(Class::Legacy, held.packet)
-            }
-            None => Decision::Idle,
+        let taken = take_first(&mut self.ring);
+        if let Some(held) = &taken {
+            self.bytes -= held.length();
         }
+        start_held(hand, taken, Class::Legacy)
     }
 }

@@ -1,5 +1,5 @@
 // The port of a link.
-ghost use Rattle.std.specs.Prelude.{◌≡◌, ℕ, ◌+◌, ◌*◌, ◌≤◌, ◌<◌, ◌↔◌, max, true, false, List, Some, [], ◌++◌, IfOk};
+ghost use Rattle.std.specs.Prelude.{◌≡◌, ℕ, ◌+◌, ◌*◌, ◌≤◌, ◌<◌, ◌↔◌, max, true, false, List, Some, None, IsSome, [], ◌++◌, IfOk};
 ghost use Rattle.tva_base.specs.declared.packet.Class.TheVariants.{Request, Regular};
 ghost use Rattle.tva_base.specs.Plan.{AreLinkLimits};
 ghost use Rattle.tva_drr.specs.Queues.{fair};
@@ -9,6 +9,8 @@ ghost use Rattle.tva_port.specs.Levels.{no_requests};
 ghost use Rattle.tva_port.specs.Log.{Entry, free_after};
 ghost use Rattle.tva_port.specs.Waiting.{waiting, waiting_after, next_request, queue_answer, queued_by, is_queued, IsEmpty, IsRequestAlone};
 ghost use Rattle.tva_port.specs.Decide.{decision, is_start, started_by, RestsAt, MissesNone, NoneDueBefore, IsFirstCovered};
+ghost use Rattle.tva_port.specs.Hand.{AreOneAnswer, AreOneDecision, answer_by, decision_by};
+ghost use Rattle.tva_port.specs.Steps.{decision_leaves, freed};
 ghost use Rattle.tva_port.specs.declared.decision.Decision.TheVariants.{Start, WaitUntil, Idle};
 ghost use Rattle.tva_port.specs.Stands.{port_data, StandsFor};
 ghost use Rattle.tva_port.specs.Bounds.{request_bound, regular_bound, AreServed, ServesAlike};
@@ -16,6 +18,7 @@ ghost use Rattle.tva_port.specs.Keeps.{IsWithinRate, start_times, AreRising, Sta
 
 use crate::credits::{grow, most_credit, occupy, pay};
 use crate::decision::Decision;
+use crate::hand::{Answer, Next, answer_by, decision_by};
 use crate::held::HeldPacket;
 use crate::legacy::LegacyList;
 use crate::parts::{put, start_next};
@@ -106,6 +109,33 @@ impl Port {
         ensures last { self.new.last ≡ now.0 }
         ensures same { (self.new.limits ≡ self.old.limits) × (self.new.free_at ≡ self.old.free_at) }
     {
+        let mut hand = Some(packet);
+        let answer = self.queue_from(now, class, key, &mut hand);
+        answer_by(answer, hand)
+    }
+
+    /// The same of a packet that is in the caller's hand: it leaves the hand where it is queued, and stays
+    /// there where it is refused. So a packet isn't moved from call to call.
+    pub fn queue_from(
+        &mut self,
+        now: Time,
+        class: Class,
+        key: u32,
+        hand: &mut Option<Packet>,
+    ) -> Answer
+        requires time { self.old.last ≤ now.0 }
+        requires horizon { now.0 ≤ 1000000000000000 }
+        requires held { IsSome hand.old }
+        ensures answer { (log : List Entry) (packet : PacketData) → StandsFor self.old log → hand.old ≡ Some packet
+            → answer_by result hand.new
+            ≡ queue_answer self.old.limits (waiting_after self.old.limits log) class key packet }
+        ensures held { AreOneAnswer result hand.new }
+        ensures stands { (log : List Entry) (packet : PacketData) → StandsFor self.old log → hand.old ≡ Some packet
+            → StandsFor self.new (log ++ queued_by (answer_by result hand.new) now.0 class key packet) }
+        ensures refused { is_queued (answer_by result hand.new) ≡ false → self.new.waiting ≡ self.old.waiting }
+        ensures last { self.new.last ≡ now.0 }
+        ensures same { (self.new.limits ≡ self.old.limits) × (self.new.free_at ≡ self.old.free_at) }
+    {
         self.credit = grow(&self.limits, self.credit, now.0 - self.last);
         self.last = now.0;
         put(
@@ -114,7 +144,7 @@ impl Port {
             &mut self.legacy,
             class,
             key,
-            packet,
+            hand,
         )
     }
 
@@ -172,19 +202,45 @@ impl Port {
         ensures last { self.new.last ≡ now.0 }
         ensures same { self.new.limits ≡ self.old.limits }
     {
+        let mut hand = None;
+        let next = self.decide_into(now, &mut hand);
+        decision_by(next, hand)
+    }
+
+    /// The same where a packet that starts is put into the caller's hand, which is empty.
+    pub fn decide_into(&mut self, now: Time, hand: &mut Option<Packet>) -> Next
+        requires time { self.old.last ≤ now.0 }
+        requires horizon { now.0 ≤ 1000000000000000 }
+        requires free { self.old.free_at ≤ now.0 }
+        requires empty { hand.old ≡ None }
+        ensures decision { (log : List Entry) → StandsFor self.old log
+            → decision_by result hand.new ≡ decision self.old.limits log now.0 }
+        ensures held { AreOneDecision result hand.new }
+        ensures stands { (log : List Entry) → StandsFor self.old log
+            → StandsFor self.new (log ++ started_by (decision_by result hand.new) now.0) }
+        ensures valid { AreLinkLimits self.old.limits }
+        ensures waiting { self.new.waiting ≡ decision_leaves (decision_by result hand.new) self.old.waiting }
+        ensures freed { self.new.free_at
+            ≡ freed self.old.limits self.old.free_at now.0 (decision_by result hand.new) }
+        ensures busy { is_start (decision_by result hand.new) ≡ true → now.0 < self.new.free_at }
+        ensures soon { self.new.free_at ≤ now.0 + 2048000000 }
+        ensures last { self.new.last ≡ now.0 }
+        ensures same { self.new.limits ≡ self.old.limits }
+    {
         self.credit = grow(&self.limits, self.credit, now.0 - self.last);
         self.last = now.0;
-        let decision = start_next(
+        let next = start_next(
             &self.limits,
             self.credit,
             now.0,
             &mut self.requests,
             &mut self.regulars,
             &mut self.legacy,
+            hand,
         );
-        self.credit = pay(&self.limits, self.credit, &decision);
-        self.free_at = occupy(&self.limits, self.free_at, now.0, &decision);
-        decision
+        self.credit = pay(&self.limits, self.credit, next, hand);
+        self.free_at = occupy(&self.limits, self.free_at, now.0, next, hand);
+        next
     }
 
     /// When the link is free: the end of the last start, in nanoseconds, or 0 where nothing started.

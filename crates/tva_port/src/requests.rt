@@ -1,5 +1,5 @@
 // The requests that wait for a link.
-ghost use Rattle.std.specs.Prelude.{◌≡◌, ◌≤◌, Some, IfOk};
+ghost use Rattle.std.specs.Prelude.{◌≡◌, ◌≤◌, Some, None, IsSome, IfOk};
 ghost use Rattle.std.specs.Option.{option_map};
 ghost use Rattle.tva_base.specs.Plan.{AreLinkLimits};
 ghost use Rattle.tva_shim.specs.Packets.{PacketData, packet_length};
@@ -9,17 +9,18 @@ ghost use Rattle.tva_hier.specs.Offer.{answer_to_offer, left_by_offer};
 ghost use Rattle.tva_hier.specs.Take.{left_by_take};
 ghost use Rattle.tva_base.specs.declared.packet.Class.TheVariants.{Request};
 ghost use Rattle.tva_port.specs.Decide.{start_or};
+ghost use Rattle.tva_port.specs.Hand.{AreOneAnswer, AreOneDecision, answer_by, decision_by};
 ghost use Rattle.tva_port.specs.declared.decision.Decision.TheVariants.{Idle};
 ghost use Rattle.tva_port.specs.Levels.{no_requests, limits_in, next_in, request_answer, request_leaves, request_taken};
 
-use crate::decision::Decision;
 use crate::fair::{offer_to, start_from};
-use crate::held::{HeldPacket, given_back};
+use crate::hand::{Answer, Next};
+use crate::held::{HeldPacket, back_into, held_in, start_held};
 use std::alloc::{AllocError, Global};
 use tva_base::{Class, LinkLimits};
-use tva_drr::{FairQueues, Offered};
+use tva_drr::FairQueues;
 use tva_hier::HierQueues;
-use tva_shim::{Packet, inner_queue_key, length};
+use tva_shim::{Packet, inner_queue_key};
 
 /// Requests in fair queues by their keys; or on a link with two levels in two-level queues, by
 /// their keys and within a key by the tag before it.
@@ -60,57 +61,64 @@ impl RequestQueues {
         }
     }
 
-    /// Offers a request under a key, and within it under its own inner key where there are two
+    /// Offers the request in hand under a key, and within it under its own inner key where there are two
     /// levels.
-    #[inline(always)]
-    pub fn offer(&mut self, key: u32, packet: Packet) -> Offered<Packet>
-        requires { (limits_in self.old).max ≡ 2048 }
-        ensures answer { result ≡ request_answer self.old key packet }
-        ensures left { self.new ≡ request_leaves self.old key packet }
-        ensures sized { (20 ≤ packet_length packet) × (packet_length packet ≤ 2048) }
+    pub fn offer(&mut self, key: u32, hand: &mut Option<Packet>) -> Answer
+        requires limits { (limits_in self.old).max ≡ 2048 }
+        requires held { IsSome hand.old }
+        ensures answer { (packet : PacketData) → hand.old ≡ Some packet
+            → answer_by result hand.new ≡ request_answer self.old key packet }
+        ensures held { AreOneAnswer result hand.new }
+        ensures left { (packet : PacketData) → hand.old ≡ Some packet
+            → self.new ≡ request_leaves self.old key packet }
+        ensures limits { limits_in self.new ≡ limits_in self.old }
+        ensures sized { (packet : PacketData) → hand.old ≡ Some packet
+            → (20 ≤ packet_length packet) × (packet_length packet ≤ 2048) }
     {
         match self {
-            RequestQueues::OneLevel(queues) => offer_to(queues, key, packet),
-            RequestQueues::TwoLevels(queues) => offer_within(queues, key, packet),
+            RequestQueues::OneLevel(queues) => offer_to(queues, key, hand),
+            RequestQueues::TwoLevels(queues) => offer_within(queues, key, hand),
         }
     }
 
     /// Starts the next request.
-    #[inline(always)]
-    pub fn start(&mut self) -> Decision
-        ensures value { result ≡ start_or Request (next_in self.old) Idle }
+    pub fn start(&mut self, hand: &mut Option<Packet>) -> Next
+        requires { hand.old ≡ None }
+        ensures value { decision_by result hand.new ≡ start_or Request (next_in self.old) Idle }
+        ensures held { AreOneDecision result hand.new }
         ensures left { self.new ≡ request_taken self.old }
     {
         match self {
-            RequestQueues::OneLevel(queues) => start_from(queues, Class::Request),
-            RequestQueues::TwoLevels(queues) => start_within(queues),
+            RequestQueues::OneLevel(queues) => start_from(queues, Class::Request, hand),
+            RequestQueues::TwoLevels(queues) => start_within(queues, hand),
         }
     }
 }
 
-/// Offers a packet to two-level queues under a key and its inner key.
-#[inline(always)]
-fn offer_within(queues: &mut HierQueues<HeldPacket>, key: u32, packet: Packet) -> Offered<Packet>
-    requires { queues.old.limits.max ≡ 2048 }
-    ensures answer { result
-        ≡ answer_to_offer packet_length queues.old key (inner_key_of packet) packet }
-    ensures left { queues.new
-        ≡ left_by_offer packet_length queues.old key (inner_key_of packet) packet }
-    ensures sized { (20 ≤ packet_length packet) × (packet_length packet ≤ 2048) }
+/// Offers the packet in hand to two-level queues under a key and its inner key.
+fn offer_within(queues: &mut HierQueues<HeldPacket>, key: u32, hand: &mut Option<Packet>) -> Answer
+    requires limits { queues.old.limits.max ≡ 2048 }
+    requires held { IsSome hand.old }
+    ensures answer { (packet : PacketData) → hand.old ≡ Some packet
+        → answer_by result hand.new ≡ answer_to_offer packet_length queues.old key (inner_key_of packet) packet }
+    ensures held { AreOneAnswer result hand.new }
+    ensures left { (packet : PacketData) → hand.old ≡ Some packet
+        → queues.new ≡ left_by_offer packet_length queues.old key (inner_key_of packet) packet }
+    ensures limits { queues.new.limits ≡ queues.old.limits }
+    ensures sized { (packet : PacketData) → hand.old ≡ Some packet
+        → (20 ≤ packet_length packet) × (packet_length packet ≤ 2048) }
 {
-    let inner = inner_queue_key(&packet);
-    let bytes = length(&packet);
-    given_back(queues.offer(key, inner, HeldPacket { packet, bytes }))
+    let held = held_in(hand);
+    let inner = inner_queue_key(&held.packet);
+    back_into(hand, queues.offer(key, inner, held))
 }
 
 /// Starts the next packet of two-level queues.
-#[inline(always)]
-fn start_within(queues: &mut HierQueues<HeldPacket>) -> Decision
-    ensures value { result ≡ start_or Request (next queues.old.groups) Idle }
+fn start_within(queues: &mut HierQueues<HeldPacket>, hand: &mut Option<Packet>) -> Next
+    requires { hand.old ≡ None }
+    ensures value { decision_by result hand.new ≡ start_or Request (next queues.old.groups) Idle }
+    ensures held { AreOneDecision result hand.new }
     ensures left { queues.new ≡ left_by_take packet_length queues.old }
 {
-    match queues.take() {
-        Some(held) => Decision::Start(Class::Request, held.packet),
-        None => Decision::Idle,
-    }
+    start_held(hand, queues.take(), Class::Request)
 }

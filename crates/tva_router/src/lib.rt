@@ -5,6 +5,7 @@
 
 mod finding;
 mod guard;
+mod hands;
 mod judged;
 mod key;
 mod laws;

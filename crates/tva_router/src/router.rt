@@ -8,6 +8,7 @@ ghost use Rattle.tva_flow.specs.Budget.{AreTimely, IsWithinBudget};
 ghost use Rattle.tva_port.specs.Log.{free_after};
 ghost use Rattle.tva_port.specs.Waiting.{waiting_after, next_request, IsEmpty, IsRequestAlone};
 ghost use Rattle.tva_port.specs.Decide.{decision, is_start, started_by, RestsAt, MissesNone, NoneDueBefore, IsFirstCovered};
+ghost use Rattle.tva_port.specs.Hand.{AreOneDecision, decision_by};
 ghost use Rattle.tva_port.specs.declared.decision.Decision.TheVariants.{Start, WaitUntil, Idle};
 ghost use Rattle.tva_router.specs.Handling.{PortLogs, outgoing_link, arrival, stopped, handle};
 ghost use Rattle.tva_router.specs.Routes.{rerouted};
@@ -24,7 +25,7 @@ use std::marker::Model;
 use tva_base::{
     Class, DropCause, Fate, LinkLimits, Listed, Name, Outcome, Prefix, RouterPlan, Time,
 };
-use tva_port::{Decision, Port};
+use tva_port::{Decision, Next, Port, decision_by};
 use tva_shim::{HOPS_MAX, Packet, class_of, length};
 
 /// What a router keeps: the plan by which it was built and the plan in force, its last time, what it
@@ -121,7 +122,15 @@ impl Router {
             charge,
         } = self.guard.judge(&self.plan, &arrival, &mut packet.carried);
         packet.hops += 1;
-        let outcome = send(&self.plan, &self.ways, &mut self.ports, now, class, packet);
+        let mut hand = Some(packet);
+        let outcome = send(
+            &self.plan,
+            &self.ways,
+            &mut self.ports,
+            now,
+            class,
+            &mut hand,
+        );
         Fate {
             class,
             cause,
@@ -184,8 +193,33 @@ impl Router {
         ensures built { self.new.built ≡ self.old.built }
         ensures same { self.new.plan ≡ self.old.plan }
     {
+        let mut hand = None;
+        let next = self.decide_into(now, link, &mut hand);
+        decision_by(next, hand)
+    }
+
+    /// The same where a packet that starts is put into the caller's hand, which is empty. So it isn't moved
+    /// from call to call.
+    pub fn decide_into(&mut self, now: Time, link: u16, hand: &mut Option<Packet>) -> Next
+        requires time { self.old.last ≤ now.0 }
+        requires horizon { now.0 ≤ 1000000000000000 }
+        requires outgoing { outgoing_link self.old.plan link ≢ None }
+        requires free { free_of self.old link ≤ now.0 }
+        requires empty { hand.old ≡ None }
+        ensures decision { (h : List Charge) (logs : PortLogs) (limits : LinkLimits) → StandsFor self.old h logs
+            → outgoing_link self.old.plan link ≡ Some (link, limits)
+            → decision_by result hand.new ≡ decision limits (logs link) now.0 }
+        ensures held { AreOneDecision result hand.new }
+        ensures stands { (h : List Charge) (logs : PortLogs) → StandsFor self.old h logs
+            → StandsFor self.new h (logs with started_on link (decision_by result hand.new) now.0) }
+        ensures busy { is_start (decision_by result hand.new) ≡ true → now.0 < free_of self.new link }
+        ensures soon { free_of self.new link ≤ now.0 + 2048000000 }
+        ensures last { self.new.last ≡ now.0 }
+        ensures built { self.new.built ≡ self.old.built }
+        ensures same { self.new.plan ≡ self.old.plan }
+    {
         self.last = now.0;
-        decide_on(&self.plan, &self.ways, &mut self.ports, now, link)
+        decide_on(&self.plan, &self.ways, &mut self.ports, now, link, hand)
     }
 
     /// When an outgoing link is free, in nanoseconds: the end of its last start, or 0.

@@ -1,6 +1,7 @@
 use Rattle.std.proofs.Common.{◌≡◌, ℕ, List, Option, Some, None, eqb, sym, ap, ◌∙◌, subst}
 use Rattle.std.specs.List.{find, position}
 use Rattle.std.specs.Option.{option_and_then}
+use Rattle.tva_base.specs.declared.addresses.Address.{Address}
 use Rattle.tva_base.specs.declared.limits.LinkLimits.{LinkLimits}
 use Rattle.tva_base.specs.declared.plan.Route.{Route}
 use Rattle.tva_base.specs.declared.plan.RouterPlan.{RouterPlan}
@@ -13,15 +14,16 @@ use Rattle.tva_router.proofs.Links.{find_nowhere}
 use Rattle.tva_router.proofs.Ports.{stands-nothing}
 use Rattle.tva_router.proofs.sending.send.Goals as goal
 
--- without a place of the link there is no way
-way-none : (plan : RouterPlan) (routes : List Route) (outgoing : List (ℕ × LinkLimits)) (p packet : PacketData) (link : ℕ) → routes ≡ plan.routes → outgoing ≡ plan.outgoing → p ≡ packet
-    → link_to routes p.flow.dst ≡ Some link → position (λ o. eqb o.0 link) outgoing ≡ None → way_to plan packet.flow.dst ≡ None
-way-none plan routes outgoing p packet link r o v to nowhere =
-    let leads : link_to plan.routes packet.flow.dst ≡ Some link =
-    subst (λ (z : PacketData). link_to plan.routes z.flow.dst ≡ Some link) v (subst (λ (z : List Route). link_to z p.flow.dst ≡ Some link) r to) in
-    let gone : find (λ o. eqb o.0 link) plan.outgoing ≡ None =
-    find_nowhere (λ (o : ℕ × LinkLimits). eqb o.0 link) plan.outgoing (subst (λ (z : List (ℕ × LinkLimits)). position (λ o. eqb o.0 link) z ≡ None) o nowhere) in
-    ap (option_and_then (outgoing_link plan)) leads ∙ gone
+-- the way of a packet, by the link that its destination leads to
+way-by : (plan : RouterPlan) (routes : List Route) (to dst : Address) (o : Option ℕ) → routes ≡ plan.routes → to ≡ dst → o ≡ link_to routes to
+    → way_to plan dst ≡ option_and_then (outgoing_link plan) o
+way-by plan routes to dst o r e l =
+    sym (ap (option_and_then (outgoing_link plan)) (l ∙ (ap (λ (z : List Route). link_to z to) r ∙ ap (link_to plan.routes) e)))
+
+-- without a place of the link there is none
+nowhere : (plan : RouterPlan) (outgoing : List (ℕ × LinkLimits)) (link : ℕ) → outgoing ≡ plan.outgoing → position (λ o. eqb o.0 link) outgoing ≡ None → outgoing_link plan link ≡ None
+nowhere plan outgoing link o n =
+    find_nowhere (λ (o : ℕ × LinkLimits). eqb o.0 link) plan.outgoing (subst (λ (z : List (ℕ × LinkLimits)). position (λ o. eqb o.0 link) z ≡ None) o n)
 
 pub link_to-requires : goal.link_to-requires
 link_to-requires c = subst (λ (z : List Route). IsTableOf z c.args.ways.now.routes) (sym c.as_slice.ensures) c.requires.ways.routes
@@ -30,14 +32,14 @@ pub place_of-requires : goal.place_of-requires
 place_of-requires c = subst (λ (z : List (ℕ × LinkLimits)). ArePlaces z c.args.ways.now.places) (sym c.as_slice-2.ensures) c.requires.ways.places
 
 pub returns-in-None-clause-outcome : goal.returns-in-None-clause-outcome
-returns-in-None-clause-outcome c logs s =
-    sym (ap (sent logs c.args.class c.args.packet)
-    (way-none c.args.plan.now c.as_slice.result.now c.as_slice-2.result.now _ c.args.packet c.in-Some.link c.as_slice.ensures c.as_slice-2.ensures c.packet.view_is
-    (sym c.link_to.ensures ∙ c.in-Some.is) (sym c.place_of.ensures.place ∙ c.in-None.is)))
+returns-in-None-clause-outcome c logs packet s held =
+    sym (ap (sent logs c.args.class packet)
+    (way-by c.args.plan.now c.as_slice.result.now c.destination_in.result packet.flow.dst (Some c.in-Some.link) c.as_slice.ensures (c.destination_in.ensures packet held) (sym c.in-Some.is ∙ c.link_to.ensures)
+    ∙ nowhere c.args.plan.now c.as_slice-2.result.now c.in-Some.link c.as_slice-2.ensures (sym c.place_of.ensures.place ∙ c.in-None.is)))
 
 pub returns-in-None-clause-stands : goal.returns-in-None-clause-stands
-returns-in-None-clause-stands c logs s =
-    subst (λ (z : Option (ℕ × LinkLimits)). StandForLogs c.args.plan.now.outgoing c.args.ports.now.items (logs with queued logs c.args.now.0 c.args.class c.args.packet z))
-    (sym (way-none c.args.plan.now c.as_slice.result.now c.as_slice-2.result.now _ c.args.packet c.in-Some.link c.as_slice.ensures c.as_slice-2.ensures c.packet.view_is
-    (sym c.link_to.ensures ∙ c.in-Some.is) (sym c.place_of.ensures.place ∙ c.in-None.is)))
+returns-in-None-clause-stands c logs packet s held =
+    subst (λ (z : Option (ℕ × LinkLimits)). StandForLogs c.args.plan.now.outgoing c.args.ports.now.items (logs with queued logs c.args.now.0 c.args.class packet z))
+    (sym (way-by c.args.plan.now c.as_slice.result.now c.destination_in.result packet.flow.dst (Some c.in-Some.link) c.as_slice.ensures (c.destination_in.ensures packet held) (sym c.in-Some.is ∙ c.link_to.ensures)
+    ∙ nowhere c.args.plan.now c.as_slice-2.result.now c.in-Some.link c.as_slice-2.ensures (sym c.place_of.ensures.place ∙ c.in-None.is)))
     (stands-nothing c.args.plan.now.outgoing c.args.ports.now.items logs s)

@@ -1,8 +1,13 @@
-use Rattle.std.proofs.Common.{◌≡◌, ◌+◌, ◌∷◌, [], ◌++◌, Some, None, get_or, map, refl, sym, subst, ◌∙◌, ap, arith, append-nil}
+use Rattle.std.proofs.Common.{◌≡◌, ◌+◌, ◌∷◌, [], ◌++◌, Option, Some, None, get_or, map, refl, sym, subst, ◌∙◌, ap, arith, append-nil}
 use Rattle.std.proofs.lemmas.List.{get_or_default}
+use Rattle.tva_shim.specs.Packets.{PacketData}
 use Rattle.tva_port.specs.declared.decision.Decision.TheVariants.{WaitUntil, Idle}
+use Rattle.tva_port.specs.declared.hand.Next.TheVariants.{Start}
+use Rattle.tva_port.specs.Hand.{decision_by}
+use Rattle.tva_port.proofs.Hands.{by_packet}
 use Rattle.tva_node.specs.Pairs.{link_pair}
 use Rattle.tva_node.specs.States.{NodeState, role_plan, site_at, state_of}
+use Rattle.tva_node.specs.Steps.{Decides}
 use Rattle.tva_node.specs.Work.{DecidesAt, end_on, start_event, start_sending}
 use Rattle.tva_node.proofs.Decides.{count_put, from_fields, gone_in, here_is, on_both, pairs_put, pairs_set, put_there, read_busy, read_fits, read_out, read_rest, read_start}
 use Rattle.tva_node.proofs.parts.Parts.ask_at.Goals as goal
@@ -55,7 +60,7 @@ note_start-requires-clause-fits c = λ x.
     read_fits c.args.self.now c.args.now c.args.place c.at-number.result c.at-number.ensures c.requires.within c.requires.stands x
 
 pub returns-in-Start-clause-stands : goal.returns-in-Start-clause-stands
-returns-in-Start-clause-stands c =
+returns-in-Start-clause-stands c = by_packet c.decide.new.hand c.in-Start.ensures.held (λ packet hand.
     let p = c.args.self.now in
     let st = c.requires.stands.3 in
     let a = c.at-number.result in
@@ -65,24 +70,25 @@ returns-in-Start-clause-stands c =
     let held = c.note_start.ensures.held in
     let out = read_out p c.args.now c.args.place a c.at-number.ensures c.requires.within c.requires.stands in
     let free = c.free_at-free.ensures.free (site_at p) c.requires.stands.1 a.plan.limits st.site st.plan out st.role in
-    let decided = c.in-Start.ensures.decides (site_at p) c.requires.stands.1 a.plan.limits st.site st.plan out st.role in
-    let events = p.log.all ++ start_event p.number here c.args.now c.in-Start.class c.in-Start.packet ∷ [] in
-    let sendings = p.outbox.all ++ start_sending here c.args.now c.in-Start.packet ∷ [] in
-    let stands = read_start p c.args.now c.args.place a c.at-number.ensures c.requires.within c.requires.stands c.in-Start.class c.in-Start.packet c.decide.new.self
+    let decided = subst (λ (h : Option PacketData). Decides (site_at p) c.requires.stands.1 a.number c.args.now a.plan.limits (decision_by (Start c.in-Start.class) h) c.decide.new.self) hand
+    (c.in-Start.ensures.decides (site_at p) c.requires.stands.1 a.plan.limits st.site st.plan out st.role) in
+    let events = p.log.all ++ start_event p.number here c.args.now c.in-Start.class packet ∷ [] in
+    let sendings = p.outbox.all ++ start_sending here c.args.now packet ∷ [] in
+    let stands = read_start p c.args.now c.args.place a c.at-number.ensures c.requires.within c.requires.stands c.in-Start.class packet c.decide.new.self
     (omega (arith, free, c.if-free-now.false)) decided c.in-Start.ensures.plan c.in-Start.ensures.last in
     on_both (q.log.all ≡ events) (q.outbox.all ≡ sendings) (DecidesAt (state_of q) c.args.now (c.args.place + 1)) c.note_start.result
     (λ told sent. subst (λ (v : NodeState). DecidesAt v c.args.now (c.args.place + 1))
-    (from_fields q p.number p.horizon p.worked_to c.decide.new.self _ p.inbox.all p.waiting p.keeps (gone_in p) events sendings same.3 same.4 same.5 same.0 (c.note_start.ensures.links a) (ap (λ v. v.all) same.1) same.2 told sent held.0 (λ i. record { inputs = (same.1 i).gone; events = held.1 i; sendings = held.2 i })) stands)
-    (c.note_start.ensures.log a) (c.note_start.ensures.outbox a)
+    (from_fields q p.number p.horizon p.worked_to c.decide.new.self _ p.inbox.all p.waiting p.keeps (gone_in p) events sendings same.3 same.4 same.5 same.0 (c.note_start.ensures.links a packet hand) (ap (λ v. v.all) same.1) same.2 told sent held.0 (λ i. record { inputs = (same.1 i).gone; events = held.1 i; sendings = held.2 i })) stands)
+    (c.note_start.ensures.log a packet hand) (c.note_start.ensures.outbox a packet hand))
 
 pub returns-in-Start-clause-count : goal.returns-in-Start-clause-count
-returns-in-Start-clause-count c =
+returns-in-Start-clause-count c = by_packet c.decide.new.hand c.in-Start.ensures.held (λ packet hand.
     let p = c.args.self.now in
     let a = c.at-number.result in
-    count_put p.links c.note_start.new.self.links c.args.place a (Some (end_on (get_or p.links c.args.place a) c.args.now c.in-Start.packet)) (c.note_start.ensures.links a)
+    count_put p.links c.note_start.new.self.links c.args.place a (Some (end_on (get_or p.links c.args.place a) c.args.now packet)) (c.note_start.ensures.links a packet hand))
 
 pub returns-in-Start-clause-keeps : goal.returns-in-Start-clause-keeps
-returns-in-Start-clause-keeps c =
+returns-in-Start-clause-keeps c = by_packet c.decide.new.hand c.in-Start.ensures.held (λ packet hand.
     let p = c.args.self.now in
     let a = c.at-number.result in
     let here = get_or p.links c.args.place a in
@@ -93,7 +99,7 @@ returns-in-Start-clause-keeps c =
       site = λ i. record {
         number = same.3 i;
         plan = (ap role_plan same.0 ∙ c.in-Start.ensures.plan) i;
-        links = (ap (map link_pair) (c.note_start.ensures.links a) ∙ pairs_set p.links c.args.place a here (Some (end_on here c.args.now c.in-Start.packet)) c.at-number.ensures e c.requires.within) i;
+        links = (ap (map link_pair) (c.note_start.ensures.links a packet hand) ∙ pairs_set p.links c.args.place a here (Some (end_on here c.args.now packet)) c.at-number.ensures e c.requires.within) i;
       };
       horizon = same.4;
       inbox = ap (λ v. v.all) same.1;
@@ -101,7 +107,7 @@ returns-in-Start-clause-keeps c =
       sendings = c.note_start.ensures.sent;
       keeps = held.0;
       gone = λ i. record { inputs = (same.1 i).gone; events = held.1 i; sendings = held.2 i };
-    }
+    })
 
 pub returns-in-WaitUntil-clause-stands : goal.returns-in-WaitUntil-clause-stands
 returns-in-WaitUntil-clause-stands c =

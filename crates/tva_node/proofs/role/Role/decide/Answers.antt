@@ -1,6 +1,7 @@
 use Rattle.std.proofs.Common.{◌≡◌, ◌∙◌, ◌++◌, refl, sym, subst, ap, arith}
 use Rattle.tva_base.specs.declared.limits.LinkLimits.{LinkLimits}
 use Rattle.tva_port.specs.Decide.{decision}
+use Rattle.tva_port.specs.Hand.{decision_by}
 use Rattle.tva_router.specs.Boots.{charges_of_boot}
 use Rattle.tva_log.specs.Parts.{charges, port_logs}
 use Rattle.tva_node.specs.declared.role.Role.{Role}
@@ -12,8 +13,8 @@ use Rattle.tva_node.proofs.Roles.{host_decided, host_out, not_none, router_decid
 use Rattle.tva_node.proofs.Making.{routed_same}
 use Rattle.tva_node.proofs.role.Role.decide.Goals as goal
 
-pub decide-requires-clause-outgoing : goal.decide-requires-clause-outgoing
-decide-requires-clause-outgoing c =
+pub decide_into-requires-clause-outgoing : goal.decide_into-requires-clause-outgoing
+decide_into-requires-clause-outgoing c =
     let r = c.requires.out in
     let out = router_has_out r.0 c.args.self.now c.in-Router.routed c.args.link r.1 c.args.now.0 c.requires.time r.2 r.3 c.in-Router.is r.4 in
     λ none. not_none _ (c.args.link, r.1) out none
@@ -24,9 +25,9 @@ returns-in-Router-clause-decides c = λ site log limits s e out st.
     let has = router_has_out site c.args.self.now c.in-Router.routed c.args.link limits c.args.now.0 c.requires.time s e c.in-Router.is out in
     let r = c.in-Router.routed in
     let h = charges_of_boot r.router.built r.changes.boot (charges log) in (
-      c.decide.ensures.decision h (port_logs log) limits stands.router has,
-      router_decided c.in-Router.routed (record { router = c.decide.new.self; next = r.next; changes = r.changes }) log c.args.link c.args.now.0 c.decide.result stands
-          (c.decide.ensures.stands h (port_logs log) stands.router) c.decide.ensures.built refl refl,
+      c.decide_into.ensures.decision h (port_logs log) limits stands.router has,
+      router_decided c.in-Router.routed (record { router = c.decide_into.new.self; next = r.next; changes = r.changes }) log c.args.link c.args.now.0 (decision_by c.decide_into.result c.decide_into.new.hand) stands
+          (c.decide_into.ensures.stands h (port_logs log) stands.router) c.decide_into.ensures.built refl refl,
     )
 
 pub returns-in-Host-clause-decides : goal.returns-in-Host-clause-decides
@@ -35,15 +36,15 @@ returns-in-Host-clause-decides c = λ site log limits s e out st.
     let stands = subst (λ (r : Role). RoleStands site r log) c.in-Host.is st in
     let o = host_out site h log c.args.link (c.args.link, limits) s (e ∙ ap role_plan c.in-Host.is) stands out in
     let same : h.port.limits ≡ limits = ap (λ p. p.1) (sym o.1) in
-    let new : Hosted = record { courier = h.courier; uplink = h.uplink; port = c.decide-in-Host.new.self } in (
-      c.decide-in-Host.ensures.decision (port_logs log h.uplink) stands.port
+    let new : Hosted = record { courier = h.courier; uplink = h.uplink; port = c.decide_into-in-Host.new.self } in (
+      c.decide_into-in-Host.ensures.decision (port_logs log h.uplink) stands.port
           ∙ (ap (λ (l : LinkLimits). decision l (port_logs log h.uplink) c.args.now.0) same ∙ ap (λ k. decision limits (port_logs log k) c.args.now.0) o.0),
-      subst (λ k. StandsAsHost site new (log ++ started_by k c.args.now.0 c.decide-in-Host.result)) o.0
-          (host_decided site h new log c.args.now.0 c.decide-in-Host.result stands (c.decide-in-Host.ensures.stands (port_logs log h.uplink) stands.port) refl refl c.decide-in-Host.ensures.same),
+      subst (λ k. StandsAsHost site new (log ++ started_by k c.args.now.0 (decision_by c.decide_into-in-Host.result c.decide_into-in-Host.new.hand))) o.0
+          (host_decided site h new log c.args.now.0 (decision_by c.decide_into-in-Host.result c.decide_into-in-Host.new.hand) stands (c.decide_into-in-Host.ensures.stands (port_logs log h.uplink) stands.port) refl refl c.decide_into-in-Host.ensures.same),
     )
 
 pub returns-in-Router-clause-last : goal.returns-in-Router-clause-last
 returns-in-Router-clause-last c =
     let r = c.in-Router.routed in
     let by = subst (IsBy c.args.now.0) c.in-Router.is c.requires.time in
-    routed_same c.args.now.0 r c.decide.new.self r.next by (omega (arith, c.decide.ensures.last)) c.decide.ensures.built c.decide.ensures.same
+    routed_same c.args.now.0 r c.decide_into.new.self r.next by (omega (arith, c.decide_into.ensures.last)) c.decide_into.ensures.built c.decide_into.ensures.same

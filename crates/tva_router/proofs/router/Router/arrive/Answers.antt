@@ -1,4 +1,4 @@
-use Rattle.std.proofs.Common.{◌≡◌, ◌≤◌, false, leb, ◌++◌, sym, ap, ◌∙◌, subst}
+use Rattle.std.proofs.Common.{◌≡◌, ◌≤◌, false, leb, ◌++◌, refl, sym, ap, ◌∙◌, subst}
 use Rattle.tva_base.specs.declared.packet.Fate.{Fate}
 use Rattle.tva_shim.specs.Packets.{PacketData}
 use Rattle.tva_shim.specs.Fields.{packet_of_fields}
@@ -48,7 +48,7 @@ returns-clause-fate c h logs s =
     let judged : j ≡ judge plan h (arrival c.args.now.0 c.args.from packet) packet.carried =
     c.judge-class.ensures.answer h stood.charges ∙ ap (λ (z : Arrival). judge plan h z packet.carried) came in
     let went : c.send-outcome.result ≡ sent logs j.class (goes_on packet j.carried) (way_to plan packet.flow.dst) =
-    c.send-outcome.ensures.outcome logs stood.links in
+    c.send-outcome.ensures.outcome logs (goes_on packet j.carried) stood.links refl in
     let few : leb 32 packet.hops ≡ false = subst (λ (z : PacketData). leb 32 z.hops ≡ false) (sym c.packet.view_is) (sym c.at_hop_limit.ensures ∙ c.if-at_hop_limit.false) in
     let fate : Fate = fate_of j c.send-outcome.result in
     subst (λ (z : RouterData). fate ≡ (handle z.plan h logs c.args.now.0 c.args.from c.args.packet).fate) c.self.view_is
@@ -69,7 +69,7 @@ returns-clause-stands c h logs s =
     let keeps : Keeps plan (arrival c.args.now.0 c.args.from packet) c.judge-class.result.charge (nonce_in packet.carried) c.self.inside.guard.cache c.judge-class.new.self.cache =
     subst (λ (z : Arrival). Keeps plan z c.judge-class.result.charge (nonce_in packet.carried) c.self.inside.guard.cache c.judge-class.new.self.cache) came c.judge-class.ensures.keeps in
     let links : StandForLogs plan.outgoing c.send-outcome.new.ports.items (logs with queued logs c.args.now.0 j.class (goes_on packet j.carried) (way_to plan packet.flow.dst)) =
-    c.send-outcome.ensures.stands logs stood.links in
+    c.send-outcome.ensures.stands logs (goes_on packet j.carried) stood.links refl in
     let by : IsByPlan (router_data c.self.inside.built plan c.args.now.0 c.judge-class.new.self.minter c.judge-class.new.self.cache c.send-outcome.new.ports.items) =
     by-plan c.self.inside.built plan c.args.now.0 c.judge-class.new.self c.self.inside.ways c.send-outcome.new.ports.items (record {
       valid = c.self.invariant.valid;
