@@ -1,20 +1,17 @@
 // The front of a ring.
 ghost use Rattle.std.specs.Prelude.{◌≡◌, drop};
+ghost use Rattle.std.specs.VecDeque.{deque_capacity};
 ghost use Rattle.tva_drr.specs.Queues.{first};
 
-use circular_buffer::HeapCircularBuffer;
+use std::collections::VecDeque;
+use tva_index::take_front;
 
-/// Takes the first item of a ring. A single one is taken from behind, so that the next one stands at its
-/// place, which the processor's caches hold.
+/// Takes the first item of a ring.
 #[inline(always)]
-pub fn take_first<T>(ring: &mut HeapCircularBuffer<T>) -> Option<T>
+pub fn take_first<T>(ring: &mut VecDeque<T>) -> Option<T>
     ensures value { result ≡ first ring.old.items }
     ensures items { ring.new.items ≡ drop 1 ring.old.items }
-    ensures capacity { ring.new.capacity ≡ ring.old.capacity }
+    ensures capacity { deque_capacity ring.new ≡ deque_capacity ring.old }
 {
-    if ring.len() == 1 {
-        ring.pop_back()
-    } else {
-        ring.pop_front()
-    }
+    take_front(ring)
 }

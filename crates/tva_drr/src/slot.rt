@@ -5,8 +5,8 @@ ghost use Rattle.tva_drr.specs.Slots.{slot};
 
 use crate::measured::Measured;
 use crate::ring::take_first;
-use circular_buffer::HeapCircularBuffer;
 use std::alloc::{AllocError, Global};
+use std::collections::VecDeque;
 use std::marker::Model;
 
 /// The items that wait under one key, in a ring whose memory is taken when it is made.
@@ -15,11 +15,12 @@ pub(crate) struct Slot<T: Measured> {
     key: u32,
     deficit: u32,
     bytes: u32,
-    ring: HeapCircularBuffer<T>,
+    ring: VecDeque<T>,
 }
 
 impl<T: Measured> Model for Slot<T> {
     ghost use Rattle.std.specs.Prelude.{◌≡◌};
+    ghost use Rattle.std.specs.VecDeque.{deque_capacity};
     ghost use Rattle.tva_drr.specs.Queues.{queue, bytes_in};
     ghost use Rattle.tva_drr.specs.Slots.{SlotOf, slot, slot_code};
 
@@ -27,7 +28,7 @@ impl<T: Measured> Model for Slot<T> {
 
     ghost coded = { slot_code T.code };
 
-    ghost view = { λ w. slot (queue w.key w.deficit w.ring.items) w.ring.capacity };
+    ghost view = { λ w. slot (queue w.key w.deficit w.ring.items) (deque_capacity w.ring) };
 
     ghost invariant = { λ w. w.bytes ≡ bytes_in T.measure w.ring.items };
 }
@@ -37,7 +38,7 @@ impl<T: Measured> Slot<T> {
     pub fn with_places(alloc: Global, places: usize) -> Result<Self, AllocError>
         ensures { IfOk result (λ s. s ≡ slot (queue 0 0 []) places) }
     {
-        let ring = HeapCircularBuffer::with_capacity(alloc, places)?;
+        let ring = VecDeque::with_capacity(alloc, places)?;
         Ok(Slot {
             key: 0,
             deficit: 0,
@@ -103,7 +104,7 @@ impl<T: Measured> Slot<T> {
             (self.old.queue.items ++ item ∷ [])) self.old.room }
     {
         self.bytes += item.length();
-        let _ = self.ring.push_back(item);
+        self.ring.push_back_reserved(item);
     }
 
     /// Takes the first item, which the deficit covers.

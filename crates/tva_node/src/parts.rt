@@ -10,11 +10,11 @@ use crate::links::Links;
 use crate::role::Role;
 use std::alloc::{AllocError, Global};
 use std::cmp;
-use tva_base::{Class, Event, Happened, Outcome, PacketId, Time};
+use tva_base::{Class, Event, Happened, Outcome, Time};
 use tva_log::{Input, Sending};
 use tva_past::Kept;
-use tva_port::Next;
-use tva_shim::{Packet, length};
+use tva_port::{Next, id_in, length_in};
+use tva_shim::Packet;
 use tva_waiting::{Memory, Waiting};
 
 /// A node's inputs, its sendings and its events; its inputs that are not taken yet, and its links out by
@@ -138,7 +138,9 @@ impl Parts {
         }
     }
 
-    // Takes the next input, which comes at that time. A link on which it queues a packet is asked then.
+    // Takes the next input, which comes at that time. A link on which it queues a packet is asked then. (Built
+    // into its callers, it would be in the way of what they do.)
+    #[inline(never)]
     fn take_one(&mut self, now: u64) -> Result<(), AllocError>
         requires stands { TakesAt (state_of self.old) now }
         requires next { is_due now self.old.waiting ≡ true }
@@ -228,7 +230,8 @@ impl Parts {
             × (self.new.outbox.gone ≡ self.old.outbox.gone) }
     {
         let link = self.links.at(place);
-        let (id, bytes) = id_and_length(hand);
+        let id = id_in(hand);
+        let bytes = length_in(hand);
         let end = now + u64::from(bytes) * link.plan.limits.ns_per_byte;
         self.links.put(place, Some(end));
         self.log.push(Event {
@@ -251,19 +254,6 @@ impl Parts {
             packet,
         })?;
         Ok(())
-    }
-}
-
-// The number and the length of the packet in hand.
-fn id_and_length(hand: &Option<Packet>) -> (PacketId, u32)
-    requires { IsSome hand.now }
-    ensures values { (packet : PacketData) → hand.now ≡ Some packet
-        → (result.0 ≡ packet.id) × (result.1 ≡ packet_length packet) }
-    ensures short { result.1 ≤ 2048 }
-{
-    match hand {
-        Some(packet) => (packet.id, length(packet)),
-        None => unreachable!(),
     }
 }
 

@@ -1,11 +1,13 @@
 // A packet in the caller's hand.
-ghost use Rattle.std.specs.Prelude.{◌≡◌, None};
+ghost use Rattle.std.specs.Prelude.{◌≡◌, ◌≤◌, Some, None, IsSome};
+ghost use Rattle.tva_shim.specs.Packets.{PacketData, packet_length};
+ghost use Rattle.tva_shim.specs.Shows.{key_of};
 ghost use Rattle.tva_port.specs.Hand.{AreOneAnswer, AreOneDecision, answer_by, decision_by};
 
 use crate::decision::Decision;
-use tva_base::{Class, Time};
+use tva_base::{Address, Class, PacketId, Time};
 use tva_drr::Offered;
-use tva_shim::Packet;
+use tva_shim::{Packet, length, queue_key};
 
 /// The answer to the offer of a packet that is in the caller's hand, and stays there where it is refused.
 #[derive(Clone, Copy, Debug, PartialEq, Eq)]
@@ -47,5 +49,50 @@ pub fn decision_by(next: Next, hand: Option<Packet>) -> Decision
         (Next::Start(class), Some(packet)) => Decision::Start(class, packet),
         (Next::WaitUntil(time), _) => Decision::WaitUntil(time),
         (_, _) => Decision::Idle,
+    }
+}
+
+/// The number of the packet in hand, with the node that made it.
+pub fn id_in(hand: &Option<Packet>) -> PacketId
+    requires { IsSome hand.now }
+    ensures { (packet : PacketData) → hand.now ≡ Some packet → result ≡ packet.id }
+{
+    match hand {
+        Some(packet) => packet.id,
+        None => unreachable!(),
+    }
+}
+
+/// The length of the packet in hand, in bytes.
+pub fn length_in(hand: &Option<Packet>) -> u32
+    requires { IsSome hand.now }
+    ensures value { (packet : PacketData) → hand.now ≡ Some packet → result ≡ packet_length packet }
+    ensures short { result ≤ 2048 }
+{
+    match hand {
+        Some(packet) => length(packet),
+        None => unreachable!(),
+    }
+}
+
+/// Where the packet in hand goes.
+pub fn destination_in(hand: &Option<Packet>) -> Address
+    requires { IsSome hand.now }
+    ensures { (packet : PacketData) → hand.now ≡ Some packet → result ≡ packet.flow.dst }
+{
+    match hand {
+        Some(packet) => packet.flow.dst,
+        None => unreachable!(),
+    }
+}
+
+/// The key under which the packet in hand is queued, as a packet of that class.
+pub fn key_in(class: Class, hand: &Option<Packet>) -> u32
+    requires { IsSome hand.now }
+    ensures { (packet : PacketData) → hand.now ≡ Some packet → result ≡ key_of class packet }
+{
+    match hand {
+        Some(packet) => queue_key(class, packet),
+        None => unreachable!(),
     }
 }

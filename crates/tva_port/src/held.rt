@@ -52,18 +52,6 @@ pub(crate) fn held_in(hand: &mut Option<Packet>) -> HeldPacket
     HeldPacket { packet, bytes }
 }
 
-/// The length of the packet in hand, in bytes.
-pub(crate) fn length_in(hand: &Option<Packet>) -> u32
-    requires { IsSome hand.now }
-    ensures value { (packet : PacketData) → hand.now ≡ Some packet → result ≡ packet_length packet }
-    ensures short { result ≤ 2048 }
-{
-    match hand {
-        Some(packet) => length(packet),
-        None => unreachable!(),
-    }
-}
-
 /// Gives a packet that is refused back into the hand.
 #[inline(always)]
 pub(crate) fn back_into(hand: &mut Option<Packet>, offered: Offered<HeldPacket>) -> Answer

@@ -1,5 +1,6 @@
 // The legacy packets of a link, first in, first out.
 ghost use Rattle.std.specs.Prelude.{◌≡◌, ◌==◌, ◌+◌, ◌^◌, ◌≤◌, nat_lt, ◌||◌, if◌then◌else◌, [], ◌∷◌, ◌++◌, length, drop, Some, None, IsSome, IfOk};
+ghost use Rattle.std.specs.VecDeque.{deque_capacity};
 ghost use Rattle.tva_drr.specs.Queues.{first};
 ghost use Rattle.tva_shim.specs.Packets.{PacketData, packet_length};
 ghost use Rattle.tva_base.specs.declared.packet.Class.TheVariants.{Legacy};
@@ -8,10 +9,10 @@ ghost use Rattle.tva_port.specs.declared.decision.Decision.TheVariants.{Idle};
 ghost use Rattle.tva_port.specs.Hand.{AreOneAnswer, AreOneDecision, answer_by, decision_by};
 ghost use Rattle.tva_port.specs.Lists.{LegacyData, legacy_data, lacks_room, legacy_answer, legacy_leaves};
 
-use crate::hand::{Answer, Next};
-use crate::held::{HeldPacket, held_in, length_in, start_held};
-use circular_buffer::HeapCircularBuffer;
+use crate::hand::{Answer, Next, length_in};
+use crate::held::{HeldPacket, held_in, start_held};
 use std::alloc::{AllocError, Global};
+use std::collections::VecDeque;
 use std::marker::Model;
 use tva_base::Class;
 use tva_drr::{Measured, take_first};
@@ -23,18 +24,19 @@ use tva_shim::Packet;
 pub(crate) struct LegacyList {
     most: u32,
     bytes: u32,
-    ring: HeapCircularBuffer<HeldPacket>,
+    ring: VecDeque<HeldPacket>,
 }
 
 impl Model for LegacyList {
     ghost use Rattle.std.specs.Prelude.{◌≡◌, ◌≤◌, ◌^◌, length};
+    ghost use Rattle.std.specs.VecDeque.{deque_capacity};
     ghost use Rattle.tva_shim.specs.Packets.{packet_length};
     ghost use Rattle.tva_drr.specs.Queues.{bytes_in};
     ghost use Rattle.tva_port.specs.Lists.{LegacyData, legacy_data};
 
     ghost Value = { LegacyData };
 
-    ghost view = { λ w. legacy_data w.ring.capacity w.most w.ring.items };
+    ghost view = { λ w. legacy_data (deque_capacity w.ring) w.most w.ring.items };
 
     ghost invariant = { λ w. (w.bytes ≡ bytes_in packet_length w.ring.items)
         × (w.bytes ≤ w.most)
@@ -42,8 +44,8 @@ impl Model for LegacyList {
 }
 
 /// Whether one more packet has no place.
-fn lacks_place(ring: &HeapCircularBuffer<HeldPacket>) -> bool
-    ensures { result ≡ nat_lt ring.now.capacity (length ring.now.items + 1) }
+fn lacks_place(ring: &VecDeque<HeldPacket>) -> bool
+    ensures { result ≡ nat_lt (deque_capacity ring.now) (length ring.now.items + 1) }
 {
     ring.capacity() < ring.len() + 1
 }
@@ -54,7 +56,7 @@ impl LegacyList {
         requires { most ≤ 2 ^ 30 }
         ensures { IfOk result (λ list. list ≡ legacy_data places most []) }
     {
-        let ring = HeapCircularBuffer::with_capacity(alloc, places as usize)?;
+        let ring = VecDeque::with_capacity(alloc, places as usize)?;
         Ok(LegacyList {
             most,
             bytes: 0,
@@ -81,7 +83,7 @@ impl LegacyList {
             return Answer::QueueFull;
         }
         self.bytes += bytes;
-        let _ = self.ring.push_back(held_in(hand));
+        self.ring.push_back_reserved(held_in(hand));
         Answer::Queued
     }
 

@@ -10,7 +10,6 @@ ghost use Rattle.tva_port.specs.Log.{Entry, free_after};
 ghost use Rattle.tva_port.specs.Waiting.{waiting, waiting_after, next_request, queue_answer, queued_by, is_queued, IsEmpty, IsRequestAlone};
 ghost use Rattle.tva_port.specs.Decide.{decision, is_start, started_by, RestsAt, MissesNone, NoneDueBefore, IsFirstCovered};
 ghost use Rattle.tva_port.specs.Hand.{AreOneAnswer, AreOneDecision, answer_by, decision_by};
-ghost use Rattle.tva_port.specs.Steps.{decision_leaves, freed};
 ghost use Rattle.tva_port.specs.declared.decision.Decision.TheVariants.{Start, WaitUntil, Idle};
 ghost use Rattle.tva_port.specs.Stands.{port_data, StandsFor};
 ghost use Rattle.tva_port.specs.Bounds.{request_bound, regular_bound, AreServed, ServesAlike};
@@ -219,11 +218,12 @@ impl Port {
         ensures stands { (log : List Entry) → StandsFor self.old log
             → StandsFor self.new (log ++ started_by (decision_by result hand.new) now.0) }
         ensures valid { AreLinkLimits self.old.limits }
-        ensures waiting { self.new.waiting ≡ decision_leaves (decision_by result hand.new) self.old.waiting }
-        ensures freed { self.new.free_at
-            ≡ freed self.old.limits self.old.free_at now.0 (decision_by result hand.new) }
         ensures busy { is_start (decision_by result hand.new) ≡ true → now.0 < self.new.free_at }
+        ensures occupied { (class : Class) (packet : PacketData) → decision_by result hand.new ≡ Start class packet
+            → self.new.free_at ≡ now.0 + packet_length packet * self.old.limits.ns_per_byte }
         ensures soon { self.new.free_at ≤ now.0 + 2048000000 }
+        ensures rested { is_start (decision_by result hand.new) ≡ false → (self.new.waiting ≡ self.old.waiting)
+            × (self.new.free_at ≡ self.old.free_at) }
         ensures last { self.new.last ≡ now.0 }
         ensures same { self.new.limits ≡ self.old.limits }
     {

@@ -5,7 +5,6 @@
 
 mod finding;
 mod guard;
-mod hands;
 mod judged;
 mod key;
 mod laws;

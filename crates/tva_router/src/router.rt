@@ -115,14 +115,16 @@ impl Router {
             return stopped(&packet);
         }
         let arrival = arrival_of(now, from, &packet);
-        let mut packet = packet;
+        let mut hand = Some(packet);
+        let Some(packet) = &mut hand else {
+            unreachable!()
+        };
         let Judgement {
             class,
             cause,
             charge,
         } = self.guard.judge(&self.plan, &arrival, &mut packet.carried);
         packet.hops += 1;
-        let mut hand = Some(packet);
         let outcome = send(
             &self.plan,
             &self.ways,

@@ -11,11 +11,10 @@ ghost use Rattle.tva_router.specs.Steps.{ArePorts};
 ghost use Rattle.tva_router.specs.Tables.{AreWays};
 
 use crate::finding::Ways;
-use crate::hands::{destination_in, key_in};
 use crate::places::place_of;
 use crate::routes::link_to;
 use tva_base::{Class, DropCause, Outcome, RouterPlan, Time};
-use tva_port::{Answer, Next, Port};
+use tva_port::{Answer, Next, Port, destination_in, key_in};
 use tva_shim::Packet;
 
 /// Queues the packet in hand at the port of the link that leads to its destination.

@@ -1,11 +1,11 @@
-use Rattle.std.proofs.Common.{◌≡◌, ◌↔◌, ℕ, ◌+◌, ◌*◌, ◌++◌, Some, ap, sym, ◌∙◌, subst}
+use Rattle.std.proofs.Common.{◌≡◌, ◌↔◌, ℕ, ◌+◌, ◌*◌, ◌++◌, Some, false, ap, sym, ◌∙◌, subst}
 use Rattle.tva_shim.specs.Packets.{PacketData, packet_length}
 use Rattle.tva_base.specs.declared.limits.LinkLimits.{LinkLimits}
 use Rattle.tva_port.specs.Legal.{IsLegal}
 use Rattle.tva_port.specs.Waiting.{Waiting, IsEmpty, IsRequestAlone, next_request}
-use Rattle.tva_port.specs.Decide.{NoneDueBefore, started_by}
+use Rattle.tva_port.specs.Decide.{NoneDueBefore, is_start, started_by}
 use Rattle.tva_port.specs.Stands.{StandsFor}
-use Rattle.tva_port.specs.Steps.{freed}
+use Rattle.tva_port.proofs.Hands.{freed_by}
 use Rattle.tva_port.proofs.Served.{all_served, alike}
 use Rattle.tva_port.proofs.Logs.{later-weaker}
 use Rattle.tva_port.proofs.Resting.{rests, misses, first_covered}
@@ -56,8 +56,11 @@ returns-clause-steady c log until s n i time h k =
 
 pub returns-clause-occupied : goal.returns-clause-occupied
 returns-clause-occupied c class packet e =
-    c.decide_into-next.ensures.freed
-    ∙ ap (λ (d : Decision). freed c.args.self.now.limits c.args.self.now.free_at c.args.now.0 d) (sym c.decision_by.ensures ∙ e)
+    c.decide_into-next.ensures.occupied class packet (sym c.decision_by.ensures ∙ e)
+
+pub returns-clause-rested : goal.returns-clause-rested
+returns-clause-rested c n =
+    c.decide_into-next.ensures.rested (subst (λ (d : Decision). is_start d ≡ false) c.decision_by.ensures n)
 
 pub returns-clause-rests : goal.returns-clause-rests
 returns-clause-rests c log until s i time h k =
@@ -66,7 +69,8 @@ returns-clause-rests c log until s i time h k =
     (later-weaker c.args.self.now.last c.args.now.0 log c.requires.time s.past)
     (returns-clause-decision c log s)
     (subst (λ (x : ℕ). NoneDueBefore c.decision_by.result x until)
-    (c.decide_into-next.ensures.freed ∙ ap (λ (d : Decision). freed c.args.self.now.limits c.args.self.now.free_at c.args.now.0 d) (sym c.decision_by.ensures)) i)
+    (freed_by c.args.self.now.limits c.args.self.now.free_at c.args.now.0 c.decide_into-next.new.self.free_at c.decision_by.result
+    (λ class packet e. returns-clause-occupied c class packet e) (λ n. (returns-clause-rested c n).1)) i)
     h k
 
 pub returns-clause-missed : goal.returns-clause-missed
@@ -77,7 +81,8 @@ returns-clause-missed c log until s m i =
     (returns-clause-decision c log s)
     m
     (subst (λ (x : ℕ). NoneDueBefore c.decision_by.result x until)
-    (c.decide_into-next.ensures.freed ∙ ap (λ (d : Decision). freed c.args.self.now.limits c.args.self.now.free_at c.args.now.0 d) (sym c.decision_by.ensures)) i)
+    (freed_by c.args.self.now.limits c.args.self.now.free_at c.args.now.0 c.decide_into-next.new.self.free_at c.decision_by.result
+    (λ class packet e. returns-clause-occupied c class packet e) (λ n. (returns-clause-rested c n).1)) i)
 
 pub returns-clause-served : goal.returns-clause-served
 returns-clause-served c log s m =
