@@ -108,7 +108,7 @@ impl<T: Measured> Slot<T> {
     }
 
     /// Takes the first item, which the deficit covers.
-    #[inline(always)]
+    #[inline(never)]
     pub fn pop(&mut self) -> Option<T>
         requires { ForSome (first self.old.queue.items) (λ x. T.measure x ≤ self.old.queue.deficit) }
         ensures value { result ≡ first self.old.queue.items }

@@ -5,3 +5,4 @@ pub mod Budget
 pub mod Steps
 pub mod Hash
 pub mod Index
+pub mod Places

@@ -5,6 +5,7 @@ ghost use Rattle.tva_flow.specs.declared.kept.Entry.{Entry};
 ghost use Rattle.tva_flow.specs.Charges.{Charge, living_count};
 ghost use Rattle.tva_flow.specs.Verdicts.{list_verdict, nonce_verdict, charged, is_authorised};
 ghost use Rattle.tva_flow.specs.Stands.{cache, keyed, entry_of, IsChargeable, StandsFor};
+ghost use Rattle.tva_flow.specs.Places.{IsPlaceOf};
 ghost use Rattle.tva_flow.specs.Budget.{IsWithinSeconds, AreTimely, IsWithinBudget};
 ghost use Rattle.tva_flow.specs.Steps.{AreNear, Admits};
 
@@ -212,8 +213,43 @@ impl FlowCache {
         ensures key { self.new.key ≡ self.old.key }
         ensures refused { is_authorised result ≡ false → self.new.entries ≡ self.old.entries }
     {
+        let at = self.place(&grant.flow);
+        self.admit_list_at(now, at, grant, nonce, length)
+    }
+
+    /// Where the flow's entry stands: what `admit_list_at` asks for, so that other memory can be waited for
+    /// at once.
+    pub fn place(&self, flow: &Flow) -> Option<usize>
+        ensures { IsPlaceOf self.now.entries flow.now result }
+    {
+        self.entries.find(flow)
+    }
+
+    /// The same as `admit_list` does, of a flow whose entry stands there.
+    pub fn admit_list_at(
+        &mut self,
+        now: Time,
+        at: Option<usize>,
+        grant: Grant,
+        nonce: u64,
+        length: u32,
+    ) -> Verdict
+        requires time { self.old.last ≤ now.0 }
+        requires packet { IsChargeable grant length }
+        requires place { IsPlaceOf self.old.entries grant.flow at }
+        ensures verdict { (h : List Charge) → StandsFor self.old h
+            → result ≡ list_verdict self.old.slots h now.0 grant length }
+        ensures stands { (h : List Charge) → StandsFor self.old h
+            → StandsFor self.new (h ++ charged result now.0 nonce length) }
+        ensures timely { (h : List Charge) → StandsFor self.old h → AreTimely self.old.offset h
+            → IsWithinSeconds self.old.offset now.0 grant
+            → AreTimely self.old.offset (h ++ charged result now.0 nonce length) }
+        ensures last { self.new.last ≡ now.0 }
+        ensures same { (self.new.slots ≡ self.old.slots) × (self.new.offset ≡ self.old.offset) }
+        ensures key { self.new.key ≡ self.old.key }
+        ensures refused { is_authorised result ≡ false → self.new.entries ≡ self.old.entries }
+    {
         self.last = now.0;
-        let at = self.entries.find(&grant.flow);
         match at {
             Some(place) if is_live(&self.entries.get(place), now.0) => {
                 renew(&mut self.entries, place, now.0, grant, nonce, length)

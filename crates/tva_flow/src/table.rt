@@ -2,7 +2,7 @@
 ghost use Rattle.std.specs.Prelude.{◌≡◌, ℕ, ◌+◌, ◌*◌, ◌<◌, ◌≤◌, nat_lt, nat_le, List, [], ◌∷◌, ◌++◌, length, count_by, slice_index_or, slice_set, vec_capacity, None, Some, MatchOption, All, IfOk};
 ghost use Rattle.tva_index.specs.Buckets.{home};
 ghost use Rattle.tva_flow.specs.declared.kept.Entry.{Entry};
-ghost use Rattle.tva_flow.specs.Stands.{entry_of};
+ghost use Rattle.tva_flow.specs.Places.{IsPlaceOf};
 ghost use Rattle.tva_flow.specs.Index.{kept, AreNoLater};
 
 use crate::hash::{HashKey, bucket_of};
@@ -44,9 +44,7 @@ fn find_in(all: &Vec<Entry>, places: &Buckets, bucket: u32, flow: &Flow) -> Opti
     requires found { (i : ℕ) (e : Entry) → i < length all.now.items → e ≡ slice_index_or all.now.items i e
         → e.grant.flow ≡ flow.now → home places.now.homes i ≡ Some bucket }
     requires within { (i b : ℕ) → home places.now.homes i ≡ Some b → i < length all.now.items }
-    ensures { MatchOption result (entry_of flow.now all.now.items ≡ None) (λ at.
-        (at < length all.now.items)
-        × ((e : Entry) → e ≡ slice_index_or all.now.items at e → e.grant.flow ≡ flow.now)) }
+    ensures { IsPlaceOf all.now.items flow.now result }
 {
     let mut at = places.last(bucket);
     while let Some(place) = at {
@@ -153,9 +151,7 @@ impl Entries {
 
     /// The place of the flow's entry.
     pub fn find(&self, flow: &Flow) -> Option<usize>
-        ensures { MatchOption result (entry_of flow.now self.now.items ≡ None) (λ at.
-            (at < length self.now.items)
-            × ((e : Entry) → e ≡ slice_index_or self.now.items at e → e.grant.flow ≡ flow.now)) }
+        ensures { IsPlaceOf self.now.items flow.now result }
     {
         let bucket = bucket_of(&self.key, 2 * self.slots + 1, flow);
         find_in(&self.all, &self.places, bucket, flow)

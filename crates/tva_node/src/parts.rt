@@ -138,9 +138,7 @@ impl Parts {
         }
     }
 
-    // Takes the next input, which comes at that time. A link on which it queues a packet is asked then. (Built
-    // into its callers, it would be in the way of what they do.)
-    #[inline(never)]
+    // Takes the next input, which comes at that time. A link on which it queues a packet is asked then.
     fn take_one(&mut self, now: u64) -> Result<(), AllocError>
         requires stands { TakesAt (state_of self.old) now }
         requires next { is_due now self.old.waiting ≡ true }

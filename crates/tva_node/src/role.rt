@@ -62,6 +62,7 @@ pub enum Role {
 
 impl Role {
     /// Takes an input at its time, and tells what happened.
+    #[inline(always)]
     pub fn take(&mut self, alloc: Global, number: u16, input: Input) -> Result<Happened, AllocError>
         requires time { IsBy (input_time input) self.old }
         requires horizon { input_time input ≤ 1000000000000000 }
@@ -118,6 +119,7 @@ impl Role {
 }
 
 impl Routed {
+    #[inline(always)]
     fn take(&mut self, number: u16, input: Input) -> Happened
         requires time { IsRoutedBy (input_time input) self.old }
         requires horizon { input_time input ≤ 1000000000000000 }
@@ -162,6 +164,7 @@ impl Routed {
         }
     }
 
+    #[inline(always)]
     fn arrive(&mut self, now: Time, from: Option<u16>, packet: Packet) -> Happened
         requires time { self.old.router.last ≤ now.0 }
         requires horizon { now.0 ≤ 1000000000000000 }
@@ -188,6 +191,7 @@ impl Routed {
 }
 
 impl Hosted {
+    #[inline(always)]
     fn take(&mut self, alloc: Global, input: Input) -> Result<Happened, AllocError>
         requires host { self.old.courier.host.last ≤ input_time input }
         requires port { self.old.port.last ≤ input_time input }

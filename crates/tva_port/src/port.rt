@@ -115,6 +115,7 @@ impl Port {
 
     /// The same of a packet that is in the caller's hand: it leaves the hand where it is queued, and stays
     /// there where it is refused. So a packet isn't moved from call to call.
+    #[inline(always)]
     pub fn queue_from(
         &mut self,
         now: Time,
@@ -207,6 +208,7 @@ impl Port {
     }
 
     /// The same where a packet that starts is put into the caller's hand, which is empty.
+    #[inline(always)]
     pub fn decide_into(&mut self, now: Time, hand: &mut Option<Packet>) -> Next
         requires time { self.old.last ≤ now.0 }
         requires horizon { now.0 ≤ 1000000000000000 }

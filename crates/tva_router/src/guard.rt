@@ -10,6 +10,7 @@ ghost use Rattle.tva_shim.specs.Packets.{IsCarried};
 ghost use Rattle.tva_caps.specs.Check.{IfValid, IsSecondOf};
 ghost use Rattle.tva_flow.specs.Charges.{Charge};
 ghost use Rattle.tva_flow.specs.Stands.{StandsFor};
+ghost use Rattle.tva_flow.specs.Places.{IsPlaceOf};
 ghost use Rattle.tva_router.specs.Judging.{tag_of, second_of, fresh_for, answer_of, answer_to_checked, answer_to_shown, answer_to_nonce, judged_by, judged_request, judged_shim, judge};
 ghost use Rattle.tva_shim.specs.Shows.{kind_nonce, nonce_in};
 ghost use Rattle.tva_router.specs.Steps.{IsGuard, MayJudge, Keeps, grant_in, judgement, judged_with};
@@ -179,6 +180,8 @@ impl Guard {
     {
         match cap_at(shown) {
             Some(cap) => {
+                // Asked for first, the memory of the entry and that of what is known are waited for at once.
+                let at = self.cache.place(&arrival.flow);
                 let checked = self.minter.check_known(
                     arrival.time,
                     arrival.flow,
@@ -186,7 +189,7 @@ impl Guard {
                     shown.rights,
                     &mut self.known,
                 );
-                self.answer_to_checked(plan, arrival, checked, shown.nonce)
+                self.answer_to_checked(plan, arrival, at, checked, shown.nonce)
             }
             None => Err(Cause::NoCapability),
         }
@@ -197,10 +200,13 @@ impl Guard {
         &mut self,
         plan: &RouterPlan,
         arrival: &Arrival,
+        at: Option<usize>,
         checked: Checked,
         nonce: u64,
     ) -> Result<Grant, Cause>
         requires may { MayJudge plan.now self.old arrival.now }
+        requires place { IsPlaceOf self.old.cache.entries arrival.now.flow at }
+        requires flow { IfValid checked (λ g. g.flow ≡ arrival.now.flow) }
         requires second { IfValid checked (λ g. IsSecondOf g (second_of plan.now arrival.now)) }
         requires bounded { IfValid checked (λ g. g.second ≤ 2000000) }
         ensures guard { IsGuard plan.now arrival.now.time.0 self.new }
@@ -211,7 +217,7 @@ impl Guard {
         match checked {
             Checked::Valid(grant) => answer_of(
                 self.cache
-                    .admit_list(arrival.time, grant, nonce, arrival.bytes),
+                    .admit_list_at(arrival.time, at, grant, nonce, arrival.bytes),
             ),
             Checked::Expired => Err(Cause::Expired),
             Checked::BadHash => Err(Cause::BadHash),

@@ -202,6 +202,7 @@ impl Router {
 
     /// The same where a packet that starts is put into the caller's hand, which is empty. So it isn't moved
     /// from call to call.
+    #[inline(always)]
     pub fn decide_into(&mut self, now: Time, link: u16, hand: &mut Option<Packet>) -> Next
         requires time { self.old.last ≤ now.0 }
         requires horizon { now.0 ≤ 1000000000000000 }

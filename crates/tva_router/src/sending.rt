@@ -18,6 +18,7 @@ use tva_port::{Answer, Next, Port, destination_in, key_in};
 use tva_shim::Packet;
 
 /// Queues the packet in hand at the port of the link that leads to its destination.
+#[inline(always)]
 pub(crate) fn send(
     plan: &RouterPlan,
     ways: &Ways,
@@ -96,6 +97,7 @@ pub(crate) fn free_on(plan: &RouterPlan, ways: &Ways, ports: &Vec<Port>, link: u
 }
 
 // Queues the packet in hand at the port in that place, which is the link's.
+#[inline(always)]
 fn queue_at(
     plan: &RouterPlan,
     ports: &mut Vec<Port>,

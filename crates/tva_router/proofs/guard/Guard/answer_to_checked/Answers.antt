@@ -8,5 +8,5 @@ returns-in-Valid-clause-keeps c =
     let clock = c.requires.may.guard.offset in
     let second = rw c.in-Valid.is at c.requires.second in
     let within : IsWithinSeconds c.args.plan.now.clock_offset c.args.arrival.now.time.0 c.in-Valid.grant = record { from = second.from; until = second.until } in
-    rw c.answer_of.ensures (keeps-verdict c.args.plan.now c.args.arrival.now c.args.nonce c.admit_list.result c.args.self.now.cache c.admit_list.new.self
-    clock c.admit_list.ensures.stands (λ h s t. c.admit_list.ensures.timely h s t (subst (λ (o : ℕ). IsWithinSeconds o c.args.arrival.now.time.0 c.in-Valid.grant) (sym clock) within)))
+    rw c.answer_of.ensures (keeps-verdict c.args.plan.now c.args.arrival.now c.args.nonce c.admit_list_at.result c.args.self.now.cache c.admit_list_at.new.self
+    clock c.admit_list_at.ensures.stands (λ h s t. c.admit_list_at.ensures.timely h s t (subst (λ (o : ℕ). IsWithinSeconds o c.args.arrival.now.time.0 c.in-Valid.grant) (sym clock) within)))

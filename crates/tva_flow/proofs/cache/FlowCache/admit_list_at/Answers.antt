@@ -2,7 +2,7 @@ use Rattle.std.proofs.Common.{sym, ap, subst}
 use Rattle.tva_flow.specs.Stands.{Cache, StandsFor}
 use Rattle.tva_flow.proofs.Near.{near-later}
 use Rattle.tva_flow.proofs.Timely.{list-timely}
-use Rattle.tva_flow.proofs.cache.FlowCache.admit_list.Goals as goal
+use Rattle.tva_flow.proofs.cache.FlowCache.admit_list_at.Goals as goal
 
 pub renew-requires-clause-near : goal.renew-requires-clause-near
 renew-requires-clause-near c = near-later c.self.inside.last c.args.now.0 c.self.inside.entries.items (rw (ap (λ (v : Cache). v.last) c.self.view_is) c.requires.time) c.self.invariant.1
