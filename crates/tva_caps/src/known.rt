@@ -22,10 +22,10 @@ pub(crate) struct Noted {
     pub good: Good,
 }
 
-/// Capabilities that a router found good, so that one that is shown again isn't hashed again. What was noted
-/// before a restart stays in its place, and counts for nothing: so a restart takes one step, however many
-/// places there are. Contracts see nothing of it: whatever is known, an answer is the same. Memory is taken
-/// when it is made.
+/// Capabilities that a router found good, so that one that is shown again isn't hashed again. Each stands at a
+/// place that the caller gives with it, best one of its flow's own. What was noted before a restart stays in its
+/// place, and counts for nothing: so a restart takes one step, however many places there are. Contracts see
+/// nothing of it: whatever is known, an answer is the same. Memory is taken when it is made.
 #[derive(Drop)]
 pub struct Known {
     master: [u8; 32],
@@ -66,37 +66,29 @@ impl Known {
         self.master = master;
     }
 
-    // Whether it is known that a router with this master would find this good.
-    pub(crate) fn has(&self, master: &[u8; 32], good: &Good) -> bool
+    // Whether it is known, at that place, that a router with this master would find this good.
+    pub(crate) fn has(&self, master: &[u8; 32], place: usize, good: &Good) -> bool
         ensures { result ≡ true → IsGood master.now good.now }
     {
         if self.master != *master {
             return false;
         }
-        match self.places.get(self.place_of(good)) {
+        match self.places.get(place) {
             Some(Some(found)) => found.boot == self.boot && found.good == *good,
             _ => false,
         }
     }
 
-    // Notes what a router with this master found good, in place of what stood there.
-    pub(crate) fn note(&mut self, master: &[u8; 32], good: Good)
+    // Notes what a router with this master found good, in place of what stood there; nothing where there is no
+    // such place.
+    pub(crate) fn note(&mut self, master: &[u8; 32], place: usize, good: Good)
         requires { IsGood master.now good }
     {
-        let place = self.place_of(&good);
         if self.master == *master && place < self.places.len() {
             self.places[place] = Some(Noted {
                 boot: self.boot,
                 good,
             });
-        }
-    }
-
-    // Where a capability is noted: its last bytes are those of a digest.
-    fn place_of(&self, good: &Good) -> usize {
-        match self.places.len() {
-            0 => 0,
-            count => (good.cap % count as u64) as usize,
         }
     }
 }

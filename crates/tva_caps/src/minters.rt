@@ -83,10 +83,11 @@ impl Minter {
         ensures bounded { IfValid result (λ g. g.second ≤ 2000000) }
         ensures after { self.new ≡ record self.old { last = now.0 } }
     {
-        self.check_with(now, flow, cap, rights, None)
+        self.check_with(now, flow, cap, rights, None, 0)
     }
 
-    /// The same, where what is known to be good isn't hashed again, and what is found good becomes known.
+    /// The same, where what is known at that place to be good isn't hashed again, and what is found good becomes
+    /// known there.
     pub fn check_known(
         &mut self,
         now: Time,
@@ -94,6 +95,7 @@ impl Minter {
         cap: u64,
         rights: Rights,
         known: &mut Known,
+        place: usize,
     ) -> Checked
         requires time { MayCall self.old now.0 }
         requires granted { AreSomeRights rights }
@@ -103,10 +105,10 @@ impl Minter {
         ensures bounded { IfValid result (λ g. g.second ≤ 2000000) }
         ensures after { self.new ≡ record self.old { last = now.0 } }
     {
-        self.check_with(now, flow, cap, rights, Some(known))
+        self.check_with(now, flow, cap, rights, Some(known), place)
     }
 
-    // Checks a capability, by what is known where that is handed in.
+    // Checks a capability, by what is known at that place where that is handed in.
     #[tactic(auto, unfolding(crate::specs::Check::check_of, crate::specs::Check::checked_at))]
     fn check_with(
         &mut self,
@@ -115,6 +117,7 @@ impl Minter {
         cap: u64,
         rights: Rights,
         known: Option<&mut Known>,
+        place: usize,
     ) -> Checked
         requires time { MayCall self.old now.0 }
         requires granted { AreSomeRights rights }
@@ -139,7 +142,7 @@ impl Minter {
             second: minted,
             cap,
         };
-        if self.is_good(&good, known) {
+        if self.is_good(&good, known, place) {
             return Checked::Valid(Grant {
                 flow,
                 rights,
@@ -150,7 +153,7 @@ impl Minter {
     }
 
     // Whether a capability is good, by what is known or by its digests.
-    fn is_good(&self, good: &Good, known: Option<&mut Known>) -> bool
+    fn is_good(&self, good: &Good, known: Option<&mut Known>, place: usize) -> bool
         requires past { good.now.second ≤ second_at self.now self.now.last }
         requires recent { second_at self.now self.now.last < good.now.second + 128 }
         requires rights { AreSomeRights good.now.rights }
@@ -159,12 +162,12 @@ impl Minter {
         let Some(known) = known else {
             return self.has_its_digests(good);
         };
-        if known.has(&self.master, good) {
+        if known.has(&self.master, place, good) {
             return true;
         }
         let is_good = self.has_its_digests(good);
         if is_good {
-            known.note(&self.master, *good);
+            known.note(&self.master, place, *good);
         }
         is_good
     }
@@ -187,7 +190,10 @@ impl Minter {
         ensures after { self.new ≡ record self.old { last = now.0 } }
     {
         let second = (now.0 + self.clock_offset) / SECOND;
-        self.secrets = self.secrets.moved_to(&self.master, second / EPOCH);
+        let epoch = second / EPOCH;
+        if epoch != self.secrets.epoch {
+            self.secrets = self.secrets.moved_to(&self.master, epoch);
+        }
         self.last = now;
         second
     }

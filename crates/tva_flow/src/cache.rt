@@ -1,5 +1,6 @@
 // The cache of a router's living flows.
 ghost use Rattle.std.specs.Prelude.{◌≡◌, ℕ, ◌≤◌, ◌<◌, false, List, [], ◌++◌, length, slice_index_or, None, MatchOption, IfOk};
+ghost use Rattle.std.specs.Option.{unwrap_or};
 ghost use Rattle.tva_base.specs.Clock.{router_second};
 ghost use Rattle.tva_flow.specs.declared.kept.Entry.{Entry};
 ghost use Rattle.tva_flow.specs.Charges.{Charge, living_count};
@@ -223,6 +224,17 @@ impl FlowCache {
         ensures { IsPlaceOf self.now.entries flow.now result }
     {
         self.entries.find(flow)
+    }
+
+    /// The place of a flow whose entry stands there; of one without an entry, that of a further entry, which is
+    /// none of the slots where all of them have one.
+    pub fn place_or_next(&self, at: Option<usize>) -> usize
+        ensures { result ≡ unwrap_or at (length self.now.entries) }
+    {
+        match at {
+            Some(place) => place,
+            None => self.entries.len(),
+        }
     }
 
     /// The same as `admit_list` does, of a flow whose entry stands there.

@@ -134,6 +134,13 @@ impl Entries {
         self.key
     }
 
+    /// How many entries there are.
+    pub fn len(&self) -> usize
+        ensures { result ≡ length self.now.items }
+    {
+        self.all.len()
+    }
+
     /// Whether there is no place for a further entry.
     pub fn is_full(&self) -> bool
         ensures { result ≡ nat_le self.now.slots (length self.now.items) }

@@ -26,8 +26,8 @@ use tva_caps::{Checked, Known, Minter};
 use tva_flow::{FlowCache, Verdict};
 use tva_shim::{Carried, Entry, Kind, Shim, Shown};
 
-/// What a router judges packets with: what mints and checks, the capabilities that it knows to be good, as
-/// many as flows may live, its cache, and the places of its incoming links.
+/// What a router judges packets with: what mints and checks, the capabilities that it knows to be good, one for
+/// each place of its cache, that cache, and the places of its incoming links.
 #[derive(Drop)]
 pub(crate) struct Guard {
     pub minter: Minter,
@@ -180,14 +180,16 @@ impl Guard {
     {
         match cap_at(shown) {
             Some(cap) => {
-                // Asked for first, the memory of the entry and that of what is known are waited for at once.
+                // What is known stands where the entry does: the place is asked for once, and before any hash.
                 let at = self.cache.place(&arrival.flow);
+                let place = self.cache.place_or_next(at);
                 let checked = self.minter.check_known(
                     arrival.time,
                     arrival.flow,
                     cap,
                     shown.rights,
                     &mut self.known,
+                    place,
                 );
                 self.answer_to_checked(plan, arrival, at, checked, shown.nonce)
             }
