@@ -1,5 +1,5 @@
 -- The keys of queues, as their queues change.
-use Rattle.std.proofs.Common.{◌≡◌, ℕ, suc, true, false, cond, List, [], ◌∷◌, ◌++◌, length, take, drop, get_or, ◌<◌, Option, Some, None, refl, sym, ap, ◌∙◌, arith}
+use Rattle.std.proofs.Common.{◌≡◌, ℕ, suc, true, false, cond, List, [], ◌∷◌, ◌++◌, length, take, drop, Option, Some, None, refl, sym, ap, ◌∙◌, arith}
 use Rattle.std.specs.Option.{option_map}
 use Rattle.std.proofs.lemmas.List.{length-map, map_push}
 use Rattle.tva_index.specs.KeyRing.{place_in}
@@ -88,11 +88,3 @@ module _ {T : Type 0} where
   keys-turned quantum (w ∷ ws) new keys e k =
       ap (λ (z : List ℕ). drop 1 z ++ take 1 z) k
       ∙ sym (ap keys_in e ∙ (keys_in-refilled quantum (queues_in (ws ++ w ∷ [])) ∙ (ap keys_in (map_push (λ (s : SlotOf T). s.queue) ws w) ∙ keys_in-push (queues_in ws) w.queue)))
-
-  -- the front's key stands at the first place
-  pub front_place : (key : ℕ) (ws : List (SlotOf T)) (s : SlotOf T) → 0 < length ws → s ≡ get_or ws 0 s → s.queue.key ≡ key → Some 0 ≡ place_in key (keys_in (queues_in ws))
-  front_place key [] s l e k = absurd (omega arith)
-  front_place key (w ∷ ws) s l e k =
-      by_key w.queue.key key (λ b. Some 0 ≡ cond b (Some 0) (option_map (λ (n : ℕ). suc n) (place_in key (keys_in (queues_in ws)))))
-      (λ _. refl)
-      (λ n. absurd (n (ap (λ (x : SlotOf T). x.queue.key) (sym e) ∙ k)))

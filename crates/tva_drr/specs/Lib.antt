@@ -9,3 +9,4 @@ pub mod Code
 pub mod Slots
 pub mod Places
 pub mod Keys
+pub mod Front

@@ -9,6 +9,7 @@ ghost use Rattle.tva_drr.specs.Fair.{IsFair};
 ghost use Rattle.tva_drr.specs.Order.{GoesLast, GoesFirst, IsFront};
 ghost use Rattle.tva_drr.specs.declared.offered.Offered.TheVariants.{Queued};
 
+use crate::front::{Front, front_of};
 use crate::measured::Measured;
 use crate::offered::Offered;
 use crate::places::{add_key, find_slot, lacks_room, lacks_slot, put_slot};
@@ -32,6 +33,7 @@ use tva_index::KeyRing;
 pub struct FairQueues<T: Measured> {
     pub(crate) limits: DrrLimits,
     bytes: u32,
+    front: Front,
     pub(crate) waiting: VecDeque<Slot<T>>,
     spare: Vec<Slot<T>>,
     keys: KeyRing,
@@ -45,6 +47,7 @@ impl<T: Measured> Model for FairQueues<T> {
     ghost use Rattle.tva_drr.specs.Code.{fair_code};
     ghost use Rattle.tva_drr.specs.Slots.{queues_in, AreSlots};
     ghost use Rattle.tva_drr.specs.Keys.{keys_in};
+    ghost use Rattle.tva_drr.specs.Front.{IsKnown};
     ghost use Rattle.tva_index.specs.KeyRing.{ring};
 
     ghost Value = { Fair T };
@@ -58,7 +61,8 @@ impl<T: Measured> Model for FairQueues<T> {
         × AreSlots a.limits.queues a.limits.ring a.waiting.items a.spare.items
         × (a.limits.queues ≤ deque_capacity a.waiting)
         × (a.limits.queues ≤ vec_capacity a.spare)
-        × (a.keys ≡ ring a.limits.queues (keys_in (queues_in a.waiting.items))) };
+        × (a.keys ≡ ring a.limits.queues (keys_in (queues_in a.waiting.items)))
+        × IsKnown T.measure a.front (queues_in a.waiting.items) };
 }
 
 impl<T: Measured> FairQueues<T> {
@@ -73,9 +77,11 @@ impl<T: Measured> FairQueues<T> {
         let waiting = VecDeque::with_capacity(alloc, limits.queues as usize)?;
         let spare = slots(alloc, limits.queues, limits.ring)?;
         let keys = KeyRing::with_places(alloc, limits.queues)?;
+        let front = front_of(&waiting);
         Ok(FairQueues {
             limits,
             bytes: 0,
+            front,
             waiting,
             spare,
             keys,
@@ -96,7 +102,7 @@ impl<T: Measured> FairQueues<T> {
         ensures fair { IsFair T.measure self.new }
     {
         let length = item.length();
-        let place = find_slot(&self.keys, &self.waiting, key);
+        let place = find_slot(&self.keys, self.front, &self.waiting, key);
         if lacks_slot(&self.limits, &place, &self.waiting) {
             return Offered::NoQueue(item);
         }
@@ -113,6 +119,7 @@ impl<T: Measured> FairQueues<T> {
             item,
         );
         self.bytes += length;
+        self.front = front_of(&self.waiting);
         Offered::Queued
     }
 
@@ -121,7 +128,7 @@ impl<T: Measured> FairQueues<T> {
     pub fn takes_key(&self, key: u32) -> bool
         ensures { result ≡ not (lacks_queue self.now key) }
     {
-        let place = find_slot(&self.keys, &self.waiting, key);
+        let place = find_slot(&self.keys, self.front, &self.waiting, key);
         !lacks_slot(&self.limits, &place, &self.waiting)
     }
 
@@ -161,6 +168,7 @@ impl<T: Measured> FairQueues<T> {
             &mut self.keys,
             self.limits.quantum,
         );
+        self.front = front_of(&self.waiting);
         item
     }
 }

@@ -7,6 +7,7 @@
 #![tactic(auto)]
 
 mod fair_queues;
+mod front;
 mod laws;
 mod measured;
 mod offered;

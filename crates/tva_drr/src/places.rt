@@ -6,8 +6,10 @@ ghost use Rattle.tva_drr.specs.Offer.{put};
 ghost use Rattle.tva_drr.specs.Slots.{queues_in, AreSlots};
 ghost use Rattle.tva_drr.specs.Places.{IsPlace};
 ghost use Rattle.tva_drr.specs.Keys.{keys_in, keys_with};
+ghost use Rattle.tva_drr.specs.Front.{IsKnown};
 ghost use Rattle.tva_index.specs.KeyRing.{ring, place_in};
 
+use crate::front::Front;
 use crate::measured::Measured;
 use crate::slot::Slot;
 use std::collections::VecDeque;
@@ -22,27 +24,29 @@ pub(crate) struct Place {
     pub bytes: u32,
 }
 
-/// The place of a key. The front's key stands at hand, and where there is one queue, as behind most tags,
-/// it is the only one; so it is looked at before the tree of keys, which stands elsewhere in memory.
-fn place_of<T: Measured>(keys: &KeyRing, waiting: &VecDeque<Slot<T>>, key: u32) -> Option<usize>
-    requires { keys.now.keys ≡ keys_in (queues_in waiting.now.items) }
-    ensures { result ≡ place_in key keys.now.keys }
-{
-    if !waiting.is_empty() && waiting[0].key() == key {
-        return Some(0);
-    }
-    keys.place(key)
-}
-
-/// The place of the key's queue.
-pub(crate) fn find_slot<T: Measured>(keys: &KeyRing, waiting: &VecDeque<Slot<T>>, key: u32) -> Place
-    requires { keys.now.keys ≡ keys_in (queues_in waiting.now.items) }
+/// The place of the key's queue. What is known of the front is looked at before the tree of keys and the
+/// queues.
+pub(crate) fn find_slot<T: Measured>(
+    keys: &KeyRing,
+    front: Front,
+    waiting: &VecDeque<Slot<T>>,
+    key: u32,
+) -> Place
+    requires keys { keys.now.keys ≡ keys_in (queues_in waiting.now.items) }
+    requires front { IsKnown T.measure front (queues_in waiting.now.items) }
     ensures at { IsPlace key (queues_in waiting.now.items) result.at }
     ensures place { result.at ≡ place_in key keys.now.keys }
     ensures items { result.items ≡ length (items_of key (queues_in waiting.now.items)) }
     ensures bytes { result.bytes ≡ bytes_in T.measure (items_of key (queues_in waiting.now.items)) }
 {
-    match place_of(keys, waiting, key) {
+    if front.items != 0 && front.key == key {
+        return Place {
+            at: Some(0),
+            items: front.items,
+            bytes: front.bytes,
+        };
+    }
+    match keys.place(key) {
         Some(at) => {
             let slot = &waiting[at];
             Place {

@@ -5,3 +5,4 @@ pub mod Links
 pub mod Tree
 pub mod Bits
 pub mod Numbers
+pub mod Alone

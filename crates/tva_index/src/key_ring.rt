@@ -2,39 +2,31 @@
 ghost use Rattle.std.specs.Prelude.{◌≡◌, ◌^◌, ◌<◌, ◌≤◌, None, [], ◌∷◌, ◌++◌, length, take, drop, IfOk};
 ghost use Rattle.tva_index.specs.KeyRing.{ring, place_in};
 
-use crate::bits::{KeyTree, number_of, put, renumber, rooted, take_key};
-use crate::fronts::take_front;
+use crate::numbered_keys::NumberedKeys;
 use std::alloc::{AllocError, Global};
-use std::collections::VecDeque;
 use std::marker::Model;
 
 /// Different keys in the order of a ring: contracts see them from the front on, and how many there may
-/// be. The place of a key is found by a tree of the keys' bits, in 32 steps at most, whatever keys
-/// senders choose. Numbers go round in ring order: the front has the first, and a key that goes last
-/// gets the number behind the last one's. So a turn numbers one key anew, and all others keep theirs.
-/// All memory is taken when it is made.
+/// be. A key that stands alone, as behind most tags, needs no number, so the tree by which the places of
+/// several are found isn't read. It stands apart, and where there may be one key alone there is none. All
+/// memory is taken when it is made.
 #[derive(Drop)]
 pub struct KeyRing {
     places: u32,
-    first: u32,
-    order: VecDeque<u32>,
-    tree: KeyTree,
+    alone: Option<u32>,
+    several: Option<Box<NumberedKeys>>,
 }
 
 impl Model for KeyRing {
-    ghost use Rattle.std.specs.Prelude.{◌≤◌, ◌^◌, vec_capacity};
-    ghost use Rattle.std.specs.VecDeque.{deque_capacity};
+    ghost use Rattle.std.specs.Prelude.{◌≡◌, [], IfSome};
     ghost use Rattle.tva_index.specs.KeyRing.{Ring, ring};
-    ghost use Rattle.tva_index.specs.Bits.{links_of, entries_of};
-    ghost use Rattle.tva_index.specs.Numbers.{AreNumbered};
+    ghost use Rattle.tva_index.specs.Alone.{HasRoom, keys_of, several_in};
 
     ghost Value = { Ring };
 
-    ghost view = { λ a. ring a.places a.order.items };
+    ghost view = { λ a. ring a.places (keys_of a.alone (several_in a.several)) };
 
-    ghost invariant = { λ a.
-        AreNumbered a.places a.first a.order.items (links_of a.tree.places.items) (entries_of a.tree.places.items) a.tree.free.items
-        × (a.places ≤ deque_capacity a.order) × (a.places ≤ vec_capacity a.tree.free) };
+    ghost invariant = { λ a. IfSome a.alone (λ key. several_in a.several ≡ []) × HasRoom a.places a.several };
 }
 
 impl KeyRing {
@@ -43,56 +35,76 @@ impl KeyRing {
         requires { places ≤ 2 ^ 30 }
         ensures { IfOk result (λ v. v ≡ ring places []) }
     {
-        let order = VecDeque::with_capacity(alloc, places as usize)?;
-        let tree = rooted(alloc, places)?;
+        let several = if places <= 1 {
+            None
+        } else {
+            Some(Box::new(alloc, NumberedKeys::with_places(alloc, places)?)?)
+        };
         Ok(KeyRing {
             places,
-            first: 0,
-            order,
-            tree,
+            alone: None,
+            several,
         })
     }
 
     /// The place of a key, counted from the front.
+    #[inline(always)]
     pub fn place(&self, key: u32) -> Option<usize>
         ensures { result ≡ place_in key self.now.keys }
     {
-        match number_of(&self.tree, key) {
-            Some(number) => Some(number.wrapping_sub(self.first) as usize),
-            None => None,
+        match (self.alone, &self.several) {
+            (Some(only), _) if only == key => Some(0),
+            (None, Some(several)) => several.place(key),
+            (_, _) => None,
         }
     }
 
     /// A key that isn't there goes last.
+    #[inline(always)]
     pub fn push(&mut self, key: u32)
         requires new { place_in key self.old.keys ≡ None }
         requires room { length self.old.keys < self.old.places }
         ensures { self.new ≡ ring self.old.places (self.old.keys ++ key ∷ []) }
     {
-        let number = self.first.wrapping_add(self.order.len() as u32);
-        put(&mut self.tree, key, number);
-        self.order.push_back_reserved(key);
+        match &mut self.several {
+            None => self.alone = Some(key),
+            Some(several) => match self.alone {
+                Some(only) => {
+                    self.alone = None;
+                    several.push(only);
+                    several.push(key);
+                }
+                None => {
+                    if several.is_empty() {
+                        self.alone = Some(key);
+                    } else {
+                        several.push(key);
+                    }
+                }
+            },
+        }
     }
 
     /// The front leaves.
+    #[inline(always)]
     pub fn leave(&mut self)
         ensures { self.new ≡ ring self.old.places (drop 1 self.old.keys) }
     {
-        if let Some(key) = take_front(&mut self.order) {
-            take_key(&mut self.tree, key);
-            self.first = self.first.wrapping_add(1);
+        match (self.alone, &mut self.several) {
+            (Some(_), _) => self.alone = None,
+            (None, Some(several)) => several.leave(),
+            (None, None) => {}
         }
     }
 
     /// The front goes last.
+    #[inline(always)]
     pub fn turn(&mut self)
         ensures { self.new ≡ ring self.old.places (drop 1 self.old.keys ++ take 1 self.old.keys) }
     {
-        if let Some(key) = self.order.pop_front() {
-            self.first = self.first.wrapping_add(1);
-            let number = self.first.wrapping_add(self.order.len() as u32);
-            renumber(&mut self.tree, key, number);
-            self.order.push_back_reserved(key);
+        match (self.alone, &mut self.several) {
+            (None, Some(several)) => several.turn(),
+            (_, _) => {}
         }
     }
 }

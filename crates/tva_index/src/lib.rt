@@ -10,6 +10,7 @@ mod fronts;
 mod key_ring;
 mod links;
 mod lowest;
+mod numbered_keys;
 #[cfg(test)]
 mod tests;
 mod tree;

@@ -8,3 +8,4 @@ pub mod Packed
 pub mod Shortage
 pub mod Files
 pub mod Brief
+pub mod Left

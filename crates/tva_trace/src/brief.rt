@@ -2,9 +2,13 @@
 ghost use Rattle.std.specs.Prelude.{◌≡◌, IfOk, OnErr};
 ghost use Rattle.tva_shim.specs.declared.packets.Carried.TheVariants as carried;
 ghost use Rattle.tva_trace.specs.declared.rows.RowWhat.TheVariants as says;
+ghost use Rattle.tva_trace.specs.declared.said.SaidWhat.TheVariants as say;
+ghost use Rattle.tva_trace.specs.Meaning.{MeansWhat};
 ghost use Rattle.tva_trace.specs.Brief.{Grows, IsLayoutAt, IsWhatHeld, part, shim_in, what_in};
 
+use crate::carried::carried_by_bytes;
 use crate::rows::RowWhat;
+use crate::said::{SaidShim, SaidWhat};
 use arrayvec::ArrayVec;
 use std::alloc::AllocError;
 use std::mem::size_of;
@@ -80,6 +84,62 @@ pub fn brief_of(layouts: &mut Vec<u8>, what: &RowWhat) -> Result<BriefWhat, Allo
             payload,
             carried,
         } => brief_carried(layouts, *flow, *payload, carried),
+    }
+}
+
+/// The brief form of what is said, as it is meant: a shim that is given by its parts is put behind the others as
+/// it stands. An error leaves the layouts as they were.
+pub fn brief_said(layouts: &mut Vec<u8>, said: &SaidWhat) -> Result<BriefWhat, AllocError>
+    ensures grows { IfOk result (λ brief. Grows layouts.old.items layouts.new.items) }
+    ensures held { IfOk result (λ brief. IsWhatHeld layouts.new.items brief) }
+    ensures means { IfOk result (λ brief. MeansWhat said.now (what_in layouts.new.items brief)) }
+    ensures err { OnErr result (layouts.new.items ≡ layouts.old.items) }
+{
+    match said {
+        SaidWhat::Send { dst, payload } => Ok(BriefWhat::Send {
+            payload: *payload,
+            dst: *dst,
+        }),
+        SaidWhat::File { dst, size, segment } => Ok(BriefWhat::File {
+            segment: *segment,
+            dst: *dst,
+            size: *size,
+        }),
+        SaidWhat::Tick { dst } => Ok(BriefWhat::Tick { dst: *dst }),
+        SaidWhat::Inject {
+            flow,
+            payload,
+            shim,
+        } => brief_shim(layouts, *flow, *payload, shim),
+    }
+}
+
+// The brief form of a row that is said to inject a packet.
+fn brief_shim(
+    layouts: &mut Vec<u8>,
+    flow: Flow,
+    payload: u16,
+    shim: &SaidShim,
+) -> Result<BriefWhat, AllocError>
+    ensures grows { IfOk result (λ brief. Grows layouts.old.items layouts.new.items) }
+    ensures held { IfOk result (λ brief. IsWhatHeld layouts.new.items brief) }
+    ensures means { IfOk result (λ brief. MeansWhat (say.Inject flow payload shim.now) (what_in layouts.new.items brief)) }
+    ensures err { OnErr result (layouts.new.items ≡ layouts.old.items) }
+{
+    match shim {
+        SaidShim::Bytes(bytes) => {
+            let carried = carried_by_bytes(bytes);
+            brief_carried(layouts, flow, payload, &carried)
+        }
+        SaidShim::Built(shim) => {
+            let (start, bytes) = put_layout(layouts, shim)?;
+            Ok(BriefWhat::Shim {
+                payload,
+                bytes,
+                flow,
+                start,
+            })
+        }
     }
 }
 

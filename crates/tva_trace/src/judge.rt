@@ -6,6 +6,7 @@ ghost use Rattle.tva_base.specs.Decimal.{decimal_of};
 ghost use Rattle.tva_trace.specs.Files.{counted};
 ghost use Rattle.tva_trace.specs.Rows.{filing_of, has_room, hold, injection_of, kind_at, positive, row_of, sending_of, ticking_of, what_of};
 ghost use Rattle.tva_plan.specs.Names.{is_host};
+ghost use Rattle.tva_trace.specs.Left.{left_in};
 ghost use Rattle.tva_trace.specs.Valid.{IsAllowed, IsSaid, IsSaidWhat};
 
 use crate::fields::{allowed, field, is_empty, kind_of};
@@ -100,54 +101,62 @@ fn ticking_of(row: &ByteRecord) -> Result<SaidWhat, TraceRule>
     Ok(SaidWhat::Tick { dst })
 }
 
-/// What a row that injects a packet says.
+/// What a row that injects a packet says, put in a place that the caller lends, since a shim is large.
 #[tactic(auto, unfolding(crate::specs::Rows::injection_of))]
-fn injection_of(
+fn injection_into(
     plans: &[NodePlan],
     numbers: &HashMap<&[u8], u16>,
     secrets: &mut KeptSecrets,
     kind: RowKind,
     row: &ByteRecord,
-) -> Result<SaidWhat, TraceRule>
+    said: &mut SaidWhat,
+) -> Result<(), TraceRule>
     requires { Numbers plans.now numbers.now }
-    ensures said { result ≡ injection_of plans.now kind (fields_of row.now) }
-    ensures valid { IfOk result (λ said. (b r : Bool) → IsSaidWhat b r said) }
+    ensures said { left_in said.new result ≡ injection_of plans.now kind (fields_of row.now) }
+    ensures valid { IfOk result (λ none. (b r : Bool) → IsSaidWhat b r said.new) }
 {
     let src = address(field(row, 3)).ok_or(TraceRule::Src)?;
     let dst = address(field(row, 4)).ok_or(TraceRule::Dst)?;
     let payload = decimal(field(row, 5), u64::from(PAYLOAD_MAX)).ok_or(TraceRule::Payload)?;
     let flow = Flow { src, dst };
-    let shim = shim_of(plans, numbers, secrets, kind, flow, field(row, 6)).ok_or(TraceRule::Shim)?;
-    Ok(SaidWhat::Inject {
-        flow,
-        payload: payload as u16,
-        shim,
-    })
+    match shim_of(plans, numbers, secrets, kind, flow, field(row, 6)) {
+        Some(shim) => {
+            *said = SaidWhat::Inject {
+                flow,
+                payload: payload as u16,
+                shim,
+            };
+            Ok(())
+        }
+        None => Err(TraceRule::Shim),
+    }
 }
 
-fn what_of(
+fn what_into(
     plans: &[NodePlan],
     numbers: &HashMap<&[u8], u16>,
     secrets: &mut KeptSecrets,
     kind: RowKind,
     row: &ByteRecord,
-) -> Result<SaidWhat, TraceRule>
+    said: &mut SaidWhat,
+) -> Result<(), TraceRule>
     requires { Numbers plans.now numbers.now }
-    ensures said { result ≡ what_of plans.now kind (fields_of row.now) }
-    ensures valid { IfOk result (λ said. (b r : Bool) → IsAllowed b r kind → IsSaidWhat b r said) }
+    ensures said { left_in said.new result ≡ what_of plans.now kind (fields_of row.now) }
+    ensures valid { IfOk result (λ none. (b r : Bool) → IsAllowed b r kind → IsSaidWhat b r said.new) }
 {
     match kind {
-        RowKind::Send => sending_of(row),
-        RowKind::File => filing_of(row),
-        RowKind::Tick => ticking_of(row),
-        kind => injection_of(plans, numbers, secrets, kind, row),
+        RowKind::Send => *said = sending_of(row)?,
+        RowKind::File => *said = filing_of(row)?,
+        RowKind::Tick => *said = ticking_of(row)?,
+        kind => return injection_into(plans, numbers, secrets, kind, row, said),
     }
+    Ok(())
 }
 
 /// What the record of that number says, behind a row of that time, and behind rows of which so many
-/// begin a transfer at each node.
+/// begin a transfer at each node. It is put in a place that the caller lends.
 #[tactic(auto, unfolding(crate::specs::Rows::row_of))]
-pub fn row_of(
+pub fn row_into(
     config: &Config,
     numbers: &HashMap<&[u8], u16>,
     secrets: &mut KeptSecrets,
@@ -155,11 +164,12 @@ pub fn row_of(
     number: u64,
     last: u64,
     row: &ByteRecord,
-) -> Result<SaidRow, TraceRule>
+    said: &mut SaidRow,
+) -> Result<(), TraceRule>
     requires { Numbers config.now.nodes numbers.now }
-    ensures said { result ≡ row_of config.now number last (counted files.now) (fields_of row.now) }
+    ensures said { left_in said.new result ≡ row_of config.now number last (counted files.now) (fields_of row.now) }
     ensures few { OnOk result (number ≤ 1000001) }
-    ensures valid { IfOk result (IsSaid config.now last (counted files.now)) }
+    ensures valid { OnOk result (IsSaid config.now last (counted files.now) said.new) }
 {
     let plans = config.nodes.as_slice();
     hold(TraceRule::Rows, number <= 1_000_001)?;
@@ -168,10 +178,8 @@ pub fn row_of(
     hold(TraceRule::Order, last <= time)?;
     let node = number_of(plans, numbers, field(row, 1)).ok_or(TraceRule::Node)?;
     let kind = kind_at(plans, files, node, field(row, 2)).ok_or(TraceRule::Kind)?;
-    let what = what_of(plans, numbers, secrets, kind, row)?;
-    Ok(SaidRow {
-        time: Time(time),
-        node,
-        what,
-    })
+    what_into(plans, numbers, secrets, kind, row, &mut said.what)?;
+    said.time = Time(time);
+    said.node = node;
+    Ok(())
 }

@@ -1,9 +1,11 @@
 // The rows of a trace in little memory.
 ghost use Rattle.std.specs.Prelude.{◌≡◌, ◌<◌, [], ◌∷◌, ◌++◌, IfOk, OnErr, OnOk, length, slice_index_or};
 ghost use Rattle.tva_trace.specs.declared.rows.Row.{Row};
+ghost use Rattle.tva_trace.specs.Meaning.{Means};
 
-use crate::brief::{BriefRow, brief_of, what_from};
+use crate::brief::{BriefRow, brief_of, brief_said, what_from};
 use crate::rows::Row;
+use crate::said::SaidRow;
 use std::alloc::{AllocError, Global};
 use std::marker::Model;
 
@@ -65,6 +67,20 @@ impl PackedRows {
         let Row { time, node, what } = row;
         let what = brief_of(&mut self.layouts, &what)?;
         self.rows.push(BriefRow { time, what, node })?;
+        Ok(())
+    }
+
+    /// Puts the row last that is meant by what is said. An error is want of memory, and changes nothing.
+    pub(crate) fn push_said(&mut self, said: &SaidRow) -> Result<(), AllocError>
+        ensures ok { OnOk result ((row : Row) × Means said.now row × (self.new ≡ self.old ++ row ∷ [])) }
+        ensures err { OnErr result (self.new ≡ self.old) }
+    {
+        let what = brief_said(&mut self.layouts, &said.what)?;
+        self.rows.push(BriefRow {
+            time: said.time,
+            what,
+            node: said.node,
+        })?;
         Ok(())
     }
 

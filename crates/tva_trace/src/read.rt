@@ -7,21 +7,22 @@ ghost use Rattle.tva_trace.specs.Files.{Counts, FindsRoom, counted, filed_in};
 ghost use Rattle.tva_trace.specs.Meaning.{Answers, AreRows, IsPut};
 ghost use Rattle.tva_trace.specs.Packed.{AnswersPacked};
 ghost use Rattle.tva_plan.specs.Numbers.{Numbers};
+ghost use Rattle.tva_trace.specs.Left.{row_where, told_by};
 ghost use Rattle.tva_trace.specs.Rows.{said_by};
 ghost use Rattle.tva_trace.specs.Shortage.{IsShortage};
 ghost use Rattle.tva_trace.specs.Valid.{AreTraceRows, IsSaid};
 
-use crate::carried::row_from;
 use crate::fields::is_header;
 use crate::files::{FileCounts, count_file};
-use crate::judge::row_of;
+use crate::judge::row_into;
 use crate::packed::PackedRows;
 use crate::rows::{Row, TraceError, TraceFault, TraceRule};
-use crate::said::SaidRow;
+use crate::said::{SaidRow, SaidWhat};
 use crate::secrets::KeptSecrets;
 use csv::{ByteRecord, ErrorKind, ReaderBuilder};
 use std::alloc::{AllocError, Global};
 use std::collections::HashMap;
+use tva_base::{Address, Time};
 use tva_plan::{Config, node_numbers};
 
 // The bytes of the shortest row, `0,A,send,,0.0.0.0,0,`.
@@ -80,6 +81,7 @@ fn read_rows(
         .flexible(true)
         .from_reader(alloc, text);
     let mut record = ByteRecord::new(alloc);
+    let mut said = nothing_said();
     'records: loop {
         let found = match reader.read_byte_record(&mut record) {
             Ok(found) => found,
@@ -94,11 +96,20 @@ fn read_rows(
             }
             return Ok(rows);
         }
-        let said = match said_by(config, numbers, &mut secrets, &files, number, last, &record) {
-            Ok(said) => said,
+        let is_row = match said_into(
+            config,
+            numbers,
+            &mut secrets,
+            &files,
+            number,
+            last,
+            &record,
+            &mut said,
+        ) {
+            Ok(is_row) => is_row,
             Err(rule) => return Err(TraceError::Fault(TraceFault { row: number, rule })),
         };
-        let Ok(time) = put_row(&mut rows, &mut files, room, last, said) else {
+        let Ok(time) = put_row(&mut rows, &mut files, room, last, is_row, &said) else {
             return Err(TraceError::OutOfMemory);
         };
         last = time;
@@ -125,36 +136,42 @@ fn shortage(kind: &ErrorKind) -> TraceError
     }
 }
 
-/// Puts a row last, if there is one, counts it where it begins a transfer, and answers the last row's
+/// A place for what a row says.
+fn nothing_said() -> SaidRow {
+    SaidRow {
+        time: Time(0),
+        node: 0,
+        what: SaidWhat::Tick { dst: Address(0) },
+    }
+}
+
+/// Puts a row last, if one is said, counts it where it begins a transfer, and answers the last row's
 /// time. Where there is none, that is behind the header, room is made for so many.
 fn put_row(
     rows: &mut PackedRows,
     files: &mut FileCounts,
     room: usize,
     last: u64,
-    said: Option<SaidRow>,
+    is_row: bool,
+    said: &SaidRow,
 ) -> Result<u64, AllocError>
-    requires { IfSome said (λ row. FindsRoom (counted files.old) row.node row.what) }
-    ensures put { IfOk result (λ time. IsPut rows.old rows.new last time said) }
-    ensures counts { OnOk result (Counts (counted files.old) (counted files.new) (filed_in said)) }
+    requires { IfSome (row_where is_row said.now) (λ row. FindsRoom (counted files.old) row.node row.what) }
+    ensures put { IfOk result (λ time. IsPut rows.old rows.new last time (row_where is_row said.now)) }
+    ensures counts { OnOk result (Counts (counted files.old) (counted files.new) (filed_in (row_where is_row said.now))) }
 {
-    match said {
-        None => {
-            rows.reserve(room)?;
-            Ok(last)
-        }
-        Some(said) => {
-            let time = said.time.0;
-            count_file(files, said.node, &said.what)?;
-            rows.push(row_from(said))?;
-            Ok(time)
-        }
+    if !is_row {
+        rows.reserve(room)?;
+        return Ok(last);
     }
+    count_file(files, said.node, &said.what)?;
+    rows.push_said(said)?;
+    Ok(said.time.0)
 }
 
-/// What the record of that number says, behind a row of that time, and behind rows of which so many
-/// begin a transfer at each node; the first names the fields.
-fn said_by(
+/// Whether the record of that number says a row, and not the names of the fields, as the first does: a row is put in
+/// a place that the caller lends. It stands behind a row of that time, and behind rows of which so many
+/// begin a transfer at each node.
+fn said_into(
     config: &Config,
     numbers: &HashMap<&[u8], u16>,
     secrets: &mut KeptSecrets,
@@ -162,18 +179,19 @@ fn said_by(
     number: u64,
     last: u64,
     row: &ByteRecord,
-) -> Result<Option<SaidRow>, TraceRule>
+    said: &mut SaidRow,
+) -> Result<bool, TraceRule>
     requires { Numbers config.now.nodes numbers.now }
-    ensures said { result ≡ said_by (number == 1) config.now number last (counted files.now) (fields_of row.now) }
+    ensures said { told_by said.new result ≡ said_by (number == 1) config.now number last (counted files.now) (fields_of row.now) }
     ensures few { OnOk result (number ≤ 1000001) }
-    ensures valid { IfOk result (λ said. IfSome said (IsSaid config.now last (counted files.now))) }
+    ensures valid { IfOk result (λ is_row. IfSome (row_where is_row said.new) (IsSaid config.now last (counted files.now))) }
 {
     if number != 1 {
-        let said = row_of(config, numbers, secrets, files, number, last, row)?;
-        return Ok(Some(said));
+        row_into(config, numbers, secrets, files, number, last, row, said)?;
+        return Ok(true);
     }
     if is_header(row) {
-        Ok(None)
+        Ok(false)
     } else {
         Err(TraceRule::Header)
     }

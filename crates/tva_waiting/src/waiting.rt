@@ -1,5 +1,6 @@
 // The inputs of a node that are not taken yet, in the order of their taking.
-ghost use Rattle.std.specs.Prelude.{◌≡◌, ◌≢◌, ◌≤◌, ◌∷◌, ◌++◌, ℕ, List, [], Some, length, insert, true, IfOk, IfSome, IsSome, OnOk, OnErr};
+ghost use Rattle.std.specs.Prelude.{◌≡◌, ◌≢◌, ◌≤◌, ◌<◌, ◌∷◌, ◌++◌, ℕ, List, [], Some, get_or, length, insert, true, IfOk, IfSome, IsSome, OnOk, OnErr};
+ghost use Rattle.tva_waiting.specs.declared.waiting.Turn.{Turn};
 ghost use Rattle.tva_log.specs.Joins.{IsInOrder, precedes, put_in};
 ghost use Rattle.tva_log.specs.Entries.{input_source, input_time};
 ghost use Rattle.tva_waiting.specs.Inputs.{HoldsInputs, first_time};
@@ -274,7 +275,7 @@ fn place_for(turns: &VecDeque<Turn>, turn: &Turn) -> usize
     ensures within { result ≤ length turns.now.items }
 {
     let mut low = 0;
-    let mut high = turns.len();
+    let mut high = place_behind(turns, turn);
     while low < high {
         let middle = low + (high - low) / 2;
         if precedes(turn, &turns[middle]) {
@@ -284,6 +285,23 @@ fn place_for(turns: &VecDeque<Turn>, turn: &Turn) -> usize
         }
     }
     low
+}
+
+// The place of a turn that comes later, or the end. What arrives comes soon, and rows wait that come much
+// later: so it is looked for from the front on, at steps that double.
+fn place_behind(turns: &VecDeque<Turn>, turn: &Turn) -> usize
+    ensures within { result ≤ length turns.now.items }
+    ensures behind { (d : Turn) → result < length turns.now.items
+        → precedes turn_time turn_source turn.now (get_or turns.now.items result d) ≡ true }
+{
+    let mut place = 0;
+    while place < turns.len() {
+        if precedes(turn, &turns[place]) {
+            return place;
+        }
+        place += place + 1;
+    }
+    turns.len()
 }
 
 fn precedes(one: &Turn, other: &Turn) -> bool

@@ -12,14 +12,14 @@ use Rattle.tva_drr.proofs.places.find_slot.Goals as goal
 pub index-slot-requires : goal.index-slot-requires
 index-slot-requires g c =
     let ws = c.args.waiting.now.items in
-    let is : Some c.in-Some.at ≡ place_in c.args.key (keys_in (queues_in ws)) = sym c.in-Some.is ∙ (c.place_of.ensures ∙ ap (place_in c.args.key) c.requires) in
+    let is : Some c.in-Some.at ≡ place_in c.args.key (keys_in (queues_in ws)) = sym c.in-Some.is ∙ (c.place.ensures ∙ ap (place_in c.args.key) c.requires.keys) in
     let p : IsPlace c.args.key (queues_in ws) (Some c.in-Some.at) = subst (λ (o : Option ℕ). IsPlace c.args.key (queues_in ws) o) (sym is) (place_is c.args.key (queues_in ws)) in
     omega (arith, p.0, length-queues ws)
 
 pub returns-in-Some-clause-at : goal.returns-in-Some-clause-at
 returns-in-Some-clause-at g c =
     let ws = c.args.waiting.now.items in
-    let is : Some c.in-Some.at ≡ place_in c.args.key (keys_in (queues_in ws)) = sym c.in-Some.is ∙ (c.place_of.ensures ∙ ap (place_in c.args.key) c.requires) in
+    let is : Some c.in-Some.at ≡ place_in c.args.key (keys_in (queues_in ws)) = sym c.in-Some.is ∙ (c.place.ensures ∙ ap (place_in c.args.key) c.requires.keys) in
     subst (λ (o : Option ℕ). IsPlace c.args.key (queues_in ws) o) (sym is) (place_is c.args.key (queues_in ws))
 
 pub returns-in-Some-clause-items : goal.returns-in-Some-clause-items
@@ -41,7 +41,7 @@ returns-in-Some-clause-bytes g c =
 pub returns-in-None-clause-at : goal.returns-in-None-clause-at
 returns-in-None-clause-at g c =
     let ws = c.args.waiting.now.items in
-    let is : None ≡ place_in c.args.key (keys_in (queues_in ws)) = sym c.in-None.is ∙ (c.place_of.ensures ∙ ap (place_in c.args.key) c.requires) in
+    let is : None ≡ place_in c.args.key (keys_in (queues_in ws)) = sym c.in-None.is ∙ (c.place.ensures ∙ ap (place_in c.args.key) c.requires.keys) in
     subst (λ (o : Option ℕ). IsPlace c.args.key (queues_in ws) o) (sym is) (place_is c.args.key (queues_in ws))
 
 pub returns-in-None-clause-items : goal.returns-in-None-clause-items

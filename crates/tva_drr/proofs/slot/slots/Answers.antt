@@ -1,8 +1,8 @@
-use Rattle.std.proofs.Common.{◌≡◌, ◌+◌, length, [], ◌∷◌, ◌++◌, sym, subst, arith}
+use Rattle.std.proofs.Common.{◌≡◌, [], sym, subst, arith}
 use Rattle.std.specs.List.{All}
 use Rattle.std.proofs.lemmas.List.Elements.{All-push}
 use Rattle.tva_drr.specs.Queues.{queue}
-use Rattle.tva_drr.specs.Slots.{SlotOf, slot}
+use Rattle.tva_drr.specs.Slots.{slot}
 use Rattle.tva_drr.proofs.slot.slots.Goals as goal
 
 pub loop-i-preserved : goal.loop-i-preserved

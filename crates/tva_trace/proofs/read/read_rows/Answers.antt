@@ -2,6 +2,7 @@ use Rattle.std.proofs.Common.{◌∙◌, sym, ap, subst, inl, inr, Bool, true, a
 use Rattle.csv.specs.Reading.{ReadRecord, error_kind, with_flexible}
 use Rattle.csv.specs.Records.{fields_of}
 use Rattle.tva_trace.specs.Files.{counted}
+use Rattle.tva_trace.specs.Left.{row_where}
 use Rattle.tva_trace.proofs.FileCounts.{counts_none, find_room}
 use Rattle.tva_trace.proofs.Reading.{told, read-start, read-fault, read-on, read-nothing, read-short, read-valid, read-whole}
 use Rattle.tva_trace.proofs.read.read_rows.Goals as goal
@@ -23,26 +24,26 @@ shortage-requires c =
     let inv = c.records.invariant in
     rw c.kind.ensures (read-short c.args.config.now c.args.text.now c.records.reader c.read_byte_record.new.self c.records.number c.records.last (counted c.records.files) c.records.rows (error_kind c.in-Err.error) inv (c.in-Err.ensures.why inv.is_ready))
 
-pub returns-in-Err-said_by-clause-answer : goal.returns-in-Err-said_by-clause-answer
-returns-in-Err-said_by-clause-answer c =
+pub returns-in-Err-said_into-clause-answer : goal.returns-in-Err-said_into-clause-answer
+returns-in-Err-said_into-clause-answer c =
     let inv = c.records.invariant in
     let fields = fields_of c.read_byte_record.new.row in
     let read = subst (λ (b : Bool). ReadRecord told c.records.reader c.read_byte_record.new.self b fields) c.if-not-found.false (c.in-Ok.ensures.reads inv.untrimmed inv.is_ready) in
-    read-fault c.args.config.now c.args.text.now c.records.reader c.read_byte_record.new.self c.records.number c.records.last (counted c.records.files) c.records.rows fields c.in-Err-said_by.rule inv read (sym c.in-Err-said_by.ensures.said)
+    read-fault c.args.config.now c.args.text.now c.records.reader c.read_byte_record.new.self c.records.number c.records.last (counted c.records.files) c.records.rows fields c.in-Err-said_into.rule inv read (sym c.in-Err-said_into.ensures.said)
 
 pub records-preserved : goal.records-preserved
 records-preserved c =
     let inv = c.records.invariant in
     let fields = fields_of c.read_byte_record.new.row in
     let read = subst (λ (b : Bool). ReadRecord told c.records.reader c.read_byte_record.new.self b fields) c.if-not-found.false (c.in-Ok.ensures.reads inv.untrimmed inv.is_ready) in
-    read-on c.in-Ok-said_by.said c.args.config.now c.args.text.now c.records.reader c.read_byte_record.new.self c.records.number c.records.last c.in-Ok-put_row.time (counted c.records.files) (counted c.put_row.new.files) c.records.rows c.put_row.new.rows fields inv read
-    (inl (c.in-Ok.ensures.ready inv.untrimmed)) c.in-Ok-said_by.ensures.few (sym c.in-Ok-said_by.ensures.said) c.in-Ok-said_by.ensures.valid c.in-Ok-put_row.ensures.put c.in-Ok-put_row.ensures.counts c.in-Ok.ensures.flexible
+    read-on (row_where c.in-Ok-said_into.is_row c.said_into.new.said) c.args.config.now c.args.text.now c.records.reader c.read_byte_record.new.self c.records.number c.records.last c.in-Ok-put_row.time (counted c.records.files) (counted c.put_row.new.files) c.records.rows c.put_row.new.rows fields inv read
+    (inl (c.in-Ok.ensures.ready inv.untrimmed)) c.in-Ok-said_into.ensures.few (sym c.in-Ok-said_into.ensures.said) c.in-Ok-said_into.ensures.valid c.in-Ok-put_row.ensures.put c.in-Ok-put_row.ensures.counts c.in-Ok.ensures.flexible
 
 pub put_row-requires : goal.put_row-requires
-put_row-requires c = find_room c.args.config.now c.records.last (counted c.records.files) c.in-Ok-said_by.said c.in-Ok-said_by.ensures.valid
+put_row-requires c = find_room c.args.config.now c.records.last (counted c.records.files) (row_where c.in-Ok-said_into.is_row c.said_into.new.said) c.in-Ok-said_into.ensures.valid
 
 pub records-smaller : goal.records-smaller
-records-smaller c = omega (arith, c.in-Ok-said_by.ensures.few)
+records-smaller c = omega (arith, c.in-Ok-said_into.ensures.few)
 
 pub returns-then-number-eq1-clause-answer : goal.returns-then-number-eq1-clause-answer
 returns-then-number-eq1-clause-answer c =

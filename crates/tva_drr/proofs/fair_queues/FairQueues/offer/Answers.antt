@@ -11,13 +11,14 @@ use Rattle.tva_drr.proofs.Keeps.{items-within, keeps-offer}
 use Rattle.tva_drr.proofs.SlotLists.{length-queues, queue_lacked}
 use Rattle.tva_drr.specs.Queues.{has_key}
 use Rattle.tva_drr.specs.Places.{IsPlace}
+use Rattle.tva_drr.specs.Front.{IsKnown}
 use Rattle.tva_index.specs.KeyRing.{Ring, ring}
 use Rattle.tva_drr.specs.Keys.{keys_with}
 use Rattle.tva_drr.proofs.Keys.{keys_in-put, length-keys}
 use Rattle.tva_drr.proofs.fair_queues.FairQueues.offer.Goals as goal
 
-pub find_slot-place-requires : goal.find_slot-place-requires
-find_slot-place-requires g c = ap (λ (r : Ring). r.keys) c.self.invariant.5
+pub find_slot-place-requires-clause-keys : goal.find_slot-place-requires-clause-keys
+find_slot-place-requires-clause-keys g c = ap (λ (r : Ring). r.keys) c.self.invariant.5
 
 pub add_key-requires-clause-room : goal.add_key-requires-clause-room
 add_key-requires-clause-room g c none =
@@ -71,6 +72,7 @@ invariant_of-self g c =
       omega (arith, c.self.invariant.3, same.0),
       omega (arith, c.self.invariant.4, same.1),
       c.add_key.ensures ∙ (ap (λ (r : Ring). ring r.places (keys_with c.args.key r.keys)) c.self.invariant.5 ∙ ap (ring l.queues) (sym (keys_in-put l.quantum c.args.key c.args.item (queues_in ws)))),
+      subst (IsKnown g.T.Measured.measure c.front_of-self-inside.result) c.put_slot.ensures.left c.front_of-self-inside.ensures,
     )
 
 pub returns-clause-fair : goal.returns-clause-fair

@@ -5,6 +5,7 @@ use Rattle.tva_drr.specs.Order.{GoesFirst, IsFront}
 use Rattle.tva_drr.proofs.OrderLaws.{goes_first}
 use Rattle.tva_drr.specs.Take.{front_settled, taken}
 use Rattle.tva_drr.specs.Fair.{IsFair}
+use Rattle.tva_drr.specs.Front.{IsKnown}
 use Rattle.tva_drr.specs.Slots.{queues_in, AreSlots}
 use Rattle.tva_drr.proofs.Keeps.{all_room-popped, keeps-taken, with_length}
 use Rattle.tva_index.specs.KeyRing.{Ring, ring}
@@ -38,6 +39,7 @@ invariant_of-self g c =
       omega (arith, c.self.invariant.3, p.same.1, c.settle_slots.ensures.same.0),
       omega (arith, c.self.invariant.4, c.settle_slots.ensures.same.1),
       after,
+      subst (IsKnown g.T.Measured.measure c.front_of-self-inside.result) (c.settle_slots.ensures.left ∙ ap (front_settled g.T.Measured.measure c.self.inside.limits.quantum) p.left) c.front_of-self-inside.ensures,
     )
 
 pub returns-clause-fair : goal.returns-clause-fair

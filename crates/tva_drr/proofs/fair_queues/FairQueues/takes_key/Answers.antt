@@ -5,8 +5,8 @@ use Rattle.tva_drr.specs.Offer.{lacks_queue}
 use Rattle.tva_drr.proofs.SlotLists.{queue_lacked}
 use Rattle.tva_drr.proofs.fair_queues.FairQueues.takes_key.Goals as goal
 
-pub find_slot-place-requires : goal.find_slot-place-requires
-find_slot-place-requires g c = ap (λ (r : Ring). r.keys) c.self.invariant.5
+pub find_slot-place-requires-clause-keys : goal.find_slot-place-requires-clause-keys
+find_slot-place-requires-clause-keys g c = ap (λ (r : Ring). r.keys) c.self.invariant.5
 
 pub returns : goal.returns
 returns g c =

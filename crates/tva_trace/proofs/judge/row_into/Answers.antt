@@ -8,7 +8,7 @@ use Rattle.tva_plan.specs.Names.{is_host}
 use Rattle.tva_trace.specs.Files.{counted}
 use Rattle.tva_trace.specs.Rows.{has_room, hold}
 use Rattle.tva_trace.specs.Valid.{IsAllowed}
-use Rattle.tva_trace.proofs.judge.row_of.Goals as goal
+use Rattle.tva_trace.proofs.judge.row_into.Goals as goal
 
 some_at : {A : Type 0} (o : Option A) (x : A) (P : A → Type 0) → IfSome o P → o ≡ Some x → P x
 some_at {A} o x P p is = let at : IfSome (Some x) P = subst (λ (q : Option A). IfSome q P) is p in at
@@ -31,5 +31,5 @@ returns-clause-valid c =
       later = no_later c.args.last c.in_ok-time.time (held rule.Order _ c.in_ok-hold-3.ensures);
       time = some_at c.decimal.result c.in_ok-time.time _ c.decimal.ensures.within c.in_ok-time.ensures.ok_part;
       node = subst (λ (plans : List NodePlan). c.in_ok-node.node < length plans) c.as_slice-plans.ensures below;
-      what = c.in_ok-what.ensures.valid (is_host c.args.config.now.nodes c.in_ok-node.node) room at_host;
+      what = c.in_ok-what_into.ensures.valid (is_host c.args.config.now.nodes c.in_ok-node.node) room at_host;
     }

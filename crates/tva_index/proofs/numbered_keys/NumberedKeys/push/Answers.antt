@@ -2,7 +2,7 @@ use Rattle.std.proofs.Common.{◌≡◌, ◌+◌, ◌%◌, ◌^◌, ◌<◌, ◌
 use Rattle.tva_index.specs.KeyRing.{Ring, ring, place_in}
 use Rattle.tva_index.specs.Bits.{links_of, entries_of, IsPut}
 use Rattle.tva_index.proofs.Ringed.{new_absent, numbered_push}
-use Rattle.tva_index.proofs.key_ring.KeyRing.push.Goals as goal
+use Rattle.tva_index.proofs.numbered_keys.NumberedKeys.push.Goals as goal
 
 pub put-requires-clause-absent : goal.put-requires-clause-absent
 put-requires-clause-absent c =

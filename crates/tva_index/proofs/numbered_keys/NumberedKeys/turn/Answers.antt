@@ -2,7 +2,7 @@ use Rattle.std.proofs.Common.{◌≡◌, ◌+◌, ◌%◌, ◌^◌, ◌∷◌, �
 use Rattle.tva_index.specs.Bits.{links_of, entries_of, IsWritten}
 use Rattle.tva_index.specs.Numbers.{AreNumbered}
 use Rattle.tva_index.proofs.Ringed.{front_there, numbered_turn}
-use Rattle.tva_index.proofs.key_ring.KeyRing.turn.Goals as goal
+use Rattle.tva_index.proofs.numbered_keys.NumberedKeys.turn.Goals as goal
 
 pub renumber-requires-clause-there : goal.renumber-requires-clause-there
 renumber-requires-clause-there c =

@@ -2,7 +2,7 @@ use Rattle.std.proofs.Common.{◌≡◌, ◌∷◌, ℕ, List, subst, arith}
 use Rattle.tva_index.specs.Numbers.{AreNumbered}
 use Rattle.tva_index.specs.Bits.{links_of, entries_of}
 use Rattle.tva_index.proofs.Ringed.{front_there, numbered_leave}
-use Rattle.tva_index.proofs.key_ring.KeyRing.leave.Goals as goal
+use Rattle.tva_index.proofs.numbered_keys.NumberedKeys.leave.Goals as goal
 
 pub take_key-requires-clause-there : goal.take_key-requires-clause-there
 take_key-requires-clause-there c =

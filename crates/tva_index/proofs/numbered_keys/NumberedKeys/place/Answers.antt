@@ -2,7 +2,7 @@ use Rattle.std.proofs.Common.{ap, ◌∙◌}
 use Rattle.tva_index.specs.KeyRing.{Ring, place_in}
 use Rattle.tva_index.specs.Bits.{links_of, entries_of}
 use Rattle.tva_index.proofs.Ringed.{numbered_place, absent_place}
-use Rattle.tva_index.proofs.key_ring.KeyRing.place.Goals as goal
+use Rattle.tva_index.proofs.numbered_keys.NumberedKeys.place.Goals as goal
 
 pub returns-in-Some : goal.returns-in-Some
 returns-in-Some c =
