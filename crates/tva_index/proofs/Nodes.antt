@@ -1,5 +1,5 @@
 -- A tree of numbers: each node has at most the numbers below it, and stays so where one is written.
-use Rattle.std.proofs.Common.{◌≡◌, ℕ, ◌+◌, ◌*◌, ◌/◌, ◌<◌, ◌≤◌, min, List, length, get_or, set, drop, replicate, sym, ap, subst, inl, inr, zero, suc, Some, arith}
+use Rattle.std.proofs.Common.{◌≡◌, ℕ, ◌+◌, ◌-◌, ◌*◌, ◌/◌, ◌<◌, ◌≤◌, min, List, length, get_or, set, drop, replicate, sym, ap, ◌∙◌, subst, inl, inr, zero, suc, Some, arith}
 use Rattle.std.proofs.lemmas.Bool.{cases_lt, cases_eq}
 use Rattle.std.proofs.lemmas.List.{get_or-set_same, get_or-set_other, get_or-replicate, get_or-drop, length-drop}
 use Rattle.tva_index.specs.Lowest.{IsLeastPlace}
@@ -69,3 +69,37 @@ least_at n leaf p xs t s a b e w = (
       let f : get_or xs (n + p) 0 ≡ get_or xs leaf 0 = ap (λ (z : ℕ). get_or xs z 0) w in
       omega (arith, get_or-drop n xs p 0, get_or-drop n xs q 0, r, f, e),
 )
+
+-- and the root has at least what none of the numbers is below
+root_above : (n b : ℕ) (xs : List ℕ) → AreNodes n xs → ((p : ℕ) → p < n → b ≤ get_or xs (n + p) 0) → (k j : ℕ) → 2 * n ≤ j + k → 1 ≤ j → j < 2 * n → b ≤ get_or xs j 0
+root_above n b xs t f zero j l a d = absurd (omega arith)
+root_above n b xs t f (suc k) j l a d =
+    elim (cases_lt j n) [
+      | inl h ↦ omega (arith, t j a h, root_above n b xs t f k (2 * j) (omega arith) (omega arith) (omega arith), root_above n b xs t f k (2 * j + 1) (omega arith) (omega arith) (omega arith))
+      | inr h ↦ (let e : n + (j - n) ≡ j = omega arith in omega (arith, f (j - n) (omega arith), ap (λ (z : ℕ). get_or xs z 0) e))
+    ]
+
+-- the numbers, once one is written
+leaf_is : (n p q v : ℕ) (xs ys : List ℕ) → drop n ys ≡ drop n (set xs (n + p) v) → get_or ys (n + q) 0 ≡ get_or (set xs (n + p) v) (n + q) 0
+leaf_is n p q v xs ys e = sym (get_or-drop n ys q 0) ∙ (ap (λ (z : List ℕ). get_or z q 0) e ∙ get_or-drop n (set xs (n + p) v) q 0)
+
+-- where the root has the number that is written, it is a least one
+pub least_written : (n p v : ℕ) (xs ys : List ℕ) → length xs ≡ 2 * n → length ys ≡ 2 * n → AreNodes n ys → drop n ys ≡ drop n (set xs (n + p) v) → p < n → v ≡ get_or ys 1 0 → IsLeastPlace (drop n ys) (Some p)
+least_written n p v xs ys s z t e l r =
+    least_at n (n + p) p ys t z (omega arith) (omega arith) (omega (arith, leaf_is n p p v xs ys e, get_or-set_same xs (n + p) v 0 (omega arith), r)) (omega arith)
+
+-- where it has not, one that was least elsewhere still is
+pub least_kept : (n p f v : ℕ) (xs ys : List ℕ) → length xs ≡ 2 * n → length ys ≡ 2 * n → AreNodes n ys → drop n ys ≡ drop n (set xs (n + p) v) → p < n → (v ≡ get_or ys 1 0 → ⊥) → IsLeastPlace (drop n xs) (Some f) → (p ≡ f → ⊥) → IsLeastPlace (drop n ys) (Some f)
+least_kept n p f v xs ys s z t e l r least d =
+    let here : get_or ys (n + p) 0 ≡ v = leaf_is n p p v xs ys e ∙ get_or-set_same xs (n + p) v 0 (omega arith) in
+    let there : (q : ℕ) → (q ≡ p → ⊥) → get_or ys (n + q) 0 ≡ get_or xs (n + q) 0 = λ q o. leaf_is n p q v xs ys e ∙ get_or-set_other xs (n + p) (n + q) v 0 (λ w. o (omega (arith, w))) in
+    let was : (q : ℕ) → q < n → get_or xs (n + f) 0 ≤ get_or xs (n + q) 0 = λ q o. omega (arith, least.1 q (omega (arith, length-drop n xs)), get_or-drop n xs f 0, get_or-drop n xs q 0) in
+    let is : (q : ℕ) → q < n → min v (get_or xs (n + f) 0) ≤ get_or ys (n + q) 0 = λ q o.
+    elim (cases_eq q p) [ inl w ↦ omega (arith, here, ap (λ (z : ℕ). get_or ys (n + z) 0) w) | inr w ↦ omega (arith, there q w, was q o) ] in
+    let more : get_or xs (n + f) 0 < v = elim (cases_lt (get_or xs (n + f) 0) v) [
+      | inl h ↦ h
+      | inr h ↦ absurd (r (omega (arith, here, root-le n ys t (n + p) (omega arith) (omega arith), root_above n (min v (get_or xs (n + f) 0)) ys t is (2 * n) 1 (omega arith) (omega arith) (omega arith))))
+    ] in (
+      omega (arith, least.0, length-drop n xs, length-drop n ys),
+      λ q o. omega (arith, is q (omega (arith, o, length-drop n ys)), more, there f (λ w. d (sym w)), get_or-drop n ys f 0, get_or-drop n ys q 0),
+    )

@@ -7,17 +7,20 @@ use std::alloc::{AllocError, Global};
 use std::marker::Model;
 
 /// A number at each of some places, by default 0: contracts see the list of them. The place of a
-/// least one is found in as many steps as the places have binary digits, and a write takes at most as
-/// many, and mostly few: a step each for as long as the number is the least of those beside it. All
-/// memory is taken when it is made.
+/// least one is kept beside them, so it is found by a look. A write takes at most as many steps as the
+/// places have binary digits, and mostly few: a step each for as long as the number is the least of
+/// those beside it. One to the least place, whose number is then least no more, walks down the tree
+/// once more. All memory is taken when it is made.
 #[derive(Drop)]
 pub struct Lowest {
     places: usize,
+    first: usize,
     nodes: Vec<u128>,
 }
 
 impl Model for Lowest {
-    ghost use Rattle.std.specs.Prelude.{◌≡◌, ◌*◌, ◌^◌, ◌<◌, ℕ, List, length, drop};
+    ghost use Rattle.std.specs.Prelude.{◌≡◌, ◌*◌, ◌^◌, ◌<◌, ℕ, List, length, drop, Some};
+    ghost use Rattle.tva_index.specs.Lowest.{IsLeastPlace};
     ghost use Rattle.tva_index.specs.Tree.{AreNodes};
 
     ghost Value = { List ℕ };
@@ -25,7 +28,8 @@ impl Model for Lowest {
     ghost view = { λ a. drop a.places a.nodes.items };
 
     ghost invariant = { λ a. (length a.nodes.items ≡ 2 * a.places) × (a.places < 2 ^ 32)
-        × AreNodes a.places a.nodes.items };
+        × AreNodes a.places a.nodes.items
+        × (0 < a.places → IsLeastPlace (drop a.places a.nodes.items) (Some a.first)) };
 }
 
 impl Lowest {
@@ -36,7 +40,11 @@ impl Lowest {
         let places = places as usize;
         let mut nodes = Vec::with_capacity(alloc, 2 * places)?;
         nodes.resize(2 * places, 0)?;
-        Ok(Lowest { places, nodes })
+        Ok(Lowest {
+            places,
+            first: 0,
+            nodes,
+        })
     }
 
     /// The place of a least number: none where there are no places.
@@ -46,8 +54,7 @@ impl Lowest {
         if self.places == 0 {
             return None;
         }
-        let leaf = least_leaf(&self.nodes, self.places);
-        Some((leaf - self.places) as u32)
+        Some(self.first as u32)
     }
 
     /// Writes the number at a place.
@@ -56,8 +63,15 @@ impl Lowest {
         ensures { self.new ≡ slice_set self.old place number }
     {
         let places = self.places;
-        let leaf = places + place as usize;
+        let place = place as usize;
+        let leaf = places + place;
         self.nodes[leaf] = number;
         mend(&mut self.nodes, places, leaf / 2);
+        // The root has a least number.
+        if number == self.nodes[1] {
+            self.first = place;
+        } else if place == self.first {
+            self.first = least_leaf(&self.nodes, places) - places;
+        }
     }
 }

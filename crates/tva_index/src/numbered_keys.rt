@@ -1,5 +1,5 @@
 // Keys in the order of a ring, with numbers by which their places are found.
-ghost use Rattle.std.specs.Prelude.{◌≡◌, ◌^◌, ◌<◌, ◌≤◌, true, None, [], ◌∷◌, ◌++◌, length, take, drop, IfOk};
+ghost use Rattle.std.specs.Prelude.{◌≡◌, ◌^◌, ◌<◌, ◌≤◌, ◌↔◌, true, None, [], ◌∷◌, ◌++◌, length, take, drop, IfOk};
 ghost use Rattle.tva_index.specs.KeyRing.{ring, place_in};
 
 use crate::bits::{KeyTree, number_of, put, renumber, rooted, take_key};
@@ -55,7 +55,7 @@ impl NumberedKeys {
 
     /// Whether there is no key.
     pub fn is_empty(&self) -> bool
-        ensures { result ≡ true → self.now.keys ≡ [] }
+        ensures { (result ≡ true) ↔ (self.now.keys ≡ []) }
     {
         self.order.is_empty()
     }

@@ -2,6 +2,7 @@
 ghost use Rattle.std.specs.Prelude.{◌≡◌, ◌<◌, ◌≤◌, ◌∷◌, [], All, OnOk, drop, length, map, slice_index_or};
 ghost use Rattle.std.specs.List.{AllZip};
 ghost use Rattle.tva_node.specs.States.{NodeState};
+ghost use Rattle.tva_run.specs.Reaching.{arrival};
 ghost use Rattle.tva_mail.specs.Handing.{IsGoneAsBeforeBut, picked, sent_by};
 ghost use Rattle.tva_mail.specs.Mail.{CanDeliver, GotMails, IsGoneAsBefore, IsPostable, IsSameBut, KeepsWork, mail_at, mail_to};
 ghost use Rattle.tva_mail.specs.News.{since};
@@ -14,8 +15,8 @@ use std::alloc::AllocError;
 use std::thread::{Threads, join_mut};
 use tva_base::{LinkPlan, Time};
 use tva_index::Lowest;
-use tva_log::{Input, Sending};
-use tva_node::Node;
+use tva_log::Input;
+use tva_node::{Flight, Node};
 
 // Posts what the nodes sent, notes when each has work next, and lets them forget.
 fn post_all(
@@ -154,7 +155,7 @@ fn post_sent(
     times: &mut Lowest,
     horizon: Time,
     links: &[LinkPlan],
-    sent: Vec<Sending>,
+    sent: Vec<Flight>,
 ) -> Result<(), AllocError>
     requires few { length nodes.old ≤ 1024 }
     requires postable { All (IsPostable horizon.0 links.now nodes.old) sent.items }
@@ -177,7 +178,7 @@ fn post_one(
     times: &mut Lowest,
     horizon: Time,
     links: &[LinkPlan],
-    sending: Sending,
+    sending: Flight,
 ) -> Result<(), AllocError>
     requires few { length nodes.old ≤ 1024 }
     requires postable { IsPostable horizon.0 links.now nodes.old sending }
@@ -187,16 +188,11 @@ fn post_one(
     ensures gone { IsGoneAsBefore nodes.old nodes.new }
     ensures keeps { AllZip KeepsWork nodes.old nodes.new }
 {
-    if sending.arrive.0 > horizon.0 {
+    if sending.arrive().0 > horizon.0 {
         return Ok(());
     }
-    let to = usize::from(links[usize::from(sending.link)].to);
-    let input = Input::Arrival {
-        time: sending.arrive,
-        link: sending.link,
-        packet: sending.packet,
-    };
-    deliver(nodes, to, input)?;
+    let to = usize::from(links[usize::from(sending.link())].to);
+    deliver_flight(nodes, to, sending)?;
     note(times, nodes, to);
     Ok(())
 }
@@ -210,6 +206,18 @@ pub fn deliver(nodes: &mut [Node], to: usize, input: Input) -> Result<(), AllocE
     ensures keeps { AllZip KeepsWork nodes.old nodes.new }
 {
     nodes[to].post(input)?;
+    Ok(())
+}
+
+// Gives a packet that arrives to the node in that place.
+fn deliver_flight(nodes: &mut [Node], to: usize, flight: Flight) -> Result<(), AllocError>
+    requires { CanDeliver nodes.old to (arrival flight) }
+    ensures got { OnOk result (GotMails (mail_at to (arrival flight ∷ [])) nodes.old nodes.new) }
+    ensures others { IsSameBut to nodes.old nodes.new }
+    ensures gone { IsGoneAsBefore nodes.old nodes.new }
+    ensures keeps { AllZip KeepsWork nodes.old nodes.new }
+{
+    nodes[to].post_flight(flight)?;
     Ok(())
 }
 

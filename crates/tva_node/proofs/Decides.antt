@@ -1,6 +1,6 @@
 -- What a link of a node does at a time, and what the node stands for then.
-use Rattle.std.proofs.Common.{◌≡◌, ℕ, ◌+◌, ◌*◌, ◌<◌, ◌≤◌, false, List, [], ◌∷◌, ◌++◌, length, get_or, map, set, All, Option, Some, None, Result, Ok, Err, refl, sym, subst, ◌∙◌, ap, arith, append-nil}
-use Rattle.std.specs.Prelude.{OnOk}
+use Rattle.std.proofs.Common.{◌≡◌, ℕ, ◌+◌, ◌*◌, ◌<◌, ◌≤◌, false, List, [], ◌∷◌, ◌++◌, length, get_or, map, set, All, Option, Some, None, Result, Ok, Err, refl, sym, subst, ◌∙◌, ap, arith, append-nil, true≢false}
+use Rattle.std.specs.Prelude.{IsSome, OnOk}
 use Rattle.std.specs.Option.{option_map_or, option_and_then}
 use Rattle.std.proofs.lemmas.Bool.{eq-eqb}
 use Rattle.std.proofs.lemmas.List.{get_or-map, get_or_default, length-map, length-set, set-get_or, map-set}
@@ -186,13 +186,18 @@ pairs_put ls links place a next ea h e = ap (map link_pair) e ∙ pairs_set ls p
 pub count_put : (ls links : List Link) (place : ℕ) (a : Link) (next : Option ℕ) → links ≡ with_next place next ls a → length links ≡ length ls
 count_put ls links place a next e = ap length e ∙ length-set ls place (record (get_or ls place a) { next = next })
 
+-- what is so of each packet that the hand may hold is so, where it holds one
+pub by_packet : {A : Type 0} (hand : Option PacketData) → IsSome hand → ((packet : PacketData) → hand ≡ Some packet → A) → A
+by_packet (Some packet) held by = by packet refl
+by_packet None held by = absurd (true≢false (sym held))
+
 -- how much of its lists is gone
 abbrev pub gone_in : Parts → Gone
 gone_in p = record { inputs = p.inbox.gone; events = p.log.gone; sendings = p.outbox.gone }
 
 -- what a node was that is now
 pub from_fields : (q : Parts) (number horizon worked : ℕ) (role : Role) (links : List Link) (inbox : List Input) (waiting : List Input) (keeps : Memory) (gone : Gone) (es : List Event) (ss : List Sending)
-    → q.number ≡ number → q.horizon ≡ horizon → q.worked_to ≡ worked → q.role ≡ role → q.links ≡ links → q.inbox.all ≡ inbox → q.waiting ≡ waiting → q.log.all ≡ es → q.outbox.all ≡ ss → q.keeps ≡ keeps → gone_in q ≡ gone
+    → q.number ≡ number → q.horizon ≡ horizon → q.worked_to ≡ worked → q.role ≡ role → q.links ≡ links → q.inbox.all ≡ inbox → q.waiting ≡ waiting → q.log.all ≡ es → q.outbox.all ≡ ss → q.outbox.keeps ≡ keeps → gone_in q ≡ gone
     → record { site = site_of number (role_plan role) (map link_pair links); horizon = horizon; inbox = inbox; events = es; sendings = ss; worked_to = worked; keeps = keeps; gone = gone; role = role; links = links; waiting = waiting } ≡ state_of q
 from_fields q number horizon worked role links inbox waiting keeps gone es ss e1 e2 e3 e4 e5 e6 e7 e8 e9 e10 e11 = λ i. record {
   site = site_of (sym e1 i) (role_plan (sym e4 i)) (map link_pair (sym e5 i));

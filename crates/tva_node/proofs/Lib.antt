@@ -6,6 +6,7 @@ pub mod Rows
 pub mod Left
 pub mod Waits
 pub mod Works
+pub mod Taking
 pub mod Asked
 pub mod Decides
 pub mod Forgets

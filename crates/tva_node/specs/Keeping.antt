@@ -5,7 +5,7 @@ use Rattle.tva_node.specs.States.{Holds, state_of}
 
 -- memory holds what is to be kept
 abbrev pub HoldsSome : Parts → Type 0
-HoldsSome p = Holds p.keeps (state_of p)
+HoldsSome p = Holds p.outbox.keeps (state_of p)
 
 -- a node is as it was, but for what is gone of its events and sendings
 abbrev pub IsButGone : Parts → Parts → Type 0

@@ -1,5 +1,6 @@
 pub mod Changes
 pub mod Pairs
+pub mod Outbox
 pub mod Nodes
 pub mod States
 pub mod Links

@@ -90,7 +90,7 @@ state_of p = record {
   events = p.log.all;
   sendings = p.outbox.all;
   worked_to = p.worked_to;
-  keeps = p.keeps;
+  keeps = p.outbox.keeps;
   gone = record { inputs = p.inbox.gone; events = p.log.gone; sendings = p.outbox.gone };
   role = p.role;
   links = p.links;

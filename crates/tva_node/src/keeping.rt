@@ -4,14 +4,12 @@ ghost use Rattle.tva_node.specs.States.{gone_after, state_of};
 ghost use Rattle.tva_node.specs.Keeping.{HoldsSome, IsButGone};
 
 use crate::parts::Parts;
-use std::alloc::{AllocError, Global};
-use tva_log::Sending;
-use tva_waiting::Memory;
+use std::alloc::AllocError;
+use tva_waiting::{Flight, Memory};
 
 impl Parts {
-    /// Hands out what the links sent behind the first so many. The outbox gets room for as many as it had, so
-    /// that it need not grow anew. The error is want of memory.
-    pub fn hand_over(&mut self, place: usize) -> Result<Vec<Sending>, AllocError>
+    /// Hands out what the links sent behind the first so many. The error is want of memory.
+    pub fn hand_over(&mut self, place: usize) -> Result<Vec<Flight>, AllocError>
         requires held { HoldsSome self.old }
         requires gone { self.old.outbox.gone ≤ place }
         requires within { place ≤ length self.old.outbox.all }
@@ -20,19 +18,7 @@ impl Parts {
         ensures held { HoldsSome self.new }
         ensures gone { (self.new.log ≡ self.old.log) × (self.new.outbox.gone ≤ length self.new.outbox.all) }
     {
-        match self.keeps {
-            Memory::All => copies_of(self.alloc, self.outbox.behind(place)),
-            Memory::Events | Memory::Nothing => {
-                let first = place - self.outbox.gone();
-                let room = Vec::with_capacity(self.alloc, self.outbox.as_slice().len())?;
-                let mut list = self.outbox.take(room);
-                if first == 0 {
-                    Ok(list)
-                } else {
-                    list.split_off(first)
-                }
-            }
-        }
+        self.outbox.hand_over(self.alloc, place)
     }
 
     /// Forgets what need not be kept.
@@ -41,34 +27,10 @@ impl Parts {
         ensures same { state_of self.new ≡ record (state_of self.old) { gone = gone_after (state_of self.old) } }
         ensures held { HoldsSome self.new }
     {
-        match self.keeps {
-            Memory::All => {}
-            Memory::Events => self.outbox.forget(),
-            Memory::Nothing => {
-                self.log.forget();
-                self.outbox.forget();
-            }
+        match self.outbox.keeps() {
+            Memory::All | Memory::Events => {}
+            Memory::Nothing => self.log.forget(),
         }
-    }
-}
-
-// Copies of sendings.
-fn copies_of(alloc: Global, sendings: &[Sending]) -> Result<Vec<Sending>, AllocError>
-    ensures { IfOk result (λ list. list.items ≡ sendings.now) }
-{
-    let mut list = Vec::with_capacity(alloc, sendings.len())?;
-    for sending in sendings {
-        list.push(copied_sending(sending))?;
-    }
-    Ok(list)
-}
-
-fn copied_sending(sending: &Sending) -> Sending
-    ensures { result ≡ sending.now }
-{
-    Sending {
-        link: sending.link,
-        arrive: sending.arrive,
-        packet: sending.packet.copied(),
+        self.outbox.forget();
     }
 }

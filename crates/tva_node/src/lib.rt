@@ -14,9 +14,10 @@ mod changes;
 mod keeping;
 mod links;
 mod node;
+mod outbox;
 mod parts;
 mod role;
 
 pub use at_once::{advance_all, advance_each, processors, work_parts};
 pub use node::{Node, node_crosses};
-pub use tva_waiting::Memory;
+pub use tva_waiting::{Flight, Memory};

@@ -2,14 +2,17 @@
 ghost use Rattle.std.specs.Prelude.{◌≡◌, ◌≤◌, ◌+◌, ◌∷◌, [], ◌++◌, drop, length, map, min, max, List, IfOk, OnErr, OnOk};
 ghost use Rattle.tva_base.specs.Plan.{AreRising};
 ghost use Rattle.tva_log.specs.Entries.{Entry, input_time};
+ghost use Rattle.tva_log.specs.declared.kinds.Input.TheVariants.{FromTrace};
+ghost use Rattle.tva_waiting.specs.Inputs.{arrived};
 ghost use Rattle.tva_log.specs.NodeLog.{in_turn};
 ghost use Rattle.tva_log.specs.Sites.{IsSite, site_of};
 ghost use Rattle.tva_waiting.specs.declared.memory.Memory.TheVariants as memory;
 ghost use Rattle.tva_node.specs.Besides.{IsBy, RoleStands};
-ghost use Rattle.tva_node.specs.States.{Fits, IsFirstWork, Keeps, KeepsAll, KeepsEvents, Stands, StandsFor, gone_after, restarts_in, role_plan, router_in};
+ghost use Rattle.tva_node.specs.States.{Fits, FitsRow, IsFirstWork, Keeps, KeepsAll, KeepsEvents, Stands, StandsFor, gone_after, restarts_in, role_plan, router_in};
 
 use crate::changes::Changes;
 use crate::links::Links;
+use crate::outbox::Outbox;
 use crate::parts::Parts;
 use crate::role::{Hosted, Role, Routed};
 use std::alloc::{AllocError, Global};
@@ -20,8 +23,9 @@ use tva_past::Kept;
 use tva_plan::NodePlan;
 use tva_port::Port;
 use tva_router::Router;
+use tva_trace::Row;
 use tva_transfer::Courier;
-use tva_waiting::{Memory, Waiting};
+use tva_waiting::{Flight, Hands, Inbox, Memory, Waiting};
 
 // An event at a router costs about as much as so many at a host.
 const ROUTER_EVENT: u64 = 3;
@@ -41,7 +45,7 @@ impl Model for Node {
 
     ghost view = { λ n. state_of n.parts };
 
-    ghost invariant = { λ n. Holds n.parts.keeps (state_of n.parts) };
+    ghost invariant = { λ n. Holds n.parts.outbox.keeps (state_of n.parts) };
 }
 
 impl Node {
@@ -94,12 +98,12 @@ impl Node {
                 alloc,
                 role,
                 links: Links::of(alloc, links)?,
-                inbox: Kept::new(alloc),
+                inbox: Inbox::new(alloc),
                 waiting: Waiting::new(alloc),
                 log: Kept::new(alloc),
-                outbox: Kept::new(alloc),
+                outbox: Outbox::new(alloc, keeps),
+                hands: Hands::new(alloc),
                 worked_to: 0,
-                keeps,
             },
         })
     }
@@ -164,10 +168,11 @@ impl Node {
             .saturating_add(1)
     }
 
-    /// What memory holds of what its links sent.
+    /// All that its links sent, where memory keeps it, and else nothing: then what was sent is on its way, and
+    /// is handed over so.
     pub fn outbox(&self) -> &[Sending]
-        ensures held { result.now ≡ drop self.now.gone.sendings self.now.sendings }
         ensures whole { KeepsAll self.now.keeps → result.now ≡ self.now.sendings }
+        ensures none { (KeepsAll self.now.keeps → ⊥) → result.now ≡ [] }
     {
         self.parts.outbox.as_slice()
     }
@@ -181,7 +186,7 @@ impl Node {
 
     /// Hands out what its links sent behind the first so many packets: where memory keeps all, copies, and
     /// else the packets themselves, and then all that was sent is gone. The error is want of memory.
-    pub fn hand_over(&mut self, place: usize) -> Result<Vec<Sending>, AllocError>
+    pub fn hand_over(&mut self, place: usize) -> Result<Vec<Flight>, AllocError>
         requires gone { self.old.gone.sendings ≤ place }
         requires within { place ≤ length self.old.sendings }
         ensures sent { IfOk result (λ list. list.items ≡ drop place self.old.sendings) }
@@ -247,8 +252,50 @@ impl Node {
             × (self.new.worked_to ≡ self.old.worked_to) × (self.new.keeps ≡ self.old.keeps)
             × (self.new.gone.events ≡ self.old.gone.events) × (self.new.gone.sendings ≡ self.old.gone.sendings) }
     {
+        match input {
+            Input::FromTrace(row) => self.post_row(&row),
+            Input::Arrival { time, link, packet } => {
+                let flight = Flight::of_packet(self.parts.alloc, link, time, packet)?;
+                self.post_flight(flight)
+            }
+        }
+    }
+
+    // The same of a row.
+    fn post_row(&mut self, row: &Row) -> Result<(), AllocError>
+        requires late { self.old.worked_to ≤ row.now.time.0 }
+        requires horizon { row.now.time.0 ≤ self.old.horizon }
+        requires fits { FitsRow self.old.site.plan row.now.what }
+        ensures inbox { OnOk result (self.new.inbox ≡ self.old.inbox ++ FromTrace row.now ∷ []) }
+        ensures stands { Stands self.old → OnOk result (Stands self.new) }
+        ensures err { OnErr result (self.new ≡ self.old) }
+        ensures same { (self.new.site ≡ self.old.site) × (self.new.horizon ≡ self.old.horizon)
+            × (self.new.events ≡ self.old.events) × (self.new.sendings ≡ self.old.sendings)
+            × (self.new.worked_to ≡ self.old.worked_to) × (self.new.keeps ≡ self.old.keeps)
+            × (self.new.gone.events ≡ self.old.gone.events) × (self.new.gone.sendings ≡ self.old.gone.sendings) }
+    {
         let parts = &mut self.parts;
-        parts.waiting.put(input, &mut parts.inbox, parts.keeps)
+        parts
+            .waiting
+            .put_row(row, &mut parts.inbox, parts.outbox.keeps())
+    }
+
+    /// The same of a packet on its way.
+    pub fn post_flight(&mut self, flight: Flight) -> Result<(), AllocError>
+        requires late { self.old.worked_to ≤ flight.arrive.0 }
+        requires horizon { flight.arrive.0 ≤ self.old.horizon }
+        ensures inbox { OnOk result (self.new.inbox ≡ self.old.inbox ++ arrived flight ∷ []) }
+        ensures stands { Stands self.old → OnOk result (Stands self.new) }
+        ensures err { OnErr result (self.new ≡ self.old) }
+        ensures same { (self.new.site ≡ self.old.site) × (self.new.horizon ≡ self.old.horizon)
+            × (self.new.events ≡ self.old.events) × (self.new.sendings ≡ self.old.sendings)
+            × (self.new.worked_to ≡ self.old.worked_to) × (self.new.keeps ≡ self.old.keeps)
+            × (self.new.gone.events ≡ self.old.gone.events) × (self.new.gone.sendings ≡ self.old.gone.sendings) }
+    {
+        let parts = &mut self.parts;
+        parts
+            .waiting
+            .put_flight(flight, &mut parts.inbox, parts.outbox.keeps())
     }
 
     /// Works all that comes before a time, in nanoseconds, and up to the horizon: its inputs in their

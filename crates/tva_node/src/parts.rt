@@ -1,29 +1,31 @@
 // What a node keeps, and its work.
-ghost use Rattle.std.specs.Prelude.{◌≡◌, ◌≤◌, ◌<◌, ◌+◌, ◌∷◌, [], ◌++◌, min, max, Some, None, true, IfSome, IsSome, OnOk, length, get_or};
+ghost use Rattle.std.specs.Prelude.{◌≡◌, ◌≢◌, ◌≤◌, ◌<◌, ◌+◌, ◌∷◌, [], ◌++◌, min, max, map, Some, None, true, IfSome, IsSome, OnOk, length, get_or};
 ghost use Rattle.tva_shim.specs.Packets.{PacketData, packet_length};
 ghost use Rattle.tva_node.specs.declared.links.Link.{Link};
-ghost use Rattle.tva_node.specs.Links.{sooner, with_next};
+ghost use Rattle.tva_past.specs.Kept.{with_more};
+ghost use Rattle.tva_base.specs.Plan.{AreRising, links_of};
+ghost use Rattle.tva_node.specs.Pairs.{link_pair};
+ghost use Rattle.tva_node.specs.Links.{asked_by, sooner, with_next};
 ghost use Rattle.tva_node.specs.States.{BeginsWith, Keeps, Stands, state_of};
 ghost use Rattle.tva_node.specs.Work.{DecidesAt, IsNoneBefore, IsStartable, TakesAt, end_on, is_due, link_of, queued_on, start_event, start_sending, work_time};
 
 use crate::links::Links;
+use crate::outbox::Outbox;
 use crate::role::Role;
 use std::alloc::{AllocError, Global};
 use std::cmp;
 use tva_base::{Class, Event, Happened, Outcome, Time};
-use tva_log::{Input, Sending};
 use tva_past::Kept;
-use tva_port::{Next, id_in, length_in};
-use tva_shim::Packet;
-use tva_waiting::{Memory, Waiting};
+use tva_port::{Hand, Next, id_in, length_in};
+use tva_waiting::{Flight, Hands, Inbox, Waiting};
 
 /// A node's inputs, its sendings and its events; its inputs that are not taken yet, and its links out by
 /// their numbers; the time up to which it is worked and the horizon, in nanoseconds; its number, what it
-/// is, what memory keeps of the lists, and its allocator. What each window looks at stands in front.
+/// is, empty hands for packets on their way, and its allocator. What each window looks at stands in front.
 #[derive(Drop)]
 pub(crate) struct Parts {
-    pub inbox: Kept<Input>,
-    pub outbox: Kept<Sending>,
+    pub inbox: Inbox,
+    pub outbox: Outbox,
     pub log: Kept<Event>,
     pub waiting: Waiting,
     pub links: Links,
@@ -31,7 +33,7 @@ pub(crate) struct Parts {
     pub horizon: u64,
     pub number: u16,
     pub role: Role,
-    pub keeps: Memory,
+    pub hands: Hands,
     pub alloc: Global,
 }
 
@@ -146,9 +148,32 @@ impl Parts {
         ensures fewer { length self.new.waiting < length self.old.waiting }
         ensures keeps { Keeps (state_of self.old) (state_of self.new) }
     {
+        if self.waiting.is_row() {
+            let row = self.waiting.take_row();
+            let happened = self
+                .role
+                .take_row(self.alloc, &mut self.hands, self.number, row)?;
+            return self.note_taken(now, happened);
+        }
+        let flight = self.waiting.take_flight();
         let happened = self
             .role
-            .take(self.alloc, self.number, self.waiting.take())?;
+            .take_flight(self.alloc, &mut self.hands, self.number, flight)?;
+        self.note_taken(now, happened)
+    }
+
+    // Notes what happened as an input was taken. The link on which it queued a packet is asked then.
+    #[inline(always)]
+    fn note_taken(&mut self, now: u64, happened: Happened) -> Result<(), AllocError>
+        requires { AreRising (links_of (map link_pair self.old.links)) }
+        ensures log { OnOk result (self.new.log ≡ with_more self.old.log
+            (record { time = record { 0 = now }; node = self.old.number; happened = happened } ∷ [])) }
+        ensures links { OnOk result (self.new.links ≡ map (asked_by (queued_on happened) now) self.old.links) }
+        ensures same { (self.new.role ≡ self.old.role) × (self.new.inbox ≡ self.old.inbox) × (self.new.waiting ≡ self.old.waiting)
+            × (self.new.number ≡ self.old.number) × (self.new.horizon ≡ self.old.horizon) × (self.new.worked_to ≡ self.old.worked_to)
+            × (self.new.outbox ≡ self.old.outbox) }
+        ensures keeps { Keeps (state_of self.old) (state_of self.new) }
+    {
         let queued = queued_on(&happened);
         self.log.push(Event {
             time: Time(now),
@@ -189,14 +214,16 @@ impl Parts {
             self.links.put(place, Some(free.0));
             return Ok(());
         }
-        let mut hand = None;
+        let mut hand = self.hands.take(self.alloc)?;
         match self.role.decide(Time(now), number, &mut hand) {
-            Next::Start(class) => self.note_start(place, now, class, &mut hand),
+            Next::Start(class) => self.note_start(place, now, class, hand),
             Next::WaitUntil(time) => {
+                self.hands.put(hand);
                 self.links.put(place, Some(time.0));
                 Ok(())
             }
             Next::Idle => {
+                self.hands.put(hand);
                 self.links.put(place, None);
                 Ok(())
             }
@@ -209,27 +236,27 @@ impl Parts {
         place: usize,
         now: u64,
         class: Class,
-        hand: &mut Option<Packet>,
+        hand: Hand,
     ) -> Result<(), AllocError>
         requires within { place < length self.old.links }
         requires fits { (d : Link) → IsStartable now (get_or self.old.links place d) }
-        requires held { IsSome hand.old }
-        ensures links { (d : Link) (packet : PacketData) → hand.old ≡ Some packet → self.new.links
+        requires held { IsSome hand }
+        ensures links { (d : Link) (packet : PacketData) → hand ≡ Some packet → self.new.links
             ≡ with_next place (Some (end_on (get_or self.old.links place d) now packet)) self.old.links d }
-        ensures log { (d : Link) (packet : PacketData) → hand.old ≡ Some packet → OnOk result (self.new.log.all
+        ensures log { (d : Link) (packet : PacketData) → hand ≡ Some packet → OnOk result (self.new.log.all
             ≡ self.old.log.all ++ start_event self.old.number (get_or self.old.links place d) now class packet ∷ []) }
-        ensures outbox { (d : Link) (packet : PacketData) → hand.old ≡ Some packet → OnOk result (self.new.outbox.all
+        ensures outbox { (d : Link) (packet : PacketData) → hand ≡ Some packet → OnOk result (self.new.outbox.all
             ≡ self.old.outbox.all ++ start_sending (get_or self.old.links place d) now packet ∷ []) }
         ensures more { BeginsWith self.old.log.all self.new.log.all }
         ensures sent { BeginsWith self.old.outbox.all self.new.outbox.all }
         ensures same { (self.new.role ≡ self.old.role) × (self.new.inbox ≡ self.old.inbox) × (self.new.waiting ≡ self.old.waiting)
             × (self.new.number ≡ self.old.number) × (self.new.horizon ≡ self.old.horizon) × (self.new.worked_to ≡ self.old.worked_to) }
-        ensures held { (self.new.keeps ≡ self.old.keeps) × (self.new.log.gone ≡ self.old.log.gone)
+        ensures held { (self.new.outbox.keeps ≡ self.old.outbox.keeps) × (self.new.log.gone ≡ self.old.log.gone)
             × (self.new.outbox.gone ≡ self.old.outbox.gone) }
     {
         let link = self.links.at(place);
-        let id = id_in(hand);
-        let bytes = length_in(hand);
+        let id = id_in(&hand);
+        let bytes = length_in(&hand);
         let end = now + u64::from(bytes) * link.plan.limits.ns_per_byte;
         self.links.put(place, Some(end));
         self.log.push(Event {
@@ -243,14 +270,9 @@ impl Parts {
                 end: Time(end),
             },
         })?;
-        let Some(packet) = hand.take() else {
-            unreachable!()
-        };
-        self.outbox.push(Sending {
-            link: link.number,
-            arrive: Time(end + link.plan.delay),
-            packet,
-        })?;
+        let arrive = Time(end + link.plan.delay);
+        self.outbox
+            .push(Flight::of(link.number, arrive, hand, &mut self.hands))?;
         Ok(())
     }
 }

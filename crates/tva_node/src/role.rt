@@ -1,10 +1,10 @@
 // What a node is: a router, or a host with the port of its link.
-ghost use Rattle.std.specs.Prelude.{◌≡◌, ℕ, ◌≤◌, ◌+◌, min, List, ◌++◌, [], Some, None, IfOk};
+ghost use Rattle.std.specs.Prelude.{◌≡◌, ℕ, ◌≤◌, ◌+◌, min, List, ◌++◌, [], Some, None, IsSome, IfOk};
 ghost use Rattle.std.specs.List.{cons_option};
 ghost use Rattle.std.specs.Option.{option_map};
 ghost use Rattle.tva_base.specs.declared.limits.LinkLimits.{LinkLimits};
 ghost use Rattle.tva_base.specs.declared.event.Happened.TheVariants as happens;
-ghost use Rattle.tva_shim.specs.Packets.{packet_length, class_by_shim};
+ghost use Rattle.tva_shim.specs.Packets.{PacketData, packet_length, class_by_shim};
 ghost use Rattle.tva_shim.specs.Shows.{back_in};
 ghost use Rattle.tva_flow.specs.Charges.{Charge};
 ghost use Rattle.tva_port.specs.Hand.{AreOneDecision, decision_by};
@@ -17,25 +17,26 @@ ghost use Rattle.tva_transfer.specs.Files.{Act};
 ghost use Rattle.tva_transfer.specs.Stands.{StandsFor as CourierStandsFor, known};
 ghost use Rattle.tva_plan.specs.declared.config.NodePlan.TheVariants as plans;
 ghost use Rattle.tva_log.specs.Sites.{Site, IsSite, limits_out};
-ghost use Rattle.tva_log.specs.Entries.{Entry, input_time};
+ghost use Rattle.tva_log.specs.Entries.{Entry};
 ghost use Rattle.tva_log.specs.Parts.{act_of_row, call_of_row, port_logs, reply_at};
 ghost use Rattle.tva_log.specs.Contents.{made_for, packet_of_row};
 ghost use Rattle.tva_log.specs.Told.{brings, reply_told};
 ghost use Rattle.tva_log.specs.declared.kinds.Input.TheVariants as inputs;
 ghost use Rattle.tva_node.specs.Besides.{IsBy, IsRoutedBy, RoleStands, StandsAsHost, StandsAsRouter};
-ghost use Rattle.tva_node.specs.States.{Fits, FitsRow, role_plan};
+ghost use Rattle.tva_waiting.specs.Inputs.{arrived};
+ghost use Rattle.tva_node.specs.States.{FitsRow, role_plan};
 ghost use Rattle.tva_node.specs.Steps.{Decides, HostTook, RouterTook, Takes, reply_went, role_free, went_out};
 
 use crate::changes::Changes;
 use std::alloc::{AllocError, Global};
 use tva_base::{BackKind, Happened, Outcome, PacketId, ReplyLine, ShapeKind, Time};
 use tva_host::{Made, Receipt};
-use tva_log::Input;
-use tva_port::{Next, Port};
+use tva_port::{Hand, Next, Port, id_in, length_in};
 use tva_router::{Router, outcome_of};
 use tva_shim::{Carried, Packet, ReturnInfo, class_of, length, queue_key};
 use tva_trace::{Row, RowWhat};
 use tva_transfer::{Courier, Landed};
+use tva_waiting::{Flight, Hands};
 
 /// A router, the ordinal of its next packet from the trace, and how far its changes are made.
 #[derive(Drop)]
@@ -61,26 +62,55 @@ pub enum Role {
 }
 
 impl Role {
-    /// Takes an input at its time, and tells what happened.
+    /// Takes a row at its time, and tells what happened. The error is want of memory.
     #[inline(always)]
-    pub fn take(&mut self, alloc: Global, number: u16, input: Input) -> Result<Happened, AllocError>
-        requires time { IsBy (input_time input) self.old }
-        requires horizon { input_time input ≤ 1000000000000000 }
-        requires fits { Fits (role_plan self.old) input }
+    pub fn take_row(
+        &mut self,
+        alloc: Global,
+        hands: &mut Hands,
+        number: u16,
+        row: Row,
+    ) -> Result<Happened, AllocError>
+        requires time { IsBy (row.time.0) self.old }
+        requires horizon { row.time.0 ≤ 1000000000000000 }
+        requires fits { FitsRow (role_plan self.old) row.what }
         ensures took { (site : Site) (log : List Entry) → IsSite site → site.number ≡ number
             → site.plan ≡ role_plan self.old → RoleStands site self.old log
-            → IfOk result (λ told. Takes site log input told self.new) }
+            → IfOk result (λ told. Takes site log (inputs.FromTrace row) told self.new) }
         ensures plan { role_plan self.new ≡ role_plan self.old }
-        ensures last { IfOk result (λ told. IsBy (input_time input) self.new) }
+        ensures last { IfOk result (λ told. IsBy (row.time.0) self.new) }
     {
         match self {
-            Role::Router(routed) => Ok(routed.take(number, input)),
-            Role::Host(hosted) => hosted.take(alloc, input),
+            Role::Router(routed) => routed.take_row(alloc, hands, number, row),
+            Role::Host(hosted) => hosted.take_row(alloc, hands, row),
+        }
+    }
+
+    /// The same of a packet that arrives.
+    #[inline(always)]
+    pub fn take_flight(
+        &mut self,
+        alloc: Global,
+        hands: &mut Hands,
+        number: u16,
+        flight: Flight,
+    ) -> Result<Happened, AllocError>
+        requires time { IsBy (flight.arrive.0) self.old }
+        requires horizon { flight.arrive.0 ≤ 1000000000000000 }
+        ensures took { (site : Site) (log : List Entry) → IsSite site → site.number ≡ number
+            → site.plan ≡ role_plan self.old → RoleStands site self.old log
+            → IfOk result (λ told. Takes site log (arrived flight) told self.new) }
+        ensures plan { role_plan self.new ≡ role_plan self.old }
+        ensures last { IfOk result (λ told. IsBy (flight.arrive.0) self.new) }
+    {
+        match self {
+            Role::Router(routed) => routed.take_flight(alloc, hands, number, flight),
+            Role::Host(hosted) => hosted.take_flight(alloc, hands, flight),
         }
     }
 
     /// What a link out does that is free. A packet that starts is put into the hand, which is empty.
-    pub fn decide(&mut self, now: Time, link: u16, hand: &mut Option<Packet>) -> Next
+    pub fn decide(&mut self, now: Time, link: u16, hand: &mut Hand) -> Next
         requires time { IsBy now.0 self.old }
         requires horizon { now.0 ≤ 1000000000000000 }
         requires free { role_free self.old link ≤ now.0 }
@@ -120,26 +150,51 @@ impl Role {
 
 impl Routed {
     #[inline(always)]
-    fn take(&mut self, number: u16, input: Input) -> Happened
-        requires time { IsRoutedBy (input_time input) self.old }
-        requires horizon { input_time input ≤ 1000000000000000 }
-        requires fits { Fits (plans.Router self.old.router.built) input }
+    fn take_row(
+        &mut self,
+        alloc: Global,
+        hands: &mut Hands,
+        number: u16,
+        row: Row,
+    ) -> Result<Happened, AllocError>
+        requires time { IsRoutedBy (row.time.0) self.old }
+        requires horizon { row.time.0 ≤ 1000000000000000 }
+        requires fits { FitsRow (plans.Router self.old.router.built) row.what }
         ensures took { (log : List Entry) → StandsAsRouter self.old log
-            → RouterTook number self.old.router.built log input result self.new }
+            → IfOk result (λ told. RouterTook number self.old.router.built log (inputs.FromTrace row) told self.new) }
         ensures plan { self.new.router.built ≡ self.old.router.built }
-        ensures last { IsRoutedBy (input_time input) self.new }
+        ensures last { IfOk result (λ told. IsRoutedBy (row.time.0) self.new) }
     {
-        match input {
-            Input::FromTrace(row) => {
-                self.change(row.time);
-                let packet = self.packet_of(number, row.what);
-                self.arrive(row.time, None, packet)
-            }
-            Input::Arrival { time, link, packet } => {
-                self.change(time);
-                self.arrive(time, Some(link), packet)
-            }
-        }
+        let mut hand = hands.take(alloc)?;
+        self.change(row.time);
+        hand.put(self.packet_of(number, row.what));
+        let happened = self.arrive(row.time, None, &mut hand);
+        hands.put(hand);
+        Ok(happened)
+    }
+
+    #[inline(always)]
+    fn take_flight(
+        &mut self,
+        alloc: Global,
+        hands: &mut Hands,
+        number: u16,
+        flight: Flight,
+    ) -> Result<Happened, AllocError>
+        requires time { IsRoutedBy (flight.arrive.0) self.old }
+        requires horizon { flight.arrive.0 ≤ 1000000000000000 }
+        ensures took { (log : List Entry) → StandsAsRouter self.old log
+            → IfOk result (λ told. RouterTook number self.old.router.built log (arrived flight) told self.new) }
+        ensures plan { self.new.router.built ≡ self.old.router.built }
+        ensures last { IfOk result (λ told. IsRoutedBy (flight.arrive.0) self.new) }
+    {
+        let time = flight.arrive();
+        let link = flight.link();
+        let mut hand = flight.into_hand(alloc, hands)?;
+        self.change(time);
+        let happened = self.arrive(time, Some(link), &mut hand);
+        hands.put(hand);
+        Ok(happened)
     }
 
     // The next packet from the trace.
@@ -165,22 +220,23 @@ impl Routed {
     }
 
     #[inline(always)]
-    fn arrive(&mut self, now: Time, from: Option<u16>, packet: Packet) -> Happened
+    fn arrive(&mut self, now: Time, from: Option<u16>, hand: &mut Hand) -> Happened
         requires time { self.old.router.last ≤ now.0 }
         requires horizon { now.0 ≤ 1000000000000000 }
-        ensures told { (h : List Charge) (logs : PortLogs) → RouterStandsFor self.old.router h logs
-            → result ≡ happens.Arrived packet.id (packet_length packet) from
+        requires held { IsSome hand.old }
+        ensures told { (h : List Charge) (logs : PortLogs) (packet : PacketData) → RouterStandsFor self.old.router h logs
+            → hand.old ≡ Some packet → result ≡ happens.Arrived packet.id (packet_length packet) from
             (handle self.old.router.plan h logs now.0 from packet).fate }
-        ensures stands { (h : List Charge) (logs : PortLogs) → RouterStandsFor self.old.router h logs
-            → RouterStandsFor self.new.router (h ++ (handle self.old.router.plan h logs now.0 from packet).charges)
+        ensures stands { (h : List Charge) (logs : PortLogs) (packet : PacketData) → RouterStandsFor self.old.router h logs
+            → hand.old ≡ Some packet → RouterStandsFor self.new.router (h ++ (handle self.old.router.plan h logs now.0 from packet).charges)
             (logs with (handle self.old.router.plan h logs now.0 from packet).queued) }
         ensures plan { (self.new.router.plan ≡ self.old.router.plan) × (self.new.router.built ≡ self.old.router.built) }
         ensures last { self.new.router.last ≡ now.0 }
         ensures same { (self.new.next ≡ self.old.next) × (self.new.changes ≡ self.old.changes) }
     {
-        let id = packet.id;
-        let length = length(&packet);
-        let fate = self.router.arrive(now, from, packet);
+        let id = id_in(hand);
+        let length = length_in(hand);
+        let fate = self.router.arrive_from(now, from, hand);
         Happened::Arrived {
             id,
             length,
@@ -191,27 +247,42 @@ impl Routed {
 }
 
 impl Hosted {
+    // What comes of a packet that arrives.
     #[inline(always)]
-    fn take(&mut self, alloc: Global, input: Input) -> Result<Happened, AllocError>
-        requires host { self.old.courier.host.last ≤ input_time input }
-        requires port { self.old.port.last ≤ input_time input }
-        requires horizon { input_time input ≤ 1000000000000000 }
-        requires fits { Fits (plans.Host self.old.courier.host.plan) input }
+    fn take_flight(
+        &mut self,
+        alloc: Global,
+        hands: &mut Hands,
+        flight: Flight,
+    ) -> Result<Happened, AllocError>
+        requires host { self.old.courier.host.last ≤ flight.arrive.0 }
+        requires port { self.old.port.last ≤ flight.arrive.0 }
+        requires horizon { flight.arrive.0 ≤ 1000000000000000 }
         ensures took { (site : Site) (log : List Entry) → StandsAsHost site self.old log
-            → IfOk result (λ told. HostTook site self.old.courier.host.plan log input told self.new) }
+            → IfOk result (λ told. HostTook site self.old.courier.host.plan log (arrived flight) told self.new) }
         ensures plan { self.new.courier.host.plan ≡ self.old.courier.host.plan }
-        ensures last { IfOk result (λ told. (self.new.courier.host.last ≤ input_time input)
-            × (self.new.port.last ≤ input_time input)) }
+        ensures last { IfOk result (λ told. (self.new.courier.host.last ≤ flight.arrive.0)
+            × (self.new.port.last ≤ flight.arrive.0)) }
     {
-        match input {
-            Input::FromTrace(row) => self.take_row(alloc, row),
-            Input::Arrival { time, link, packet } => self.receive(alloc, time, link, packet),
-        }
+        let now = flight.arrive();
+        let from = flight.link();
+        let mut hand = flight.into_hand(alloc, hands)?;
+        let Some(packet) = hand.take() else {
+            unreachable!()
+        };
+        let happened = self.receive(alloc, now, from, packet, &mut hand)?;
+        hands.put(hand);
+        Ok(happened)
     }
 
     // Makes the packet of a row, or takes it from there, and offers it to the link. For a tick there may be
     // nothing to send.
-    fn take_row(&mut self, alloc: Global, row: Row) -> Result<Happened, AllocError>
+    fn take_row(
+        &mut self,
+        alloc: Global,
+        hands: &mut Hands,
+        row: Row,
+    ) -> Result<Happened, AllocError>
         requires host { self.old.courier.host.last ≤ row.time.0 }
         requires port { self.old.port.last ≤ row.time.0 }
         requires horizon { row.time.0 ≤ 1000000000000000 }
@@ -221,12 +292,14 @@ impl Hosted {
         ensures plan { self.new.courier.host.plan ≡ self.old.courier.host.plan }
         ensures last { IfOk result (λ told. (self.new.courier.host.last ≤ row.time.0) × (self.new.port.last ≤ row.time.0)) }
     {
+        let mut hand = hands.take(alloc)?;
         let Some(Made { packet, shape }) = self.make(alloc, row.time, row.what)? else {
             return Ok(Happened::Ticked);
         };
         let id = packet.id;
         let length = length(&packet);
-        let outcome = self.queue(row.time, packet);
+        let outcome = self.queue(row.time, packet, &mut hand);
+        hands.put(hand);
         Ok(Happened::Sent {
             id,
             length,
@@ -242,6 +315,7 @@ impl Hosted {
         now: Time,
         from: u16,
         packet: Packet,
+        hand: &mut Hand,
     ) -> Result<Happened, AllocError>
         requires host { self.old.courier.host.last ≤ now.0 }
         requires port { self.old.port.last ≤ now.0 }
@@ -256,7 +330,7 @@ impl Hosted {
         let payload = packet.payload;
         let Landed { receipt, range } = self.courier.receive(alloc, now, packet)?;
         let Receipt { what, back, reply } = receipt;
-        let reply = self.answer(now, reply);
+        let reply = self.answer(now, reply, hand);
         Ok(Happened::Received {
             id,
             length,
@@ -305,7 +379,7 @@ impl Hosted {
     }
 
     // Offers a reply to the link, and tells of it.
-    fn answer(&mut self, now: Time, reply: Option<Made>) -> Option<ReplyLine>
+    fn answer(&mut self, now: Time, reply: Option<Made>, hand: &mut Hand) -> Option<ReplyLine>
         requires time { self.old.port.last ≤ now.0 }
         requires horizon { now.0 ≤ 1000000000000000 }
         ensures told { (log : List PortEntry) → PortStandsFor self.old.port log
@@ -321,7 +395,7 @@ impl Hosted {
         let id = packet.id;
         let length = length(&packet);
         let back = back_kind(&packet.carried);
-        let outcome = self.queue(now, packet);
+        let outcome = self.queue(now, packet, hand);
         Some(ReplyLine {
             id,
             length,
@@ -331,8 +405,8 @@ impl Hosted {
         })
     }
 
-    // Offers a packet to the link.
-    fn queue(&mut self, now: Time, packet: Packet) -> Outcome
+    // Offers a packet to the link, in that hand.
+    fn queue(&mut self, now: Time, packet: Packet, hand: &mut Hand) -> Outcome
         requires time { self.old.port.last ≤ now.0 }
         requires horizon { now.0 ≤ 1000000000000000 }
         ensures outcome { (log : List PortEntry) → PortStandsFor self.old.port log
@@ -345,11 +419,8 @@ impl Hosted {
     {
         let class = class_of(&packet);
         let key = queue_key(class, &packet);
-        let mut hand = Some(packet);
-        outcome_of(
-            self.uplink,
-            self.port.queue_from(now, class, key, &mut hand),
-        )
+        hand.put(packet);
+        outcome_of(self.uplink, self.port.queue_from(now, class, key, hand))
     }
 }
 

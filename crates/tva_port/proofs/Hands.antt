@@ -1,9 +1,7 @@
 -- What is known of a packet in the caller's hand.
-use Rattle.std.proofs.Common.{◌≡◌, ℕ, ◌+◌, ◌*◌, false, Option, Some, None, refl, sym, true≢false}
-use Rattle.std.specs.Prelude.{IsSome}
+use Rattle.std.proofs.Common.{◌≡◌, ℕ, false, Option, Some, refl, true≢false}
 use Rattle.tva_base.specs.declared.limits.LinkLimits.{LinkLimits}
-use Rattle.tva_base.specs.declared.packet.Class.{Class}
-use Rattle.tva_shim.specs.Packets.{PacketData, packet_length}
+use Rattle.tva_shim.specs.Packets.{PacketData}
 use Rattle.tva_port.specs.declared.decision.Decision.{Decision}
 use Rattle.tva_port.specs.declared.decision.Decision.TheVariants.{Start, WaitUntil, Idle}
 use Rattle.tva_port.specs.Waiting.{Waiting}
@@ -12,11 +10,6 @@ use Rattle.tva_port.specs.Steps.{decision_leaves, freed}
 
 pub same_packet : (hand : Option PacketData) (one other : PacketData) → hand ≡ Some one → hand ≡ Some other → one ≡ other
 same_packet hand one other e f = cc
-
--- what is so of each packet that the hand may hold is so, where it holds one
-pub by_packet : {A : Type 0} (hand : Option PacketData) → IsSome hand → ((packet : PacketData) → hand ≡ Some packet → A) → A
-by_packet (Some packet) held by = by packet refl
-by_packet None held by = absurd (true≢false (sym held))
 
 -- what doesn't start leaves what waits
 pub rested_leaves : (d : Decision) (w : Waiting) → is_start d ≡ false → decision_leaves d w ≡ w
@@ -29,11 +22,3 @@ pub rested_free : (l : LinkLimits) (free now : ℕ) (d : Decision) → is_start 
 rested_free l free now (Start class packet) e = absurd (true≢false e)
 rested_free l free now (WaitUntil time) e = refl
 rested_free l free now Idle e = refl
-
--- when the link is free, by what is so of a start and of a rest
-pub freed_by : (l : LinkLimits) (free now after : ℕ) (d : Decision)
-    → ((class : Class) (p : PacketData) → d ≡ Start class p → after ≡ now + packet_length p * l.ns_per_byte)
-    → (is_start d ≡ false → after ≡ free) → after ≡ freed l free now d
-freed_by l free now after (Start class p) started rested = started class p refl
-freed_by l free now after (WaitUntil time) started rested = rested refl
-freed_by l free now after Idle started rested = rested refl

@@ -8,6 +8,8 @@ pub mod Hands
 pub mod Holding
 pub mod Limits
 pub mod Standing
+pub mod Counts
+pub mod Stock
 pub mod Resting
 pub mod Idling
 pub mod Steady

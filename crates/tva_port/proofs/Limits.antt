@@ -122,7 +122,7 @@ legacy_less : (l : LinkLimits) (xs : List PacketData) → (length xs ≤ l.legac
 legacy_less l [] h = h
 legacy_less l (x ∷ xs) h = (omega arith, omega (arith, h.1, sum_by-cons packet_length x xs))
 
-within-queued : (l : LinkLimits) (w : Waiting) (class : Class) (key : ℕ) (p : PacketData) → AreLinkLimits l → (20 ≤ packet_length p) × (packet_length p ≤ 2048) → IsWithinLimits l w → IsWithinLimits l (put_leaves l w class key p)
+pub within-queued : (l : LinkLimits) (w : Waiting) (class : Class) (key : ℕ) (p : PacketData) → AreLinkLimits l → (20 ≤ packet_length p) × (packet_length p ≤ 2048) → IsWithinLimits l w → IsWithinLimits l (put_leaves l w class key p)
 within-queued l w Request key p a z h = record {
   requests = within-offered l w.requests key p a z h.requests;
   regulars = h.regulars;
@@ -131,7 +131,7 @@ within-queued l w Request key p a z h = record {
 within-queued l w Regular key p a z h = record { requests = h.requests; regulars = stays-offered l.regular w.regulars key p a.regular z h.regulars; legacy = h.legacy }
 within-queued l w Legacy key p a z h = record { requests = h.requests; regulars = h.regulars; legacy = legacy_kept l w.legacy p (lacks_legacy_room l w.legacy p) refl h.legacy }
 
-within-started : (l : LinkLimits) (w : Waiting) (class : Class) → IsWithinLimits l w → IsWithinLimits l (start_leaves class w)
+pub within-started : (l : LinkLimits) (w : Waiting) (class : Class) → IsWithinLimits l w → IsWithinLimits l (start_leaves class w)
 within-started l w Request h = record {
   requests = within-taken l w.requests h.requests;
   regulars = h.regulars;
@@ -149,7 +149,7 @@ bounded-step l a before (Queued t class key p) f h =
 bounded-step l a before (Started t class p) f h =
     (subst (λ (w : Waiting). IsWithinLimits l w) (waits-started l before t class p) (within-started l (waiting_after l before) class h.0), few-step l before (Started t class p) f h.1)
 
-begins : (l : LinkLimits) → AreLinkLimits l → IsBounded l []
+pub begins : (l : LinkLimits) → AreLinkLimits l → IsBounded l []
 begins l a = (
   record {
     requests = within_none l l.request_inner refl a;

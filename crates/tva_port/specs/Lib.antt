@@ -4,6 +4,7 @@ pub mod Levels
 pub mod Waiting
 pub mod Decide
 pub mod Hand
+pub mod Held
 pub mod Legal
 pub mod Stands
 pub mod Keeps
@@ -11,3 +12,4 @@ pub mod Bounds
 pub mod Worked
 pub mod Steps
 pub mod Lists
+pub mod Counts

@@ -8,9 +8,9 @@ ghost use Rattle.tva_port.specs.Requests.{cost, cap};
 ghost use Rattle.tva_port.specs.Steps.{grown, paid, freed, IsPaid};
 ghost use Rattle.tva_port.specs.Hand.{decision_by};
 
-use crate::hand::Next;
+use crate::hand::{Hand, Next};
 use tva_base::{Class, LinkLimits};
-use tva_shim::{Packet, length};
+use tva_shim::length;
 
 /// What a request of so many bytes costs, in nanoseconds: at most 2,048 * 1,000 * 1,000,000.
 pub(crate) fn cost_of(limits: &LinkLimits, bytes: u32) -> u64
@@ -41,32 +41,26 @@ pub(crate) fn grow(limits: &LinkLimits, credit: u64, passed: u64) -> u64
 }
 
 /// The credit after a decision, of which the packet is in hand. A request pays its cost at its start.
-pub(crate) fn pay(limits: &LinkLimits, credit: u64, next: Next, hand: &Option<Packet>) -> u64
+pub(crate) fn pay(limits: &LinkLimits, credit: u64, next: Next, hand: &Hand) -> u64
     requires limits { AreLinkLimits limits.now }
     requires covered { IsPaid limits.now credit (decision_by next hand.now) }
     ensures { result ≡ paid limits.now credit (decision_by next hand.now) }
 {
-    match (next, hand) {
+    match (next, &*hand.packet) {
         (Next::Start(Class::Request), Some(packet)) => credit - cost_of(limits, length(packet)),
         (_, _) => credit,
     }
 }
 
 /// When the link is free after a decision, of which the packet is in hand: it occupies the link for its bytes.
-pub(crate) fn occupy(
-    limits: &LinkLimits,
-    free_at: u64,
-    now: u64,
-    next: Next,
-    hand: &Option<Packet>,
-) -> u64
+pub(crate) fn occupy(limits: &LinkLimits, free_at: u64, now: u64, next: Next, hand: &Hand) -> u64
     requires limits { AreLinkLimits limits.now }
     requires time { now ≤ 1000000000000000 }
     requires free { free_at ≤ now }
     ensures value { result ≡ freed limits.now free_at now (decision_by next hand.now) }
     ensures soon { result ≤ now + 2048000000 }
 {
-    match (next, hand) {
+    match (next, &*hand.packet) {
         (Next::Start(_), Some(packet)) => now + u64::from(length(packet)) * limits.ns_per_byte,
         (_, _) => free_at,
     }

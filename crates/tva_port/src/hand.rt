@@ -1,13 +1,68 @@
 // A packet in the caller's hand.
-ghost use Rattle.std.specs.Prelude.{◌≡◌, ◌≤◌, Some, None, IsSome};
+ghost use Rattle.std.specs.Prelude.{◌≡◌, ◌≤◌, Some, None, IfOk, IsSome};
 ghost use Rattle.tva_shim.specs.Packets.{PacketData, packet_length};
 ghost use Rattle.tva_shim.specs.Shows.{key_of};
-ghost use Rattle.tva_port.specs.Hand.{AreOneAnswer, AreOneDecision, answer_by, decision_by};
+ghost use Rattle.tva_port.specs.Hand.{AreOneDecision, decision_by};
 
 use crate::decision::Decision;
+use std::alloc::{AllocError, Global};
+use std::marker::Model;
 use tva_base::{Address, Class, PacketId, Time};
-use tva_drr::Offered;
 use tva_shim::{Packet, length, queue_key};
+
+/// A piece of memory for a packet: it goes from hand to hand with the packet in it, which isn't moved. Contracts
+/// see the packet, if it holds one.
+#[derive(Drop)]
+pub struct Hand {
+    pub packet: Box<Option<Packet>>,
+}
+
+impl Model for Hand {
+    ghost use Rattle.std.specs.Prelude.{Option};
+    ghost use Rattle.tva_shim.specs.Packets.{PacketData};
+
+    ghost Value = { Option PacketData };
+
+    ghost view = { λ h. h.packet.value };
+}
+
+impl Hand {
+    /// An empty one. The error is want of memory.
+    pub fn new(alloc: Global) -> Result<Hand, AllocError>
+        ensures { IfOk result (λ hand. hand ≡ None) }
+    {
+        Ok(Hand {
+            packet: Box::new(alloc, None)?,
+        })
+    }
+
+    /// Puts a packet in.
+    #[inline(always)]
+    pub fn put(&mut self, packet: Packet)
+        ensures { self.new ≡ Some packet }
+    {
+        *self.packet = Some(packet);
+    }
+
+    /// Takes the packet out.
+    #[inline(always)]
+    pub fn take(&mut self) -> Option<Packet>
+        ensures packet { result ≡ self.old }
+        ensures left { self.new ≡ None }
+    {
+        self.packet.take()
+    }
+
+    /// Lets go of the packet, if it holds one.
+    #[inline(always)]
+    pub fn clear(&mut self)
+        ensures { self.new ≡ None }
+    {
+        if self.packet.is_some() {
+            *self.packet = None;
+        }
+    }
+}
 
 /// The answer to the offer of a packet that is in the caller's hand, and stays there where it is refused.
 #[derive(Clone, Copy, Debug, PartialEq, Eq)]
@@ -26,19 +81,6 @@ pub enum Next {
     Idle,
 }
 
-/// The answer to an offer, with the packet that the hand holds.
-#[inline(always)]
-pub(crate) fn answer_by(answer: Answer, hand: Option<Packet>) -> Offered<Packet>
-    requires { AreOneAnswer answer hand }
-    ensures { result ≡ answer_by answer hand }
-{
-    match (answer, hand) {
-        (Answer::NoQueue, Some(packet)) => Offered::NoQueue(packet),
-        (Answer::QueueFull, Some(packet)) => Offered::QueueFull(packet),
-        (_, _) => Offered::Queued,
-    }
-}
-
 /// The decision of a free link, with the packet that the hand holds.
 #[inline(always)]
 pub fn decision_by(next: Next, hand: Option<Packet>) -> Decision
@@ -53,45 +95,45 @@ pub fn decision_by(next: Next, hand: Option<Packet>) -> Decision
 }
 
 /// The number of the packet in hand, with the node that made it.
-pub fn id_in(hand: &Option<Packet>) -> PacketId
+pub fn id_in(hand: &Hand) -> PacketId
     requires { IsSome hand.now }
     ensures { (packet : PacketData) → hand.now ≡ Some packet → result ≡ packet.id }
 {
-    match hand {
+    match &*hand.packet {
         Some(packet) => packet.id,
         None => unreachable!(),
     }
 }
 
 /// The length of the packet in hand, in bytes.
-pub fn length_in(hand: &Option<Packet>) -> u32
+pub fn length_in(hand: &Hand) -> u32
     requires { IsSome hand.now }
     ensures value { (packet : PacketData) → hand.now ≡ Some packet → result ≡ packet_length packet }
     ensures short { result ≤ 2048 }
 {
-    match hand {
+    match &*hand.packet {
         Some(packet) => length(packet),
         None => unreachable!(),
     }
 }
 
 /// Where the packet in hand goes.
-pub fn destination_in(hand: &Option<Packet>) -> Address
+pub fn destination_in(hand: &Hand) -> Address
     requires { IsSome hand.now }
     ensures { (packet : PacketData) → hand.now ≡ Some packet → result ≡ packet.flow.dst }
 {
-    match hand {
+    match &*hand.packet {
         Some(packet) => packet.flow.dst,
         None => unreachable!(),
     }
 }
 
 /// The key under which the packet in hand is queued, as a packet of that class.
-pub fn key_in(class: Class, hand: &Option<Packet>) -> u32
+pub fn key_in(class: Class, hand: &Hand) -> u32
     requires { IsSome hand.now }
     ensures { (packet : PacketData) → hand.now ≡ Some packet → result ≡ key_of class packet }
 {
-    match hand {
+    match &*hand.packet {
         Some(packet) => queue_key(class, packet),
         None => unreachable!(),
     }

@@ -23,7 +23,7 @@ pub use bounds::{
     keys_are_served_alike, longest_regular_wait, longest_request_wait, packets_start_in_time,
 };
 pub use decision::Decision;
-pub use hand::{Answer, Next, decision_by, destination_in, id_in, key_in, length_in};
+pub use hand::{Answer, Hand, Next, decision_by, destination_in, id_in, key_in, length_in};
 pub use laws::{
     links_rest, logs_have_places, queues_keep_limits, requests_keep_their_rate, starts_rise,
 };

@@ -1,10 +1,11 @@
 // The port of a link.
-ghost use Rattle.std.specs.Prelude.{◌≡◌, ℕ, ◌+◌, ◌*◌, ◌≤◌, ◌<◌, ◌↔◌, max, true, false, List, Some, None, IsSome, [], ◌++◌, IfOk};
+ghost use Rattle.std.specs.Prelude.{◌≡◌, ℕ, ◌+◌, ◌*◌, ◌^◌, ◌≤◌, ◌<◌, ◌↔◌, max, true, false, List, Some, None, IsSome, [], ◌++◌, length, vec_capacity, IfOk};
 ghost use Rattle.tva_base.specs.declared.packet.Class.TheVariants.{Request, Regular};
 ghost use Rattle.tva_base.specs.Plan.{AreLinkLimits};
 ghost use Rattle.tva_drr.specs.Queues.{fair};
 ghost use Rattle.tva_shim.specs.Packets.{PacketData, packet_length};
 ghost use Rattle.tva_port.specs.Requests.{cap};
+ghost use Rattle.tva_port.specs.Counts.{places_in, request_places};
 ghost use Rattle.tva_port.specs.Levels.{no_requests};
 ghost use Rattle.tva_port.specs.Log.{Entry, free_after};
 ghost use Rattle.tva_port.specs.Waiting.{waiting, waiting_after, next_request, queue_answer, queued_by, is_queued, IsEmpty, IsRequestAlone};
@@ -17,8 +18,8 @@ ghost use Rattle.tva_port.specs.Keeps.{IsWithinRate, start_times, AreRising, Sta
 
 use crate::credits::{grow, most_credit, occupy, pay};
 use crate::decision::Decision;
-use crate::hand::{Answer, Next, answer_by, decision_by};
-use crate::held::HeldPacket;
+use crate::hand::{Answer, Hand, Next, decision_by};
+use crate::held::{HeldPacket, back_into, blank_of, held_in, held_of, out_of};
 use crate::legacy::LegacyList;
 use crate::parts::{put, start_next};
 use crate::requests::RequestQueues;
@@ -30,7 +31,8 @@ use tva_shim::Packet;
 
 /// What waits for a link, and what it starts. Contracts see the limits, the last time, the credit of
 /// requests then, when the link is free, and what waits; and they speak of all packets queued and
-/// started so far, for which these stand. All memory is taken when it is built.
+/// started so far, for which these stand. All memory is taken when it is built: packets stay where they
+/// are, in hands that are swapped for empty ones.
 ///
 /// Of the starts so far it keeps one number, the credit. The debt after some starts is the greatest
 /// sum of costs from one of them on, less the time since it. As time passes each of these falls alike,
@@ -46,19 +48,24 @@ pub struct Port {
     requests: RequestQueues,
     regulars: FairQueues<HeldPacket>,
     legacy: LegacyList,
+    stock: Vec<Hand>,
 }
 
 impl Model for Port {
+    ghost use Rattle.std.specs.Prelude.{length, vec_capacity};
     ghost use Rattle.tva_port.specs.Waiting.{waiting};
     ghost use Rattle.tva_port.specs.Stands.{PortData, port_data};
     ghost use Rattle.tva_port.specs.Lists.{IsSound};
+    ghost use Rattle.tva_port.specs.Counts.{IsStocked};
 
     ghost Value = { PortData };
 
     ghost view = { λ w. port_data w.limits w.last w.credit w.free_at
         (waiting w.requests w.regulars w.legacy.packets) };
 
-    ghost invariant = { λ w. IsSound w.limits w.last w.credit w.free_at w.requests w.regulars w.legacy };
+    ghost invariant = { λ w. IsSound w.limits w.last w.credit w.free_at w.requests w.regulars w.legacy
+        × IsStocked w.limits (waiting w.requests w.regulars w.legacy.packets)
+        (length w.stock.items) (vec_capacity w.stock) };
 }
 
 impl Port {
@@ -80,6 +87,7 @@ impl Port {
             requests: RequestQueues::with_limits(alloc, &limits)?,
             regulars: FairQueues::with_limits(alloc, limits.regular)?,
             legacy: LegacyList::with_limits(alloc, limits.legacy_ring, limits.legacy_bytes)?,
+            stock: stock_of(alloc, &limits)?,
         })
     }
 
@@ -108,21 +116,26 @@ impl Port {
         ensures last { self.new.last ≡ now.0 }
         ensures same { (self.new.limits ≡ self.old.limits) × (self.new.free_at ≡ self.old.free_at) }
     {
-        let mut hand = Some(packet);
-        let answer = self.queue_from(now, class, key, &mut hand);
-        answer_by(answer, hand)
+        self.credit = grow(&self.limits, self.credit, now.0 - self.last);
+        self.last = now.0;
+        let mut hand = blank_of(&mut self.stock);
+        hand.put(packet);
+        let held = held_of(hand);
+        let offered = put(
+            &mut self.requests,
+            &mut self.regulars,
+            &mut self.legacy,
+            class,
+            key,
+            held,
+        );
+        out_of(&mut self.stock, offered)
     }
 
     /// The same of a packet that is in the caller's hand: it leaves the hand where it is queued, and stays
     /// there where it is refused. So a packet isn't moved from call to call.
     #[inline(always)]
-    pub fn queue_from(
-        &mut self,
-        now: Time,
-        class: Class,
-        key: u32,
-        hand: &mut Option<Packet>,
-    ) -> Answer
+    pub fn queue_from(&mut self, now: Time, class: Class, key: u32, hand: &mut Hand) -> Answer
         requires time { self.old.last ≤ now.0 }
         requires horizon { now.0 ≤ 1000000000000000 }
         requires held { IsSome hand.old }
@@ -138,14 +151,17 @@ impl Port {
     {
         self.credit = grow(&self.limits, self.credit, now.0 - self.last);
         self.last = now.0;
-        put(
+        let blank = blank_of(&mut self.stock);
+        let held = held_in(hand, blank);
+        let offered = put(
             &mut self.requests,
             &mut self.regulars,
             &mut self.legacy,
             class,
             key,
-            hand,
-        )
+            held,
+        );
+        back_into(hand, &mut self.stock, offered)
     }
 
     /// Decides what the link, which is free, does at a time, in nanoseconds, which never falls: a
@@ -202,14 +218,29 @@ impl Port {
         ensures last { self.new.last ≡ now.0 }
         ensures same { self.new.limits ≡ self.old.limits }
     {
-        let mut hand = None;
-        let next = self.decide_into(now, &mut hand);
-        decision_by(next, hand)
+        self.credit = grow(&self.limits, self.credit, now.0 - self.last);
+        self.last = now.0;
+        let mut hand = blank_of(&mut self.stock);
+        let next = start_next(
+            &self.limits,
+            self.credit,
+            now.0,
+            &mut self.requests,
+            &mut self.regulars,
+            &mut self.legacy,
+            &mut hand,
+            &mut self.stock,
+        );
+        self.credit = pay(&self.limits, self.credit, next, &hand);
+        self.free_at = occupy(&self.limits, self.free_at, now.0, next, &hand);
+        let left = hand.take();
+        self.stock.push_reserved(hand);
+        decision_by(next, left)
     }
 
     /// The same where a packet that starts is put into the caller's hand, which is empty.
     #[inline(always)]
-    pub fn decide_into(&mut self, now: Time, hand: &mut Option<Packet>) -> Next
+    pub fn decide_into(&mut self, now: Time, hand: &mut Hand) -> Next
         requires time { self.old.last ≤ now.0 }
         requires horizon { now.0 ≤ 1000000000000000 }
         requires free { self.old.free_at ≤ now.0 }
@@ -239,6 +270,7 @@ impl Port {
             &mut self.regulars,
             &mut self.legacy,
             hand,
+            &mut self.stock,
         );
         self.credit = pay(&self.limits, self.credit, next, hand);
         self.free_at = occupy(&self.limits, self.free_at, now.0, next, hand);
@@ -267,5 +299,44 @@ impl Port {
             → StaysWithinLimits self.now.limits log }
     {
         self.limits
+    }
+}
+
+// An empty hand for each place that there is for a packet, and one more.
+fn stock_of(alloc: Global, limits: &LinkLimits) -> Result<Vec<Hand>, AllocError>
+    requires { AreLinkLimits limits.now }
+    ensures count { IfOk result (λ stock. length stock.items ≡ places_in limits.now + 1) }
+    ensures room { IfOk result (λ stock. places_in limits.now + 1 < vec_capacity stock) }
+{
+    let count = places_in(limits) + 1;
+    // One place more, so that there is room before it is known whether a packet starts.
+    let mut stock = Vec::with_capacity(alloc, count + 1)?;
+    for _ in 0..count {
+        stock.push_reserved(Hand::new(alloc)?);
+    }
+    Ok(stock)
+}
+
+// How many packets may wait.
+fn places_in(limits: &LinkLimits) -> usize
+    requires { AreLinkLimits limits.now }
+    ensures { result ≡ places_in limits.now }
+{
+    request_places(limits)
+        + limits.regular.queues as usize * limits.regular.ring as usize
+        + limits.legacy_ring as usize
+}
+
+// How many requests may wait.
+fn request_places(limits: &LinkLimits) -> usize
+    requires { AreLinkLimits limits.now }
+    ensures value { result ≡ request_places limits.now }
+    ensures few { result ≤ 2 ^ 48 }
+{
+    let queues = limits.request.queues as usize;
+    let ring = limits.request.ring as usize;
+    match limits.request_inner {
+        Some(inner) => queues * (inner as usize * ring),
+        None => queues * ring,
     }
 }

@@ -1,5 +1,5 @@
 // The requests that wait for a link.
-ghost use Rattle.std.specs.Prelude.{◌≡◌, ◌≤◌, Some, None, IsSome, IfOk};
+ghost use Rattle.std.specs.Prelude.{◌≡◌, ◌≤◌, ◌<◌, ◌+◌, if◌then◌else◌, length, vec_capacity, Some, None, IsSome, IfOk};
 ghost use Rattle.std.specs.Option.{option_map};
 ghost use Rattle.tva_base.specs.Plan.{AreLinkLimits};
 ghost use Rattle.tva_shim.specs.Packets.{PacketData, packet_length};
@@ -8,19 +8,19 @@ ghost use Rattle.tva_hier.specs.Groups.{next};
 ghost use Rattle.tva_hier.specs.Offer.{answer_to_offer, left_by_offer};
 ghost use Rattle.tva_hier.specs.Take.{left_by_take};
 ghost use Rattle.tva_base.specs.declared.packet.Class.TheVariants.{Request};
-ghost use Rattle.tva_port.specs.Decide.{start_or};
-ghost use Rattle.tva_port.specs.Hand.{AreOneAnswer, AreOneDecision, answer_by, decision_by};
+ghost use Rattle.tva_port.specs.Decide.{is_start, start_or};
+ghost use Rattle.tva_port.specs.Hand.{AreOneDecision, decision_by};
 ghost use Rattle.tva_port.specs.declared.decision.Decision.TheVariants.{Idle};
 ghost use Rattle.tva_port.specs.Levels.{no_requests, limits_in, next_in, request_answer, request_leaves, request_taken};
 
-use crate::fair::{offer_to, start_from};
-use crate::hand::{Answer, Next};
-use crate::held::{HeldPacket, back_into, held_in, start_held};
+use crate::fair::start_from;
+use crate::hand::{Hand, Next};
+use crate::held::{HeldPacket, start_held};
 use std::alloc::{AllocError, Global};
 use tva_base::{Class, LinkLimits};
-use tva_drr::FairQueues;
+use tva_drr::{FairQueues, Offered};
 use tva_hier::HierQueues;
-use tva_shim::{Packet, inner_queue_key};
+use tva_shim::inner_queue_key;
 
 /// Requests in fair queues by their keys; or on a link with two levels in two-level queues, by
 /// their keys and within a key by the tag before it.
@@ -61,64 +61,74 @@ impl RequestQueues {
         }
     }
 
-    /// Offers the request in hand under a key, and within it under its own inner key where there are two
-    /// levels.
-    pub fn offer(&mut self, key: u32, hand: &mut Option<Packet>) -> Answer
+    /// Offers a request under a key, and within it under its own inner key where there are two levels.
+    #[inline(always)]
+    pub fn offer(&mut self, key: u32, held: HeldPacket) -> Offered<HeldPacket>
         requires limits { (limits_in self.old).max ≡ 2048 }
-        requires held { IsSome hand.old }
-        ensures answer { (packet : PacketData) → hand.old ≡ Some packet
-            → answer_by result hand.new ≡ request_answer self.old key packet }
-        ensures held { AreOneAnswer result hand.new }
-        ensures left { (packet : PacketData) → hand.old ≡ Some packet
-            → self.new ≡ request_leaves self.old key packet }
+        requires sized { (20 ≤ packet_length held) × (packet_length held ≤ 2048) }
+        ensures answer { result ≡ request_answer self.old key held }
+        ensures left { self.new ≡ request_leaves self.old key held }
         ensures limits { limits_in self.new ≡ limits_in self.old }
-        ensures sized { (packet : PacketData) → hand.old ≡ Some packet
-            → (20 ≤ packet_length packet) × (packet_length packet ≤ 2048) }
     {
         match self {
-            RequestQueues::OneLevel(queues) => offer_to(queues, key, hand),
-            RequestQueues::TwoLevels(queues) => offer_within(queues, key, hand),
+            RequestQueues::OneLevel(queues) => queues.offer(key, held),
+            RequestQueues::TwoLevels(queues) => offer_within(queues, key, held),
         }
     }
 
     /// Starts the next request.
-    pub fn start(&mut self, hand: &mut Option<Packet>) -> Next
-        requires { hand.old ≡ None }
+    pub fn start(&mut self, hand: &mut Hand, stock: &mut Vec<Hand>) -> Next
+        requires empty { hand.old ≡ None }
+        requires room { length stock.old.items < vec_capacity stock.old }
         ensures value { decision_by result hand.new ≡ start_or Request (next_in self.old) Idle }
         ensures held { AreOneDecision result hand.new }
         ensures left { self.new ≡ request_taken self.old }
+        ensures stock { length stock.new.items ≡ (if is_start (decision_by result hand.new) then length stock.old.items + 1 else length stock.old.items) }
+        ensures capacity { vec_capacity stock.new ≡ vec_capacity stock.old }
     {
         match self {
-            RequestQueues::OneLevel(queues) => start_from(queues, Class::Request, hand),
-            RequestQueues::TwoLevels(queues) => start_within(queues, hand),
+            RequestQueues::OneLevel(queues) => start_from(queues, Class::Request, hand, stock),
+            RequestQueues::TwoLevels(queues) => start_within(queues, hand, stock),
         }
     }
 }
 
-/// Offers the packet in hand to two-level queues under a key and its inner key.
-fn offer_within(queues: &mut HierQueues<HeldPacket>, key: u32, hand: &mut Option<Packet>) -> Answer
+/// Offers a request to two-level queues under a key and its inner key.
+fn offer_within(
+    queues: &mut HierQueues<HeldPacket>,
+    key: u32,
+    held: HeldPacket,
+) -> Offered<HeldPacket>
     requires limits { queues.old.limits.max ≡ 2048 }
-    requires held { IsSome hand.old }
-    ensures answer { (packet : PacketData) → hand.old ≡ Some packet
-        → answer_by result hand.new ≡ answer_to_offer packet_length queues.old key (inner_key_of packet) packet }
-    ensures held { AreOneAnswer result hand.new }
-    ensures left { (packet : PacketData) → hand.old ≡ Some packet
-        → queues.new ≡ left_by_offer packet_length queues.old key (inner_key_of packet) packet }
+    requires sized { (20 ≤ packet_length held) × (packet_length held ≤ 2048) }
+    ensures answer { result ≡ answer_to_offer packet_length queues.old key (inner_key_of held) held }
+    ensures left { queues.new ≡ left_by_offer packet_length queues.old key (inner_key_of held) held }
     ensures limits { queues.new.limits ≡ queues.old.limits }
-    ensures sized { (packet : PacketData) → hand.old ≡ Some packet
-        → (20 ≤ packet_length packet) × (packet_length packet ≤ 2048) }
 {
-    let held = held_in(hand);
-    let inner = inner_queue_key(&held.packet);
-    back_into(hand, queues.offer(key, inner, held))
+    let inner = inner_key_in(&held.hand);
+    queues.offer(key, inner, held)
 }
 
 /// Starts the next packet of two-level queues.
-fn start_within(queues: &mut HierQueues<HeldPacket>, hand: &mut Option<Packet>) -> Next
-    requires { hand.old ≡ None }
+fn start_within(queues: &mut HierQueues<HeldPacket>, hand: &mut Hand, stock: &mut Vec<Hand>) -> Next
+    requires empty { hand.old ≡ None }
+    requires room { length stock.old.items < vec_capacity stock.old }
     ensures value { decision_by result hand.new ≡ start_or Request (next queues.old.groups) Idle }
     ensures held { AreOneDecision result hand.new }
     ensures left { queues.new ≡ left_by_take packet_length queues.old }
+    ensures stock { length stock.new.items ≡ (if is_start (decision_by result hand.new) then length stock.old.items + 1 else length stock.old.items) }
+    ensures capacity { vec_capacity stock.new ≡ vec_capacity stock.old }
 {
-    start_held(hand, queues.take(), Class::Request)
+    start_held(hand, stock, queues.take(), Class::Request)
+}
+
+// The inner key of the request in hand.
+fn inner_key_in(hand: &Hand) -> u32
+    requires { IsSome hand.now }
+    ensures { (packet : PacketData) → hand.now ≡ Some packet → result ≡ inner_key_of packet }
+{
+    match &*hand.packet {
+        Some(packet) => inner_queue_key(packet),
+        None => unreachable!(),
+    }
 }

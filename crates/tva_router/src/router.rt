@@ -1,5 +1,6 @@
 // A router.
-ghost use Rattle.std.specs.Prelude.{◌≡◌, ◌≢◌, ◌≤◌, ◌<◌, ◌↔◌, ℕ, ◌+◌, ◌*◌, max, nat_le, true, false, List, [], ◌++◌, Some, None, IfOk, All, Contains, map};
+ghost use Rattle.std.specs.Prelude.{◌≡◌, ◌≢◌, ◌≤◌, ◌<◌, ◌↔◌, ℕ, ◌+◌, ◌*◌, max, nat_le, true, false, List, [], ◌++◌, Some, None, IsSome, IfOk, All, Contains, map};
+ghost use Rattle.tva_base.specs.declared.plan.RouterPlan.{RouterPlan};
 ghost use Rattle.tva_base.specs.Changes.{changed_plan};
 ghost use Rattle.tva_base.specs.Plan.{AreRising, IsRouterPlan, AreLinkLimits, links_of};
 ghost use Rattle.tva_shim.specs.Packets.{PacketData, packet_length};
@@ -12,8 +13,8 @@ ghost use Rattle.tva_port.specs.Hand.{AreOneDecision, decision_by};
 ghost use Rattle.tva_port.specs.declared.decision.Decision.TheVariants.{Start, WaitUntil, Idle};
 ghost use Rattle.tva_router.specs.Handling.{PortLogs, outgoing_link, arrival, stopped, handle};
 ghost use Rattle.tva_router.specs.Routes.{rerouted};
-ghost use Rattle.tva_router.specs.Stands.{StandsFor, StandForLogs, free_of, started_on, ◌with◌};
-ghost use Rattle.tva_router.specs.Steps.{ArePorts};
+ghost use Rattle.tva_router.specs.Stands.{StandsFor, StandForLogs, free_of, router_data, started_on, ◌with◌};
+ghost use Rattle.tva_router.specs.Steps.{ArePorts, IsSound};
 
 use crate::finding::{Ways, ways_of};
 use crate::guard::Guard;
@@ -25,7 +26,7 @@ use std::marker::Model;
 use tva_base::{
     Class, DropCause, Fate, LinkLimits, Listed, Name, Outcome, Prefix, RouterPlan, Time,
 };
-use tva_port::{Decision, Next, Port, decision_by};
+use tva_port::{Decision, Hand, Next, Port, decision_by};
 use tva_shim::{HOPS_MAX, Packet, class_of, length};
 
 /// What a router keeps: the plan by which it was built and the plan in force, its last time, what it
@@ -40,6 +41,7 @@ pub struct Router {
     guard: Guard,
     ways: Ways,
     ports: Vec<Port>,
+    blank: Hand,
 }
 
 impl Model for Router {
@@ -73,6 +75,7 @@ impl Router {
             guard: Guard::build(alloc, plan)?,
             ways: ways_of(alloc, plan)?,
             ports: ports_of(alloc, plan.outgoing.as_slice())?,
+            blank: Hand::new(alloc)?,
         })
     }
 
@@ -111,34 +114,44 @@ impl Router {
         ensures same { self.new.plan ≡ self.old.plan }
     {
         self.last = now.0;
-        if at_hop_limit(&packet) {
-            return stopped(&packet);
-        }
-        let arrival = arrival_of(now, from, &packet);
-        let mut hand = Some(packet);
-        let Some(packet) = &mut hand else {
-            unreachable!()
-        };
-        let Judgement {
-            class,
-            cause,
-            charge,
-        } = self.guard.judge(&self.plan, &arrival, &mut packet.carried);
-        packet.hops += 1;
-        let outcome = send(
+        self.blank.put(packet);
+        arrive_in(
             &self.plan,
             &self.ways,
+            &mut self.guard,
             &mut self.ports,
             now,
-            class,
-            &mut hand,
-        );
-        Fate {
-            class,
-            cause,
-            charge,
-            outcome,
-        }
+            from,
+            &mut self.blank,
+        )
+    }
+
+    /// The same of a packet in the caller's hand, so that it isn't moved from call to call. No clause says what the
+    /// hand holds then: whoever uses it again clears it.
+    #[inline(always)]
+    pub fn arrive_from(&mut self, now: Time, from: Option<u16>, hand: &mut Hand) -> Fate
+        requires time { self.old.last ≤ now.0 }
+        requires horizon { now.0 ≤ 1000000000000000 }
+        requires held { IsSome hand.old }
+        ensures fate { (h : List Charge) (logs : PortLogs) (packet : PacketData) → StandsFor self.old h logs
+            → hand.old ≡ Some packet → result ≡ (handle self.old.plan h logs now.0 from packet).fate }
+        ensures stands { (h : List Charge) (logs : PortLogs) (packet : PacketData) → StandsFor self.old h logs
+            → hand.old ≡ Some packet → StandsFor self.new (h ++ (handle self.old.plan h logs now.0 from packet).charges)
+            (logs with (handle self.old.plan h logs now.0 from packet).queued) }
+        ensures last { self.new.last ≡ now.0 }
+        ensures built { self.new.built ≡ self.old.built }
+        ensures same { self.new.plan ≡ self.old.plan }
+    {
+        self.last = now.0;
+        arrive_in(
+            &self.plan,
+            &self.ways,
+            &mut self.guard,
+            &mut self.ports,
+            now,
+            from,
+            hand,
+        )
     }
 
     /// What an outgoing link does that is free. Times are in nanoseconds and never fall. The decision
@@ -195,15 +208,23 @@ impl Router {
         ensures built { self.new.built ≡ self.old.built }
         ensures same { self.new.plan ≡ self.old.plan }
     {
-        let mut hand = None;
-        let next = self.decide_into(now, link, &mut hand);
-        decision_by(next, hand)
+        self.last = now.0;
+        self.blank.clear();
+        let next = decide_on(
+            &self.plan,
+            &self.ways,
+            &mut self.ports,
+            now,
+            link,
+            &mut self.blank,
+        );
+        decision_by(next, self.blank.take())
     }
 
     /// The same where a packet that starts is put into the caller's hand, which is empty. So it isn't moved
     /// from call to call.
     #[inline(always)]
-    pub fn decide_into(&mut self, now: Time, link: u16, hand: &mut Option<Packet>) -> Next
+    pub fn decide_into(&mut self, now: Time, link: u16, hand: &mut Hand) -> Next
         requires time { self.old.last ≤ now.0 }
         requires horizon { now.0 ≤ 1000000000000000 }
         requires outgoing { outgoing_link self.old.plan link ≢ None }
@@ -282,6 +303,57 @@ impl Router {
             → (now : ℕ) → self.now.last ≤ now → living_count h now ≤ self.now.plan.slots }
     {
         self.guard.cache.slots()
+    }
+}
+
+// What becomes of the packet in hand, on the parts of a router.
+#[inline(always)]
+fn arrive_in(
+    plan: &RouterPlan,
+    ways: &Ways,
+    guard: &mut Guard,
+    ports: &mut Vec<Port>,
+    now: Time,
+    from: Option<u16>,
+    hand: &mut Hand,
+) -> Fate
+    requires sound { (built : RouterPlan) × (last : ℕ) × (last ≤ now.0) × IsSound built plan.now last guard.old ways.now ports.old.items }
+    requires horizon { now.0 ≤ 1000000000000000 }
+    requires held { IsSome hand.old }
+    ensures sound { (built : RouterPlan) (last : ℕ) → last ≤ now.0
+        → IsSound built plan.now last guard.old ways.now ports.old.items
+        → IsSound built plan.now now.0 guard.new ways.now ports.new.items }
+    ensures fate { (built : RouterPlan) (last : ℕ) (h : List Charge) (logs : PortLogs) (packet : PacketData) → last ≤ now.0
+        → IsSound built plan.now last guard.old ways.now ports.old.items
+        → StandsFor (router_data built plan.now last guard.old.minter guard.old.cache ports.old.items) h logs
+        → hand.old ≡ Some packet → result ≡ (handle plan.now h logs now.0 from packet).fate }
+    ensures stands { (built : RouterPlan) (last : ℕ) (h : List Charge) (logs : PortLogs) (packet : PacketData) → last ≤ now.0
+        → IsSound built plan.now last guard.old ways.now ports.old.items
+        → StandsFor (router_data built plan.now last guard.old.minter guard.old.cache ports.old.items) h logs
+        → hand.old ≡ Some packet
+        → StandsFor (router_data built plan.now now.0 guard.new.minter guard.new.cache ports.new.items)
+        (h ++ (handle plan.now h logs now.0 from packet).charges)
+        (logs with (handle plan.now h logs now.0 from packet).queued) }
+{
+    let Some(packet) = &mut *hand.packet else {
+        unreachable!()
+    };
+    if at_hop_limit(packet) {
+        return stopped(packet);
+    }
+    let arrival = arrival_of(now, from, packet);
+    let Judgement {
+        class,
+        cause,
+        charge,
+    } = guard.judge(plan, &arrival, &mut packet.carried);
+    packet.hops += 1;
+    let outcome = send(plan, ways, ports, now, class, hand);
+    Fate {
+        class,
+        cause,
+        charge,
+        outcome,
     }
 }
 

@@ -14,8 +14,7 @@ use crate::finding::Ways;
 use crate::places::place_of;
 use crate::routes::link_to;
 use tva_base::{Class, DropCause, Outcome, RouterPlan, Time};
-use tva_port::{Answer, Next, Port, destination_in, key_in};
-use tva_shim::Packet;
+use tva_port::{Answer, Hand, Next, Port, destination_in, key_in};
 
 /// Queues the packet in hand at the port of the link that leads to its destination.
 #[inline(always)]
@@ -25,7 +24,7 @@ pub(crate) fn send(
     ports: &mut Vec<Port>,
     now: Time,
     class: Class,
-    hand: &mut Option<Packet>,
+    hand: &mut Hand,
 ) -> Outcome
     requires plan { IsRouterPlan plan.now }
     requires ways { AreWays plan.now ways.now }
@@ -55,7 +54,7 @@ pub(crate) fn decide_on(
     ports: &mut Vec<Port>,
     now: Time,
     link: u16,
-    hand: &mut Option<Packet>,
+    hand: &mut Hand,
 ) -> Next
     requires plan { IsRouterPlan plan.now }
     requires ways { AreWays plan.now ways.now }
@@ -105,7 +104,7 @@ fn queue_at(
     link: u16,
     now: Time,
     class: Class,
-    hand: &mut Option<Packet>,
+    hand: &mut Hand,
 ) -> Outcome
     requires plan { IsRouterPlan plan.now }
     requires place { position (λ o. o.0 == link) plan.now.outgoing ≡ Some place }

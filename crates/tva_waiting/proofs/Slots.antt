@@ -1,9 +1,11 @@
 -- Inputs that wait: by what their turns say, or at places.
-use Rattle.std.proofs.Common.{◌≡◌, ℕ, List, [], ◌∷◌, set, Option, Some, None, refl, sym, subst, ◌∙◌, ap, ap₂, inl, inr}
-use Rattle.std.specs.Prelude.{nat_lt, ◌==◌, ◌||◌, ◌&&◌}
+use Rattle.std.proofs.Common.{◌≡◌, ℕ, List, [], ◌∷◌, set, Option, Some, None, append-nil, add-one, refl, sym, subst, ◌∙◌, ap, ap₂, inl, inr}
+use Rattle.std.specs.Prelude.{nat_lt, ◌==◌, ◌||◌, ◌&&◌, ◌+◌}
 use Rattle.std.specs.List.{AllByRecursion, cons_option}
 use Rattle.std.proofs.lemmas.Bool.{cases_Bool, cond-true, cond-false}
 use Rattle.std.proofs.lemmas.List.{get_or-set_other, get_or-set_same}
+use Rattle.tva_trace.specs.declared.brief.BriefWhat.{BriefWhat}
+use Rattle.tva_trace.specs.declared.rows.Row.{Row}
 use Rattle.tva_trace.specs.declared.rows.RowWhat.{RowWhat}
 use Rattle.tva_trace.specs.Brief.{Grows, IsWhatHeld, what_in}
 use Rattle.tva_trace.proofs.Packing.{held-grown, what-grown}
@@ -12,13 +14,15 @@ use Rattle.tva_log.proofs.Joins.{each-weaker}
 use Rattle.tva_log.proofs.Putting.{each-both, each-put_in, in_order-put_in}
 use Rattle.tva_log.specs.declared.kinds.Input.{Input}
 use Rattle.tva_log.specs.declared.kinds.Input.TheVariants.{FromTrace}
+use Rattle.tva_log.specs.declared.kinds.Sending.{Sending}
 use Rattle.tva_log.specs.Entries.{input_source, input_time}
+use Rattle.tva_waiting.specs.Inputs.{arrived}
 use Rattle.tva_waiting.specs.declared.waiting.Slot.{Slot}
 use Rattle.tva_waiting.specs.declared.waiting.Slot.TheVariants.{Free, Held}
 use Rattle.tva_waiting.specs.declared.waiting.Turn.{Turn}
 use Rattle.tva_waiting.specs.declared.waiting.TurnWhat.{TurnWhat}
 use Rattle.tva_waiting.specs.declared.waiting.TurnWhat.TheVariants as says
-use Rattle.tva_waiting.specs.Waiting.{AreApart, AreWaiting, CanWait, IsApart, IsFreeAt, IsFreeFor, IsRowHeld, IsTurnIn, at_place, in_slot, input_of, inputs_in, place_of, put_at, turn_input, turn_source, turn_time}
+use Rattle.tva_waiting.specs.Waiting.{AreApart, AreWaiting, CanWait, IsApart, IsFreeAt, IsRowHeld, IsTurnIn, at_place, in_slot, input_of, inputs_in, place_of, put_at, turn_input, turn_source, turn_time}
 
 none_some : (o : Option Input) (i : Input) → o ≡ None → o ≡ Some i → ⊥
 none_some None i e f = absurd (cc)
@@ -90,9 +94,10 @@ all_elsewhere rows slots what slot ts h k =
 -- ## one more
 
 -- what is written where the turn says is its input
-input_there : (rows : List ℕ) (slots : List Slot) (input : Input) (what : TurnWhat) → CanWait rows slots input what → input_of rows (put_at (place_of what) (Held input) slots) (input_time input) what ≡ Some input
-input_there rows slots input (says.Held source place) can = ap in_slot (get_or-set_same slots place (Held input) (Free None) can.says.within)
-input_there rows slots input (says.Row node brief) can = can.says
+input_there : (rows : List ℕ) (slots : List Slot) (input : Input) (what : TurnWhat) (slot : Slot) → ((place : ℕ) → place_of what ≡ Some place → in_slot slot ≡ Some input) → CanWait rows slots input what
+    → input_of rows (put_at (place_of what) slot slots) (input_time input) what ≡ Some input
+input_there rows slots input (says.Held source place) slot e can = ap in_slot (get_or-set_same slots place slot (Free None) can.says.within) ∙ e place refl
+input_there rows slots input (says.Row node brief) slot e can = can.says
 
 some_place : (a b : ℕ) → Some a ≡ Some b → a ≡ b
 some_place a b e = cc
@@ -106,10 +111,6 @@ input_at rows slots time (says.Row node brief) place e = absurd (cc)
 free_there : (rows : List ℕ) (slots : List Slot) (input : Input) (what : TurnWhat) → CanWait rows slots input what → (place : ℕ) → place_of what ≡ Some place → IsFreeAt slots place
 free_there rows slots input (says.Held source q) can place e = subst (IsFreeAt slots) (some_place q place e) can.says
 free_there rows slots input (says.Row node brief) can place e = absurd (cc)
-
-pub free_for : (rows : List ℕ) (slots : List Slot) (input : Input) (what : TurnWhat) → CanWait rows slots input what → IsFreeFor slots what
-free_for rows slots input (says.Held source place) can = can.says
-free_for rows slots input (says.Row node brief) can = tt
 
 -- no turn says a place that is free
 apart_from : (rows : List ℕ) (slots : List Slot) (input : Input) (what : TurnWhat) (t : Turn) → CanWait rows slots input what → IsTurnIn rows slots t → IsApart what t.what
@@ -145,9 +146,9 @@ apart_put turn (u ∷ us) h a = elim (cases_Bool (precedes turn_time turn_source
       (each-put_in turn_time turn_source (λ t. IsApart u.what t.what) turn us (λ place e f. h.0 place f e) a.0, apart_put turn us h.1 a.1)
 ]
 
-module _ (rows : List ℕ) (slots : List Slot) (ts : List Turn) (input : Input) (what : TurnWhat) (can : CanWait rows slots input what) (w : AreWaiting rows slots ts) where
+module _ (rows : List ℕ) (slots : List Slot) (ts : List Turn) (input : Input) (what : TurnWhat) (slot : Slot) (e : (place : ℕ) → place_of what ≡ Some place → in_slot slot ≡ Some input) (can : CanWait rows slots input what) (w : AreWaiting rows slots ts) where
   abbrev after : List Slot
-  after = put_at (place_of what) (Held input) slots
+  after = put_at (place_of what) slot slots
 
   abbrev turn : Turn
   turn = record { time = input_time input; what = what }
@@ -157,19 +158,58 @@ module _ (rows : List ℕ) (slots : List Slot) (ts : List Turn) (input : Input) 
   elsewhere = each-weaker (IsTurnIn rows slots) (λ t. IsApart what t.what) (λ t k. apart_from rows slots input what t can k) ts w.each
 
   as_before : AllByRecursion (StaysSame rows slots rows after) ts
-  as_before = all_elsewhere rows slots what (Held input) ts elsewhere w.each
+  as_before = all_elsewhere rows slots what slot ts elsewhere w.each
 
   pub waiting_put : AreWaiting rows after (put_in turn_time turn_source turn ts)
   waiting_put = record {
     in_order = in_order-put_in turn_time turn_source turn ts w.in_order;
-    each = each-put_in turn_time turn_source (IsTurnIn rows after) turn ts (record { input = input; is = input_there rows slots input what can; time = refl; source = can.source; held = can.held }) (each_same rows slots rows after ts as_before w.each);
+    each = each-put_in turn_time turn_source (IsTurnIn rows after) turn ts (record { input = input; is = input_there rows slots input what slot e can; time = refl; source = can.source; held = can.held }) (each_same rows slots rows after ts as_before w.each);
     apart = apart_put turn ts elsewhere w.apart;
   }
 
   pub inputs_put : inputs_in rows after (put_in turn_time turn_source turn ts) ≡ put_in input_time input_source input (inputs_in rows slots ts)
   inputs_put =
-      put_inputs rows after turn input ts (input_there rows slots input what can) refl can.source (each_same rows slots rows after ts as_before w.each)
+      put_inputs rows after turn input ts (input_there rows slots input what slot e can) refl can.source (each_same rows slots rows after ts as_before w.each)
       ∙ ap (put_in input_time input_source input) (same_inputs rows slots rows after ts as_before)
+
+-- ## a row
+
+can_row : (rows : List ℕ) (slots : List Slot) (row : Row) (brief : BriefWhat) → IsWhatHeld rows brief → what_in rows brief ≡ row.what → CanWait rows slots (FromTrace row) (says.Row row.node brief)
+can_row rows slots row brief h e = record { source = refl; held = h; says = ap (λ (w : RowWhat). Some (FromTrace (record { time = row.time; node = row.node; what = w }))) e }
+
+module _ (old new : List ℕ) (g : Grows old new) (slots : List Slot) (ts : List Turn) (w : AreWaiting old slots ts) (row : Row) (brief : BriefWhat) (h : IsWhatHeld new brief) (e : what_in new brief ≡ row.what) where
+  abbrev pub row_turn : Turn
+  row_turn = record { time = row.time.0; what = says.Row row.node brief }
+
+  pub row_waiting : AreWaiting new slots (put_in turn_time turn_source row_turn ts)
+  row_waiting =
+      waiting_put new slots ts (FromTrace row) (says.Row row.node brief) (Free None) (λ place f. absurd (cc)) (can_row new slots row brief h e) (waiting_same old new g slots slots (λ p. refl) ts w)
+
+  pub row_inputs : inputs_in new slots (put_in turn_time turn_source row_turn ts) ≡ put_in input_time input_source (FromTrace row) (inputs_in old slots ts)
+  row_inputs =
+      inputs_put new slots ts (FromTrace row) (says.Row row.node brief) (Free None) (λ place f. absurd (cc)) (can_row new slots row brief h e) (waiting_same old new g slots slots (λ p. refl) ts w)
+      ∙ ap (put_in input_time input_source (FromTrace row)) (inputs_same old new g slots slots (λ p. refl) ts w)
+
+-- ## a packet that arrives
+
+pub same_rows : (rows : List ℕ) → Grows rows rows
+same_rows rows = ([], sym (append-nil rows))
+
+can_flight : (rows : List ℕ) (slots : List Slot) (sent : Sending) (place : ℕ) → IsFreeAt slots place → CanWait rows slots (arrived sent) (says.Held (sent.link + 1) place)
+can_flight rows slots sent place free = record { source = add-one sent.link; held = tt; says = free }
+
+module _ (rows : List ℕ) (a b : List Slot) (e : (p : ℕ) → at_place b p ≡ at_place a p) (ts : List Turn) (w : AreWaiting rows a ts) (sent : Sending) (place : ℕ) (free : IsFreeAt b place) where
+  abbrev pub flight_turn : Turn
+  flight_turn = record { time = sent.arrive.0; what = says.Held (sent.link + 1) place }
+
+  pub flight_waiting : AreWaiting rows (put_at (Some place) (Held sent) b) (put_in turn_time turn_source flight_turn ts)
+  flight_waiting =
+      waiting_put rows b ts (arrived sent) (says.Held (sent.link + 1) place) (Held sent) (λ p f. refl) (can_flight rows b sent place free) (waiting_same rows rows (same_rows rows) a b e ts w)
+
+  pub flight_inputs : inputs_in rows (put_at (Some place) (Held sent) b) (put_in turn_time turn_source flight_turn ts) ≡ put_in input_time input_source (arrived sent) (inputs_in rows a ts)
+  flight_inputs =
+      inputs_put rows b ts (arrived sent) (says.Held (sent.link + 1) place) (Held sent) (λ p f. refl) (can_flight rows b sent place free) (waiting_same rows rows (same_rows rows) a b e ts w)
+      ∙ ap (put_in input_time input_source (arrived sent)) (inputs_same rows rows (same_rows rows) a b e ts w)
 
 -- ## the first
 
@@ -191,3 +231,16 @@ module _ (rows : List ℕ) (slots : List Slot) (turn : Turn) (ts : List Turn) (n
   inputs_take input e =
       ap (λ (o : Option Input). cons_option o (inputs_in rows slots ts)) e
       ∙ ap (λ (is : List Input). input ∷ is) (sym (same_inputs rows slots rows left ts as_left))
+
+-- ## the first, where it is a packet that arrives
+
+pub flight_rest : (rows : List ℕ) (slots : List Slot) (turn : Turn) (ts : List Turn) (next : Option ℕ) (source place : ℕ) → turn.what ≡ says.Held source place → AreWaiting rows slots (turn ∷ ts)
+    → AreWaiting rows (put_at (Some place) (Free next) slots) ts
+flight_rest rows slots turn ts next source place e w =
+    subst (λ (what : TurnWhat). AreWaiting rows (put_at (place_of what) (Free next) slots) ts) e (waiting_take rows slots turn ts next w)
+
+pub flight_taken : (rows : List ℕ) (slots : List Slot) (turn : Turn) (ts : List Turn) (next : Option ℕ) (source place : ℕ) (sent : Sending) → turn.what ≡ says.Held source place → AreWaiting rows slots (turn ∷ ts)
+    → at_place slots place ≡ Some (arrived sent) → inputs_in rows slots (turn ∷ ts) ≡ arrived sent ∷ inputs_in rows (put_at (Some place) (Free next) slots) ts
+flight_taken rows slots turn ts next source place sent e w f =
+    subst (λ (what : TurnWhat). inputs_in rows slots (turn ∷ ts) ≡ arrived sent ∷ inputs_in rows (put_at (place_of what) (Free next) slots) ts) e
+    (inputs_take rows slots turn ts next w (arrived sent) (ap (input_of rows slots turn.time) e ∙ f))

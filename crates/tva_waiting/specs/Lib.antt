@@ -1,2 +1,4 @@
 pub mod Inputs
+pub mod Flights
+pub mod Noted
 pub mod Waiting

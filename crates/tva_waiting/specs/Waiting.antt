@@ -1,6 +1,6 @@
 -- Kit: how inputs wait that are not taken yet: each has a turn in a list, which says all of a row in brief, or where a
 -- packet is held.
-use Rattle.std.specs.Prelude.{◌≡◌, ℕ, ◌<◌, List, [], ◌∷◌, length, Option, Some, None, MatchOption, get_or, slice_set}
+use Rattle.std.specs.Prelude.{◌≡◌, ℕ, ◌<◌, List, [], ◌∷◌, length, Bool, true, false, Option, Some, None, MatchOption, get_or, slice_set}
 use Rattle.std.specs.List.{AllByRecursion, cons_option}
 use Rattle.std.specs.Option.{option_map_or}
 use Rattle.tva_trace.specs.Brief.{IsWhatHeld, what_in}
@@ -8,6 +8,7 @@ use Rattle.tva_log.specs.Joins.{IsInOrder}
 use Rattle.tva_log.specs.declared.kinds.Input.{Input}
 use Rattle.tva_log.specs.declared.kinds.Input.TheVariants.{FromTrace}
 use Rattle.tva_log.specs.Entries.{input_source, input_time}
+use Rattle.tva_waiting.specs.Inputs.{arrived}
 use Rattle.tva_waiting.specs.declared.waiting.Slot.{Slot}
 use Rattle.tva_waiting.specs.declared.waiting.Slot.TheVariants.{Free, Held}
 use Rattle.tva_waiting.specs.declared.waiting.Turn.{Turn}
@@ -19,7 +20,7 @@ use Rattle.tva_waiting.specs.declared.waiting.TurnWhat.TheVariants as says
 -- what a slot holds
 abbrev pub in_slot : Slot → Option Input
 in_slot (Free next) = None
-in_slot (Held input) = Some input
+in_slot (Held flight) = Some (arrived flight)
 
 -- what is held at a place
 abbrev pub at_place : List Slot → ℕ → Option Input
@@ -42,14 +43,15 @@ abbrev pub place_of : TurnWhat → Option ℕ
 place_of (says.Held source place) = Some place
 place_of (says.Row node brief) = None
 
--- the place that a turn says, if any, is free
-abbrev pub IsFreeFor : List Slot → TurnWhat → Type 0
-IsFreeFor slots what = MatchOption (place_of what) (Unit {0}) (IsFreeAt slots)
-
 -- the source of a turn: a row's is the trace
 abbrev pub source_of : TurnWhat → ℕ
 source_of (says.Held source place) = source
 source_of (says.Row node brief) = 0
+
+-- a turn says a row
+abbrev pub is_said : TurnWhat → Bool
+is_said (says.Held source place) = false
+is_said (says.Row node brief) = true
 
 abbrev pub turn_time : Turn → ℕ
 turn_time turn = turn.time

@@ -1,21 +1,22 @@
 // The inputs of a node that are not taken yet, in the order of their taking.
-ghost use Rattle.std.specs.Prelude.{◌≡◌, ◌≢◌, ◌≤◌, ◌<◌, ◌∷◌, ◌++◌, ℕ, List, [], Some, get_or, length, insert, true, IfOk, IfSome, IsSome, OnOk, OnErr};
+ghost use Rattle.std.specs.Prelude.{◌≡◌, ◌≢◌, ◌≤◌, ◌<◌, ◌+◌, ◌∷◌, ◌++◌, ℕ, [], Some, get_or, length, insert, true, false, IfOk, IsSome, OnOk, OnErr};
+ghost use Rattle.std.specs.VecDeque.{deque_capacity, deque_len};
 ghost use Rattle.tva_waiting.specs.declared.waiting.Turn.{Turn};
 ghost use Rattle.tva_log.specs.Joins.{IsInOrder, precedes, put_in};
 ghost use Rattle.tva_log.specs.Entries.{input_source, input_time};
-ghost use Rattle.tva_waiting.specs.Inputs.{HoldsInputs, first_time};
-ghost use Rattle.tva_waiting.specs.Waiting.{CanWait, IsFreeAt, IsFreeFor, IsRowHeld, at_place, input_of, place_of, put_at, turn_source, turn_time};
-ghost use Rattle.tva_trace.specs.Brief.{Grows};
+ghost use Rattle.tva_log.specs.declared.kinds.Input.TheVariants.{FromTrace};
+ghost use Rattle.tva_waiting.specs.Inputs.{HoldsInputs, arrived, first_time, is_row_first};
+ghost use Rattle.tva_waiting.specs.Waiting.{IsFreeAt, at_place, is_said, put_at, turn_source, turn_time};
 
-use crate::memory::{Memory, note_input};
+use crate::flights::Flight;
+use crate::inbox::Inbox;
+use crate::memory::Memory;
 use std::alloc::{AllocError, Global};
 use std::collections::VecDeque;
 use std::marker::Model;
 use std::mem;
 use std::mem::size_of;
 use tva_base::Time;
-use tva_log::Input;
-use tva_past::Kept;
 use tva_trace::{BriefWhat, Row, brief_of, what_from};
 
 // So many places are worth giving back.
@@ -30,7 +31,7 @@ pub(crate) struct Turn {
 
 /// What a turn says: of a packet that arrives its source, which is one more than the link's number, and the
 /// place at which it is held; of a row its node and what it asks, in brief. Rows are the most that wait, and
-/// are short; a packet that is held is large.
+/// are short.
 #[derive(Clone, Copy)]
 pub(crate) enum TurnWhat {
     Held { source: u32, place: usize },
@@ -40,11 +41,11 @@ pub(crate) enum TurnWhat {
 // A million turns take 32 MB.
 const _: () = prove!(size_of::<Turn>() <= 32);
 
-/// A place: free, with the one that is free besides, or with an input.
+/// A place: free, with the one that is free besides, or with a packet that arrives.
 #[derive(Drop)]
 pub(crate) enum Slot {
     Free(Option<usize>),
-    Held(Input),
+    Held(Flight),
 }
 
 /// Inputs by time, and at one time by source. A row stands in its turn, and the layout of its shim behind
@@ -90,31 +91,58 @@ impl Waiting {
         self.turns.reserve(count)
     }
 
-    /// Puts one more at its place, behind all that it need not stand before, and notes it behind all in the
-    /// inbox. The error is want of memory, and changes nothing.
-    pub fn put(
-        &mut self,
-        input: Input,
-        inbox: &mut Kept<Input>,
-        keeps: Memory,
-    ) -> Result<(), AllocError>
+    /// Puts a row at its place, behind all that it need not stand before, and notes it behind all in the inbox.
+    /// The error is want of memory, and changes nothing.
+    pub fn put_row(&mut self, row: &Row, inbox: &mut Inbox, keeps: Memory) -> Result<(), AllocError>
         requires { HoldsInputs keeps inbox.old }
-        ensures put { OnOk result (self.new ≡ put_in input_time input_source input self.old) }
-        ensures noted { OnOk result (inbox.new.all ≡ inbox.old.all ++ input ∷ []) }
+        ensures put { OnOk result (self.new ≡ put_in input_time input_source (FromTrace row.now) self.old) }
+        ensures noted { OnOk result (inbox.new.all ≡ inbox.old.all ++ FromTrace row.now ∷ []) }
         ensures held { HoldsInputs keeps inbox.new }
         ensures err { OnErr result ((self.new ≡ self.old) × (inbox.new ≡ inbox.old)) }
     {
         self.give_back();
-        let what = said_or_held(&mut self.layouts, &mut self.slots, self.free, &input)?;
+        let what = brief_of(&mut self.layouts, &row.what)?;
         self.turns.reserve(1)?;
-        note_input(inbox, keeps, &input)?;
+        inbox.note_row(keeps, row)?;
         let turn = Turn {
-            time: time_of(&input),
-            what,
+            time: row.time.0,
+            what: TurnWhat::Row {
+                node: row.node,
+                what,
+            },
         };
-        let at = place_for(&self.turns, &turn);
-        self.turns.insert(at, turn)?;
-        hold(&mut self.slots, &mut self.free, what, input);
+        put_turn(&mut self.turns, turn);
+        Ok(())
+    }
+
+    /// Puts a packet that arrives at its place, behind all that it need not stand before, and notes it behind all
+    /// in the inbox. The error is want of memory, and changes nothing.
+    #[inline(always)]
+    pub fn put_flight(
+        &mut self,
+        flight: Flight,
+        inbox: &mut Inbox,
+        keeps: Memory,
+    ) -> Result<(), AllocError>
+        requires { HoldsInputs keeps inbox.old }
+        ensures put { OnOk result (self.new ≡ put_in input_time input_source (arrived flight) self.old) }
+        ensures noted { OnOk result (inbox.new.all ≡ inbox.old.all ++ arrived flight ∷ []) }
+        ensures held { HoldsInputs keeps inbox.new }
+        ensures err { OnErr result ((self.new ≡ self.old) × (inbox.new ≡ inbox.old)) }
+    {
+        self.give_back();
+        let place = free_place(&mut self.slots, self.free)?;
+        self.turns.reserve(1)?;
+        inbox.note_flight(keeps, &flight)?;
+        let turn = Turn {
+            time: flight.arrive().0,
+            what: TurnWhat::Held {
+                source: u32::from(flight.link()) + 1,
+                place,
+            },
+        };
+        put_turn(&mut self.turns, turn);
+        hold(&mut self.slots, &mut self.free, place, flight);
         Ok(())
     }
 
@@ -128,21 +156,49 @@ impl Waiting {
         }
     }
 
-    /// Takes the next one. There is one where `first_time` tells a time.
-    pub fn take(&mut self) -> Input
-        requires { self.old ≢ [] }
-        ensures { self.old ≡ result ∷ self.new }
+    /// Whether the next one is a row.
+    #[inline(always)]
+    pub fn is_row(&self) -> bool
+        ensures { result ≡ is_row_first self.now }
+    {
+        match self.turns.front() {
+            Some(turn) => is_said(turn.what),
+            None => false,
+        }
+    }
+
+    /// Takes the next one, which is a row.
+    pub fn take_row(&mut self) -> Row
+        requires { is_row_first self.old ≡ true }
+        ensures { self.old ≡ FromTrace result ∷ self.new }
     {
         let Some(turn) = self.turns.pop_front() else {
             unreachable!()
         };
-        take_said_or_held(
-            &self.layouts,
-            &mut self.slots,
-            &mut self.free,
-            turn.time,
-            turn.what,
-        )
+        let TurnWhat::Row { node, what } = turn.what else {
+            unreachable!()
+        };
+        Row {
+            time: Time(turn.time),
+            node,
+            what: what_from(self.layouts.as_slice(), what),
+        }
+    }
+
+    /// Takes the next one, which is a packet that arrives.
+    #[inline(always)]
+    pub fn take_flight(&mut self) -> Flight
+        requires waits { self.old ≢ [] }
+        requires flight { is_row_first self.old ≡ false }
+        ensures { self.old ≡ arrived result ∷ self.new }
+    {
+        let Some(turn) = self.turns.pop_front() else {
+            unreachable!()
+        };
+        let TurnWhat::Held { place, .. } = turn.what else {
+            unreachable!()
+        };
+        take_held(&mut self.slots, &mut self.free, place)
     }
 
     // Lets go of all layouts, where nothing waits, and gives back the memory of many places or layouts.
@@ -164,74 +220,47 @@ impl Waiting {
     }
 }
 
-// What the turn of an input says: a row in brief, or a place that is free.
-fn said_or_held(
-    layouts: &mut Vec<u8>,
-    slots: &mut Vec<Slot>,
-    free: Option<usize>,
-    input: &Input,
-) -> Result<TurnWhat, AllocError>
-    ensures can { IfOk result (CanWait layouts.new.items slots.new.items input.now) }
-    ensures grows { Grows layouts.old.items layouts.new.items }
-    ensures same { (place : ℕ) → at_place slots.new.items place ≡ at_place slots.old.items place }
-{
-    match input {
-        Input::FromTrace(row) => Ok(TurnWhat::Row {
-            node: row.node,
-            what: brief_of(layouts, &row.what)?,
-        }),
-        Input::Arrival { link, .. } => Ok(TurnWhat::Held {
-            source: u32::from(*link) + 1,
-            place: free_place(slots, free)?,
-        }),
-    }
-}
-
-// Holds an input at its place, if its turn says one, which is free.
-fn hold(slots: &mut Vec<Slot>, free: &mut Option<usize>, what: TurnWhat, input: Input)
-    requires { IsFreeFor slots.old.items what }
-    ensures { slots.new.items ≡ put_at (place_of what) (Slot.Held input) slots.old.items }
-{
-    if let TurnWhat::Held { place, .. } = what {
-        *free = next_free(&slots[place]);
-        slots[place] = Slot::Held(input);
-    }
-}
-
-// Takes the input of a turn: makes the row again that the turn says in brief, or takes what is held at its
-// place, which is free then.
-fn take_said_or_held(
-    layouts: &Vec<u8>,
-    slots: &mut Vec<Slot>,
-    free: &mut Option<usize>,
-    time: u64,
-    what: TurnWhat,
-) -> Input
-    requires is { IsSome (input_of layouts.now.items slots.old.items time what) }
-    requires held { IsRowHeld layouts.now.items what }
-    ensures input { input_of layouts.now.items slots.old.items time what ≡ Some result }
-    ensures left { slots.new.items ≡ put_at (place_of what) (Slot.Free free.old) slots.old.items }
+// Whether a turn says a row.
+fn is_said(what: TurnWhat) -> bool
+    ensures { result ≡ is_said what }
 {
     match what {
-        TurnWhat::Held { place, .. } => take_held(slots, free, place),
-        TurnWhat::Row { node, what } => Input::FromTrace(Row {
-            time: Time(time),
-            node,
-            what: what_from(layouts.as_slice(), what),
-        }),
+        TurnWhat::Held { .. } => false,
+        TurnWhat::Row { .. } => true,
     }
 }
 
-// Takes an input from its place, which is free then.
-fn take_held(slots: &mut Vec<Slot>, free: &mut Option<usize>, place: usize) -> Input
+// Puts a turn at its place, where there is room.
+fn put_turn(turns: &mut VecDeque<Turn>, turn: Turn)
+    requires order { IsInOrder turn_time turn_source turns.old.items }
+    requires room { deque_len turns.old + 1 ≤ deque_capacity turns.old }
+    ensures { turns.new.items ≡ put_in turn_time turn_source turn turns.old.items }
+{
+    let at = place_for(turns, &turn);
+    let Ok(()) = turns.insert(at, turn) else {
+        unreachable!()
+    };
+}
+
+// Holds a packet at its place, which is free.
+fn hold(slots: &mut Vec<Slot>, free: &mut Option<usize>, place: usize, flight: Flight)
+    requires { IsFreeAt slots.old.items place }
+    ensures { slots.new.items ≡ put_at (Some place) (Slot.Held flight) slots.old.items }
+{
+    *free = next_free(&slots[place]);
+    slots[place] = Slot::Held(flight);
+}
+
+// Takes a packet from its place, which is free then.
+fn take_held(slots: &mut Vec<Slot>, free: &mut Option<usize>, place: usize) -> Flight
     requires { IsSome (at_place slots.old.items place) }
-    ensures input { at_place slots.old.items place ≡ Some result }
+    ensures flight { at_place slots.old.items place ≡ Some (arrived result) }
     ensures left { slots.new.items ≡ put_at (Some place) (Slot.Free free.old) slots.old.items }
 {
     let left = Slot::Free(*free);
     *free = Some(place);
     match mem::replace(&mut slots[place], left) {
-        Slot::Held(input) => input,
+        Slot::Held(flight) => flight,
         Slot::Free(_) => unreachable!(),
     }
 }
@@ -317,15 +346,5 @@ fn source_of(turn: &Turn) -> u32
     match turn.what {
         TurnWhat::Held { source, .. } => source,
         TurnWhat::Row { .. } => 0,
-    }
-}
-
-// When an input comes, in nanoseconds.
-fn time_of(input: &Input) -> u64
-    ensures { result ≡ input_time input.now }
-{
-    match input {
-        Input::FromTrace(row) => row.time.0,
-        Input::Arrival { time, .. } => time.0,
     }
 }

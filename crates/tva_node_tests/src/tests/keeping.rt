@@ -8,14 +8,13 @@ use super::playing::{Case, HostAt, give};
 use std::alloc::{AllocError, Global};
 use std::process::Abort;
 use tva_base::{Event, Time};
-use tva_log::Sending;
-use tva_node::{Memory, Node};
+use tva_node::{Flight, Memory, Node};
 
 // What happened in a window, and what was sent.
 #[derive(Drop)]
 struct News {
     events: Vec<Event>,
-    sendings: Vec<Sending>,
+    sendings: Vec<Flight>,
 }
 
 /// Plays a case at two hosts, of which one keeps all and one that, and holds each window's news to those of
@@ -99,6 +98,7 @@ fn compare<R: Abort>(rt: &R, one: &News, other: &News) {
     assert_eq!(rt; one.events.as_slice(), other.events.as_slice());
     assert_eq!(rt; one.sendings.len(), other.sendings.len());
     for (a, b) in one.sendings.iter().zip(other.sendings.iter()) {
+        let (a, b) = (a.sending_of(), b.sending_of());
         assert_eq!(rt; a.link, b.link);
         assert_eq!(rt; a.arrive, b.arrive);
         assert_eq!(rt; a.packet.id, b.packet.id);

@@ -1,7 +1,6 @@
-use Rattle.std.proofs.Common.{◌≡◌, ◌-◌, ℕ, List, length, Some, subst, arith}
+use Rattle.std.proofs.Common.{◌≡◌, ℕ, List, length, Some, subst, arith}
 use Rattle.std.proofs.lemmas.List.{length-drop}
 use Rattle.tva_index.specs.Lowest.{IsLeastPlace}
-use Rattle.tva_index.proofs.Nodes.{least_at}
 use Rattle.tva_index.proofs.lowest.Lowest.least.Goals as goal
 
 pub returns-then-self-eq0 : goal.returns-then-self-eq0
@@ -12,6 +11,4 @@ returns-then-self-eq0 c =
 pub returns : goal.returns
 returns c =
     let a = c.self.inside in
-    let leaf = c.least_leaf-leaf in
-    subst (λ (v : List ℕ). IsLeastPlace v (Some (leaf.result - a.places))) c.self.view_is
-    (least_at a.places leaf.result (leaf.result - a.places) a.nodes.items c.self.invariant.2 c.self.invariant.0 leaf.ensures.leaf.0 leaf.ensures.leaf.1 leaf.ensures.least (omega (arith, leaf.ensures.leaf.0)))
+    subst (λ (v : List ℕ). IsLeastPlace v (Some a.first)) c.self.view_is (c.self.invariant.3 (omega arith))

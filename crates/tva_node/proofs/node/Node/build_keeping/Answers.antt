@@ -25,10 +25,10 @@ returns-clause-stands c =
       horizon = c.args.horizon.0;
       inbox = (sym c.new.ensures i).all;
       events = (sym c.new-3.ensures i).all;
-      sendings = (sym c.new-4.ensures i).all;
+      sendings = (sym c.new-4.ensures.empty.0 i);
       worked_to = 0;
-      keeps = c.args.keeps;
-      gone = record { inputs = (sym c.new.ensures i).gone; events = (sym c.new-3.ensures i).gone; sendings = (sym c.new-4.ensures i).gone };
+      keeps = sym c.new-4.ensures.keeps i;
+      gone = record { inputs = (sym c.new.ensures i).gone; events = (sym c.new-3.ensures i).gone; sendings = (sym c.new-4.ensures.empty.1 i) };
       role = role;
       links = ls;
       waiting = sym c.new-2.ensures i;

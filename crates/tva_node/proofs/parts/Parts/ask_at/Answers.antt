@@ -4,12 +4,11 @@ use Rattle.tva_shim.specs.Packets.{PacketData}
 use Rattle.tva_port.specs.declared.decision.Decision.TheVariants.{WaitUntil, Idle}
 use Rattle.tva_port.specs.declared.hand.Next.TheVariants.{Start}
 use Rattle.tva_port.specs.Hand.{decision_by}
-use Rattle.tva_port.proofs.Hands.{by_packet}
 use Rattle.tva_node.specs.Pairs.{link_pair}
 use Rattle.tva_node.specs.States.{NodeState, role_plan, site_at, state_of}
 use Rattle.tva_node.specs.Steps.{Decides}
 use Rattle.tva_node.specs.Work.{DecidesAt, end_on, start_event, start_sending}
-use Rattle.tva_node.proofs.Decides.{count_put, from_fields, gone_in, here_is, on_both, pairs_put, pairs_set, put_there, read_busy, read_fits, read_out, read_rest, read_start}
+use Rattle.tva_node.proofs.Decides.{by_packet, count_put, from_fields, gone_in, here_is, on_both, pairs_put, pairs_set, put_there, read_busy, read_fits, read_out, read_rest, read_start}
 use Rattle.tva_node.proofs.parts.Parts.ask_at.Goals as goal
 
 pub free_at-free-requires : goal.free_at-free-requires
@@ -78,7 +77,7 @@ returns-in-Start-clause-stands c = by_packet c.decide.new.hand c.in-Start.ensure
     (omega (arith, free, c.if-free-now.false)) decided c.in-Start.ensures.plan c.in-Start.ensures.last in
     on_both (q.log.all ≡ events) (q.outbox.all ≡ sendings) (DecidesAt (state_of q) c.args.now (c.args.place + 1)) c.note_start.result
     (λ told sent. subst (λ (v : NodeState). DecidesAt v c.args.now (c.args.place + 1))
-    (from_fields q p.number p.horizon p.worked_to c.decide.new.self _ p.inbox.all p.waiting p.keeps (gone_in p) events sendings same.3 same.4 same.5 same.0 (c.note_start.ensures.links a packet hand) (ap (λ v. v.all) same.1) same.2 told sent held.0 (λ i. record { inputs = (same.1 i).gone; events = held.1 i; sendings = held.2 i })) stands)
+    (from_fields q p.number p.horizon p.worked_to c.decide.new.self _ p.inbox.all p.waiting p.outbox.keeps (gone_in p) events sendings same.3 same.4 same.5 same.0 (c.note_start.ensures.links a packet hand) (ap (λ v. v.all) same.1) same.2 told sent held.0 (λ i. record { inputs = (same.1 i).gone; events = held.1 i; sendings = held.2 i })) stands)
     (c.note_start.ensures.log a packet hand) (c.note_start.ensures.outbox a packet hand))
 
 pub returns-in-Start-clause-count : goal.returns-in-Start-clause-count
@@ -116,21 +115,21 @@ returns-in-WaitUntil-clause-stands c =
     let a = c.at-number.result in
     let out = read_out p c.args.now c.args.place a c.at-number.ensures c.requires.within c.requires.stands in
     let free = c.free_at-free.ensures.free (site_at p) c.requires.stands.1 a.plan.limits st.site st.plan out st.role in
-    put_there p c.args.now c.args.place a c.at-number.ensures c.requires.within c.requires.stands c.put-in-WaitUntil.new.self (Some c.in-WaitUntil.time.0) c.decide.new.self (c.put-in-WaitUntil.ensures a)
+    put_there p c.args.now c.args.place a c.at-number.ensures c.requires.within c.requires.stands c.put-in-WaitUntil-2.new.self (Some c.in-WaitUntil.time.0) c.decide.new.self (c.put-in-WaitUntil-2.ensures a)
     (read_rest p c.args.now c.args.place a c.at-number.ensures c.requires.within c.requires.stands (WaitUntil c.in-WaitUntil.time) (Some c.in-WaitUntil.time.0) c.decide.new.self (get_or p.links c.args.place a)
     (here_is p c.args.now c.args.place a c.at-number.ensures c.requires.within c.requires.stands) refl
     (omega (arith, free, c.if-free-now.false))
     (c.in-WaitUntil.ensures.decides (site_at p) c.requires.stands.1 a.plan.limits st.site st.plan out st.role) refl c.in-WaitUntil.ensures.plan c.in-WaitUntil.ensures.last)
 
 pub returns-in-WaitUntil-clause-count : goal.returns-in-WaitUntil-clause-count
-returns-in-WaitUntil-clause-count c = count_put c.args.self.now.links c.put-in-WaitUntil.new.self c.args.place c.at-number.result (Some c.in-WaitUntil.time.0) (c.put-in-WaitUntil.ensures c.at-number.result)
+returns-in-WaitUntil-clause-count c = count_put c.args.self.now.links c.put-in-WaitUntil-2.new.self c.args.place c.at-number.result (Some c.in-WaitUntil.time.0) (c.put-in-WaitUntil-2.ensures c.at-number.result)
 
 pub returns-in-WaitUntil-clause-keeps : goal.returns-in-WaitUntil-clause-keeps
 returns-in-WaitUntil-clause-keeps c =
     let p = c.args.self.now in
     let a = c.at-number.result in
     record {
-      site = λ i. record { number = p.number; plan = c.in-WaitUntil.ensures.plan i; links = pairs_put p.links c.put-in-WaitUntil.new.self c.args.place a (Some c.in-WaitUntil.time.0) c.at-number.ensures c.requires.within (c.put-in-WaitUntil.ensures a) i };
+      site = λ i. record { number = p.number; plan = c.in-WaitUntil.ensures.plan i; links = pairs_put p.links c.put-in-WaitUntil-2.new.self c.args.place a (Some c.in-WaitUntil.time.0) c.at-number.ensures c.requires.within (c.put-in-WaitUntil-2.ensures a) i };
       horizon = refl;
       inbox = refl;
       events = ([], sym (append-nil p.log.all));
@@ -146,21 +145,21 @@ returns-in-Idle-clause-stands c =
     let a = c.at-number.result in
     let out = read_out p c.args.now c.args.place a c.at-number.ensures c.requires.within c.requires.stands in
     let free = c.free_at-free.ensures.free (site_at p) c.requires.stands.1 a.plan.limits st.site st.plan out st.role in
-    put_there p c.args.now c.args.place a c.at-number.ensures c.requires.within c.requires.stands c.put-in-Idle.new.self None c.decide.new.self (c.put-in-Idle.ensures a)
+    put_there p c.args.now c.args.place a c.at-number.ensures c.requires.within c.requires.stands c.put-in-Idle-2.new.self None c.decide.new.self (c.put-in-Idle-2.ensures a)
     (read_rest p c.args.now c.args.place a c.at-number.ensures c.requires.within c.requires.stands Idle None c.decide.new.self (get_or p.links c.args.place a)
     (here_is p c.args.now c.args.place a c.at-number.ensures c.requires.within c.requires.stands) refl
     (omega (arith, free, c.if-free-now.false))
     (c.in-Idle.ensures.decides (site_at p) c.requires.stands.1 a.plan.limits st.site st.plan out st.role) refl c.in-Idle.ensures.plan c.in-Idle.ensures.last)
 
 pub returns-in-Idle-clause-count : goal.returns-in-Idle-clause-count
-returns-in-Idle-clause-count c = count_put c.args.self.now.links c.put-in-Idle.new.self c.args.place c.at-number.result None (c.put-in-Idle.ensures c.at-number.result)
+returns-in-Idle-clause-count c = count_put c.args.self.now.links c.put-in-Idle-2.new.self c.args.place c.at-number.result None (c.put-in-Idle-2.ensures c.at-number.result)
 
 pub returns-in-Idle-clause-keeps : goal.returns-in-Idle-clause-keeps
 returns-in-Idle-clause-keeps c =
     let p = c.args.self.now in
     let a = c.at-number.result in
     record {
-      site = λ i. record { number = p.number; plan = c.in-Idle.ensures.plan i; links = pairs_put p.links c.put-in-Idle.new.self c.args.place a None c.at-number.ensures c.requires.within (c.put-in-Idle.ensures a) i };
+      site = λ i. record { number = p.number; plan = c.in-Idle.ensures.plan i; links = pairs_put p.links c.put-in-Idle-2.new.self c.args.place a None c.at-number.ensures c.requires.within (c.put-in-Idle-2.ensures a) i };
       horizon = refl;
       inbox = refl;
       events = ([], sym (append-nil p.log.all));

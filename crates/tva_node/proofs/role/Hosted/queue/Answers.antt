@@ -18,7 +18,7 @@ returns-clause-outcome c = λ log h.
     let waits = waiting_after limits log in
     c.outcome_of.ensures c.queue_from.new.hand c.queue_from.ensures.held
     ∙ ap (outcome_of c.args.self.now.uplink)
-    (c.queue_from.ensures.answer log packet h refl
+    (c.queue_from.ensures.answer log packet h c.put.ensures
     ∙ ap (λ k. queue_answer limits waits c.class_of-class.result k packet) c.queue_key-key.ensures
     ∙ ap (λ (x : Class). queue_answer limits waits x (key_of x packet) packet) c.class_of-class.ensures)
 
@@ -30,7 +30,7 @@ returns-clause-stands c = λ log h.
     let answer = answer_by c.queue_from.result c.queue_from.new.hand in
     let class : c.class_of-class.result ≡ class_by_shim packet.carried = c.class_of-class.ensures in
     let key : c.queue_key-key.result ≡ key_of c.class_of-class.result packet = c.queue_key-key.ensures in
-    let stands = c.queue_from.ensures.stands log packet h refl in
+    let stands = c.queue_from.ensures.stands log packet h c.put.ensures in
     let by_key : StandsFor c.queue_from.new.self (log ++ queued_by answer now c.class_of-class.result (key_of c.class_of-class.result packet) packet) =
     subst (λ k. StandsFor c.queue_from.new.self (log ++ queued_by answer now c.class_of-class.result k packet)) key stands in
     let by_class : StandsFor c.queue_from.new.self (log ++ queued_by answer now (class_by_shim packet.carried) (key_of (class_by_shim packet.carried) packet) packet) =

@@ -1,5 +1,25 @@
+use Rattle.std.proofs.Common.{ap, arith}
+use Rattle.tva_drr.specs.Queues.{Fair}
+use Rattle.tva_shim.specs.Packets.{PacketData}
+use Rattle.tva_port.specs.Lists.{LegacyData}
 use Rattle.tva_port.proofs.Steady.{misses_empty}
+use Rattle.tva_port.proofs.Stock.{stocked-empty}
 use Rattle.tva_port.proofs.port.Port.build.Goals as goal
 
 pub returns-clause-missed : goal.returns-clause-missed
 returns-clause-missed c until = misses_empty c.args.limits until
+
+pub invariant_of-result : goal.invariant_of-result
+invariant_of-result c = (
+  record {
+    limits = c.requires;
+    credit = omega (arith, c.most_credit.ensures.value);
+    soon = omega arith;
+    requests = c.in_ok-with_limits.ensures.limits;
+    regulars = ap (λ (f : Fair PacketData). f.limits) c.in_ok-with_limits-2.ensures.empty;
+    places = ap (λ (w : LegacyData). w.places) c.in_ok-with_limits-3.ensures;
+    most = ap (λ (w : LegacyData). w.most) c.in_ok-with_limits-3.ensures;
+  },
+  stocked-empty c.args.limits _ _ _ _ _ c.requires c.in_ok-with_limits.ensures.empty c.in_ok-with_limits-2.ensures.empty
+      (ap (λ (w : LegacyData). w.packets) c.in_ok-with_limits-3.ensures) c.in_ok-stock_of.ensures.count c.in_ok-stock_of.ensures.room,
+)

@@ -9,7 +9,7 @@ pub returns-clause-rate : goal.returns-clause-rate
 returns-clause-rate c log s = rate_kept c.args.self.now.limits log s.legal
 
 pub returns-clause-apart : goal.returns-clause-apart
-returns-clause-apart c log s = starts_apart c.args.self.now.limits log (subst (λ (z : PortData). AreLinkLimits z.limits) c.self.view_is c.self.invariant.limits) s.legal
+returns-clause-apart c log s = starts_apart c.args.self.now.limits log (subst (λ (z : PortData). AreLinkLimits z.limits) c.self.view_is c.self.invariant.0.limits) s.legal
 
 pub returns-clause-room : goal.returns-clause-room
-returns-clause-room c log s = stays_within c.args.self.now.limits log (subst (λ (z : PortData). AreLinkLimits z.limits) c.self.view_is c.self.invariant.limits) s.legal
+returns-clause-room c log s = stays_within c.args.self.now.limits log (subst (λ (z : PortData). AreLinkLimits z.limits) c.self.view_is c.self.invariant.0.limits) s.legal

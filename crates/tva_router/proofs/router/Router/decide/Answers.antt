@@ -1,4 +1,4 @@
-use Rattle.std.proofs.Common.{◌≡◌, ◌++◌, Some, sym, ap, ◌∙◌, subst}
+use Rattle.std.proofs.Common.{◌≡◌, ◌≤◌, ◌++◌, Some, sym, ap, ◌∙◌, subst}
 use Rattle.tva_base.specs.declared.plan.RouterPlan.{RouterPlan}
 use Rattle.tva_port.specs.declared.decision.Decision.{Decision}
 use Rattle.tva_port.specs.Log.{free_after}
@@ -8,17 +8,45 @@ use Rattle.tva_port.proofs.Resting.{first_covered}
 use Rattle.tva_port.proofs.Idling.{idles, waits_alone}
 use Rattle.tva_port.proofs.Steady.{next_sized, ends_later, steady, rests_after, misses_after}
 use Rattle.tva_router.specs.Handling.{outgoing_link}
-use Rattle.tva_router.specs.Stands.{StandsFor, started_on, ◌with◌}
+use Rattle.tva_router.specs.Stands.{RouterData, router_data, StandsFor, StandForLogs, started_on, ◌with◌}
+use Rattle.tva_port.specs.Hand.{decision_by}
+use Rattle.tva_router.proofs.Ports.{ports-later}
+use Rattle.tva_router.proofs.Answers.{guard-later}
+use Rattle.tva_router.proofs.Handled.{by-plan}
 use Rattle.tva_router.proofs.Known.{known, free_then, due_then}
 use Rattle.tva_router.proofs.router.Router.decide.Goals as goal
 
+pub decide_on-next-requires-clause-ports : goal.decide_on-next-requires-clause-ports
+decide_on-next-requires-clause-ports c =
+    ports-later c.self.inside.plan.outgoing c.self.inside.last c.args.now.0 c.self.inside.ports.items
+    (subst (λ (z : RouterData). z.last ≤ c.args.now.0) (sym c.self.view_is) c.requires.time) c.self.invariant.ports
+
 pub returns-clause-decision : goal.returns-clause-decision
-returns-clause-decision c h logs limits s f = c.decision_by.ensures ∙ c.decide_into-next.ensures.decision h logs limits s f
+returns-clause-decision c h logs limits s f =
+    c.decision_by.ensures
+    ∙ (ap (decision_by c.decide_on-next.result) c.take.ensures.packet
+    ∙ c.decide_on-next.ensures.decision logs limits (subst (λ (z : RouterData). StandForLogs z.plan.outgoing z.ports logs) (sym c.self.view_is) s.links)
+    (subst (λ (z : RouterData). outgoing_link z.plan c.args.link ≡ Some (c.args.link, limits)) (sym c.self.view_is) f))
 
 pub returns-clause-stands : goal.returns-clause-stands
 returns-clause-stands c h logs s =
-    subst (λ (d : Decision). StandsFor c.decide_into-next.new.self h (logs with started_on c.args.link d c.args.now.0)) (sym c.decision_by.ensures)
-    (c.decide_into-next.ensures.stands h logs s)
+    let stood : StandsFor (router_data c.self.inside.built c.self.inside.plan c.self.inside.last c.self.inside.guard.minter c.self.inside.guard.cache c.self.inside.ports.items) h logs =
+    subst (λ (z : RouterData). StandsFor z h logs) (sym c.self.view_is) s in
+    let le : c.self.inside.last ≤ c.args.now.0 = subst (λ (z : RouterData). z.last ≤ c.args.now.0) (sym c.self.view_is) c.requires.time in
+    record {
+      plan = by-plan c.self.inside.built c.self.inside.plan c.args.now.0 c.self.inside.guard c.self.inside.ways c.decide_on-next.new.ports.items
+          (record {
+            valid = c.self.invariant.valid;
+            in_force = c.self.invariant.in_force;
+            guard = guard-later c.self.inside.plan c.self.inside.last c.args.now.0 c.self.inside.guard le c.self.invariant.guard;
+            ways = c.self.invariant.ways;
+            ports = c.decide_on-next.ensures.ports;
+          });
+      charges = stood.charges;
+      timely = stood.timely;
+      links = subst (λ (d : Decision). StandForLogs c.self.inside.plan.outgoing c.decide_on-next.new.ports.items (logs with started_on c.args.link d c.args.now.0))
+          (sym (c.decision_by.ensures ∙ ap (decision_by c.decide_on-next.result) c.take.ensures.packet)) (c.decide_on-next.ensures.stands logs stood.links);
+    }
 
 pub returns-clause-idle : goal.returns-clause-idle
 returns-clause-idle c h logs limits s f =
@@ -54,21 +82,21 @@ pub returns-clause-rests : goal.returns-clause-rests
 returns-clause-rests c h logs limits until time s f i low high =
     let k = known c.args.self.now h logs c.args.link limits c.args.now.0 s f c.requires.time in
     let e = returns-clause-decision c h logs limits s f in
-    let due = due_then c.decide_into-next.new.self h logs c.args.link limits c.decision_by.result c.args.now.0 until
-    (returns-clause-stands c h logs s) (subst (λ (p : RouterPlan). outgoing_link p c.args.link ≡ Some (c.args.link, limits)) (sym c.decide_into-next.ensures.same) f) i in
+    let due = due_then (router_data c.self.inside.built c.self.inside.plan c.args.now.0 c.self.inside.guard.minter c.self.inside.guard.cache c.decide_on-next.new.ports.items) h logs c.args.link limits c.decision_by.result c.args.now.0 until
+    (returns-clause-stands c h logs s) (subst (λ (p : RouterPlan). outgoing_link p c.args.link ≡ Some (c.args.link, limits)) (sym (ap (λ (z : RouterData). z.plan) c.self.view_is)) f) i in
     rests_after limits (logs c.args.link) c.args.now.0 c.decision_by.result until time k.legal k.later e due low high
 
 pub returns-clause-missed : goal.returns-clause-missed
 returns-clause-missed c h logs limits until s f m i =
     let k = known c.args.self.now h logs c.args.link limits c.args.now.0 s f c.requires.time in
     let e = returns-clause-decision c h logs limits s f in
-    let due = due_then c.decide_into-next.new.self h logs c.args.link limits c.decision_by.result c.args.now.0 until
-    (returns-clause-stands c h logs s) (subst (λ (p : RouterPlan). outgoing_link p c.args.link ≡ Some (c.args.link, limits)) (sym c.decide_into-next.ensures.same) f) i in
+    let due = due_then (router_data c.self.inside.built c.self.inside.plan c.args.now.0 c.self.inside.guard.minter c.self.inside.guard.cache c.decide_on-next.new.ports.items) h logs c.args.link limits c.decision_by.result c.args.now.0 until
+    (returns-clause-stands c h logs s) (subst (λ (p : RouterPlan). outgoing_link p c.args.link ≡ Some (c.args.link, limits)) (sym (ap (λ (z : RouterData). z.plan) c.self.view_is)) f) i in
     misses_after limits (logs c.args.link) c.args.now.0 c.decision_by.result until k.legal k.later e m due
 
 pub returns-clause-occupied : goal.returns-clause-occupied
 returns-clause-occupied c h logs limits class packet s f e =
-    free_then c.decide_into-next.new.self h logs c.args.link limits c.decision_by.result c.args.now.0
-    (returns-clause-stands c h logs s) (subst (λ (p : RouterPlan). outgoing_link p c.args.link ≡ Some (c.args.link, limits)) (sym c.decide_into-next.ensures.same) f)
+    free_then (router_data c.self.inside.built c.self.inside.plan c.args.now.0 c.self.inside.guard.minter c.self.inside.guard.cache c.decide_on-next.new.ports.items) h logs c.args.link limits c.decision_by.result c.args.now.0
+    (returns-clause-stands c h logs s) (subst (λ (p : RouterPlan). outgoing_link p c.args.link ≡ Some (c.args.link, limits)) (sym (ap (λ (z : RouterData). z.plan) c.self.view_is)) f)
     ∙ ap (λ (d : Decision). free_after limits (logs c.args.link ++ started_by d c.args.now.0)) e
     ∙ free-started limits 0 (logs c.args.link) c.args.now.0 class packet

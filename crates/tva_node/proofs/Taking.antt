@@ -1,0 +1,56 @@
+-- An input that is taken, and what the node stands for then.
+use Rattle.std.proofs.Common.{◌≡◌, ℕ, ◌≤◌, ◌∷◌, [], ◌++◌, List, map, true, refl, sym, subst, ap, arith}
+use Rattle.tva_base.specs.declared.event.Event.{Event}
+use Rattle.tva_base.specs.declared.event.Happened.{Happened}
+use Rattle.tva_past.specs.Kept.{with_more}
+use Rattle.tva_log.specs.declared.kinds.Input.{Input}
+use Rattle.tva_log.specs.Entries.{Entry, input_time}
+use Rattle.tva_log.specs.Sites.{IsSite, Site, site_of}
+use Rattle.tva_node.specs.declared.links.Link.{Link}
+use Rattle.tva_node.specs.declared.parts.Parts.{Parts}
+use Rattle.tva_node.specs.declared.role.Role.{Role}
+use Rattle.tva_node.specs.Besides.{IsBy, RoleStands}
+use Rattle.tva_node.specs.Links.{asked_by}
+use Rattle.tva_node.specs.Pairs.{link_pair}
+use Rattle.tva_node.specs.States.{Fits, NodeState, role_plan, site_at, state_of}
+use Rattle.tva_node.specs.Steps.{Takes}
+use Rattle.tva_node.specs.Work.{TakesAt, is_due, queued_on}
+use Rattle.tva_node.proofs.Decides.{from_fields, gone_in}
+use Rattle.tva_node.proofs.Left.{some_due}
+use Rattle.tva_node.proofs.Waits.{asked_pairs}
+use Rattle.tva_node.proofs.Works.{next_fits, took_one}
+
+module _ (p : Parts) (now : ℕ) (input : Input) (rest : List Input) (due : is_due now p.waiting ≡ true) (st : TakesAt (state_of p) now) (first : p.waiting ≡ input ∷ rest) where
+  at_now : input_time input ≡ now
+  at_now = some_due now p.waiting input rest due first
+
+  pub take_by : IsBy (input_time input) p.role
+  take_by = subst (λ t. IsBy t p.role) (sym at_now) st.2.past
+
+  pub take_within : input_time input ≤ 1000000000000000
+  take_within = let h = st.2.horizon in let e = at_now in omega (arith, e, h.0, h.1)
+
+  pub take_fits : Fits (role_plan p.role) input
+  take_fits = subst (λ q. Fits q input) st.2.plan (next_fits (state_of p) now st.0 st.1 st.2 st.3 input rest first)
+
+  module _ (told : Happened) (role : Role)
+      (took : (site : Site) (log : List Entry) → IsSite site → site.number ≡ p.number → site.plan ≡ role_plan p.role → RoleStands site p.role log → Takes site log input told role)
+      (plan : role_plan role ≡ role_plan p.role) (last : IsBy (input_time input) role) where
+    abbrev event : Event
+    event = record { time = record { 0 = now }; node = p.number; happened = told }
+
+    abbrev asked : List Link
+    asked = map (asked_by (queued_on told) now) p.links
+
+    mid : TakesAt (record (state_of p) { site = site_of p.number (role_plan role) (map link_pair asked); links = asked; waiting = rest; role = role; events = p.log.all ++ event ∷ [] }) now
+    mid = subst (λ (w : NodeState). TakesAt w now)
+        (λ i. record (state_of p) { site = site_of p.number (sym plan i) (sym (asked_pairs (queued_on told) now p.links) i); links = asked; waiting = rest; role = role; events = p.log.all ++ event ∷ [] })
+        (took_one (state_of p) now st.0 st.1 st.2 st.3 input rest told role first at_now (took (site_at p) st.1 st.2.site refl st.2.plan st.2.role) plan (subst (λ t. IsBy t role) at_now last))
+
+    pub taken_then : (q : Parts) → q.log ≡ with_more p.log (event ∷ []) → q.links ≡ asked
+        → (q.role ≡ role) × (q.inbox ≡ p.inbox) × (q.waiting ≡ rest) × (q.number ≡ p.number) × (q.horizon ≡ p.horizon) × (q.worked_to ≡ p.worked_to) × (q.outbox ≡ p.outbox)
+        → TakesAt (state_of q) now
+    taken_then q log links s = subst (λ (w : NodeState). TakesAt w now)
+        (from_fields q p.number p.horizon p.worked_to role asked p.inbox.all rest p.outbox.keeps (gone_in p) (p.log.all ++ event ∷ []) p.outbox.all
+        s.3 s.4 s.5 s.0 links (ap (λ k. k.all) s.1) s.2 (ap (λ k. k.all) log) (ap (λ k. k.all) s.6) (ap (λ k. k.keeps) s.6)
+        (λ i. record { inputs = (s.1 i).gone; events = (log i).gone; sendings = (s.6 i).gone })) mid

@@ -1,0 +1,33 @@
+use Rattle.std.proofs.Common.{◌≡◌, ◌∙◌, Some, None, refl, sym, subst, ap}
+use Rattle.tva_base.specs.declared.packet.Time.{Time}
+use Rattle.std.specs.Option.{option_map}
+use Rattle.tva_router.specs.Boots.{charges_of_boot}
+use Rattle.tva_router.specs.Stands.{RouterData, StandsFor}
+use Rattle.tva_log.specs.declared.kinds.Input.{Input}
+use Rattle.tva_log.specs.declared.kinds.Input.TheVariants.{FromTrace, Arrival}
+use Rattle.tva_log.specs.Parts.{charges, port_logs}
+use Rattle.tva_log.specs.Contents.{arrived, packet_of_row}
+use Rattle.tva_node.specs.Steps.{RouterTook}
+use Rattle.tva_node.proofs.Roles.{ordinal_arrival, ordinal_row, router_takes}
+use Rattle.tva_node.proofs.role.Routed.take_flight.Goals as goal
+
+pub returns-clause-took : goal.returns-clause-took
+returns-clause-took c = λ log st.
+    let before = c.args.self.now in
+    let r = c.change.new.self in
+    let packet = c.args.flight.packet in
+    let time = c.arrive-time.result in
+    let link = c.link-link.result in
+    let plan = before.router.built in
+    let goes = c.change.ensures.goes in
+    let h = goes.stands log st in
+    let g = charges_of_boot r.router.built r.changes.boot (charges log) in
+    let new = c.arrive-happened.new.self in
+    let told = c.arrive-happened.result in
+    subst (λ (t : Time). RouterTook c.args.number plan log (Arrival t c.args.flight.link packet) told new) c.arrive-time.ensures
+    (subst (λ k. RouterTook c.args.number plan log (Arrival time k packet) told new) c.link-link.ensures
+    (router_takes r r new c.args.number plan log (Arrival time link packet) (Some link) packet told c.change.ensures.done h goes.same.0 refl refl refl
+    (c.arrive-happened.ensures.told g (port_logs log) packet h.router c.in_ok-hand.ensures)
+    (c.arrive-happened.ensures.stands g (port_logs log) packet h.router c.in_ok-hand.ensures)
+    c.arrive-happened.ensures.plan.1 c.arrive-happened.ensures.same.1
+    (c.arrive-happened.ensures.same.0 ∙ ordinal_arrival log time link packet (arrived plan log time.0 (Some link) packet) r.next h.next)))

@@ -1,0 +1,130 @@
+// What a node's links sent.
+ghost use Rattle.std.specs.Prelude.{◌≡◌, ◌≤◌, [], drop, length, IfOk, OnErr, OnOk};
+ghost use Rattle.tva_node.specs.Nodes.{KeepsAll};
+ghost use Rattle.tva_node.specs.Outbox.{gone_sendings, with_sent};
+
+use std::alloc::{AllocError, Global};
+use std::marker::Model;
+use tva_log::Sending;
+use tva_past::Kept;
+use tva_waiting::{Flight, Memory};
+
+/// All that a node's links sent, and what memory keeps of it: all, as it is; or what was not handed over
+/// yet, as packets on their way, which are small and move.
+#[derive(Drop)]
+pub(crate) struct Outbox {
+    keeps: Memory,
+    whole: Kept<Sending>,
+    flights: Kept<Flight>,
+}
+
+impl Model for Outbox {
+    ghost use Rattle.tva_node.specs.Outbox.{SentList, kept_of, sent_list};
+
+    ghost Value = { SentList };
+
+    ghost view = { λ b. sent_list b.keeps (kept_of b.keeps b.whole b.flights) };
+}
+
+impl Outbox {
+    /// Nothing was sent.
+    pub fn new(alloc: Global, keeps: Memory) -> Outbox
+        ensures keeps { result.keeps ≡ keeps }
+        ensures empty { (result.all ≡ []) × (result.gone ≡ 0) }
+    {
+        Outbox {
+            keeps,
+            whole: Kept::new(alloc),
+            flights: Kept::new(alloc),
+        }
+    }
+
+    /// What memory keeps.
+    pub fn keeps(&self) -> Memory
+        ensures { result ≡ self.now.keeps }
+    {
+        self.keeps
+    }
+
+    /// How many packets were sent.
+    pub fn count(&self) -> usize
+        ensures { result ≡ length self.now.all }
+    {
+        match self.keeps {
+            Memory::All => self.whole.count(),
+            Memory::Events | Memory::Nothing => self.flights.count(),
+        }
+    }
+
+    /// All that was sent, where memory keeps it, and else nothing.
+    pub fn as_slice(&self) -> &[Sending]
+        requires { KeepsAll self.now.keeps → self.now.gone ≡ 0 }
+        ensures whole { KeepsAll self.now.keeps → result.now ≡ self.now.all }
+        ensures none { (KeepsAll self.now.keeps → ⊥) → result.now ≡ [] }
+    {
+        match self.keeps {
+            Memory::All => self.whole.as_slice(),
+            Memory::Events | Memory::Nothing => &[],
+        }
+    }
+
+    /// Puts in what was sent. The error is want of memory, and changes nothing.
+    #[inline(always)]
+    pub fn push(&mut self, flight: Flight) -> Result<(), AllocError>
+        ensures ok { OnOk result (self.new ≡ with_sent flight self.old) }
+        ensures err { OnErr result (self.new ≡ self.old) }
+    {
+        match self.keeps {
+            Memory::All => self.whole.push(flight.sending_of()),
+            Memory::Events | Memory::Nothing => self.flights.push(flight),
+        }
+    }
+
+    /// Hands out what was sent behind the first so many: copies, where memory keeps all, and else the packets
+    /// themselves. The list goes on with room for as many as it had, so that it need not grow anew. The error
+    /// is want of memory.
+    pub fn hand_over(&mut self, alloc: Global, place: usize) -> Result<Vec<Flight>, AllocError>
+        requires gone { self.old.gone ≤ place }
+        requires within { place ≤ length self.old.all }
+        ensures sent { IfOk result (λ list. list.items ≡ drop place self.old.all) }
+        ensures same { (self.new.keeps ≡ self.old.keeps) × (self.new.all ≡ self.old.all) }
+        ensures gone { self.new.gone ≤ length self.new.all }
+        ensures kept { KeepsAll self.old.keeps → self.new.gone ≡ self.old.gone }
+    {
+        match self.keeps {
+            Memory::All => copies_of(alloc, self.whole.behind(place)),
+            Memory::Events | Memory::Nothing => {
+                let first = place - self.flights.gone();
+                let room = Vec::with_capacity(alloc, self.flights.as_slice().len())?;
+                let mut list = self.flights.take(room);
+                if first == 0 {
+                    Ok(list)
+                } else {
+                    list.split_off(first)
+                }
+            }
+        }
+    }
+
+    /// Forgets what need not be kept.
+    pub fn forget(&mut self)
+        ensures same { (self.new.keeps ≡ self.old.keeps) × (self.new.all ≡ self.old.all) }
+        ensures gone { self.new.gone ≡ gone_sendings self.old.keeps self.old }
+    {
+        match self.keeps {
+            Memory::All => {}
+            Memory::Events | Memory::Nothing => self.flights.forget(),
+        }
+    }
+}
+
+// Copies of sendings, as packets on their way.
+fn copies_of(alloc: Global, sendings: &[Sending]) -> Result<Vec<Flight>, AllocError>
+    ensures { IfOk result (λ list. list.items ≡ sendings.now) }
+{
+    let mut list = Vec::with_capacity(alloc, sendings.len())?;
+    for sending in sendings {
+        list.push(Flight::of_sending(alloc, sending)?)?;
+    }
+    Ok(list)
+}

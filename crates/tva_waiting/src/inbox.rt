@@ -1,0 +1,194 @@
+// The inputs that a node was given.
+ghost use Rattle.std.specs.Prelude.{◌≡◌, ◌++◌, ◌∷◌, [], length, OnErr, OnOk};
+ghost use Rattle.tva_log.specs.declared.kinds.Input.TheVariants.{FromTrace};
+ghost use Rattle.tva_past.specs.Kept.{forgotten, held, nothing, with_more};
+ghost use Rattle.tva_waiting.specs.Inputs.{HoldsInputs, arrived};
+
+use crate::flights::Flight;
+use crate::memory::Memory;
+use std::alloc::{AllocError, Global};
+use std::marker::Model;
+use std::snapshot::Snapshot;
+use tva_log::{Input, Sending};
+use tva_past::Kept;
+use tva_trace::{Row, RowWhat};
+
+/// Of what an input is noted.
+#[derive(Drop)]
+pub(crate) enum Source {
+    Row(Snapshot<Row>),
+    Flight(Snapshot<Flight>),
+}
+
+/// An input that contracts see and memory doesn't hold: it takes no byte, and is not made.
+#[derive(Drop)]
+pub struct Noted {
+    source: Source,
+}
+
+impl Model for Noted {
+    ghost use Rattle.tva_log.specs.declared.kinds.Input.{Input};
+
+    ghost Value = { Input };
+
+    ghost use Rattle.tva_waiting.specs.Noted.{noted_of};
+
+    ghost view = { λ n. noted_of n.source };
+}
+
+/// The inputs that a node was given, in that order, of which memory holds all or none. Contracts see all of
+/// them, and how many are held no more.
+#[derive(Drop)]
+pub struct Inbox {
+    whole: Kept<Input>,
+    noted: Kept<Noted>,
+}
+
+impl Model for Inbox {
+    ghost use Rattle.std.specs.Prelude.{◌≡◌, ◌++◌, length};
+    ghost use Rattle.tva_log.specs.declared.kinds.Input.{Input};
+    ghost use Rattle.tva_past.specs.Kept.{KeptList};
+
+    ghost Value = { KeptList Input };
+
+    ghost view = { λ inbox. record { all = inbox.noted.all ++ inbox.whole.all; gone = inbox.noted.gone } };
+
+    ghost invariant = { λ inbox. (inbox.whole.gone ≡ 0) × (inbox.noted.gone ≡ length inbox.noted.all) };
+}
+
+impl Inbox {
+    /// Nothing was given.
+    pub fn new(alloc: Global) -> Inbox
+        ensures { result ≡ nothing }
+    {
+        Inbox {
+            whole: Kept::new(alloc),
+            noted: Kept::new(alloc),
+        }
+    }
+
+    /// What memory holds.
+    pub fn as_slice(&self) -> &[Input]
+        ensures { result.now ≡ held self.now }
+    {
+        self.whole.as_slice()
+    }
+
+    /// Notes a row behind all that were given: where memory keeps all, with a copy of it. The error is want of
+    /// memory, and changes nothing.
+    #[inline(always)]
+    pub fn note_row(&mut self, keeps: Memory, row: &Row) -> Result<(), AllocError>
+        requires { HoldsInputs keeps self.old }
+        ensures noted { OnOk result (self.new.all ≡ self.old.all ++ FromTrace row.now ∷ []) }
+        ensures held { HoldsInputs keeps self.new }
+        ensures err { OnErr result (self.new ≡ self.old) }
+    {
+        match keeps {
+            Memory::All => self.keep(Input::FromTrace(copied_row(row))),
+            Memory::Events | Memory::Nothing => self.note(&noted_row(row)),
+        }
+    }
+
+    /// Notes a packet that arrives behind all that were given: where memory keeps all, with a copy of it. The
+    /// error is want of memory, and changes nothing.
+    #[inline(always)]
+    pub fn note_flight(&mut self, keeps: Memory, flight: &Flight) -> Result<(), AllocError>
+        requires { HoldsInputs keeps self.old }
+        ensures noted { OnOk result (self.new.all ≡ self.old.all ++ arrived flight.now ∷ []) }
+        ensures held { HoldsInputs keeps self.new }
+        ensures err { OnErr result (self.new ≡ self.old) }
+    {
+        match keeps {
+            Memory::All => self.keep(arrived(flight)),
+            Memory::Events | Memory::Nothing => self.note(&noted_flight(flight)),
+        }
+    }
+
+    // Keeps an input behind all that are noted and kept.
+    fn keep(&mut self, input: Input) -> Result<(), AllocError>
+        ensures ok { OnOk result (self.new ≡ with_more self.old (input ∷ [])) }
+        ensures err { OnErr result (self.new ≡ self.old) }
+    {
+        self.whole.push(input)?;
+        Ok(())
+    }
+
+    // Notes an input behind all, where memory holds none.
+    #[inline(always)]
+    fn note(&mut self, noted: &Noted) -> Result<(), AllocError>
+        requires { self.old.gone ≡ length self.old.all }
+        ensures ok { OnOk result (self.new ≡ forgotten (with_more self.old (noted.now ∷ []))) }
+        ensures err { OnErr result (self.new ≡ self.old) }
+    {
+        self.noted.note(noted)?;
+        Ok(())
+    }
+}
+
+fn noted_row(row: &Row) -> Noted
+    ensures { result ≡ FromTrace row.now }
+{
+    Noted {
+        source: Source::Row(Snapshot::of(row)),
+    }
+}
+
+fn noted_flight(flight: &Flight) -> Noted
+    ensures { result ≡ arrived flight.now }
+{
+    Noted {
+        source: Source::Flight(Snapshot::of(flight)),
+    }
+}
+
+// A copy as an input.
+fn arrived(flight: &Flight) -> Input
+    ensures { result ≡ arrived flight.now }
+{
+    let Sending {
+        link,
+        arrive,
+        packet,
+    } = flight.sending_of();
+    Input::Arrival {
+        time: arrive,
+        link,
+        packet,
+    }
+}
+
+fn copied_row(row: &Row) -> Row
+    ensures { result ≡ row.now }
+{
+    Row {
+        time: row.time,
+        node: row.node,
+        what: copied_what(&row.what),
+    }
+}
+
+fn copied_what(what: &RowWhat) -> RowWhat
+    ensures { result ≡ what.now }
+{
+    match what {
+        RowWhat::Send { dst, payload } => RowWhat::Send {
+            dst: *dst,
+            payload: *payload,
+        },
+        RowWhat::Inject {
+            flow,
+            payload,
+            carried,
+        } => RowWhat::Inject {
+            flow: *flow,
+            payload: *payload,
+            carried: carried.copied(),
+        },
+        RowWhat::File { dst, size, segment } => RowWhat::File {
+            dst: *dst,
+            size: *size,
+            segment: *segment,
+        },
+        RowWhat::Tick { dst } => RowWhat::Tick { dst: *dst },
+    }
+}
