@@ -7,3 +7,4 @@ pub mod Sorting
 pub mod Noted
 pub mod Forgotten
 pub mod Forget
+pub mod Handed

@@ -105,6 +105,10 @@ told_falls k (v ∷ vs) (m ∷ ms) zero h = falls-drop event_time m v.events h.1
 told_falls k (v ∷ vs) [] (suc n) h = told_falls (k + 1) vs [] n h.2
 told_falls k (v ∷ vs) (m ∷ ms) (suc n) h = told_falls (k + 1) vs ms n h.2
 
+-- what a node tells behind its first so many never falls
+pub told_on : (v : NodeState) (n : ℕ) → Stands v → NeverFalls event_time (drop n v.events)
+told_on v n s = falls-drop event_time n v.events (tells v.site.number v refl s).1
+
 own : (k s : ℕ) (xs : List Event) → s ≡ k → AllByRecursion (λ e. event_node e ≡ k) xs → from_source event_node s xs ≡ xs
 own k s xs e h =
     filter-all (λ x. event_node x == s) xs

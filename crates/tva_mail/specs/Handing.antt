@@ -19,6 +19,12 @@ picked has nodes known [] = []
 picked has nodes known (place ∷ places) =
     drop (slice_index known place) (option_map_or has (slice_get nodes place) []) ++ picked has nodes known places
 
+-- all events that are not known are those of the node in that place
+abbrev pub IsOnly : List NodeState → List ℕ → List ℕ → ℕ → Type 0
+IsOnly nodes known places place =
+    (d : NodeState) → picked (λ v. v.events) nodes known places
+    ≡ drop (slice_index known place) (slice_index_or nodes place d).events
+
 -- the same events by their times; those at one time stand as they stood
 pub record IsByTime (told ordered : List Event) : Type 0 where
   pub times : NeverFalls event_time ordered

@@ -54,6 +54,11 @@ pub record Forgot (old new : NodeState) : Type 0 where
   pub same : new ≡ record old { gone = new.gone }
   pub gone : HadGone old → HadGone new
 
+-- a node handed out events that it need not keep, and nothing else happened to it
+pub record HandedOut (old new : NodeState) : Type 0 where
+  pub same : new ≡ record old { gone = record old.gone { events = new.gone.events } }
+  pub events : old.gone.events ≤ length old.events → new.gone.events ≤ length new.events
+
 -- the nodes in these places forgot what they need not keep; nothing else happened to them, and nothing to the others
 pub record HaveForgotten (places : List ℕ) (old new : List NodeState) : Type 0 where
   pub count : length new ≡ length old

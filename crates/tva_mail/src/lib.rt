@@ -13,5 +13,5 @@ mod times;
 
 pub use forgetting::forget_each;
 pub use gathering::gather;
-pub use posting::{deliver, post_beside};
+pub use posting::post_beside;
 pub use times::{due_before, first_time, note, note_all, times_of};

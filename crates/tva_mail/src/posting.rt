@@ -15,7 +15,6 @@ use std::alloc::AllocError;
 use std::thread::{Threads, join_mut};
 use tva_base::{LinkPlan, Time};
 use tva_index::Lowest;
-use tva_log::Input;
 use tva_node::{Flight, Node};
 
 // Posts what the nodes sent, notes when each has work next, and lets them forget.
@@ -26,6 +25,7 @@ fn post_all(
     links: &[LinkPlan],
     places: &[usize],
     posted: &mut [usize],
+    sent: &mut Vec<Flight>,
 ) -> Result<(), AllocError>
     requires few { length nodes.old ≤ 1024 }
     requires known { AllZip (λ v n. n ≤ length v.sendings) nodes.old posted.old }
@@ -39,7 +39,7 @@ fn post_all(
     ensures noted { OnOk result (AreNoted times.new nodes.new) }
     ensures keeps { AllZip KeepsWork nodes.old nodes.new }
 {
-    post_each(nodes, times, horizon, links, places, posted)?;
+    post_each(nodes, times, horizon, links, places, posted, sent)?;
     note_posted(nodes, places, posted);
     forget_each(nodes, places);
     Ok(())
@@ -49,7 +49,8 @@ fn post_all(
 /// nanoseconds: node after node, each in the order of its sendings. Then all of their sendings are posted,
 /// it is noted when each node has work next, and the nodes forget what they need not keep. Only nodes in
 /// these places sent anything. Something else is done besides: at once with it where there is much to be
-/// posted, and else before it. The error is want of memory; the count of those that are posted then stays.
+/// posted, and else before it. The memory of `sent` is used for what the nodes hand over, so that little is
+/// taken anew. The error is want of memory; the count of those that are posted then stays.
 #[tactic(auto, using(tva_node::proofs::Crosses::node_send))]
 pub fn post_beside<R: Threads + Sync, F: FnMut() -> A + Send, A: Send>(
     rt: &R,
@@ -59,6 +60,7 @@ pub fn post_beside<R: Threads + Sync, F: FnMut() -> A + Send, A: Send>(
     links: &[LinkPlan],
     places: &[usize],
     posted: &mut [usize],
+    sent: &mut Vec<Flight>,
     is_much: bool,
     other: &mut F,
 ) -> (Result<(), AllocError>, A)
@@ -78,7 +80,10 @@ pub fn post_beside<R: Threads + Sync, F: FnMut() -> A + Send, A: Send>(
 {
     if !is_much {
         let done = other();
-        return (post_all(nodes, times, horizon, links, places, posted), done);
+        return (
+            post_all(nodes, times, horizon, links, places, posted, sent),
+            done,
+        );
     }
     let (done, result) = join_mut(
         rt,
@@ -95,7 +100,7 @@ pub fn post_beside<R: Threads + Sync, F: FnMut() -> A + Send, A: Send>(
             ensures posted { OnOk result (posted.exit.now ≡ map (λ v. length v.sendings) nodes.entry.now) }
             ensures noted { OnOk result (AreNoted times.exit.now nodes.exit.now) }
             ensures keeps { AllZip KeepsWork nodes.entry.now nodes.exit.now }
-        { post_all(nodes, times, horizon, links, places, posted) },
+        { post_all(nodes, times, horizon, links, places, posted, sent) },
     );
     (result, done)
 }
@@ -108,6 +113,7 @@ fn post_each(
     links: &[LinkPlan],
     places: &[usize],
     posted: &[usize],
+    sent: &mut Vec<Flight>,
 ) -> Result<(), AllocError>
     requires few { length nodes.old ≤ 1024 }
     requires known { AllZip (λ v n. n ≤ length v.sendings) nodes.old posted.now }
@@ -120,7 +126,7 @@ fn post_each(
     ensures keeps { AllZip KeepsWork nodes.old nodes.new }
 {
     for from in places {
-        post_from(nodes, times, horizon, links, *from, posted[*from])?;
+        post_from(nodes, times, horizon, links, *from, posted[*from], sent)?;
     }
     Ok(())
 }
@@ -133,6 +139,7 @@ fn post_from(
     links: &[LinkPlan],
     from: usize,
     posted: usize,
+    sent: &mut Vec<Flight>,
 ) -> Result<(), AllocError>
     requires few { length nodes.old ≤ 1024 }
     requires node { from < length nodes.old }
@@ -145,27 +152,27 @@ fn post_from(
     ensures gone { IsGoneAsBeforeBut from nodes.old nodes.new }
     ensures keeps { AllZip KeepsWork nodes.old nodes.new }
 {
-    let sent = nodes[from].hand_over(posted)?;
+    nodes[from].hand_over(posted, sent)?;
     post_sent(nodes, times, horizon, links, sent)
 }
 
-// Posts packets that were sent.
+// Posts packets that were sent, which leaves the list empty, with its memory.
 fn post_sent(
     nodes: &mut [Node],
     times: &mut Lowest,
     horizon: Time,
     links: &[LinkPlan],
-    sent: Vec<Flight>,
+    sent: &mut Vec<Flight>,
 ) -> Result<(), AllocError>
     requires few { length nodes.old ≤ 1024 }
-    requires postable { All (IsPostable horizon.0 links.now nodes.old) sent.items }
+    requires postable { All (IsPostable horizon.0 links.now nodes.old) sent.old.items }
     requires noted { AreNoted times.old nodes.old }
-    ensures got { OnOk result (GotMails (mail_to horizon.0 links.now sent.items) nodes.old nodes.new) }
+    ensures got { OnOk result (GotMails (mail_to horizon.0 links.now sent.old.items) nodes.old nodes.new) }
     ensures noted { OnOk result (AreNoted times.new nodes.new) }
     ensures gone { IsGoneAsBefore nodes.old nodes.new }
     ensures keeps { AllZip KeepsWork nodes.old nodes.new }
 {
-    for sending in sent {
+    for sending in sent.drain(..) {
         post_one(nodes, times, horizon, links, sending)?;
     }
     Ok(())
@@ -197,19 +204,7 @@ fn post_one(
     Ok(())
 }
 
-/// Gives an input to the node in that place. The error is want of memory.
-pub fn deliver(nodes: &mut [Node], to: usize, input: Input) -> Result<(), AllocError>
-    requires { CanDeliver nodes.old to input }
-    ensures got { OnOk result (GotMails (mail_at to (input ∷ [])) nodes.old nodes.new) }
-    ensures others { IsSameBut to nodes.old nodes.new }
-    ensures gone { IsGoneAsBefore nodes.old nodes.new }
-    ensures keeps { AllZip KeepsWork nodes.old nodes.new }
-{
-    nodes[to].post(input)?;
-    Ok(())
-}
-
-// Gives a packet that arrives to the node in that place.
+// Gives a packet that arrives to the node in that place. The error is want of memory.
 fn deliver_flight(nodes: &mut [Node], to: usize, flight: Flight) -> Result<(), AllocError>
     requires { CanDeliver nodes.old to (arrival flight) }
     ensures got { OnOk result (GotMails (mail_at to (arrival flight ∷ [])) nodes.old nodes.new) }

@@ -1,17 +1,16 @@
 // The nodes of a configuration, with their rows.
-ghost use Rattle.std.specs.Prelude.{◌≡◌, ◌<◌, ◌≤◌, [], All, IfOk, OnOk, length};
+ghost use Rattle.std.specs.Prelude.{◌≡◌, ◌<◌, ◌≤◌, [], ◌∷◌, All, IfOk, OnOk, length, slice_index_or};
 ghost use Rattle.std.specs.List.{AllZip};
 ghost use Rattle.tva_plan.specs.Valid.{IsConfig};
 ghost use Rattle.tva_trace.specs.Valid.{AreTraceRows};
+ghost use Rattle.tva_trace.specs.declared.rows.Row.{Row};
 ghost use Rattle.tva_log.specs.declared.kinds.Input.TheVariants.{FromTrace};
 ghost use Rattle.tva_run.specs.Reaching.{links_out, rows_at};
-ghost use Rattle.tva_mail.specs.Mail.{CanDeliver, GotMails, KeepsWork};
+ghost use Rattle.tva_mail.specs.Mail.{CanDeliver, GotMails, KeepsWork, mail_at};
 ghost use Rattle.tva_net.specs.Built.{AreFirstNodes, AreRowCounts, IsFirstNode};
 
 use std::alloc::{AllocError, Global};
 use tva_base::LinkPlan;
-use tva_log::Input;
-use tva_mail::deliver;
 use tva_node::{Memory, Node};
 use tva_plan::Config;
 use tva_trace::PackedRows;
@@ -115,9 +114,21 @@ fn file_rows(nodes: &mut [Node], rows: &PackedRows) -> Result<(), AllocError>
     ensures keeps { AllZip KeepsWork nodes.old nodes.new }
 {
     for place in 0..rows.len() {
-        let row = rows.get(place);
-        let node = usize::from(row.node);
-        deliver(nodes, node, Input::FromTrace(row))?;
+        file_row(nodes, rows, place)?;
     }
+    Ok(())
+}
+
+// Gives the row at a place to its node.
+fn file_row(nodes: &mut [Node], rows: &PackedRows, place: usize) -> Result<(), AllocError>
+    requires within { place < length rows.now }
+    requires takes { (row : Row) → CanDeliver nodes.old (slice_index_or rows.now place row).node
+        (FromTrace (slice_index_or rows.now place row)) }
+    ensures got { (row : Row) → OnOk result (GotMails (mail_at (slice_index_or rows.now place row).node
+        (FromTrace (slice_index_or rows.now place row) ∷ [])) nodes.old nodes.new) }
+    ensures keeps { AllZip KeepsWork nodes.old nodes.new }
+{
+    let node = usize::from(rows.node_at(place));
+    nodes[node].post_packed(rows, place)?;
     Ok(())
 }

@@ -18,7 +18,7 @@ use std::thread::Threads;
 use tva_base::{Event, LinkPlan, Time};
 use tva_index::Lowest;
 use tva_mail::{first_time, gather, post_beside, times_of};
-use tva_node::{Memory, Node, processors};
+use tva_node::{Flight, Memory, Node, processors};
 use tva_outside::Gate;
 use tva_plan::Config;
 use tva_trace::PackedRows;
@@ -26,7 +26,8 @@ use tva_trace::PackedRows;
 /// The horizon, the links, the length of a window in nanoseconds, the nodes, when each of them has
 /// work next, how much of what each one's links sent was posted and how much of what each told was
 /// shown, the time before which nothing is left to be done, the pace of the windows so far, if there
-/// was one, and into how many parts the nodes are cut where they are worked at once, once that was asked.
+/// was one, into how many parts the nodes are cut where they are worked at once, once that was asked, and
+/// memory for what the nodes hand over.
 #[derive(Drop)]
 pub(crate) struct Works {
     pub horizon: Time,
@@ -39,6 +40,7 @@ pub(crate) struct Works {
     pub worked_to: u64,
     pub pace: Option<usize>,
     pub parts: Option<usize>,
+    pub sent: Vec<Flight>,
 }
 
 impl Works {
@@ -71,6 +73,7 @@ impl Works {
             worked_to: 0,
             pace: None,
             parts: None,
+            sent: Vec::new(alloc),
         })
     }
 
@@ -175,6 +178,7 @@ impl Works {
             self.links.as_slice(),
             &mut self.times,
             self.posted.as_mut_slice(),
+            &mut self.sent,
             self.shown.as_mut_slice(),
             self.nodes.as_mut_slice(),
             other,
@@ -212,6 +216,7 @@ fn work_nodes<R: Threads + Sync, G: Gate, F: FnMut() -> A + Send, A: Send>(
     links: &[LinkPlan],
     times: &mut Lowest,
     posted: &mut [usize],
+    sent: &mut Vec<Flight>,
     shown: &mut [usize],
     nodes: &mut [Node],
     other: &mut F,
@@ -241,6 +246,7 @@ fn work_nodes<R: Threads + Sync, G: Gate, F: FnMut() -> A + Send, A: Send>(
         links,
         places.as_slice(),
         posted,
+        sent,
         is_much,
         other,
     );

@@ -1,6 +1,7 @@
 // A node of a network.
-ghost use Rattle.std.specs.Prelude.{◌≡◌, ◌≤◌, ◌+◌, ◌∷◌, [], ◌++◌, drop, length, map, min, max, List, IfOk, OnErr, OnOk};
+ghost use Rattle.std.specs.Prelude.{◌≡◌, ◌≤◌, ◌<◌, ◌+◌, ◌∷◌, [], ◌++◌, None, drop, length, slice_index_or, map, min, max, List, IfOk, IfSome, OnErr, OnOk};
 ghost use Rattle.tva_base.specs.Plan.{AreRising};
+ghost use Rattle.tva_trace.specs.declared.rows.Row.{Row};
 ghost use Rattle.tva_log.specs.Entries.{Entry, input_time};
 ghost use Rattle.tva_log.specs.declared.kinds.Input.TheVariants.{FromTrace};
 ghost use Rattle.tva_waiting.specs.Inputs.{arrived};
@@ -23,7 +24,7 @@ use tva_past::Kept;
 use tva_plan::NodePlan;
 use tva_port::Port;
 use tva_router::Router;
-use tva_trace::Row;
+use tva_trace::{PackedRows, Row};
 use tva_transfer::Courier;
 use tva_waiting::{Flight, Hands, Inbox, Memory, Waiting};
 
@@ -156,6 +157,19 @@ impl Node {
         self.parts.log.behind(place)
     }
 
+    /// Hands out what happened at the node behind the first so many events, where memory has just these and
+    /// need not keep them: as it has them, and then they are gone. None where it is otherwise, and nothing changes.
+    pub fn take_told(&mut self, place: usize) -> Option<Vec<Event>>
+        ensures told { IfSome result (λ list. list.items ≡ drop place self.old.events) }
+        ensures none { result ≡ None → self.new ≡ self.old }
+        ensures stands { (log : List Entry) → StandsFor self.old log → StandsFor self.new log }
+        ensures same { self.new ≡ record self.old { gone = self.new.gone } }
+        ensures gone { (self.new.gone.inputs ≡ self.old.gone.inputs) × (self.new.gone.events ≤ length self.new.events)
+            × (self.new.gone.sendings ≡ self.old.gone.sendings) }
+    {
+        self.parts.take_told(place)
+    }
+
     /// What it may cost to work the node for a while, beside others: what happened at it so far, in events
     /// of a host. No answer depends on it.
     pub(crate) fn load(&self) -> u64 {
@@ -184,18 +198,19 @@ impl Node {
         self.parts.outbox.count()
     }
 
-    /// Hands out what its links sent behind the first so many packets: where memory keeps all, copies, and
-    /// else the packets themselves, and then all that was sent is gone. The error is want of memory.
-    pub fn hand_over(&mut self, place: usize) -> Result<Vec<Flight>, AllocError>
+    /// Puts into `sent`, in place of what that has, what its links sent behind the first so many packets:
+    /// where memory keeps all, copies, and else the packets themselves, and then all that was sent is gone,
+    /// and the memory that `sent` had is the node's. The error is want of memory.
+    pub fn hand_over(&mut self, place: usize, sent: &mut Vec<Flight>) -> Result<(), AllocError>
         requires gone { self.old.gone.sendings ≤ place }
         requires within { place ≤ length self.old.sendings }
-        ensures sent { IfOk result (λ list. list.items ≡ drop place self.old.sendings) }
+        ensures sent { OnOk result (sent.new.items ≡ drop place self.old.sendings) }
         ensures stands { (log : List Entry) → StandsFor self.old log → StandsFor self.new log }
         ensures same { self.new ≡ record self.old { gone = self.new.gone } }
         ensures gone { (self.new.gone.inputs ≡ self.old.gone.inputs) × (self.new.gone.events ≡ self.old.gone.events)
             × (self.new.gone.sendings ≤ length self.new.sendings) }
     {
-        self.parts.hand_over(place)
+        self.parts.hand_over(place, sent)
     }
 
     /// What memory holds of the inputs that it was given.
@@ -278,6 +293,26 @@ impl Node {
         parts
             .waiting
             .put_row(row, &mut parts.inbox, parts.outbox.keeps())
+    }
+
+    /// The same of the row at a place among rows in little memory.
+    pub fn post_packed(&mut self, rows: &PackedRows, place: usize) -> Result<(), AllocError>
+        requires within { place < length rows.now }
+        requires late { (row : Row) → self.old.worked_to ≤ (slice_index_or rows.now place row).time.0 }
+        requires horizon { (row : Row) → (slice_index_or rows.now place row).time.0 ≤ self.old.horizon }
+        requires fits { (row : Row) → FitsRow self.old.site.plan (slice_index_or rows.now place row).what }
+        ensures inbox { (row : Row) → OnOk result (self.new.inbox ≡ self.old.inbox ++ FromTrace (slice_index_or rows.now place row) ∷ []) }
+        ensures stands { Stands self.old → OnOk result (Stands self.new) }
+        ensures err { OnErr result (self.new ≡ self.old) }
+        ensures same { (self.new.site ≡ self.old.site) × (self.new.horizon ≡ self.old.horizon)
+            × (self.new.events ≡ self.old.events) × (self.new.sendings ≡ self.old.sendings)
+            × (self.new.worked_to ≡ self.old.worked_to) × (self.new.keeps ≡ self.old.keeps)
+            × (self.new.gone.events ≡ self.old.gone.events) × (self.new.gone.sendings ≡ self.old.gone.sendings) }
+    {
+        let parts = &mut self.parts;
+        parts
+            .waiting
+            .put_packed(rows, place, &mut parts.inbox, parts.outbox.keeps())
     }
 
     /// The same of a packet on its way.

@@ -1,10 +1,11 @@
 // What a node's links sent.
-ghost use Rattle.std.specs.Prelude.{◌≡◌, ◌≤◌, [], drop, length, IfOk, OnErr, OnOk};
+ghost use Rattle.std.specs.Prelude.{◌≡◌, ◌≤◌, [], drop, length, OnErr, OnOk};
 ghost use Rattle.tva_node.specs.Nodes.{KeepsAll};
 ghost use Rattle.tva_node.specs.Outbox.{gone_sendings, with_sent};
 
 use std::alloc::{AllocError, Global};
 use std::marker::Model;
+use std::mem;
 use tva_log::Sending;
 use tva_past::Kept;
 use tva_waiting::{Flight, Memory};
@@ -80,28 +81,35 @@ impl Outbox {
         }
     }
 
-    /// Hands out what was sent behind the first so many: copies, where memory keeps all, and else the packets
-    /// themselves. The list goes on with room for as many as it had, so that it need not grow anew. The error
-    /// is want of memory.
-    pub fn hand_over(&mut self, alloc: Global, place: usize) -> Result<Vec<Flight>, AllocError>
+    /// Puts into `sent`, in place of what that has, what was sent behind the first so many: copies, where memory
+    /// keeps all, and else the packets themselves. Then the list goes on in the memory that `sent` had, so that
+    /// it need not grow anew. The error is want of memory.
+    pub fn hand_over(
+        &mut self,
+        alloc: Global,
+        place: usize,
+        sent: &mut Vec<Flight>,
+    ) -> Result<(), AllocError>
         requires gone { self.old.gone ≤ place }
         requires within { place ≤ length self.old.all }
-        ensures sent { IfOk result (λ list. list.items ≡ drop place self.old.all) }
+        ensures sent { OnOk result (sent.new.items ≡ drop place self.old.all) }
         ensures same { (self.new.keeps ≡ self.old.keeps) × (self.new.all ≡ self.old.all) }
         ensures gone { self.new.gone ≤ length self.new.all }
         ensures kept { KeepsAll self.old.keeps → self.new.gone ≡ self.old.gone }
     {
+        sent.clear();
         match self.keeps {
-            Memory::All => copies_of(alloc, self.whole.behind(place)),
+            Memory::All => copy_each(alloc, self.whole.behind(place), sent),
             Memory::Events | Memory::Nothing => {
                 let first = place - self.flights.gone();
-                let room = Vec::with_capacity(alloc, self.flights.as_slice().len())?;
+                let room = mem::replace(sent, Vec::new(alloc));
                 let mut list = self.flights.take(room);
-                if first == 0 {
-                    Ok(list)
+                *sent = if first == 0 {
+                    list
                 } else {
-                    list.split_off(first)
-                }
+                    list.split_off(first)?
+                };
+                Ok(())
             }
         }
     }
@@ -118,13 +126,14 @@ impl Outbox {
     }
 }
 
-// Copies of sendings, as packets on their way.
-fn copies_of(alloc: Global, sendings: &[Sending]) -> Result<Vec<Flight>, AllocError>
-    ensures { IfOk result (λ list. list.items ≡ sendings.now) }
+// Puts copies of sendings into an empty list, as packets on their way.
+fn copy_each(alloc: Global, sendings: &[Sending], list: &mut Vec<Flight>) -> Result<(), AllocError>
+    requires { list.old.items ≡ [] }
+    ensures { OnOk result (list.new.items ≡ sendings.now) }
 {
-    let mut list = Vec::with_capacity(alloc, sendings.len())?;
+    list.reserve(sendings.len())?;
     for sending in sendings {
         list.push(Flight::of_sending(alloc, sending)?)?;
     }
-    Ok(list)
+    Ok(())
 }

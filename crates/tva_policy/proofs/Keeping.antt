@@ -1,12 +1,15 @@
 -- What a policy keeps, after one more deed.
-use Rattle.std.proofs.Common.{◌≡◌, ℕ, ◌+◌, ◌<◌, ◌≤◌, Bool, true, false, ◌&&◌, cond, eqb, ltb, List, [], ◌∷◌, ◌++◌, Some, None, refl, ap, arith}
+use Rattle.std.proofs.Common.{◌≡◌, ℕ, ◌+◌, ◌<◌, ◌≤◌, Bool, true, false, ◌&&◌, cond, eqb, ltb, List, [], ◌∷◌, ◌++◌, get_or, set, Option, Some, None, refl, ap, ◌∙◌, arith}
+use Rattle.std.specs.List.{All}
+use Rattle.std.proofs.lemmas.Bool.{eq-eqb}
+use Rattle.std.proofs.lemmas.List.Elements.{All-set}
 use Rattle.std.proofs.lemmas.List.Folds.{list_any-append}
 use Rattle.std.proofs.lemmas.List.Sums.{sum_by_push}
 use Rattle.std.proofs.lemmas.Bool.Decides.{nat_tests}
 use Rattle.tva_base.specs.declared.addresses.Address.{Address}
 use Rattle.tva_base.specs.declared.plan.PolicyPlan.{PolicyPlan}
 use Rattle.tva_policy.specs.Grants.{Deed, Sent, Decided, is_sending_to, is_grant_to, has_address, has_tag, is_granted, grant_decision}
-use Rattle.tva_policy.specs.Notes.{Notes, StandsFor, grants_kept, lets_through}
+use Rattle.tva_policy.specs.Notes.{Notes, StandsFor, IsNotedIn, grants_kept, lets_through}
 use Rattle.tva_policy.proofs.Compared.{list_any_same}
 
 -- what is kept decides as the history does
@@ -56,3 +59,18 @@ pub granted : (plan : PolicyPlan) (v : Notes) (h : List Deed) (src : Address) (t
 granted plan v h src tags n s found under passed =
     let few : ltb (grants_kept v.granted src) v.grants ≡ true = rw (← found) (grind (arith, nat_tests)) in
     rw (by_notes plan v h src tags s, passed, few) (ap Some s.rights)
+
+-- what is remembered stays noted where one more is
+noted_more : (dst : Address) (old new : List Address) → ((a : Address) → has_address new a ≡ cond (eqb dst.0 a.0) true (has_address old a)) → (o : Option Address) → IsNotedIn old o → IsNotedIn new o
+noted_more dst old new e None n = tt
+noted_more dst old new e (Some a) n = rw (e a, n) (elim (eqb dst.0 a.0) as (λ b. cond b true true ≡ true) [ true ↦ refl | false ↦ refl ])
+
+pub recent_more : (dst : Address) (old new : List Address) → ((a : Address) → has_address new a ≡ cond (eqb dst.0 a.0) true (has_address old a)) → (recent : List (Option Address)) (i : ℕ) → All (IsNotedIn old) recent → All (IsNotedIn new) (set recent i (Some dst))
+recent_more dst old new e recent i all =
+    All-set (IsNotedIn new) recent i (Some dst) (e dst ∙ rw (eq-eqb dst.0 dst.0 refl) refl) (λ k d l. noted_more dst old new e (get_or recent k d) (all k d l))
+
+-- one that is noted may be noted again
+pub again : (dst : Address) (noted : List Address) → has_address noted dst ≡ true → (a : Address) → has_address noted a ≡ cond (eqb dst.0 a.0) true (has_address noted a)
+again dst noted n a =
+    let same : dst.0 ≡ a.0 → has_address noted dst ≡ has_address noted a = λ e. ap (λ (x : ℕ). has_address noted (record { 0 = x })) e in
+    grind (arith, nat_tests)

@@ -1,5 +1,5 @@
 -- Crate: what a policy keeps, and for which plan and history it stands.
-use Rattle.std.specs.Prelude.{◌≡◌, ℕ, Bool, not, ◌&&◌, ◌==◌, List, unwrap_or}
+use Rattle.std.specs.Prelude.{◌≡◌, ℕ, Bool, true, not, ◌&&◌, ◌==◌, List, Option, Some, None, unwrap_or}
 use Rattle.std.specs.List.{list_any}
 use Rattle.std.specs.Map.{lookup}
 use Rattle.tva_base.specs.declared.addresses.Address.{Address}
@@ -36,3 +36,8 @@ pub record StandsFor (plan : PolicyPlan) (v : Notes) (h : List Deed) : Type 0 wh
 abbrev pub lets_through : Notes → Address → List ℕ → Bool
 lets_through v src tags =
     lets_in v.kind (has_address v.noted src) && not (has_address v.deny src) && not (list_any (has_tag v.deny_tags) tags)
+
+-- what is remembered beside the noted destinations is one of them
+abbrev pub IsNotedIn : List Address → Option Address → Type 0
+IsNotedIn noted None = Unit {0}
+IsNotedIn noted (Some dst) = has_address noted dst ≡ true

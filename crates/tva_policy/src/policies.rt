@@ -1,7 +1,7 @@
 // A policy: whom it granted, and whom it would grant.
-ghost use Rattle.std.specs.Prelude.{◌≡◌, List, [], ◌∷◌, ◌++◌, is_some, IfOk, IfNone, OnOk, OnErr};
+ghost use Rattle.std.specs.Prelude.{◌≡◌, true, List, [], ◌∷◌, ◌++◌, is_some, IfOk, IfNone, OnOk, OnErr};
 ghost use Rattle.tva_base.specs.declared.plan.PolicyPlan.{PolicyPlan};
-ghost use Rattle.tva_policy.specs.Grants.{Deed, Sent, Decided, grant_decision, lets_in};
+ghost use Rattle.tva_policy.specs.Grants.{Deed, Sent, Decided, grant_decision, has_address, lets_in};
 ghost use Rattle.tva_policy.specs.Notes.{StandsFor, lets_through};
 
 use crate::sets::{has_any, set_of};
@@ -10,7 +10,12 @@ use std::collections::{BTreeMap, BTreeSet};
 use std::marker::Model;
 use tva_base::{Address, PolicyKind, PolicyPlan, Rights};
 
-/// Whom a host grants. It keeps the destinations that were noted and the grants to each source.
+/// How many destinations are remembered beside the set. Those whose lowest six bits are the same share
+/// one place.
+const RECENT: usize = 64;
+
+/// Whom a host grants. It keeps the destinations that were noted and the grants to each source. One that
+/// was noted lately is noted again without a walk of the set, which waits for the memory of its nodes.
 #[derive(Drop)]
 pub struct Policy {
     kind: PolicyKind,
@@ -20,14 +25,18 @@ pub struct Policy {
     deny_tags: BTreeSet<u16>,
     noted: BTreeSet<Address>,
     granted: BTreeMap<Address, u32>,
+    recent: [Option<Address>; RECENT],
 }
 
 impl Model for Policy {
-    ghost use Rattle.tva_policy.specs.Notes.{Notes};
+    ghost use Rattle.std.specs.Prelude.{All};
+    ghost use Rattle.tva_policy.specs.Notes.{Notes, IsNotedIn};
 
     ghost Value = { Notes };
 
     ghost view = { λ p. record { kind = p.kind; rights = p.rights; grants = p.grants; deny = p.deny.keys; deny_tags = p.deny_tags.keys; noted = p.noted.keys; granted = p.granted.entries } };
+
+    ghost invariant = { λ p. All (IsNotedIn p.noted.keys) p.recent };
 }
 
 impl Policy {
@@ -43,6 +52,7 @@ impl Policy {
             deny_tags: set_of(alloc, plan.deny_tags.as_slice())?,
             noted: BTreeSet::new(alloc),
             granted: BTreeMap::new(alloc),
+            recent: [None; RECENT],
         })
     }
 
@@ -51,8 +61,22 @@ impl Policy {
         ensures stands { (plan : PolicyPlan) (h : List Deed) → StandsFor plan self.old h → OnOk result (StandsFor plan self.new (h ++ Sent dst ∷ [])) }
         ensures err { OnErr result (self.new ≡ self.old) }
     {
+        if self.is_recent(dst) {
+            return Ok(());
+        }
         self.noted.insert(dst)?;
+        self.recent[dst.0 as usize % RECENT] = Some(dst);
         Ok(())
+    }
+
+    // Whether a destination is remembered. It was noted then.
+    fn is_recent(&self, dst: Address) -> bool
+        ensures { result ≡ true → has_address self.now.noted dst ≡ true }
+    {
+        match self.recent[dst.0 as usize % RECENT] {
+            Some(noted) => noted == dst,
+            None => false,
+        }
     }
 
     /// Decides whether the source of a packet with these tags is granted, and which rights: units of

@@ -1,5 +1,5 @@
--- How many packets wait at a port: one more once one is queued, one less once one starts, and never more than
--- there are places.
+-- How many packets wait at a port: one more once one is queued, one less once one starts, and never more than there
+-- are places.
 use Rattle.std.proofs.Common.{◌≡◌, ℕ, suc, ◌+◌, ◌-◌, ◌*◌, ◌≤◌, Bool, true, false, cond, leb, List, [], ◌∷◌, ◌++◌, length, drop, Some, refl, sym, ap, ◌∙◌, subst, inl, inr, length-append, arith}
 use Rattle.std.proofs.Math.Nat.{mul-le-mul_right, add-mul}
 use Rattle.std.proofs.lemmas.Bool.Decides.{leb_tells}
@@ -10,9 +10,10 @@ use Rattle.tva_base.specs.declared.packet.Class.{Class}
 use Rattle.tva_base.specs.declared.packet.Class.TheVariants.{Request, Regular, Legacy}
 use Rattle.tva_shim.specs.Packets.{PacketData, packet_length}
 use Rattle.tva_shim.specs.Shows.{inner_key_of}
+use Rattle.tva_drr.specs.declared.offered.Offered.{Offered}
 use Rattle.tva_drr.specs.declared.offered.Offered.TheVariants as offers
 use Rattle.tva_drr.specs.Queues.{Queue, queue, Fair, fair, first, head, bytes_in, queue_bytes, all_bytes}
-use Rattle.tva_drr.specs.Offer.{lacks_queue, lacks_room, offer_leaves}
+use Rattle.tva_drr.specs.Offer.{lacks_queue, lacks_room, offer_answer, offer_leaves}
 use Rattle.tva_drr.specs.Take.{refilled, popped, settled, front_settled, taken}
 use Rattle.tva_drr.specs.Fair.{AreQueues, IsFair}
 use Rattle.tva_drr.specs.Service.{first_bytes, head_bytes}
@@ -32,7 +33,7 @@ use Rattle.tva_port.specs.Waiting.{Waiting, lacks_legacy_room, queue_answer, is_
 use Rattle.tva_port.specs.Decide.{decide_on}
 use Rattle.tva_port.specs.Keeps.{AreWithin, IsWithinLimits}
 use Rattle.tva_port.specs.Steps.{put_leaves, start_leaves, decision_leaves}
-use Rattle.tva_port.specs.Counts.{one, count_of, request_count, waiting_count, started_count, places_under, request_places, places_in}
+use Rattle.tva_port.specs.Counts.{one, count_of, request_count, waiting_count, queued_count, started_count, places_under, request_places, places_in}
 use Rattle.tva_port.proofs.Deciding.{next_of, start_is, covered_pays}
 use Rattle.tva_port.proofs.Standing.{refused_leaves}
 
@@ -114,19 +115,38 @@ request-queued (OneLevel f) key p e =
     sum-offered packet_length one f key p t.0 t.1
 request-queued (TwoLevels h) key p e = sum-offered_under packet_length one h key (inner_key_of p) p e
 
-legacy-queued : (b : Bool) (xs : List PacketData) (p : PacketData) → cond b (offers.QueueFull p) offers.Queued ≡ offers.Queued → length (cond b xs (xs ++ p ∷ [])) ≡ length xs + 1
-legacy-queued true xs p e = absurd (cc)
-legacy-queued false xs p e = length-append xs (p ∷ [])
+queued_is : (a : Offered PacketData) → is_queued a ≡ true → a ≡ offers.Queued
+queued_is offers.Queued e = refl
+queued_is (offers.NoQueue p) e = absurd (cc)
+queued_is (offers.QueueFull p) e = absurd (cc)
 
-pub count-queued : (l : LinkLimits) (w : Waiting) (class : Class) (key : ℕ) (p : PacketData) → queue_answer l w class key p ≡ offers.Queued → waiting_count (put_leaves l w class key p) ≡ waiting_count w + 1
-count-queued l w Request key p e = omega (arith, request-queued w.requests key p e)
-count-queued l w Regular key p e =
-    let t = queued_tests (lacks_queue w.regulars key) (lacks_room packet_length w.regulars key p) p e in
-    omega (arith, sum-offered packet_length one w.regulars key p t.0 t.1)
-count-queued l w Legacy key p e = omega (arith, legacy-queued (lacks_legacy_room l w.legacy p) w.legacy p e)
+none_queued : (a : Offered PacketData) → is_queued a ≡ false → queued_count a ≡ 0
+none_queued offers.Queued e = absurd (cc)
+none_queued (offers.NoQueue p) e = refl
+none_queued (offers.QueueFull p) e = refl
 
-pub count-refused : (l : LinkLimits) (w : Waiting) (class : Class) (key : ℕ) (p : PacketData) → is_queued (queue_answer l w class key p) ≡ false → waiting_count (put_leaves l w class key p) ≡ waiting_count w
-count-refused l w class key p e = ap (λ z. waiting_count z) (refused_leaves l w class key p e)
+request-put : (l : LinkLimits) (w : Waiting) (key : ℕ) (p : PacketData) (b : Bool) → is_queued (request_answer w.requests key p) ≡ b → waiting_count (put_leaves l w Request key p) ≡ waiting_count w + queued_count (request_answer w.requests key p)
+request-put l w key p true e =
+    let q = queued_is (request_answer w.requests key p) e in
+    omega (arith, request-queued w.requests key p q, ap queued_count q)
+request-put l w key p false e = omega (arith, ap (λ z. waiting_count z) (refused_leaves l w Request key p e), none_queued (request_answer w.requests key p) e)
+
+regular-put : (l : LinkLimits) (w : Waiting) (key : ℕ) (p : PacketData) (b : Bool) → is_queued (offer_answer packet_length w.regulars key p) ≡ b → waiting_count (put_leaves l w Regular key p) ≡ waiting_count w + queued_count (offer_answer packet_length w.regulars key p)
+regular-put l w key p true e =
+    let q = queued_is (offer_answer packet_length w.regulars key p) e in
+    let t = queued_tests (lacks_queue w.regulars key) (lacks_room packet_length w.regulars key p) p q in
+    omega (arith, sum-offered packet_length one w.regulars key p t.0 t.1, ap queued_count q)
+regular-put l w key p false e = omega (arith, ap (λ z. waiting_count z) (refused_leaves l w Regular key p e), none_queued (offer_answer packet_length w.regulars key p) e)
+
+legacy-put : (b : Bool) (xs : List PacketData) (p : PacketData) → length (cond b xs (xs ++ p ∷ [])) ≡ length xs + queued_count (cond b (offers.QueueFull p) offers.Queued)
+legacy-put true xs p = omega arith
+legacy-put false xs p = length-append xs (p ∷ [])
+
+-- what waits after an offer is what did, and the packet that is queued
+pub count-put : (l : LinkLimits) (w : Waiting) (class : Class) (key : ℕ) (p : PacketData) → waiting_count (put_leaves l w class key p) ≡ waiting_count w + queued_count (queue_answer l w class key p)
+count-put l w Request key p = request-put l w key p _ refl
+count-put l w Regular key p = regular-put l w key p _ refl
+count-put l w Legacy key p = omega (arith, legacy-put (lacks_legacy_room l w.legacy p) w.legacy p)
 
 -- ## a packet that starts
 

@@ -1,5 +1,6 @@
 -- What is known of a packet in the caller's hand.
-use Rattle.std.proofs.Common.{◌≡◌, ℕ, false, Option, Some, refl, true≢false}
+use Rattle.std.proofs.Common.{◌≡◌, ℕ, false, Option, Some, None, refl, sym, true≢false}
+use Rattle.std.specs.Prelude.{IsSome}
 use Rattle.tva_base.specs.declared.limits.LinkLimits.{LinkLimits}
 use Rattle.tva_shim.specs.Packets.{PacketData}
 use Rattle.tva_port.specs.declared.decision.Decision.{Decision}
@@ -10,6 +11,11 @@ use Rattle.tva_port.specs.Steps.{decision_leaves, freed}
 
 pub same_packet : (hand : Option PacketData) (one other : PacketData) → hand ≡ Some one → hand ≡ Some other → one ≡ other
 same_packet hand one other e f = cc
+
+-- what is so of each packet that the hand may hold is so, where it holds one
+pub by_packet : {A : Type 0} (hand : Option PacketData) → IsSome hand → ((packet : PacketData) → hand ≡ Some packet → A) → A
+by_packet (Some packet) held by = by packet refl
+by_packet None held by = absurd (true≢false (sym held))
 
 -- what doesn't start leaves what waits
 pub rested_leaves : (d : Decision) (w : Waiting) → is_start d ≡ false → decision_leaves d w ≡ w

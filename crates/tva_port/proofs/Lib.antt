@@ -9,7 +9,7 @@ pub mod Holding
 pub mod Limits
 pub mod Standing
 pub mod Counts
-pub mod Stock
+pub mod Stocked
 pub mod Resting
 pub mod Idling
 pub mod Steady

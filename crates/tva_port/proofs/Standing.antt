@@ -110,23 +110,21 @@ stands_by_decide v z log now credit left free w d e s h f g k m n o =
     (subst (λ (x : Waiting). StandsFor (port_data v.limits now (paid v.limits (grown v.limits v.credit (now - v.last)) d) (freed v.limits v.free_at now d) x) (log ++ started_by d now)) (sym o)
     (stands-decided (port_data v.limits now (grown v.limits v.credit (now - v.last)) v.free_at v.waiting) log d (stands-later v log now t i) j (decided v v log now credit d refl t i g k))))
 
-pub stands_by_queue : (v z : PortData) (log : List Entry) (now credit : ℕ) (w : Waiting) (a : Offered PacketData) (class : Class) (key : ℕ) (p q : PacketData) → v ≡ z → StandsFor z log → z.last ≤ now → credit ≡ grown v.limits v.credit (now - v.last)
-    → (20 ≤ packet_length p) × (packet_length p ≤ 2048) → a ≡ queue_answer v.limits v.waiting class key p → w ≡ put_leaves v.limits v.waiting class key p → p ≡ q → StandsFor (port_data v.limits now credit v.free_at w) (log ++ queued_by a now class key q)
-stands_by_queue v z log now credit w a class key p q e s h g u k o f =
+pub stands_by_queue : (v z : PortData) (log : List Entry) (now credit : ℕ) (w : Waiting) (a : Offered PacketData) (class : Class) (key : ℕ) (p : PacketData) → v ≡ z → StandsFor z log → z.last ≤ now → credit ≡ grown v.limits v.credit (now - v.last)
+    → (20 ≤ packet_length p) × (packet_length p ≤ 2048) → a ≡ queue_answer v.limits v.waiting class key p → w ≡ put_leaves v.limits v.waiting class key p → StandsFor (port_data v.limits now credit v.free_at w) (log ++ queued_by a now class key p)
+stands_by_queue v z log now credit w a class key p e s h g u k o =
     let t : StandsFor v log = subst (λ (y : PortData). StandsFor y log) (sym e) s in
     let i : v.last ≤ now = subst (λ (y : PortData). y.last ≤ now) (sym e) h in
-    subst (λ (x : PacketData). StandsFor (port_data v.limits now credit v.free_at w) (log ++ queued_by a now class key x)) f
-    (subst (λ (x : ℕ). StandsFor (port_data v.limits now x v.free_at w) (log ++ queued_by a now class key p)) (sym g)
+    subst (λ (x : ℕ). StandsFor (port_data v.limits now x v.free_at w) (log ++ queued_by a now class key p)) (sym g)
     (subst (λ (x : Waiting). StandsFor (port_data v.limits now (grown v.limits v.credit (now - v.last)) v.free_at x) (log ++ queued_by a now class key p)) (sym o)
     (subst (λ (x : Offered PacketData). StandsFor (port_data v.limits now (grown v.limits v.credit (now - v.last)) v.free_at (put_leaves v.limits v.waiting class key p)) (log ++ queued_by x now class key p)) (sym (k ∙ ap (λ (y : Waiting). queue_answer v.limits y class key p) t.waiting))
-    (stands-put (port_data v.limits now (grown v.limits v.credit (now - v.last)) v.free_at v.waiting) log class key p (stands-later v log now t i) u))))
+    (stands-put (port_data v.limits now (grown v.limits v.credit (now - v.last)) v.free_at v.waiting) log class key p (stands-later v log now t i) u)))
 
 -- the answer of a port that stands for the log
-pub answered : (v z : PortData) (log : List Entry) (a : Offered PacketData) (class : Class) (key : ℕ) (p q : PacketData) → v ≡ z → StandsFor z log → a ≡ queue_answer v.limits v.waiting class key p → p ≡ q → a ≡ queue_answer z.limits (waiting_after z.limits log) class key q
-answered v z log a class key p q e s k f =
+pub answered : (v z : PortData) (log : List Entry) (a : Offered PacketData) (class : Class) (key : ℕ) (p : PacketData) → v ≡ z → StandsFor z log → a ≡ queue_answer v.limits v.waiting class key p → a ≡ queue_answer z.limits (waiting_after z.limits log) class key p
+answered v z log a class key p e s k =
     k ∙ (ap (λ (y : PortData). queue_answer y.limits y.waiting class key p) e
-    ∙ (ap (λ (w : Waiting). queue_answer z.limits w class key p) s.waiting
-    ∙ ap (λ (x : PacketData). queue_answer z.limits (waiting_after z.limits log) class key x) f))
+    ∙ ap (λ (w : Waiting). queue_answer z.limits w class key p) s.waiting)
 
 -- a refusal leaves what waits
 pub refused_leaves : (l : LinkLimits) (w : Waiting) (class : Class) (key : ℕ) (p : PacketData) → is_queued (queue_answer l w class key p) ≡ false → put_leaves l w class key p ≡ w

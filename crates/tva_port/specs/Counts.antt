@@ -3,6 +3,8 @@ use Rattle.std.specs.Prelude.{◌≡◌, ℕ, ◌+◌, ◌*◌, ◌<◌, length,
 use Rattle.tva_base.specs.declared.limits.DrrLimits.{DrrLimits}
 use Rattle.tva_base.specs.declared.limits.LinkLimits.{LinkLimits}
 use Rattle.tva_shim.specs.Packets.{PacketData}
+use Rattle.tva_drr.specs.declared.offered.Offered.{Offered}
+use Rattle.tva_drr.specs.declared.offered.Offered.TheVariants.{Queued}
 use Rattle.tva_drr.specs.Queues.{Fair, all_bytes}
 use Rattle.tva_hier.specs.Groups.{all_group_bytes}
 use Rattle.tva_port.specs.declared.requests.RequestQueues.{RequestQueues}
@@ -27,7 +29,11 @@ request_count (TwoLevels h) = all_group_bytes one h.groups
 abbrev pub waiting_count : Waiting → ℕ
 waiting_count w = request_count w.requests + count_of w.regulars + length w.legacy
 
--- how many packets a decision starts
+-- how many packets an answer says are queued, and how many a decision starts
+abbrev pub queued_count : Offered PacketData → ℕ
+queued_count Queued = 1
+queued_count answer = 0
+
 abbrev pub started_count : Decision → ℕ
 started_count (Start class packet) = 1
 started_count d = 0
@@ -45,9 +51,17 @@ request_places l = places_under l.request l.request_inner
 abbrev pub places_in : LinkLimits → ℕ
 places_in l = request_places l + l.regular.queues * l.regular.ring + l.legacy_ring
 
+-- how many empty hands there are, and for how many there is room
+pub record StockData : Type 0 where
+  pub count : ℕ
+  pub room : ℕ
+
+abbrev pub stock_data : ℕ → ℕ → StockData
+stock_data count room = record { count = count; room = room }
+
 -- what waits is within the limits, with it there is a hand for each place and one more, and there is room for these
 -- and another
-pub record IsStocked (l : LinkLimits) (w : Waiting) (hands capacity : ℕ) : Type 0 where
+pub record IsStocked (l : LinkLimits) (w : Waiting) (stock : StockData) : Type 0 where
   pub within : IsWithinLimits l w
-  pub count : hands + waiting_count w ≡ places_in l + 1
-  pub room : places_in l + 1 < capacity
+  pub count : stock.count + waiting_count w ≡ places_in l + 1
+  pub room : places_in l + 1 < stock.room

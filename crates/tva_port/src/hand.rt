@@ -2,12 +2,13 @@
 ghost use Rattle.std.specs.Prelude.{◌≡◌, ◌≤◌, Some, None, IfOk, IsSome};
 ghost use Rattle.tva_shim.specs.Packets.{PacketData, packet_length};
 ghost use Rattle.tva_shim.specs.Shows.{key_of};
-ghost use Rattle.tva_port.specs.Hand.{AreOneDecision, decision_by};
+ghost use Rattle.tva_port.specs.Hand.{AreOneAnswer, AreOneDecision, answer_by, decision_by};
 
 use crate::decision::Decision;
 use std::alloc::{AllocError, Global};
 use std::marker::Model;
 use tva_base::{Address, Class, PacketId, Time};
+use tva_drr::Offered;
 use tva_shim::{Packet, length, queue_key};
 
 /// A piece of memory for a packet: it goes from hand to hand with the packet in it, which isn't moved. Contracts
@@ -79,6 +80,19 @@ pub enum Next {
     Start(Class),
     WaitUntil(Time),
     Idle,
+}
+
+/// The answer to an offer, with the packet that the hand holds.
+#[inline(always)]
+pub(crate) fn answer_by(answer: Answer, hand: Option<Packet>) -> Offered<Packet>
+    requires { AreOneAnswer answer hand }
+    ensures { result ≡ answer_by answer hand }
+{
+    match (answer, hand) {
+        (Answer::NoQueue, Some(packet)) => Offered::NoQueue(packet),
+        (Answer::QueueFull, Some(packet)) => Offered::QueueFull(packet),
+        (_, _) => Offered::Queued,
+    }
 }
 
 /// The decision of a free link, with the packet that the hand holds.

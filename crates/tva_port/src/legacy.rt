@@ -1,21 +1,23 @@
 // The legacy packets of a link, first in, first out.
-ghost use Rattle.std.specs.Prelude.{◌≡◌, ◌==◌, ◌+◌, ◌^◌, ◌≤◌, ◌<◌, nat_lt, ◌||◌, if◌then◌else◌, [], ◌∷◌, ◌++◌, length, drop, vec_capacity, None, IfOk};
+ghost use Rattle.std.specs.Prelude.{◌≡◌, ◌==◌, ◌+◌, ◌^◌, ◌≤◌, ◌<◌, nat_lt, ◌||◌, if◌then◌else◌, [], ◌∷◌, ◌++◌, length, drop, Some, None, IsSome, IfOk};
 ghost use Rattle.std.specs.VecDeque.{deque_capacity};
 ghost use Rattle.tva_drr.specs.Queues.{first};
-ghost use Rattle.tva_shim.specs.Packets.{packet_length};
+ghost use Rattle.tva_shim.specs.Packets.{PacketData, packet_length};
 ghost use Rattle.tva_base.specs.declared.packet.Class.TheVariants.{Legacy};
-ghost use Rattle.tva_port.specs.Decide.{is_start, start_or};
+ghost use Rattle.tva_port.specs.Counts.{queued_count, started_count};
+ghost use Rattle.tva_port.specs.Decide.{start_or};
 ghost use Rattle.tva_port.specs.declared.decision.Decision.TheVariants.{Idle};
-ghost use Rattle.tva_port.specs.Hand.{AreOneDecision, decision_by};
+ghost use Rattle.tva_port.specs.Hand.{AreOneAnswer, AreOneDecision, answer_by, decision_by};
 ghost use Rattle.tva_port.specs.Lists.{LegacyData, legacy_data, lacks_room, legacy_answer, legacy_leaves};
 
-use crate::hand::{Hand, Next};
-use crate::held::{HeldPacket, start_held};
+use crate::hand::{Answer, Hand, Next, length_in};
+use crate::held::{HeldPacket, held_in, start_held};
+use crate::stock::Stock;
 use std::alloc::{AllocError, Global};
 use std::collections::VecDeque;
 use std::marker::Model;
 use tva_base::Class;
-use tva_drr::{Measured, Offered, take_first};
+use tva_drr::{Measured, take_first};
 
 /// Packets in the order in which they came, at most so many and of at most so many bytes in all.
 /// All memory is taken when it is made.
@@ -63,24 +65,32 @@ impl LegacyList {
         })
     }
 
-    /// Puts a packet last, or gives it back where its place or its bytes are too many.
+    /// Puts the packet in hand last, or leaves it there where its place or its bytes are too many. The list keeps
+    /// the hand where it takes it, and gives one of the stock.
     #[inline(always)]
-    pub fn offer(&mut self, held: HeldPacket) -> Offered<HeldPacket>
-        requires sized { packet_length held ≤ 2048 }
-        ensures answer { result ≡ legacy_answer self.old held }
-        ensures left { self.new ≡ legacy_leaves self.old held }
+    pub fn offer(&mut self, hand: &mut Hand, stock: &mut Stock) -> Answer
+        requires held { IsSome hand.old }
+        requires stocked { 1 ≤ stock.old.count }
+        ensures answer { (packet : PacketData) → hand.old ≡ Some packet
+            → answer_by result hand.new ≡ legacy_answer self.old packet }
+        ensures held { AreOneAnswer result hand.new }
+        ensures left { (packet : PacketData) → hand.old ≡ Some packet → self.new ≡ legacy_leaves self.old packet }
         ensures same { (self.new.places ≡ self.old.places) × (self.new.most ≡ self.old.most) }
+        ensures sized { (packet : PacketData) → hand.old ≡ Some packet
+            → (20 ≤ packet_length packet) × (packet_length packet ≤ 2048) }
+        ensures count { stock.new.count + queued_count (answer_by result hand.new) ≡ stock.old.count }
+        ensures room { stock.new.room ≡ stock.old.room }
     {
-        let bytes = held.length();
+        let bytes = length_in(hand);
         if lacks_place(&self.ring) {
-            return Offered::QueueFull(held);
+            return Answer::QueueFull;
         }
         if self.bytes + bytes > self.most {
-            return Offered::QueueFull(held);
+            return Answer::QueueFull;
         }
         self.bytes += bytes;
-        self.ring.push_back_reserved(held);
-        Offered::Queued
+        self.ring.push_back_reserved(held_in(hand, stock));
+        Answer::Queued
     }
 
     /// Whether nothing waits.
@@ -91,14 +101,14 @@ impl LegacyList {
     }
 
     /// Starts the oldest packet.
-    pub fn start(&mut self, hand: &mut Hand, stock: &mut Vec<Hand>) -> Next
+    pub fn start(&mut self, hand: &mut Hand, stock: &mut Stock) -> Next
         requires empty { hand.old ≡ None }
-        requires room { length stock.old.items < vec_capacity stock.old }
+        requires room { stock.old.count < stock.old.room }
         ensures value { decision_by result hand.new ≡ start_or Legacy (first self.old.packets) Idle }
         ensures held { AreOneDecision result hand.new }
         ensures left { self.new ≡ legacy_data self.old.places self.old.most (drop 1 self.old.packets) }
-        ensures stock { length stock.new.items ≡ (if is_start (decision_by result hand.new) then length stock.old.items + 1 else length stock.old.items) }
-        ensures capacity { vec_capacity stock.new ≡ vec_capacity stock.old }
+        ensures count { stock.new.count ≡ stock.old.count + started_count (decision_by result hand.new) }
+        ensures room { stock.new.room ≡ stock.old.room }
     {
         let taken = take_first(&mut self.ring);
         if let Some(held) = &taken {

@@ -17,6 +17,7 @@ mod legacy;
 mod parts;
 mod port;
 mod requests;
+mod stock;
 mod worked;
 
 pub use bounds::{

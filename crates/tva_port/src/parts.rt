@@ -1,22 +1,24 @@
 // What is queued and what starts, on the parts of a port.
-ghost use Rattle.std.specs.Prelude.{◌≡◌, ◌≤◌, ◌<◌, ◌+◌, length, vec_capacity, true, Some, None, IsSome, if◌then◌else◌};
+ghost use Rattle.std.specs.Prelude.{◌≡◌, ◌≤◌, ◌<◌, ◌+◌, true, Some, None, IsSome, if◌then◌else◌};
 ghost use Rattle.tva_base.specs.declared.limits.LinkLimits.{LinkLimits};
 ghost use Rattle.tva_base.specs.Plan.{AreLinkLimits};
 ghost use Rattle.tva_shim.specs.Packets.{PacketData, packet_length};
 ghost use Rattle.tva_port.specs.Levels.{limits_in, next_in};
 ghost use Rattle.tva_port.specs.Waiting.{waiting, queue_answer};
-ghost use Rattle.tva_port.specs.Decide.{covered, wait_for, decide_on, is_start};
-ghost use Rattle.tva_port.specs.Hand.{AreOneDecision, decision_by};
+ghost use Rattle.tva_port.specs.Counts.{queued_count, started_count};
+ghost use Rattle.tva_port.specs.Decide.{covered, wait_for, decide_on};
+ghost use Rattle.tva_port.specs.Hand.{AreOneAnswer, AreOneDecision, answer_by, decision_by};
 ghost use Rattle.tva_port.specs.Steps.{put_leaves, decision_leaves, IsPaid};
 
 use crate::credits::cost_of;
-use crate::fair::start_from;
-use crate::hand::{Hand, Next};
+use crate::fair::{offer_to, start_from};
+use crate::hand::{Answer, Hand, Next};
 use crate::held::HeldPacket;
 use crate::legacy::LegacyList;
 use crate::requests::RequestQueues;
+use crate::stock::Stock;
 use tva_base::{Class, LinkLimits, Time};
-use tva_drr::{FairQueues, Offered};
+use tva_drr::FairQueues;
 
 /// Whether there is a request at the head whose cost the credit covers.
 fn is_covered(limits: &LinkLimits, credit: u64, requests: &RequestQueues) -> bool
@@ -61,13 +63,13 @@ pub(crate) fn start_next(
     regulars: &mut FairQueues<HeldPacket>,
     legacy: &mut LegacyList,
     hand: &mut Hand,
-    stock: &mut Vec<Hand>,
+    stock: &mut Stock,
 ) -> Next
     requires limits { AreLinkLimits limits.now }
     requires most { (limits_in requests.old).max ≡ 2048 }
     requires time { now ≤ 1000000000000000 }
     requires empty { hand.old ≡ None }
-    requires room { length stock.old.items < vec_capacity stock.old }
+    requires room { stock.old.count < stock.old.room }
     ensures decision { decision_by result hand.new ≡ decide_on limits.now
         (waiting requests.old regulars.old legacy.old.packets) credit now }
     ensures held { AreOneDecision result hand.new }
@@ -79,8 +81,8 @@ pub(crate) fn start_next(
     ensures requests { limits_in requests.new ≡ limits_in requests.old }
     ensures regulars { regulars.new.limits ≡ regulars.old.limits }
     ensures legacy { (legacy.new.places ≡ legacy.old.places) × (legacy.new.most ≡ legacy.old.most) }
-    ensures stock { length stock.new.items ≡ (if is_start (decision_by result hand.new) then length stock.old.items + 1 else length stock.old.items) }
-    ensures capacity { vec_capacity stock.new ≡ vec_capacity stock.old }
+    ensures count { stock.new.count ≡ stock.old.count + started_count (decision_by result hand.new) }
+    ensures room { stock.new.room ≡ stock.old.room }
 {
     if is_covered(limits, credit, requests) {
         return requests.start(hand, stock);
@@ -94,7 +96,7 @@ pub(crate) fn start_next(
     rest(limits, credit, now, requests)
 }
 
-/// Queues a packet in its class, or gives it back.
+/// Queues the packet in hand in its class, or leaves it there. A hand that is kept is replaced by one of the stock.
 #[inline(always)]
 pub(crate) fn put(
     requests: &mut RequestQueues,
@@ -102,23 +104,33 @@ pub(crate) fn put(
     legacy: &mut LegacyList,
     class: Class,
     key: u32,
-    held: HeldPacket,
-) -> Offered<HeldPacket>
+    hand: &mut Hand,
+    stock: &mut Stock,
+) -> Answer
     requires requests { (limits_in requests.old).max ≡ 2048 }
     requires regulars { regulars.old.limits.max ≡ 2048 }
-    requires sized { (20 ≤ packet_length held) × (packet_length held ≤ 2048) }
-    ensures answer { (l : LinkLimits) → l.legacy_ring ≡ legacy.old.places → l.legacy_bytes ≡ legacy.old.most
-        → result ≡ queue_answer l (waiting requests.old regulars.old legacy.old.packets) class key held }
-    ensures left { (l : LinkLimits) → l.legacy_ring ≡ legacy.old.places → l.legacy_bytes ≡ legacy.old.most
+    requires held { IsSome hand.old }
+    requires stocked { 1 ≤ stock.old.count }
+    ensures answer { (packet : PacketData) (l : LinkLimits) → hand.old ≡ Some packet
+        → l.legacy_ring ≡ legacy.old.places → l.legacy_bytes ≡ legacy.old.most
+        → answer_by result hand.new
+        ≡ queue_answer l (waiting requests.old regulars.old legacy.old.packets) class key packet }
+    ensures held { AreOneAnswer result hand.new }
+    ensures left { (packet : PacketData) (l : LinkLimits) → hand.old ≡ Some packet
+        → l.legacy_ring ≡ legacy.old.places → l.legacy_bytes ≡ legacy.old.most
         → waiting requests.new regulars.new legacy.new.packets
-        ≡ put_leaves l (waiting requests.old regulars.old legacy.old.packets) class key held }
+        ≡ put_leaves l (waiting requests.old regulars.old legacy.old.packets) class key packet }
+    ensures sized { (packet : PacketData) → hand.old ≡ Some packet
+        → (20 ≤ packet_length packet) × (packet_length packet ≤ 2048) }
     ensures requests { limits_in requests.new ≡ limits_in requests.old }
     ensures regulars { regulars.new.limits ≡ regulars.old.limits }
     ensures legacy { (legacy.new.places ≡ legacy.old.places) × (legacy.new.most ≡ legacy.old.most) }
+    ensures count { stock.new.count + queued_count (answer_by result hand.new) ≡ stock.old.count }
+    ensures room { stock.new.room ≡ stock.old.room }
 {
     match class {
-        Class::Request => requests.offer(key, held),
-        Class::Regular => regulars.offer(key, held),
-        Class::Legacy => legacy.offer(held),
+        Class::Request => requests.offer(key, hand, stock),
+        Class::Regular => offer_to(regulars, key, hand, stock),
+        Class::Legacy => legacy.offer(hand, stock),
     }
 }

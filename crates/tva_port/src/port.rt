@@ -1,5 +1,5 @@
 // The port of a link.
-ghost use Rattle.std.specs.Prelude.{◌≡◌, ℕ, ◌+◌, ◌*◌, ◌^◌, ◌≤◌, ◌<◌, ◌↔◌, max, true, false, List, Some, None, IsSome, [], ◌++◌, length, vec_capacity, IfOk};
+ghost use Rattle.std.specs.Prelude.{◌≡◌, ℕ, ◌+◌, ◌*◌, ◌^◌, ◌≤◌, ◌<◌, ◌↔◌, max, true, false, List, Some, None, IsSome, [], ◌++◌, IfOk};
 ghost use Rattle.tva_base.specs.declared.packet.Class.TheVariants.{Request, Regular};
 ghost use Rattle.tva_base.specs.Plan.{AreLinkLimits};
 ghost use Rattle.tva_drr.specs.Queues.{fair};
@@ -18,11 +18,12 @@ ghost use Rattle.tva_port.specs.Keeps.{IsWithinRate, start_times, AreRising, Sta
 
 use crate::credits::{grow, most_credit, occupy, pay};
 use crate::decision::Decision;
-use crate::hand::{Answer, Hand, Next, decision_by};
-use crate::held::{HeldPacket, back_into, blank_of, held_in, held_of, out_of};
+use crate::hand::{Answer, Hand, Next, answer_by, decision_by};
+use crate::held::HeldPacket;
 use crate::legacy::LegacyList;
 use crate::parts::{put, start_next};
 use crate::requests::RequestQueues;
+use crate::stock::Stock;
 use std::alloc::{AllocError, Global};
 use std::marker::Model;
 use tva_base::{Class, LinkLimits, Time};
@@ -32,7 +33,7 @@ use tva_shim::Packet;
 /// What waits for a link, and what it starts. Contracts see the limits, the last time, the credit of
 /// requests then, when the link is free, and what waits; and they speak of all packets queued and
 /// started so far, for which these stand. All memory is taken when it is built: packets stay where they
-/// are, in hands that are swapped for empty ones.
+/// are, in hands that are swapped for empty ones of a stock.
 ///
 /// Of the starts so far it keeps one number, the credit. The debt after some starts is the greatest
 /// sum of costs from one of them on, less the time since it. As time passes each of these falls alike,
@@ -48,11 +49,14 @@ pub struct Port {
     requests: RequestQueues,
     regulars: FairQueues<HeldPacket>,
     legacy: LegacyList,
-    stock: Vec<Hand>,
+    // (an empty hand for each place that there is for a packet, and one more)
+    stock: Stock,
+    // (of the calls in which a packet is given by value)
+    own: Hand,
 }
 
 impl Model for Port {
-    ghost use Rattle.std.specs.Prelude.{length, vec_capacity};
+    ghost use Rattle.std.specs.Prelude.{◌≡◌, None};
     ghost use Rattle.tva_port.specs.Waiting.{waiting};
     ghost use Rattle.tva_port.specs.Stands.{PortData, port_data};
     ghost use Rattle.tva_port.specs.Lists.{IsSound};
@@ -65,7 +69,8 @@ impl Model for Port {
 
     ghost invariant = { λ w. IsSound w.limits w.last w.credit w.free_at w.requests w.regulars w.legacy
         × IsStocked w.limits (waiting w.requests w.regulars w.legacy.packets)
-        (length w.stock.items) (vec_capacity w.stock) };
+        w.stock
+        × (w.own ≡ None) };
 }
 
 impl Port {
@@ -87,7 +92,8 @@ impl Port {
             requests: RequestQueues::with_limits(alloc, &limits)?,
             regulars: FairQueues::with_limits(alloc, limits.regular)?,
             legacy: LegacyList::with_limits(alloc, limits.legacy_ring, limits.legacy_bytes)?,
-            stock: stock_of(alloc, &limits)?,
+            stock: Stock::with_hands(alloc, places_in(&limits) + 1)?,
+            own: Hand::new(alloc)?,
         })
     }
 
@@ -118,18 +124,17 @@ impl Port {
     {
         self.credit = grow(&self.limits, self.credit, now.0 - self.last);
         self.last = now.0;
-        let mut hand = blank_of(&mut self.stock);
-        hand.put(packet);
-        let held = held_of(hand);
-        let offered = put(
+        self.own.put(packet);
+        let answer = put(
             &mut self.requests,
             &mut self.regulars,
             &mut self.legacy,
             class,
             key,
-            held,
+            &mut self.own,
+            &mut self.stock,
         );
-        out_of(&mut self.stock, offered)
+        answer_by(answer, self.own.take())
     }
 
     /// The same of a packet that is in the caller's hand: it leaves the hand where it is queued, and stays
@@ -151,17 +156,15 @@ impl Port {
     {
         self.credit = grow(&self.limits, self.credit, now.0 - self.last);
         self.last = now.0;
-        let blank = blank_of(&mut self.stock);
-        let held = held_in(hand, blank);
-        let offered = put(
+        put(
             &mut self.requests,
             &mut self.regulars,
             &mut self.legacy,
             class,
             key,
-            held,
-        );
-        back_into(hand, &mut self.stock, offered)
+            hand,
+            &mut self.stock,
+        )
     }
 
     /// Decides what the link, which is free, does at a time, in nanoseconds, which never falls: a
@@ -220,7 +223,6 @@ impl Port {
     {
         self.credit = grow(&self.limits, self.credit, now.0 - self.last);
         self.last = now.0;
-        let mut hand = blank_of(&mut self.stock);
         let next = start_next(
             &self.limits,
             self.credit,
@@ -228,14 +230,12 @@ impl Port {
             &mut self.requests,
             &mut self.regulars,
             &mut self.legacy,
-            &mut hand,
+            &mut self.own,
             &mut self.stock,
         );
-        self.credit = pay(&self.limits, self.credit, next, &hand);
-        self.free_at = occupy(&self.limits, self.free_at, now.0, next, &hand);
-        let left = hand.take();
-        self.stock.push_reserved(hand);
-        decision_by(next, left)
+        self.credit = pay(&self.limits, self.credit, next, &self.own);
+        self.free_at = occupy(&self.limits, self.free_at, now.0, next, &self.own);
+        decision_by(next, self.own.take())
     }
 
     /// The same where a packet that starts is put into the caller's hand, which is empty.
@@ -302,25 +302,11 @@ impl Port {
     }
 }
 
-// An empty hand for each place that there is for a packet, and one more.
-fn stock_of(alloc: Global, limits: &LinkLimits) -> Result<Vec<Hand>, AllocError>
-    requires { AreLinkLimits limits.now }
-    ensures count { IfOk result (λ stock. length stock.items ≡ places_in limits.now + 1) }
-    ensures room { IfOk result (λ stock. places_in limits.now + 1 < vec_capacity stock) }
-{
-    let count = places_in(limits) + 1;
-    // One place more, so that there is room before it is known whether a packet starts.
-    let mut stock = Vec::with_capacity(alloc, count + 1)?;
-    for _ in 0..count {
-        stock.push_reserved(Hand::new(alloc)?);
-    }
-    Ok(stock)
-}
-
 // How many packets may wait.
 fn places_in(limits: &LinkLimits) -> usize
     requires { AreLinkLimits limits.now }
-    ensures { result ≡ places_in limits.now }
+    ensures value { result ≡ places_in limits.now }
+    ensures few { result ≤ 2 ^ 49 }
 {
     request_places(limits)
         + limits.regular.queues as usize * limits.regular.ring as usize

@@ -1,5 +1,5 @@
 // The requests that wait for a link.
-ghost use Rattle.std.specs.Prelude.{◌≡◌, ◌≤◌, ◌<◌, ◌+◌, if◌then◌else◌, length, vec_capacity, Some, None, IsSome, IfOk};
+ghost use Rattle.std.specs.Prelude.{◌≡◌, ◌≤◌, ◌<◌, ◌+◌, Some, None, IsSome, IfOk};
 ghost use Rattle.std.specs.Option.{option_map};
 ghost use Rattle.tva_base.specs.Plan.{AreLinkLimits};
 ghost use Rattle.tva_shim.specs.Packets.{PacketData, packet_length};
@@ -8,17 +8,19 @@ ghost use Rattle.tva_hier.specs.Groups.{next};
 ghost use Rattle.tva_hier.specs.Offer.{answer_to_offer, left_by_offer};
 ghost use Rattle.tva_hier.specs.Take.{left_by_take};
 ghost use Rattle.tva_base.specs.declared.packet.Class.TheVariants.{Request};
-ghost use Rattle.tva_port.specs.Decide.{is_start, start_or};
-ghost use Rattle.tva_port.specs.Hand.{AreOneDecision, decision_by};
+ghost use Rattle.tva_port.specs.Counts.{queued_count, started_count};
+ghost use Rattle.tva_port.specs.Decide.{start_or};
+ghost use Rattle.tva_port.specs.Hand.{AreOneAnswer, AreOneDecision, answer_by, decision_by};
 ghost use Rattle.tva_port.specs.declared.decision.Decision.TheVariants.{Idle};
 ghost use Rattle.tva_port.specs.Levels.{no_requests, limits_in, next_in, request_answer, request_leaves, request_taken};
 
-use crate::fair::start_from;
-use crate::hand::{Hand, Next};
-use crate::held::{HeldPacket, start_held};
+use crate::fair::{offer_to, start_from};
+use crate::hand::{Answer, Hand, Next};
+use crate::held::{HeldPacket, back_into, held_in, start_held};
+use crate::stock::Stock;
 use std::alloc::{AllocError, Global};
 use tva_base::{Class, LinkLimits};
-use tva_drr::{FairQueues, Offered};
+use tva_drr::FairQueues;
 use tva_hier::HierQueues;
 use tva_shim::inner_queue_key;
 
@@ -61,30 +63,39 @@ impl RequestQueues {
         }
     }
 
-    /// Offers a request under a key, and within it under its own inner key where there are two levels.
+    /// Offers the request in hand under a key, and within it under its own inner key where there are two
+    /// levels. The queues keep the hand where they take it, and give one of the stock.
     #[inline(always)]
-    pub fn offer(&mut self, key: u32, held: HeldPacket) -> Offered<HeldPacket>
+    pub fn offer(&mut self, key: u32, hand: &mut Hand, stock: &mut Stock) -> Answer
         requires limits { (limits_in self.old).max ≡ 2048 }
-        requires sized { (20 ≤ packet_length held) × (packet_length held ≤ 2048) }
-        ensures answer { result ≡ request_answer self.old key held }
-        ensures left { self.new ≡ request_leaves self.old key held }
+        requires held { IsSome hand.old }
+        requires stocked { 1 ≤ stock.old.count }
+        ensures answer { (packet : PacketData) → hand.old ≡ Some packet
+            → answer_by result hand.new ≡ request_answer self.old key packet }
+        ensures held { AreOneAnswer result hand.new }
+        ensures left { (packet : PacketData) → hand.old ≡ Some packet
+            → self.new ≡ request_leaves self.old key packet }
         ensures limits { limits_in self.new ≡ limits_in self.old }
+        ensures sized { (packet : PacketData) → hand.old ≡ Some packet
+            → (20 ≤ packet_length packet) × (packet_length packet ≤ 2048) }
+        ensures count { stock.new.count + queued_count (answer_by result hand.new) ≡ stock.old.count }
+        ensures room { stock.new.room ≡ stock.old.room }
     {
         match self {
-            RequestQueues::OneLevel(queues) => queues.offer(key, held),
-            RequestQueues::TwoLevels(queues) => offer_within(queues, key, held),
+            RequestQueues::OneLevel(queues) => offer_to(queues, key, hand, stock),
+            RequestQueues::TwoLevels(queues) => offer_within(queues, key, hand, stock),
         }
     }
 
     /// Starts the next request.
-    pub fn start(&mut self, hand: &mut Hand, stock: &mut Vec<Hand>) -> Next
+    pub fn start(&mut self, hand: &mut Hand, stock: &mut Stock) -> Next
         requires empty { hand.old ≡ None }
-        requires room { length stock.old.items < vec_capacity stock.old }
+        requires room { stock.old.count < stock.old.room }
         ensures value { decision_by result hand.new ≡ start_or Request (next_in self.old) Idle }
         ensures held { AreOneDecision result hand.new }
         ensures left { self.new ≡ request_taken self.old }
-        ensures stock { length stock.new.items ≡ (if is_start (decision_by result hand.new) then length stock.old.items + 1 else length stock.old.items) }
-        ensures capacity { vec_capacity stock.new ≡ vec_capacity stock.old }
+        ensures count { stock.new.count ≡ stock.old.count + started_count (decision_by result hand.new) }
+        ensures room { stock.new.room ≡ stock.old.room }
     {
         match self {
             RequestQueues::OneLevel(queues) => start_from(queues, Class::Request, hand, stock),
@@ -93,31 +104,41 @@ impl RequestQueues {
     }
 }
 
-/// Offers a request to two-level queues under a key and its inner key.
+/// Offers the request in hand to two-level queues under a key and its inner key.
 fn offer_within(
     queues: &mut HierQueues<HeldPacket>,
     key: u32,
-    held: HeldPacket,
-) -> Offered<HeldPacket>
+    hand: &mut Hand,
+    stock: &mut Stock,
+) -> Answer
     requires limits { queues.old.limits.max ≡ 2048 }
-    requires sized { (20 ≤ packet_length held) × (packet_length held ≤ 2048) }
-    ensures answer { result ≡ answer_to_offer packet_length queues.old key (inner_key_of held) held }
-    ensures left { queues.new ≡ left_by_offer packet_length queues.old key (inner_key_of held) held }
+    requires held { IsSome hand.old }
+    requires stocked { 1 ≤ stock.old.count }
+    ensures answer { (packet : PacketData) → hand.old ≡ Some packet
+        → answer_by result hand.new ≡ answer_to_offer packet_length queues.old key (inner_key_of packet) packet }
+    ensures held { AreOneAnswer result hand.new }
+    ensures left { (packet : PacketData) → hand.old ≡ Some packet
+        → queues.new ≡ left_by_offer packet_length queues.old key (inner_key_of packet) packet }
     ensures limits { queues.new.limits ≡ queues.old.limits }
+    ensures sized { (packet : PacketData) → hand.old ≡ Some packet
+        → (20 ≤ packet_length packet) × (packet_length packet ≤ 2048) }
+    ensures count { stock.new.count + queued_count (answer_by result hand.new) ≡ stock.old.count }
+    ensures room { stock.new.room ≡ stock.old.room }
 {
-    let inner = inner_key_in(&held.hand);
-    queues.offer(key, inner, held)
+    let inner = inner_key_in(hand);
+    let held = held_in(hand, stock);
+    back_into(hand, stock, queues.offer(key, inner, held))
 }
 
 /// Starts the next packet of two-level queues.
-fn start_within(queues: &mut HierQueues<HeldPacket>, hand: &mut Hand, stock: &mut Vec<Hand>) -> Next
+fn start_within(queues: &mut HierQueues<HeldPacket>, hand: &mut Hand, stock: &mut Stock) -> Next
     requires empty { hand.old ≡ None }
-    requires room { length stock.old.items < vec_capacity stock.old }
+    requires room { stock.old.count < stock.old.room }
     ensures value { decision_by result hand.new ≡ start_or Request (next queues.old.groups) Idle }
     ensures held { AreOneDecision result hand.new }
     ensures left { queues.new ≡ left_by_take packet_length queues.old }
-    ensures stock { length stock.new.items ≡ (if is_start (decision_by result hand.new) then length stock.old.items + 1 else length stock.old.items) }
-    ensures capacity { vec_capacity stock.new ≡ vec_capacity stock.old }
+    ensures count { stock.new.count ≡ stock.old.count + started_count (decision_by result hand.new) }
+    ensures room { stock.new.room ≡ stock.old.room }
 {
     start_held(hand, stock, queues.take(), Class::Request)
 }

@@ -8,3 +8,4 @@ pub mod Taking
 pub mod Tree
 pub mod Growing
 pub mod Placed
+pub mod Recent

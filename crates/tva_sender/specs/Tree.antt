@@ -2,8 +2,10 @@
 use Rattle.std.specs.Prelude.{◌≡◌, ℕ, zero, suc, ◌/◌, ◌%◌, ◌<◌, ◌==◌, Bool, if◌then◌else◌, List, length, map}
 use Rattle.std.specs.Prelude.{slice_index_or, slice_set, Option, Some, None, option_and_then}
 use Rattle.tva_sender.specs.declared.places.Node.{Node}
+use Rattle.tva_sender.specs.declared.places.Hint.{Hint}
 use Rattle.tva_sender.specs.declared.places.End.{End}
 use Rattle.tva_sender.specs.declared.places.End.TheVariants.{Found, Missing}
+use Rattle.tva_sender.specs.Places.{IsFirstAt}
 
 abbrev pub addresses_of : List Node → List ℕ
 addresses_of ns = map (λ n. n.address) ns
@@ -68,3 +70,8 @@ pub record IsLed (ns : List Node) (a : ℕ) (led : List Node) : Type 0 where
   pub high : Bool
   pub missing : IsMissing ns a at high
   pub is : led ≡ slice_set ns at (with_branch (node ns at) high (length ns))
+
+-- what is remembered of an address is its place
+abbrev pub IsRecent : List ℕ → Option Hint → Type 0
+IsRecent addresses None = Unit {0}
+IsRecent addresses (Some hint) = IsFirstAt hint.address addresses hint.place

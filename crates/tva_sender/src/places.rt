@@ -1,10 +1,13 @@
 // Where peers stand, by their addresses.
-ghost use Rattle.std.specs.Prelude.{◌≡◌, ◌<◌, ◌≤◌, ◌-◌, ◌∷◌, [], ◌++◌, length, map, vec_capacity, OnOk, MatchOption};
+ghost use Rattle.std.specs.Prelude.{◌≡◌, ℕ, ◌<◌, ◌≤◌, ◌-◌, List, ◌∷◌, [], ◌++◌, length, map, vec_capacity, OnOk, MatchOption};
 ghost use Rattle.tva_sender.specs.Places.{Known, known, IsFirstAt, IsNowhere};
-ghost use Rattle.tva_sender.specs.Tree.{IsTree, IsEnd, IsLed, leaf, branch, with_branch, addresses_of};
+ghost use Rattle.tva_sender.specs.Tree.{IsTree, IsRecent, IsEnd, IsLed, leaf, branch, with_branch, addresses_of};
 
 use std::alloc::{AllocError, Global};
 use std::marker::Model;
+
+/// How many places are remembered. Addresses whose lowest six bits are the same share one.
+const RECENT: usize = 64;
 
 /// An address, and the places to which its two branches lead.
 #[derive(Clone, Copy, Debug)]
@@ -21,24 +24,33 @@ pub(crate) enum End {
     Missing { at: usize, high: bool },
 }
 
+/// An address that was found lately, and its place.
+#[derive(Clone, Copy, Debug)]
+pub(crate) struct Hint {
+    pub address: u32,
+    pub place: u32,
+}
+
 /// The places of addresses, in the order in which they were added. They are found by a tree that
 /// branches by the bits of addresses, the lowest first, so a look-up costs a step for each bit at
-/// most, whatever addresses senders choose.
+/// most, whatever addresses senders choose. What was found lately is found again without a walk, which
+/// waits for the memory of each node.
 #[derive(Drop)]
 pub(crate) struct Places {
     nodes: Vec<Node>,
+    recent: [Option<Hint>; RECENT],
 }
 
 impl Model for Places {
-    ghost use Rattle.std.specs.Prelude.{◌-◌, length, vec_capacity};
+    ghost use Rattle.std.specs.Prelude.{◌-◌, length, vec_capacity, All};
     ghost use Rattle.tva_sender.specs.Places.{Known, known};
-    ghost use Rattle.tva_sender.specs.Tree.{IsTree, addresses_of};
+    ghost use Rattle.tva_sender.specs.Tree.{IsTree, IsRecent, addresses_of};
 
     ghost Value = { Known };
 
     ghost view = { λ p. known (addresses_of p.nodes.items) (vec_capacity p.nodes - length p.nodes.items) };
 
-    ghost invariant = { λ p. IsTree p.nodes.items };
+    ghost invariant = { λ p. IsTree p.nodes.items × All (IsRecent (addresses_of p.nodes.items)) p.recent };
 }
 
 impl Node {
@@ -75,6 +87,7 @@ impl Places {
     {
         Places {
             nodes: Vec::new(alloc),
+            recent: [None; RECENT],
         }
     }
 
@@ -88,10 +101,19 @@ impl Places {
     }
 
     /// The place of an address.
-    pub fn find(&self, address: u32) -> Option<usize>
-        ensures { MatchOption result (IsNowhere address self.now.addresses) (λ at. IsFirstAt address self.now.addresses at) }
+    pub fn find(&mut self, address: u32) -> Option<usize>
+        ensures place { MatchOption result (IsNowhere address self.old.addresses) (λ at. IsFirstAt address self.old.addresses at) }
+        ensures same { self.new ≡ self.old }
     {
-        find_in(&self.nodes, address)
+        let slot = address as usize % RECENT;
+        if let Some(hint) = self.recent[slot] {
+            if hint.address == address {
+                return Some(hint.place as usize);
+            }
+        }
+        let place = find_in(&self.nodes, address)?;
+        self.recent[slot] = hint_of(address, place);
+        Some(place)
     }
 
     /// Adds an address that has no place.
@@ -101,6 +123,16 @@ impl Places {
         ensures { self.new ≡ known (self.old.addresses ++ address ∷ []) (self.old.spare - 1) }
     {
         hang(&mut self.nodes, address);
+    }
+}
+
+// What is remembered of an address and its place.
+fn hint_of(address: u32, place: usize) -> Option<Hint>
+    ensures { (addresses : List ℕ) → IsFirstAt address addresses place → IsRecent addresses result }
+{
+    match u32::try_from(place) {
+        Ok(place) => Some(Hint { address, place }),
+        Err(_) => None,
     }
 }
 

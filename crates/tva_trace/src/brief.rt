@@ -191,6 +191,55 @@ fn put_layout(layouts: &mut Vec<u8>, shim: &Shim) -> Result<(u32, u16), AllocErr
     Ok((start, bytes.len() as u16))
 }
 
+/// The same over other layouts: the layout of its shim is put behind them. An error, which is want of memory,
+/// leaves them as they were.
+pub(crate) fn brief_beside(
+    layouts: &mut Vec<u8>,
+    others: &[u8],
+    brief: BriefWhat,
+) -> Result<BriefWhat, AllocError>
+    requires { IsWhatHeld others.now brief }
+    ensures grows { IfOk result (λ brief. Grows layouts.old.items layouts.new.items) }
+    ensures held { IfOk result (λ brief. IsWhatHeld layouts.new.items brief) }
+    ensures same { IfOk result (λ here. what_in layouts.new.items here ≡ what_in others.now brief) }
+    ensures err { OnErr result (layouts.new.items ≡ layouts.old.items) }
+{
+    match brief {
+        BriefWhat::Shim {
+            payload,
+            bytes,
+            flow,
+            start,
+        } => {
+            let start = put_part(layouts, others, start, bytes)?;
+            Ok(BriefWhat::Shim {
+                payload,
+                bytes,
+                flow,
+                start,
+            })
+        }
+        brief => Ok(brief),
+    }
+}
+
+// Puts the layout that stands there among others last, and answers where it begins.
+fn put_part(layouts: &mut Vec<u8>, others: &[u8], start: u32, bytes: u16) -> Result<u32, AllocError>
+    requires { IsLayoutAt others.now start bytes }
+    ensures grows { IfOk result (λ place. Grows layouts.old.items layouts.new.items) }
+    ensures held { IfOk result (λ place. IsLayoutAt layouts.new.items place bytes) }
+    ensures same { IfOk result (λ place. part layouts.new.items place bytes ≡ part others.now start bytes) }
+    ensures err { OnErr result (layouts.new.items ≡ layouts.old.items) }
+{
+    let Ok(place) = u32::try_from(layouts.len()) else {
+        return Err(AllocError);
+    };
+    let from = start as usize;
+    let until = from + usize::from(bytes);
+    layouts.extend_from_slice(&others[from..until])?;
+    Ok(place)
+}
+
 /// What a brief form says over the layouts.
 pub fn what_from(layouts: &[u8], brief: BriefWhat) -> RowWhat
     requires { IsWhatHeld layouts.now brief }

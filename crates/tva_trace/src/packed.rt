@@ -2,12 +2,14 @@
 ghost use Rattle.std.specs.Prelude.{◌≡◌, ◌<◌, [], ◌∷◌, ◌++◌, IfOk, OnErr, OnOk, length, slice_index_or};
 ghost use Rattle.tva_trace.specs.declared.rows.Row.{Row};
 ghost use Rattle.tva_trace.specs.Meaning.{Means};
+ghost use Rattle.tva_trace.specs.Brief.{Grows, IsWhatHeld, what_in};
 
-use crate::brief::{BriefRow, brief_of, brief_said, what_from};
+use crate::brief::{BriefRow, BriefWhat, brief_beside, brief_of, brief_said, what_from};
 use crate::rows::Row;
 use crate::said::SaidRow;
 use std::alloc::{AllocError, Global};
 use std::marker::Model;
+use tva_base::Time;
 
 /// Rows, in at most 32 bytes each, and the layouts of their shims beside them. Contracts see them as
 /// a list.
@@ -110,6 +112,26 @@ impl PackedRows {
         ensures { (row : Row) → result ≡ (slice_index_or self.now place row).node }
     {
         self.rows[place].node
+    }
+
+    /// When the row at a place comes.
+    pub fn time_at(&self, place: usize) -> Time
+        requires { place < length self.now }
+        ensures { (row : Row) → result ≡ (slice_index_or self.now place row).time }
+    {
+        self.rows[place].time
+    }
+
+    /// What the row at a place asks, in brief over other layouts: the layout of its shim is put behind them. The
+    /// error is want of memory, and leaves them as they were.
+    pub fn brief_at(&self, place: usize, layouts: &mut Vec<u8>) -> Result<BriefWhat, AllocError>
+        requires { place < length self.now }
+        ensures grows { IfOk result (λ brief. Grows layouts.old.items layouts.new.items) }
+        ensures held { IfOk result (λ brief. IsWhatHeld layouts.new.items brief) }
+        ensures same { (row : Row) → IfOk result (λ brief. what_in layouts.new.items brief ≡ (slice_index_or self.now place row).what) }
+        ensures err { OnErr result (layouts.new.items ≡ layouts.old.items) }
+    {
+        brief_beside(layouts, self.layouts.as_slice(), self.rows[place].what)
     }
 
     /// The rows as a list. The error is want of memory.

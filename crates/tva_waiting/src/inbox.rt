@@ -1,5 +1,6 @@
 // The inputs that a node was given.
-ghost use Rattle.std.specs.Prelude.{◌≡◌, ◌++◌, ◌∷◌, [], length, OnErr, OnOk};
+ghost use Rattle.std.specs.Prelude.{◌≡◌, ◌<◌, ◌++◌, ◌∷◌, [], length, slice_index_or, OnErr, OnOk};
+ghost use Rattle.tva_trace.specs.declared.rows.Row.{Row};
 ghost use Rattle.tva_log.specs.declared.kinds.Input.TheVariants.{FromTrace};
 ghost use Rattle.tva_past.specs.Kept.{forgotten, held, nothing, with_more};
 ghost use Rattle.tva_waiting.specs.Inputs.{HoldsInputs, arrived};
@@ -11,12 +12,13 @@ use std::marker::Model;
 use std::snapshot::Snapshot;
 use tva_log::{Input, Sending};
 use tva_past::Kept;
-use tva_trace::{Row, RowWhat};
+use tva_trace::{PackedRows, Row, RowWhat};
 
 /// Of what an input is noted.
 #[derive(Drop)]
 pub(crate) enum Source {
     Row(Snapshot<Row>),
+    Packed(Snapshot<PackedRows>, Snapshot<usize>),
     Flight(Snapshot<Flight>),
 }
 
@@ -89,6 +91,26 @@ impl Inbox {
         }
     }
 
+    /// The same of the row at a place among rows in little memory.
+    #[inline(always)]
+    pub fn note_packed(
+        &mut self,
+        keeps: Memory,
+        rows: &PackedRows,
+        place: usize,
+    ) -> Result<(), AllocError>
+        requires within { place < length rows.now }
+        requires held { HoldsInputs keeps self.old }
+        ensures noted { (row : Row) → OnOk result (self.new.all ≡ self.old.all ++ FromTrace (slice_index_or rows.now place row) ∷ []) }
+        ensures held { HoldsInputs keeps self.new }
+        ensures err { OnErr result (self.new ≡ self.old) }
+    {
+        match keeps {
+            Memory::All => self.keep(Input::FromTrace(rows.get(place))),
+            Memory::Events | Memory::Nothing => self.note(&noted_packed(rows, place)),
+        }
+    }
+
     /// Notes a packet that arrives behind all that were given: where memory keeps all, with a copy of it. The
     /// error is want of memory, and changes nothing.
     #[inline(always)]
@@ -130,6 +152,15 @@ fn noted_row(row: &Row) -> Noted
 {
     Noted {
         source: Source::Row(Snapshot::of(row)),
+    }
+}
+
+fn noted_packed(rows: &PackedRows, place: usize) -> Noted
+    requires { place < length rows.now }
+    ensures { (row : Row) → result ≡ FromTrace (slice_index_or rows.now place row) }
+{
+    Noted {
+        source: Source::Packed(Snapshot::of(rows), Snapshot::of(&place)),
     }
 }
 

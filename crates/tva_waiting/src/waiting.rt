@@ -1,10 +1,11 @@
 // The inputs of a node that are not taken yet, in the order of their taking.
-ghost use Rattle.std.specs.Prelude.{◌≡◌, ◌≢◌, ◌≤◌, ◌<◌, ◌+◌, ◌∷◌, ◌++◌, ℕ, [], Some, get_or, length, insert, true, false, IfOk, IsSome, OnOk, OnErr};
+ghost use Rattle.std.specs.Prelude.{◌≡◌, ◌≢◌, ◌≤◌, ◌<◌, ◌+◌, ◌∷◌, ◌++◌, ℕ, [], Some, get_or, length, insert, slice_index_or, true, false, IfOk, IsSome, OnOk, OnErr};
 ghost use Rattle.std.specs.VecDeque.{deque_capacity, deque_len};
 ghost use Rattle.tva_waiting.specs.declared.waiting.Turn.{Turn};
 ghost use Rattle.tva_log.specs.Joins.{IsInOrder, precedes, put_in};
 ghost use Rattle.tva_log.specs.Entries.{input_source, input_time};
 ghost use Rattle.tva_log.specs.declared.kinds.Input.TheVariants.{FromTrace};
+ghost use Rattle.tva_trace.specs.declared.rows.Row.{Row};
 ghost use Rattle.tva_waiting.specs.Inputs.{HoldsInputs, arrived, first_time, is_row_first};
 ghost use Rattle.tva_waiting.specs.Waiting.{IsFreeAt, at_place, is_said, put_at, turn_source, turn_time};
 
@@ -17,7 +18,7 @@ use std::marker::Model;
 use std::mem;
 use std::mem::size_of;
 use tva_base::Time;
-use tva_trace::{BriefWhat, Row, brief_of, what_from};
+use tva_trace::{BriefWhat, PackedRows, Row, brief_of, what_from};
 
 // So many places are worth giving back.
 const MANY: usize = 4_096;
@@ -111,7 +112,38 @@ impl Waiting {
                 what,
             },
         };
-        put_turn(&mut self.turns, turn);
+        put_row_turn(&mut self.turns, turn);
+        Ok(())
+    }
+
+    /// The same of the row at a place among rows in little memory, which is not made.
+    pub fn put_packed(
+        &mut self,
+        rows: &PackedRows,
+        place: usize,
+        inbox: &mut Inbox,
+        keeps: Memory,
+    ) -> Result<(), AllocError>
+        requires within { place < length rows.now }
+        requires held { HoldsInputs keeps inbox.old }
+        ensures put { (row : Row) → OnOk result (self.new
+            ≡ put_in input_time input_source (FromTrace (slice_index_or rows.now place row)) self.old) }
+        ensures noted { (row : Row) → OnOk result (inbox.new.all ≡ inbox.old.all ++ FromTrace (slice_index_or rows.now place row) ∷ []) }
+        ensures held { HoldsInputs keeps inbox.new }
+        ensures err { OnErr result ((self.new ≡ self.old) × (inbox.new ≡ inbox.old)) }
+    {
+        self.give_back();
+        let what = rows.brief_at(place, &mut self.layouts)?;
+        self.turns.reserve(1)?;
+        inbox.note_packed(keeps, rows, place)?;
+        let turn = Turn {
+            time: rows.time_at(place).0,
+            what: TurnWhat::Row {
+                node: rows.node_at(place),
+                what,
+            },
+        };
+        put_row_turn(&mut self.turns, turn);
         Ok(())
     }
 
@@ -240,6 +272,30 @@ fn put_turn(turns: &mut VecDeque<Turn>, turn: Turn)
     let Ok(()) = turns.insert(at, turn) else {
         unreachable!()
     };
+}
+
+// The same of a row's turn. Rows come in their order: so it is looked for at the end.
+fn put_row_turn(turns: &mut VecDeque<Turn>, turn: Turn)
+    requires order { IsInOrder turn_time turn_source turns.old.items }
+    requires room { deque_len turns.old + 1 ≤ deque_capacity turns.old }
+    ensures { turns.new.items ≡ put_in turn_time turn_source turn turns.old.items }
+{
+    if is_before_last(turns, &turn) {
+        put_turn(turns, turn);
+        return;
+    }
+    turns.push_back_reserved(turn);
+}
+
+// Whether a turn has to stand before the last one.
+fn is_before_last(turns: &VecDeque<Turn>, turn: &Turn) -> bool
+    requires { IsInOrder turn_time turn_source turns.now.items }
+    ensures { result ≡ false → put_in turn_time turn_source turn.now turns.now.items ≡ turns.now.items ++ turn.now ∷ [] }
+{
+    match turns.back() {
+        Some(last) => precedes(turn, last),
+        None => false,
+    }
 }
 
 // Holds a packet at its place, which is free.

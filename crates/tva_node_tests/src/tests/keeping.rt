@@ -89,7 +89,8 @@ fn work_one<R: Abort>(
     node.advance(until)?;
     assert!(rt; told <= node.told() && sent <= node.sent());
     let events = node.log_behind(told).to_vec(alloc)?;
-    let sendings = node.hand_over(sent)?;
+    let mut sendings = Vec::new(alloc);
+    node.hand_over(sent, &mut sendings)?;
     node.forget();
     Ok(News { events, sendings })
 }

@@ -14,14 +14,14 @@ pub hand_over-requires-clause-within : goal.hand_over-requires-clause-within
 hand_over-requires-clause-within c =
     subst (λ (ss : List Sending). c.args.posted ≤ length ss) (sent_by_at c.args.nodes.now c.args.from c.index-nodes-from.result c.requires.node) c.requires.known
 
-pub returns-in_err-sent-clause-keeps : goal.returns-in_err-sent-clause-keeps
-returns-in_err-sent-clause-keeps c =
+pub returns-in_err-hand_over-clause-keeps : goal.returns-in_err-hand_over-clause-keeps
+returns-in_err-hand_over-clause-keeps c =
     let v = get_or c.args.nodes.now c.args.from c.index-nodes-from.result in
-    let e = c.in_err-sent.ensures in
+    let e = c.in_err-hand_over.ensures in
     forgot_keeps c.args.nodes.now _ (forgot_one c.args.nodes.now c.args.from c.index-nodes-from.result c.hand_over.new.self c.requires.node (handed_over v c.hand_over.new.self e.same e.gone.1 e.gone.2))
 
-pub returns-in_err-sent-clause-gone : goal.returns-in_err-sent-clause-gone
-returns-in_err-sent-clause-gone c = gone_but c.args.from c.args.nodes.now c.hand_over.new.self
+pub returns-in_err-hand_over-clause-gone : goal.returns-in_err-hand_over-clause-gone
+returns-in_err-hand_over-clause-gone c = gone_but c.args.from c.args.nodes.now c.hand_over.new.self
 
 pub post_sent-requires-clause-few : goal.post_sent-requires-clause-few
 post_sent-requires-clause-few c = let n = length-set c.args.nodes.now c.args.from c.hand_over.new.self in omega (arith, n, c.requires.few)
@@ -30,7 +30,7 @@ pub post_sent-requires-clause-postable : goal.post_sent-requires-clause-postable
 post_sent-requires-clause-postable c =
     let nodes = c.args.nodes.now in
     let v = get_or nodes c.args.from c.index-nodes-from.result in
-    let e = c.in_ok-sent.ensures in
+    let e = c.in_ok-hand_over.ensures in
     let f = forgot_one nodes c.args.from c.index-nodes-from.result c.hand_over.new.self c.requires.node (handed_over v c.hand_over.new.self e.same e.gone.1 e.gone.2) in
     let sent = e.sent ∙ ap (drop c.args.posted) (sym (sent_by_at nodes c.args.from c.index-nodes-from.result c.requires.node)) in
     subst (All (IsPostable c.args.horizon.0 c.args.links.now _)) (sym sent)
@@ -40,14 +40,14 @@ pub post_sent-requires-clause-noted : goal.post_sent-requires-clause-noted
 post_sent-requires-clause-noted c =
     let nodes = c.args.nodes.now in
     let v = get_or nodes c.args.from c.index-nodes-from.result in
-    let e = c.in_ok-sent.ensures in
+    let e = c.in_ok-hand_over.ensures in
     noted_forgot c.args.times.now nodes _ (forgot_one nodes c.args.from c.index-nodes-from.result c.hand_over.new.self c.requires.node (handed_over v c.hand_over.new.self e.same e.gone.1 e.gone.2)) c.requires.noted
 
 pub returns-clause-got : goal.returns-clause-got
 returns-clause-got c =
     let nodes = c.args.nodes.now in
     let v = get_or nodes c.args.from c.index-nodes-from.result in
-    let e = c.in_ok-sent.ensures in
+    let e = c.in_ok-hand_over.ensures in
     let f = forgot_one nodes c.args.from c.index-nodes-from.result c.hand_over.new.self c.requires.node (handed_over v c.hand_over.new.self e.same e.gone.1 e.gone.2) in
     let sent = e.sent ∙ ap (drop c.args.posted) (sym (sent_by_at nodes c.args.from c.index-nodes-from.result c.requires.node)) in
     let posted : List Sending = drop c.args.posted (sent_by nodes c.args.from) in
@@ -60,7 +60,7 @@ pub returns-clause-keeps : goal.returns-clause-keeps
 returns-clause-keeps c =
     let nodes = c.args.nodes.now in
     let v = get_or nodes c.args.from c.index-nodes-from.result in
-    let e = c.in_ok-sent.ensures in
+    let e = c.in_ok-hand_over.ensures in
     let f = forgot_one nodes c.args.from c.index-nodes-from.result c.hand_over.new.self c.requires.node (handed_over v c.hand_over.new.self e.same e.gone.1 e.gone.2) in
     all_keep nodes _ c.post_sent.new.nodes (forgot_keeps nodes _ f) c.post_sent.ensures.keeps
 

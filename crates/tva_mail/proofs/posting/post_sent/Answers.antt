@@ -1,5 +1,6 @@
-use Rattle.std.proofs.Common.{rules, ◌≡◌, ◌∷◌, List, All, sym, subst, arith}
-use Rattle.std.specs.Vec.Iter.{into_iter_items}
+use Rattle.std.proofs.Common.{rules, ◌≡◌, ◌∷◌, List, All, sym, subst, ◌∙◌, ap, arith}
+use Rattle.std.specs.Vec.Iter.{drain_items}
+use Rattle.std.proofs.lemmas.List.{take_all}
 use Rattle.std.proofs.lemmas.List.Elements.{All-head, All-tail}
 use Rattle.tva_log.specs.declared.kinds.Sending.{Sending}
 use Rattle.tva_mail.specs.Mail.{IsPostable, KeepsWork, mail_to}
@@ -11,10 +12,12 @@ use Rattle.tva_mail.proofs.posting.post_sent.Goals as goal
 pub loop-sending-init : goal.loop-sending-init
 loop-sending-init c =
     let nodes = c.args.nodes.now in
-    let e : into_iter_items c.into_iter-sending-iterator.result ≡ c.args.sent.items = search rules in
+    let a = c.into_iter-sending-iterator.ensures in
+    let b = c.drain-sending-items.ensures in
+    let e : drain_items c.into_iter-sending-iterator.result ≡ c.args.sent.now.items = ap drain_items a.into_iter_gives ∙ (b.rest ∙ take_all _ c.args.sent.now.items (omega arith)) in
     record {
-      going = subst (λ (ss : List Sending). IsGoing (mail_to c.args.horizon.0 c.args.links.now c.args.sent.items) (mail_to c.args.horizon.0 c.args.links.now ss) nodes nodes) (sym e)
-          (going_first (mail_to c.args.horizon.0 c.args.links.now c.args.sent.items) nodes);
+      going = subst (λ (ss : List Sending). IsGoing (mail_to c.args.horizon.0 c.args.links.now c.args.sent.now.items) (mail_to c.args.horizon.0 c.args.links.now ss) nodes nodes) (sym e)
+          (going_first (mail_to c.args.horizon.0 c.args.links.now c.args.sent.now.items) nodes);
       left = subst (All (IsPostable c.args.horizon.0 c.args.links.now nodes)) (sym e) c.requires.postable;
       noted = c.requires.noted;
       gone = gone_same nodes;
@@ -28,8 +31,8 @@ pub post_one-requires-clause-postable : goal.post_one-requires-clause-postable
 post_one-requires-clause-postable c =
     let g = c.loop-sending.invariant.going in
     let s = c.in-Some.sending in
-    let rest : List Sending = into_iter_items c.next.new.self in
-    let e : into_iter_items c.loop-sending.sending-iterator ≡ s ∷ rest = search rules in
+    let rest : List Sending = drain_items c.next.new.self in
+    let e : drain_items c.loop-sending.sending-iterator ≡ s ∷ rest = search rules in
     still_postable g.done c.args.horizon.0 c.args.links.now c.args.nodes.now c.loop-sending.nodes s g.got
     (All-head (IsPostable c.args.horizon.0 c.args.links.now c.args.nodes.now) s rest (subst (All (IsPostable c.args.horizon.0 c.args.links.now c.args.nodes.now)) e c.loop-sending.invariant.left))
 
@@ -45,10 +48,10 @@ loop-sending-preserved c =
     let now = c.loop-sending.nodes in
     let more = c.post_one.new.nodes in
     let s = c.in-Some.sending in
-    let rest : List Sending = into_iter_items c.next.new.self in
-    let e : into_iter_items c.loop-sending.sending-iterator ≡ s ∷ rest = search rules in
+    let rest : List Sending = drain_items c.next.new.self in
+    let e : drain_items c.loop-sending.sending-iterator ≡ s ∷ rest = search rules in
     record {
-      going = going_one c.args.horizon.0 c.args.links.now c.args.sent.items (into_iter_items c.loop-sending.sending-iterator) rest s nodes now more e c.loop-sending.invariant.going c.in_ok-post_one.ensures.got;
+      going = going_one c.args.horizon.0 c.args.links.now c.args.sent.now.items (drain_items c.loop-sending.sending-iterator) rest s nodes now more e c.loop-sending.invariant.going c.in_ok-post_one.ensures.got;
       left = All-tail (IsPostable c.args.horizon.0 c.args.links.now nodes) s rest (subst (All (IsPostable c.args.horizon.0 c.args.links.now nodes)) e c.loop-sending.invariant.left);
       noted = c.in_ok-post_one.ensures.noted;
       gone = gone_on nodes now more c.loop-sending.invariant.gone c.in_ok-post_one.ensures.gone;

@@ -1,8 +1,9 @@
-use Rattle.std.proofs.Common.{refl, ap, sym, ◌∙◌}
+use Rattle.std.proofs.Common.{None, refl, ap, sym, ◌∙◌}
+use Rattle.std.proofs.lemmas.List.Elements.{All-replicate}
 use Rattle.std.specs.List.{list_any}
 use Rattle.std.specs.Ordering.{is_eq, nat_cmp}
 use Rattle.tva_policy.specs.Grants.{has_address}
-use Rattle.tva_policy.specs.Notes.{grants_kept}
+use Rattle.tva_policy.specs.Notes.{IsNotedIn, grants_kept}
 use Rattle.tva_policy.proofs.Compared.{has_address_by, has_tag_by}
 use Rattle.tva_policy.proofs.policies.Policy.build.Goals as goal
 
@@ -16,3 +17,6 @@ returns c = record {
   noted = λ a. ap (λ keys. has_address keys a) c.new.ensures.empty;
   granted = λ a. ap (λ entries. grants_kept entries a) c.new-2.ensures.empty;
 }
+
+pub invariant_of-result : goal.invariant_of-result
+invariant_of-result c = All-replicate (IsNotedIn c.new.result.keys) 64 None tt

@@ -3,7 +3,7 @@ use Rattle.tva_drr.specs.Queues.{Fair}
 use Rattle.tva_shim.specs.Packets.{PacketData}
 use Rattle.tva_port.specs.Lists.{LegacyData}
 use Rattle.tva_port.proofs.Steady.{misses_empty}
-use Rattle.tva_port.proofs.Stock.{stocked-empty}
+use Rattle.tva_port.proofs.Stocked.{stocked-empty}
 use Rattle.tva_port.proofs.port.Port.build.Goals as goal
 
 pub returns-clause-missed : goal.returns-clause-missed
@@ -20,6 +20,8 @@ invariant_of-result c = (
     places = ap (λ (w : LegacyData). w.places) c.in_ok-with_limits-3.ensures;
     most = ap (λ (w : LegacyData). w.most) c.in_ok-with_limits-3.ensures;
   },
-  stocked-empty c.args.limits _ _ _ _ _ c.requires c.in_ok-with_limits.ensures.empty c.in_ok-with_limits-2.ensures.empty
-      (ap (λ (w : LegacyData). w.packets) c.in_ok-with_limits-3.ensures) c.in_ok-stock_of.ensures.count c.in_ok-stock_of.ensures.room,
+  stocked-empty c.args.limits _ _ _ _ c.requires c.in_ok-with_limits.ensures.empty c.in_ok-with_limits-2.ensures.empty
+      (ap (λ (w : LegacyData). w.packets) c.in_ok-with_limits-3.ensures) (omega (arith, c.in_ok-with_hands.ensures.count, c.places_in.ensures.value))
+      (omega (arith, c.in_ok-with_hands.ensures.room, c.places_in.ensures.value)),
+  c.in_ok-new.ensures,
 )

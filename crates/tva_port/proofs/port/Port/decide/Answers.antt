@@ -1,4 +1,4 @@
-use Rattle.std.proofs.Common.{◌≡◌, ◌↔◌, ℕ, ◌+◌, ◌*◌, ◌++◌, List, length, length-append, Option, false, ap, sym, ◌∙◌, subst, arith}
+use Rattle.std.proofs.Common.{◌≡◌, ◌↔◌, ℕ, ◌+◌, ◌*◌, ◌++◌, Option, false, ap, sym, ◌∙◌, subst, arith}
 use Rattle.tva_shim.specs.Packets.{PacketData, packet_length}
 use Rattle.tva_base.specs.declared.limits.LinkLimits.{LinkLimits}
 use Rattle.tva_base.specs.Plan.{AreLinkLimits}
@@ -10,7 +10,7 @@ use Rattle.tva_port.specs.Steps.{freed}
 use Rattle.tva_port.specs.Hand.{decision_by}
 use Rattle.tva_port.proofs.Hands.{rested_leaves, rested_free}
 use Rattle.tva_port.proofs.Standing.{decided, stands_by_decide}
-use Rattle.tva_port.proofs.Stock.{has_hand, paid_less, sound-later, stocked-decided, back_with}
+use Rattle.tva_port.proofs.Stocked.{has_room, paid_less, sound-later, stocked-decided}
 use Rattle.tva_port.proofs.Served.{all_served, alike}
 use Rattle.tva_port.proofs.Logs.{later-weaker}
 use Rattle.tva_port.proofs.Resting.{rests, misses, first_covered}
@@ -20,15 +20,15 @@ use Rattle.tva_port.specs.declared.decision.Decision.TheVariants.{Idle}
 use Rattle.tva_port.proofs.Steady.{next_sized, steady, ends_later}
 use Rattle.tva_port.proofs.port.Port.decide.Goals as goal
 
-pub blank_of-hand-requires : goal.blank_of-hand-requires
-blank_of-hand-requires c = has_hand _ _ _ _ c.self.invariant.1
+pub start_next-next-requires-clause-room : goal.start_next-next-requires-clause-room
+start_next-next-requires-clause-room c = has_room _ _ _ c.self.invariant.1
 
 valid : (c : goal.After-decision_by) → AreLinkLimits c.args.self.now.limits
 valid c = subst (λ (z : PortData). AreLinkLimits z.limits) c.self.view_is c.self.invariant.0.limits
 
 -- the decision with the packet that was put into the hand
 in_hand : (c : goal.After-decision_by) → c.decision_by.result ≡ decision_by c.start_next-next.result c.start_next-next.new.hand
-in_hand c = c.decision_by.ensures ∙ ap (λ (hand : Option PacketData). decision_by c.start_next-next.result hand) c.take-left.ensures.packet
+in_hand c = c.decision_by.ensures ∙ ap (λ (hand : Option PacketData). decision_by c.start_next-next.result hand) c.take.ensures.packet
 
 pub returns-clause-decision : goal.returns-clause-decision
 returns-clause-decision c log s =
@@ -130,8 +130,7 @@ invariant_of-self c = (
   sound-later c.self.inside.limits _ _ _ c.args.now.0 _ _ _ _ _ _ _ _ c.self.invariant.0
       (omega (arith, c.grow-self-inside.ensures, c.pay-self-inside.ensures, paid_less c.self.inside.limits c.grow-self-inside.result (decision_by c.start_next-next.result c.start_next-next.new.hand)))
       c.occupy-self-inside.ensures.soon c.start_next-next.ensures.requests c.start_next-next.ensures.regulars c.start_next-next.ensures.legacy,
-  stocked-decided c.self.inside.limits _ _ c.grow-self-inside.result c.args.now.0 (decision_by c.start_next-next.result c.start_next-next.new.hand) _ _ _ _ c.self.invariant.1
-      c.start_next-next.ensures.decision c.start_next-next.ensures.left
-      (ap (λ (hands : List _). length hands) c.push_reserved.ensures.items ∙ (length-append _ _ ∙ back_with (is_start (decision_by c.start_next-next.result c.start_next-next.new.hand)) _ _ _ c.blank_of-hand.ensures.stock c.start_next-next.ensures.stock))
-      (c.push_reserved.ensures.capacity ∙ (c.start_next-next.ensures.capacity ∙ c.blank_of-hand.ensures.capacity)),
+  stocked-decided c.self.inside.limits _ _ c.grow-self-inside.result c.args.now.0 (decision_by c.start_next-next.result c.start_next-next.new.hand) _ _ c.self.invariant.1
+      c.start_next-next.ensures.decision c.start_next-next.ensures.left c.start_next-next.ensures.count c.start_next-next.ensures.room,
+  c.take.ensures.left,
 )

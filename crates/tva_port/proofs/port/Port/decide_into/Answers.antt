@@ -5,7 +5,7 @@ use Rattle.tva_port.specs.Stands.{PortData}
 use Rattle.tva_port.specs.Steps.{freed}
 use Rattle.tva_port.proofs.Hands.{rested_leaves, rested_free}
 use Rattle.tva_port.proofs.Standing.{decided, stands_by_decide}
-use Rattle.tva_port.proofs.Stock.{has_room, paid_less, sound-later, stocked-decided}
+use Rattle.tva_port.proofs.Stocked.{has_room, paid_less, sound-later, stocked-decided}
 use Rattle.tva_port.specs.Hand.{decision_by}
 use Rattle.tva_port.proofs.port.Port.decide_into.Goals as goal
 
@@ -33,13 +33,14 @@ returns-clause-rested c e =
     )
 
 pub start_next-next-requires-clause-room : goal.start_next-next-requires-clause-room
-start_next-next-requires-clause-room c = has_room _ _ _ _ c.self.invariant.1
+start_next-next-requires-clause-room c = has_room _ _ _ c.self.invariant.1
 
 pub invariant_of-self : goal.invariant_of-self
 invariant_of-self c = (
   sound-later c.self.inside.limits _ _ _ c.args.now.0 _ _ _ _ _ _ _ _ c.self.invariant.0
       (omega (arith, c.grow-self-inside.ensures, c.pay-self-inside.ensures, paid_less c.self.inside.limits c.grow-self-inside.result (decision_by c.start_next-next.result c.start_next-next.new.hand)))
       c.occupy-self-inside.ensures.soon c.start_next-next.ensures.requests c.start_next-next.ensures.regulars c.start_next-next.ensures.legacy,
-  stocked-decided c.self.inside.limits _ _ c.grow-self-inside.result c.args.now.0 _ _ _ _ _ c.self.invariant.1
-      c.start_next-next.ensures.decision c.start_next-next.ensures.left c.start_next-next.ensures.stock c.start_next-next.ensures.capacity,
+  stocked-decided c.self.inside.limits _ _ c.grow-self-inside.result c.args.now.0 _ _ _ c.self.invariant.1
+      c.start_next-next.ensures.decision c.start_next-next.ensures.left c.start_next-next.ensures.count c.start_next-next.ensures.room,
+  c.self.invariant.2,
 )

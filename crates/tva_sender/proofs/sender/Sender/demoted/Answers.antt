@@ -12,21 +12,22 @@ pub returns-in_default-clause-stands : goal.returns-in_default-clause-stands
 returns-in_default-clause-stands c h s =
     let v = c.args.self.now in
     let inside = c.self.inside in
-    let absent : None ≡ peer_at c.args.src v.peers = subst (λ (b : Book). None ≡ peer_at c.args.src b.peers) c.self.view_is (no_place inside.peers.items inside.places.addresses c.args.src.0 c.self.invariant.0.addresses c.in_default.ensures) in
-    stands_more v v h c.args.src Notice s (same_rules v v refl refl refl (le_refl _)) tt tt (λ q _. refl)
-    (subst (λ (o : Option Peer). IsKept o (of_peer c.args.src h ++ Notice ∷ [])) absent (strange_noticed (of_peer c.args.src h) (strange_at v h c.args.src s absent)))
+    let absent : None ≡ peer_at c.args.src v.peers = subst (λ (b : Book). None ≡ peer_at c.args.src b.peers) c.self.view_is (no_place inside.peers.items inside.places.addresses c.args.src.0 c.self.invariant.0.addresses c.in_default.ensures.place) in
+    subst (λ (b : Book). StandsFor b (h ++ (c.args.src, Notice) ∷ [])) (sym c.self.view_is)
+    (stands_more v v h c.args.src Notice s (same_rules v v refl refl refl (le_refl _)) tt tt (λ q _. refl)
+    (subst (λ (o : Option Peer). IsKept o (of_peer c.args.src h ++ Notice ∷ [])) absent (strange_noticed (of_peer c.args.src h) (strange_at v h c.args.src s absent))))
 
 pub index_mut-requires : goal.index_mut-requires
 index_mut-requires c =
-    omega (arith, within_place c.self.inside.peers.items c.self.inside.places.addresses c.args.src.0 c.in-Some.at c.self.invariant.0.addresses c.in-Some.ensures)
+    omega (arith, within_place c.self.inside.peers.items c.self.inside.places.addresses c.args.src.0 c.in-Some.at c.self.invariant.0.addresses c.in-Some.ensures.place)
 
-pub invariant_of-self : goal.invariant_of-self
-invariant_of-self c =
+pub invariant_of-self-2 : goal.invariant_of-self-2
+invariant_of-self-2 c =
     let inside = c.self.inside in
     let x = c.index_mut.result.now in
-    let here = at_place inside.peers.items inside.places.addresses c.args.src.0 c.in-Some.at x c.self.invariant.0.addresses c.in-Some.ensures c.index_mut.ensures.value in
-    let new = set_place inside.peers.items inside.places.addresses c.args.src.0 c.in-Some.at (x.0, c.notice.new.self) c.self.invariant.0.addresses c.in-Some.ensures here.1 in (
-      placed-set inside.room inside.places inside.peers.cap inside.peers.items c.args.src.0 c.in-Some.at (x.0, c.notice.new.self) c.self.invariant.0 c.in-Some.ensures here.1,
+    let here = at_place inside.peers.items inside.places.addresses c.args.src.0 c.in-Some.at x c.self.invariant.0.addresses c.in-Some.ensures.place c.index_mut.ensures.value in
+    let new = set_place inside.peers.items inside.places.addresses c.args.src.0 c.in-Some.at (x.0, c.notice.new.self) c.self.invariant.0.addresses c.in-Some.ensures.place here.1 in (
+      rw c.in-Some.ensures.same (placed-set inside.room inside.places inside.peers.cap inside.peers.items c.args.src.0 c.in-Some.at (x.0, c.notice.new.self) c.self.invariant.0 c.in-Some.ensures.place here.1),
       near_after inside.last.0 inside.peers.items _ c.args.src.0 c.notice.new.self c.self.invariant.1
           (c.notice.ensures.near inside.last.0 (near-found inside.last.0 inside.last.0 inside.peers.items c.args.src.0 x.1 (le_refl _) c.self.invariant.1 here.2)) new.0 new.1,
     )
@@ -36,8 +37,8 @@ returns-clause-stands c h s =
     let inside = c.self.inside in
     let x = c.index_mut.result.now in
     let stood = subst (λ (v : Book). StandsFor v h) (sym c.self.view_is) s in
-    let here = at_place inside.peers.items inside.places.addresses c.args.src.0 c.in-Some.at x c.self.invariant.0.addresses c.in-Some.ensures c.index_mut.ensures.value in
-    let new = set_place inside.peers.items inside.places.addresses c.args.src.0 c.in-Some.at (x.0, c.notice.new.self) c.self.invariant.0.addresses c.in-Some.ensures here.1 in
+    let here = at_place inside.peers.items inside.places.addresses c.args.src.0 c.in-Some.at x c.self.invariant.0.addresses c.in-Some.ensures.place c.index_mut.ensures.value in
+    let new = set_place inside.peers.items inside.places.addresses c.args.src.0 c.in-Some.at (x.0, c.notice.new.self) c.self.invariant.0.addresses c.in-Some.ensures.place here.1 in
     stands_at _ _ h c.args.src Notice x.1 c.notice.new.self stood (same_rules _ _ refl refl refl (le_refl _)) (λ k. tt) tt here.2 new.0 new.1
     (λ k. rw c.notice.ensures.noticed (keeps_noticed x.1 (of_peer c.args.src h) k))
 
@@ -45,6 +46,6 @@ pub returns-clause-known : goal.returns-clause-known
 returns-clause-known c a =
     let inside = c.self.inside in
     let x = c.index_mut.result.now in
-    let here = at_place inside.peers.items inside.places.addresses c.args.src.0 c.in-Some.at x c.self.invariant.0.addresses c.in-Some.ensures c.index_mut.ensures.value in
-    known-set inside.peers.items inside.places.addresses c.args.src.0 c.in-Some.at (x.0, c.notice.new.self) c.self.invariant.0.addresses c.in-Some.ensures here.1 a.0
+    let here = at_place inside.peers.items inside.places.addresses c.args.src.0 c.in-Some.at x c.self.invariant.0.addresses c.in-Some.ensures.place c.index_mut.ensures.value in
+    known-set inside.peers.items inside.places.addresses c.args.src.0 c.in-Some.at (x.0, c.notice.new.self) c.self.invariant.0.addresses c.in-Some.ensures.place here.1 a.0
     ∙ ap (λ (v : Book). knows v a) c.self.view_is

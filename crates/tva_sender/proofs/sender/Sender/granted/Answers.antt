@@ -11,22 +11,22 @@ pub returns-in_default-clause-taken : goal.returns-in_default-clause-taken
 returns-in_default-clause-taken c h s =
     let v = c.args.self.now in
     let inside = c.self.inside in
-    let absent : None ≡ peer_at c.args.src v.peers = subst (λ (b : Book). None ≡ peer_at c.args.src b.peers) c.self.view_is (no_place inside.peers.items inside.places.addresses c.args.src.0 c.self.invariant.0.addresses c.in_default.ensures) in
+    let absent : None ≡ peer_at c.args.src v.peers = subst (λ (b : Book). None ≡ peer_at c.args.src b.peers) c.self.view_is (no_place inside.peers.items inside.places.addresses c.args.src.0 c.self.invariant.0.addresses c.in_default.ensures.place) in
     let strange = strange_at v h c.args.src s absent in
     rw strange.asked refl
 
 pub index_mut-requires : goal.index_mut-requires
 index_mut-requires c =
-    omega (arith, within_place c.self.inside.peers.items c.self.inside.places.addresses c.args.src.0 c.in-Some.at c.self.invariant.0.addresses c.in-Some.ensures)
+    omega (arith, within_place c.self.inside.peers.items c.self.inside.places.addresses c.args.src.0 c.in-Some.at c.self.invariant.0.addresses c.in-Some.ensures.place)
 
 -- the peer that was found is near, as it was
-pub invariant_of-self : goal.invariant_of-self
-invariant_of-self c =
+pub invariant_of-self-2 : goal.invariant_of-self-2
+invariant_of-self-2 c =
     let inside = c.self.inside in
     let x = c.index_mut.result.now in
-    let here = at_place inside.peers.items inside.places.addresses c.args.src.0 c.in-Some.at x c.self.invariant.0.addresses c.in-Some.ensures c.index_mut.ensures.value in
-    let new = set_place inside.peers.items inside.places.addresses c.args.src.0 c.in-Some.at (x.0, c.take.new.self) c.self.invariant.0.addresses c.in-Some.ensures here.1 in (
-      placed-set inside.room inside.places inside.peers.cap inside.peers.items c.args.src.0 c.in-Some.at (x.0, c.take.new.self) c.self.invariant.0 c.in-Some.ensures here.1,
+    let here = at_place inside.peers.items inside.places.addresses c.args.src.0 c.in-Some.at x c.self.invariant.0.addresses c.in-Some.ensures.place c.index_mut.ensures.value in
+    let new = set_place inside.peers.items inside.places.addresses c.args.src.0 c.in-Some.at (x.0, c.take.new.self) c.self.invariant.0.addresses c.in-Some.ensures.place here.1 in (
+      rw c.in-Some.ensures.same (placed-set inside.room inside.places inside.peers.cap inside.peers.items c.args.src.0 c.in-Some.at (x.0, c.take.new.self) c.self.invariant.0 c.in-Some.ensures.place here.1),
       near_after inside.last.0 inside.peers.items _ c.args.src.0 c.take.new.self c.self.invariant.1
           (c.take.ensures.near inside.last.0 (near-found inside.last.0 inside.last.0 inside.peers.items c.args.src.0 x.1 (le_refl _) c.self.invariant.1 here.2)) new.0 new.1,
     )
@@ -36,7 +36,7 @@ returns-clause-taken c h s =
     let inside = c.self.inside in
     let x = c.index_mut.result.now in
     let stood = subst (λ (v : Book). StandsFor v h) (sym c.self.view_is) s in
-    let here = at_place inside.peers.items inside.places.addresses c.args.src.0 c.in-Some.at x c.self.invariant.0.addresses c.in-Some.ensures c.index_mut.ensures.value in
+    let here = at_place inside.peers.items inside.places.addresses c.args.src.0 c.in-Some.at x c.self.invariant.0.addresses c.in-Some.ensures.place c.index_mut.ensures.value in
     let kept : Keeps x.1 (of_peer c.args.src h) = subst (λ (o : Option Peer). IsKept o (of_peer c.args.src h)) (sym here.2) (stood.kept c.args.src) in
     subst (λ (v : Book). c.take.result ≡ takes v.version (of_peer c.args.src h) c.args.rights) c.self.view_is
     (c.take.ensures.taken ∙ ap (λ (b : Bool). b && is_within inside.version c.args.rights) (sym kept.awaits))
@@ -46,8 +46,8 @@ returns-clause-stands c h s =
     let inside = c.self.inside in
     let x = c.index_mut.result.now in
     let stood = subst (λ (v : Book). StandsFor v h) (sym c.self.view_is) s in
-    let here = at_place inside.peers.items inside.places.addresses c.args.src.0 c.in-Some.at x c.self.invariant.0.addresses c.in-Some.ensures c.index_mut.ensures.value in
-    let new = set_place inside.peers.items inside.places.addresses c.args.src.0 c.in-Some.at (x.0, c.take.new.self) c.self.invariant.0.addresses c.in-Some.ensures here.1 in
+    let here = at_place inside.peers.items inside.places.addresses c.args.src.0 c.in-Some.at x c.self.invariant.0.addresses c.in-Some.ensures.place c.index_mut.ensures.value in
+    let new = set_place inside.peers.items inside.places.addresses c.args.src.0 c.in-Some.at (x.0, c.take.new.self) c.self.invariant.0.addresses c.in-Some.ensures.place here.1 in
     stands_taken _ _ h c.args.src c.args.rights c.args.caps.now x.1 c.take.new.self c.take.result stood
     (same_rules _ _ refl refl refl (le_refl _)) c.take.ensures.taken here.2 new.0 new.1
     c.take.ensures.answered c.take.ensures.ignored
@@ -56,6 +56,6 @@ pub returns-clause-known : goal.returns-clause-known
 returns-clause-known c a =
     let inside = c.self.inside in
     let x = c.index_mut.result.now in
-    let here = at_place inside.peers.items inside.places.addresses c.args.src.0 c.in-Some.at x c.self.invariant.0.addresses c.in-Some.ensures c.index_mut.ensures.value in
-    known-set inside.peers.items inside.places.addresses c.args.src.0 c.in-Some.at (x.0, c.take.new.self) c.self.invariant.0.addresses c.in-Some.ensures here.1 a.0
+    let here = at_place inside.peers.items inside.places.addresses c.args.src.0 c.in-Some.at x c.self.invariant.0.addresses c.in-Some.ensures.place c.index_mut.ensures.value in
+    known-set inside.peers.items inside.places.addresses c.args.src.0 c.in-Some.at (x.0, c.take.new.self) c.self.invariant.0.addresses c.in-Some.ensures.place here.1 a.0
     ∙ ap (λ (v : Book). knows v a) c.self.view_is

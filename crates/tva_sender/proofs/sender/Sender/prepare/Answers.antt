@@ -19,13 +19,13 @@ use Rattle.tva_sender.proofs.sender.Sender.prepare.Goals as goal
 
 pub index_mut-requires : goal.index_mut-requires
 index_mut-requires c =
-    omega (arith, within_place c.self.inside.peers.items c.self.inside.places.addresses c.args.dst.0 c.in-Some.at c.self.invariant.0.addresses c.in-Some.ensures)
+    omega (arith, within_place c.self.inside.peers.items c.self.inside.places.addresses c.args.dst.0 c.in-Some.at c.self.invariant.0.addresses c.in-Some.ensures.place)
 
 pub prepare-requires-clause-near : goal.prepare-requires-clause-near
 prepare-requires-clause-near c =
     let inside = c.self.inside in
     let last : inside.last.0 ≤ c.args.now.0 = subst (λ (b : Book). b.last ≤ c.args.now.0) (sym c.self.view_is) c.requires.time in
-    let here = at_place inside.peers.items inside.places.addresses c.args.dst.0 c.in-Some.at c.index_mut.result.now c.self.invariant.0.addresses c.in-Some.ensures c.index_mut.ensures.value in
+    let here = at_place inside.peers.items inside.places.addresses c.args.dst.0 c.in-Some.at c.index_mut.result.now c.self.invariant.0.addresses c.in-Some.ensures.place c.index_mut.ensures.value in
     near-found inside.last.0 c.args.now.0 inside.peers.items c.args.dst.0 c.index_mut.result.now.1 last c.self.invariant.1 here.2
 
 pub invariant_of-self : goal.invariant_of-self
@@ -33,9 +33,9 @@ invariant_of-self c =
     let inside = c.self.inside in
     let x = c.index_mut.result.now in
     let last : inside.last.0 ≤ c.args.now.0 = subst (λ (b : Book). b.last ≤ c.args.now.0) (sym c.self.view_is) c.requires.time in
-    let here = at_place inside.peers.items inside.places.addresses c.args.dst.0 c.in-Some.at x c.self.invariant.0.addresses c.in-Some.ensures c.index_mut.ensures.value in
-    let new = set_place inside.peers.items inside.places.addresses c.args.dst.0 c.in-Some.at (x.0, c.prepare.new.self) c.self.invariant.0.addresses c.in-Some.ensures here.1 in (
-      placed-set inside.room inside.places inside.peers.cap inside.peers.items c.args.dst.0 c.in-Some.at (x.0, c.prepare.new.self) c.self.invariant.0 c.in-Some.ensures here.1,
+    let here = at_place inside.peers.items inside.places.addresses c.args.dst.0 c.in-Some.at x c.self.invariant.0.addresses c.in-Some.ensures.place c.index_mut.ensures.value in
+    let new = set_place inside.peers.items inside.places.addresses c.args.dst.0 c.in-Some.at (x.0, c.prepare.new.self) c.self.invariant.0.addresses c.in-Some.ensures.place here.1 in (
+      rw c.in-Some.ensures.same (placed-set inside.room inside.places inside.peers.cap inside.peers.items c.args.dst.0 c.in-Some.at (x.0, c.prepare.new.self) c.self.invariant.0 c.in-Some.ensures.place here.1),
       near_after c.args.now.0 inside.peers.items _ c.args.dst.0 c.prepare.new.self (all-later inside.last.0 c.args.now.0 inside.peers.items last c.self.invariant.1)
           c.prepare.ensures.near new.0 new.1,
     )
@@ -43,22 +43,22 @@ invariant_of-self c =
 pub overflow_sub-self : goal.overflow_sub-self
 overflow_sub-self c =
     let inside = c.self.inside in
-    let absent = no_place inside.peers.items inside.places.addresses c.args.dst.0 c.self.invariant.0.addresses c.in-None.ensures in
+    let absent = no_place inside.peers.items inside.places.addresses c.args.dst.0 c.self.invariant.0.addresses c.in-None.ensures.place in
     let unknown : knows c.args.self.now c.args.dst ≡ false = subst (λ (v : Book). knows v c.args.dst ≡ false) c.self.view_is (ap is_some (sym absent)) in
     subst (λ (v : Book). 1 ≤ v.spare) (sym c.self.view_is) (c.requires.room unknown)
 
 pub push-requires-clause-room : goal.push-requires-clause-room
 push-requires-clause-room c =
     let inside = c.self.inside in
-    let absent = no_place inside.peers.items inside.places.addresses c.args.dst.0 c.self.invariant.0.addresses c.in-None.ensures in
+    let absent = no_place inside.peers.items inside.places.addresses c.args.dst.0 c.self.invariant.0.addresses c.in-None.ensures.place in
     let unknown : knows c.args.self.now c.args.dst ≡ false = subst (λ (v : Book). knows v c.args.dst ≡ false) c.self.view_is (ap is_some (sym absent)) in
     let some : 1 ≤ inside.room = subst (λ (v : Book). 1 ≤ v.spare) (sym c.self.view_is) (c.requires.room unknown) in
-    omega (arith, some, c.self.invariant.0.places)
+    omega (arith, some, c.self.invariant.0.places, ap (λ (k : Known). k.spare) c.in-None.ensures.same)
 
 pub push_reserved-requires : goal.push_reserved-requires
 push_reserved-requires c =
     let inside = c.self.inside in
-    let absent = no_place inside.peers.items inside.places.addresses c.args.dst.0 c.self.invariant.0.addresses c.in-None.ensures in
+    let absent = no_place inside.peers.items inside.places.addresses c.args.dst.0 c.self.invariant.0.addresses c.in-None.ensures.place in
     let unknown : knows c.args.self.now c.args.dst ≡ false = subst (λ (v : Book). knows v c.args.dst ≡ false) c.self.view_is (ap is_some (sym absent)) in
     let some : 1 ≤ inside.room = subst (λ (v : Book). 1 ≤ v.spare) (sym c.self.view_is) (c.requires.room unknown) in
     omega (arith, some, c.self.invariant.0.peers)
@@ -69,11 +69,11 @@ invariant_of-self-in-None c =
     let a = c.args.dst.0 in
     let p = c.new.result in
     let last : inside.last.0 ≤ c.args.now.0 = subst (λ (b : Book). b.last ≤ c.args.now.0) (sym c.self.view_is) c.requires.time in
-    let new = new_place inside.peers.items inside.places.addresses a p c.self.invariant.0.addresses c.in-None.ensures in
+    let new = new_place inside.peers.items inside.places.addresses a p c.self.invariant.0.addresses c.in-None.ensures.place in
     let items = c.push_reserved.ensures.items in (
       record {
-        addresses = ap addresses items ∙ new.2 ∙ sym (ap (λ (k : Known). k.addresses) c.push.ensures);
-        places = omega (arith, c.self.invariant.0.places, ap (λ (k : Known). k.spare) c.push.ensures);
+        addresses = ap addresses items ∙ new.2 ∙ ap (λ (k : Known). k.addresses ++ a ∷ []) (sym c.in-None.ensures.same) ∙ sym (ap (λ (k : Known). k.addresses) c.push.ensures);
+        places = omega (arith, c.self.invariant.0.places, ap (λ (k : Known). k.spare) c.in-None.ensures.same, ap (λ (k : Known). k.spare) c.push.ensures);
         peers = omega (arith, c.self.invariant.0.peers, c.push_reserved.ensures.capacity, ap (λ (z : List (ℕ × Peer)). length z) items, length_push inside.peers.items (a, p));
       },
       near_after c.args.now.0 inside.peers.items c.push_reserved.new.self.items a p (all-later inside.last.0 c.args.now.0 inside.peers.items last c.self.invariant.1) c.new.ensures.near
@@ -85,7 +85,7 @@ returns-in-Some-clause-shape c h s =
     let inside = c.self.inside in
     let x = c.index_mut.result.now in
     let stood = subst (λ (v : Book). StandsFor v h) (sym c.self.view_is) s in
-    let here = at_place inside.peers.items inside.places.addresses c.args.dst.0 c.in-Some.at x c.self.invariant.0.addresses c.in-Some.ensures c.index_mut.ensures.value in
+    let here = at_place inside.peers.items inside.places.addresses c.args.dst.0 c.in-Some.at x c.self.invariant.0.addresses c.in-Some.ensures.place c.index_mut.ensures.value in
     let kept : Keeps x.1 (of_peer c.args.dst h) = subst (λ (o : Option Peer). IsKept o (of_peer c.args.dst h)) (sym here.2) (stood.kept c.args.dst) in
     subst (λ (v : Book). c.prepare.result ≡ shape_of v.margin v.retry v.version (of_peer c.args.dst h) c.args.now.0 c.args.body c.args.nonce) c.self.view_is
     (c.prepare.ensures.shape ∙ shape-kept inside.margin inside.retry inside.version x.1 (of_peer c.args.dst h) c.args.now.0 c.args.body c.args.nonce kept)
@@ -96,8 +96,8 @@ returns-in-Some-clause-stands c h s =
     let x = c.index_mut.result.now in
     let v : Book = record { margin = inside.margin; retry = inside.retry; version = inside.version; spare = inside.room; last = inside.last.0; peers = inside.peers.items } in
     let stood = subst (λ (v : Book). StandsFor v h) (sym c.self.view_is) s in
-    let here = at_place inside.peers.items inside.places.addresses c.args.dst.0 c.in-Some.at x c.self.invariant.0.addresses c.in-Some.ensures c.index_mut.ensures.value in
-    let new = set_place inside.peers.items inside.places.addresses c.args.dst.0 c.in-Some.at (x.0, c.prepare.new.self) c.self.invariant.0.addresses c.in-Some.ensures here.1 in
+    let here = at_place inside.peers.items inside.places.addresses c.args.dst.0 c.in-Some.at x c.self.invariant.0.addresses c.in-Some.ensures.place c.index_mut.ensures.value in
+    let new = set_place inside.peers.items inside.places.addresses c.args.dst.0 c.in-Some.at (x.0, c.prepare.new.self) c.self.invariant.0.addresses c.in-Some.ensures.place here.1 in
     let last : v.last ≤ c.args.now.0 = subst (λ (b : Book). b.last ≤ c.args.now.0) (sym c.self.view_is) c.requires.time in
     rw (← c.self.view_is)
     (stands_at v _ h c.args.dst (Prepared c.args.now.0 c.prepare.result (length_of v.version c.prepare.result c.args.body)) x.1 c.prepare.new.self stood
@@ -114,7 +114,7 @@ returns-in-Some-clause-showable c h s showable =
     let version = inside.version in
     let stood = subst (λ (v : Book). StandsFor v h) (sym c.self.view_is) s in
     let fits = subst (λ (v : Book). AreShowable v.version h) (sym c.self.view_is) showable in
-    let here = at_place inside.peers.items inside.places.addresses c.args.dst.0 c.in-Some.at x c.self.invariant.0.addresses c.in-Some.ensures c.index_mut.ensures.value in
+    let here = at_place inside.peers.items inside.places.addresses c.args.dst.0 c.in-Some.at x c.self.invariant.0.addresses c.in-Some.ensures.place c.index_mut.ensures.value in
     let kept : Keeps x.1 (of_peer c.args.dst h) = subst (λ (o : Option Peer). IsKept o (of_peer c.args.dst h)) (sym here.2) (stood.kept c.args.dst) in
     let grant = subst (λ o. IfSome o (IsShowableGrant version)) kept.grant (showable_grant version (of_peer c.args.dst h) (showable_peer version c.args.dst h fits)) in
     subst (λ (v : Book). IsShowable v.version c.prepare.result) c.self.view_is
@@ -124,7 +124,7 @@ pub returns-in-Some-clause-spare : goal.returns-in-Some-clause-spare
 returns-in-Some-clause-spare c =
     let inside = c.self.inside in
     let x = c.index_mut.result.now in
-    let here = at_place inside.peers.items inside.places.addresses c.args.dst.0 c.in-Some.at x c.self.invariant.0.addresses c.in-Some.ensures c.index_mut.ensures.value in
+    let here = at_place inside.peers.items inside.places.addresses c.args.dst.0 c.in-Some.at x c.self.invariant.0.addresses c.in-Some.ensures.place c.index_mut.ensures.value in
     let found : lookup (nat_eq c.args.dst.0) inside.peers.items ≡ Some x.1 = sym here.2 in
     subst (λ (v : Book). inside.room ≡ cond (knows v c.args.dst) v.spare (v.spare - 1)) c.self.view_is (rw found refl)
 
@@ -132,15 +132,15 @@ pub returns-in-Some-clause-known : goal.returns-in-Some-clause-known
 returns-in-Some-clause-known c a =
     let inside = c.self.inside in
     let x = c.index_mut.result.now in
-    let here = at_place inside.peers.items inside.places.addresses c.args.dst.0 c.in-Some.at x c.self.invariant.0.addresses c.in-Some.ensures c.index_mut.ensures.value in
-    known-set inside.peers.items inside.places.addresses c.args.dst.0 c.in-Some.at (x.0, c.prepare.new.self) c.self.invariant.0.addresses c.in-Some.ensures here.1 a.0
+    let here = at_place inside.peers.items inside.places.addresses c.args.dst.0 c.in-Some.at x c.self.invariant.0.addresses c.in-Some.ensures.place c.index_mut.ensures.value in
+    known-set inside.peers.items inside.places.addresses c.args.dst.0 c.in-Some.at (x.0, c.prepare.new.self) c.self.invariant.0.addresses c.in-Some.ensures.place here.1 a.0
     ∙ (known-found inside.peers.items c.args.dst.0 x.1 here.2 a.0 ∙ ap (λ (v : Book). knows v a || eqb a.0 c.args.dst.0) c.self.view_is)
 
 pub returns-in-None-clause-shape : goal.returns-in-None-clause-shape
 returns-in-None-clause-shape c h s =
     let inside = c.self.inside in
     let v = c.args.self.now in
-    let absent = subst (λ (b : Book). None ≡ lookup (nat_eq c.args.dst.0) b.peers) c.self.view_is (no_place inside.peers.items inside.places.addresses c.args.dst.0 c.self.invariant.0.addresses c.in-None.ensures) in
+    let absent = subst (λ (b : Book). None ≡ lookup (nat_eq c.args.dst.0) b.peers) c.self.view_is (no_place inside.peers.items inside.places.addresses c.args.dst.0 c.self.invariant.0.addresses c.in-None.ensures.place) in
     shape-strange v.margin v.retry v.version (of_peer c.args.dst h) c.args.now.0 c.args.body c.args.nonce (strange_at v h c.args.dst s absent)
 
 pub returns-in-None-clause-stands : goal.returns-in-None-clause-stands
@@ -149,8 +149,8 @@ returns-in-None-clause-stands c h s =
     let a = c.args.dst.0 in
     let v : Book = record { margin = inside.margin; retry = inside.retry; version = inside.version; spare = inside.room; last = inside.last.0; peers = inside.peers.items } in
     let stood = subst (λ (v : Book). StandsFor v h) (sym c.self.view_is) s in
-    let absent = no_place inside.peers.items inside.places.addresses a c.self.invariant.0.addresses c.in-None.ensures in
-    let new = new_place inside.peers.items inside.places.addresses a c.new.result c.self.invariant.0.addresses c.in-None.ensures in
+    let absent = no_place inside.peers.items inside.places.addresses a c.self.invariant.0.addresses c.in-None.ensures.place in
+    let new = new_place inside.peers.items inside.places.addresses a c.new.result c.self.invariant.0.addresses c.in-None.ensures.place in
     let items = c.push_reserved.ensures.items in
     let last : v.last ≤ c.args.now.0 = subst (λ (b : Book). b.last ≤ c.args.now.0) (sym c.self.view_is) c.requires.time in
     stands_more v _ h c.args.dst (Prepared c.args.now.0 shape.Request (request_length c.args.body)) stood
@@ -164,7 +164,7 @@ returns-in-None-clause-stands c h s =
 pub returns-in-None-clause-spare : goal.returns-in-None-clause-spare
 returns-in-None-clause-spare c =
     let inside = c.self.inside in
-    let absent = no_place inside.peers.items inside.places.addresses c.args.dst.0 c.self.invariant.0.addresses c.in-None.ensures in
+    let absent = no_place inside.peers.items inside.places.addresses c.args.dst.0 c.self.invariant.0.addresses c.in-None.ensures.place in
     let none : lookup (nat_eq c.args.dst.0) inside.peers.items ≡ None = sym absent in
     subst (λ (v : Book). inside.room - 1 ≡ cond (knows v c.args.dst) v.spare (v.spare - 1)) c.self.view_is (rw none refl)
 

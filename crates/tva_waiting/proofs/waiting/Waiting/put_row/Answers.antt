@@ -47,7 +47,7 @@ invariant_of-self-2 c =
     let slots = c.self.inside.slots.items in
     let what = c.in_ok-what.what in
     let turn : Turn = record { time = row.time.0; what = says.Row row.node what } in
-    let turns : c.put_turn.new.turns.items ≡ put_in turn_time turn_source turn ts = c.put_turn.ensures ∙ ap (put_in turn_time turn_source turn) c.in_ok-reserve.ensures.items in
+    let turns : c.put_row_turn.new.turns.items ≡ put_in turn_time turn_source turn ts = c.put_row_turn.ensures ∙ ap (put_in turn_time turn_source turn) c.in_ok-reserve.ensures.items in
     subst (λ (us : List Turn). AreWaiting rows slots us) (sym turns) (row_waiting c.self.inside.layouts.items rows c.in_ok-what.ensures.grows slots ts c.self.invariant row what c.in_ok-what.ensures.held c.in_ok-what.ensures.same)
 
 pub returns-clause-put : goal.returns-clause-put
@@ -58,7 +58,7 @@ returns-clause-put c =
     let slots = c.self.inside.slots.items in
     let what = c.in_ok-what.what in
     let turn : Turn = record { time = row.time.0; what = says.Row row.node what } in
-    let turns : c.put_turn.new.turns.items ≡ put_in turn_time turn_source turn ts = c.put_turn.ensures ∙ ap (put_in turn_time turn_source turn) c.in_ok-reserve.ensures.items in
+    let turns : c.put_row_turn.new.turns.items ≡ put_in turn_time turn_source turn ts = c.put_row_turn.ensures ∙ ap (put_in turn_time turn_source turn) c.in_ok-reserve.ensures.items in
     ap (inputs_in rows slots) turns
     ∙ (row_inputs c.self.inside.layouts.items rows c.in_ok-what.ensures.grows slots ts c.self.invariant row what c.in_ok-what.ensures.held c.in_ok-what.ensures.same
     ∙ ap (put_in input_time input_source (FromTrace row)) (c.self.view_is ∙ c.give_back.ensures))

@@ -1,0 +1,14 @@
+-- What is remembered of places stays right where an address is added.
+use Rattle.std.proofs.Common.{ℕ, zero, suc, List, [], ◌∷◌, ◌++◌, Option, Some, None}
+use Rattle.tva_sender.specs.declared.places.Hint.{Hint}
+use Rattle.tva_sender.specs.Places.{IsFirstAt}
+use Rattle.tva_sender.specs.Tree.{IsRecent}
+
+first-more : (a : ℕ) (xs ys : List ℕ) (i : ℕ) → IsFirstAt a xs i → IsFirstAt a (xs ++ ys) i
+first-more a [] ys i f = absurd f
+first-more a (x ∷ xs) ys zero f = f
+first-more a (x ∷ xs) ys (suc i) f = (f.0, first-more a xs ys i f.1)
+
+pub recent-more : (xs ys : List ℕ) (o : Option Hint) → IsRecent xs o → IsRecent (xs ++ ys) o
+recent-more xs ys None r = tt
+recent-more xs ys (Some hint) r = first-more hint.address xs ys hint.place r

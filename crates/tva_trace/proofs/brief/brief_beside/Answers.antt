@@ -1,0 +1,9 @@
+use Rattle.std.proofs.Common.{ℕ, List, sym, ◌∙◌, ap}
+use Rattle.tva_trace.specs.declared.rows.RowWhat.TheVariants as says
+use Rattle.tva_trace.specs.Brief.{shim_in, what_in}
+use Rattle.tva_trace.proofs.brief.brief_beside.Goals as goal
+
+pub returns-in_ok-start-in-Shim-clause-same : goal.returns-in_ok-start-in-Shim-clause-same
+returns-in_ok-start-in-Shim-clause-same c =
+    ap (λ (b : List ℕ). says.Inject c.in-Shim.flow c.in-Shim.payload (shim_in b)) c.in_ok-start-in-Shim.ensures.same
+    ∙ ap (what_in c.args.others.now) (sym c.in-Shim.is)
