@@ -8,6 +8,3 @@ mod rows;
 mod text;
 
 pub use text::generate;
-
-#[cfg(test)]
-mod tests;

@@ -14,6 +14,3 @@ pub use laws::{
     report_is_what_is_expected,
 };
 pub use pieces::{Piece, Pieces, first_bad, is_line};
-
-#[cfg(test)]
-mod tests;

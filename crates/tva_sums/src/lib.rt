@@ -12,6 +12,3 @@ pub use charged::{Charged, charged_in};
 pub use laws::{boots_are_a_plans, the_worst_is_the_worst};
 pub use pairs::Pair;
 pub use sums::{Sums, limit, router_sums};
-
-#[cfg(test)]
-mod tests;

@@ -3,13 +3,14 @@ ghost use Rattle.std.specs.Prelude.{◌≡◌, IfOk, length};
 ghost use Rattle.tva_plan.specs.declared.config.Config.{Config};
 ghost use Rattle.tva_lines.specs.Lines.{HasEvent, LinksJoinNodes};
 
-use super::{expect_same, host, link, network, router};
+use super::config_of;
 use arrayvec::ArrayString;
-use std::alloc::{AllocError, Global};
+use std::alloc::Global;
 use std::process::Abort;
 use std::test::Fail;
 use tva_base::{
-    BackKind, DataLine, Event, Happened, Outcome, PacketId, ReplyLine, ShapeKind, Time, WhatKind,
+    BackKind, DataLine, Event, Happened, LinkPlan, Listed, Outcome, PacketId, ReplyLine, ShapeKind,
+    Time, WhatKind,
 };
 use tva_lines::line_text;
 use tva_plan::Config;
@@ -25,18 +26,36 @@ const SHORTEST: &str =
 
 const TICK: &str = "18446744073709551615 host-of-number-1 tick\n";
 
-// A router and a host with names of 16 bytes, and a link each way.
-fn named(alloc: Global) -> Result<Config, AllocError>
+// A router and a host with names of 16 bytes.
+const NAMED: &str = r#"horizon_ns = 0
+max_events = 1
+router = [{ name = "router-number-01", master = "0000000000000000000000000000000000000000000000000000000000000000", slots = 0 }]
+host = [{ name = "host-of-number-1", address = "10.0.0.1" }]
+link = [{ from = "host-of-number-1", to = "router-number-01", ns_per_byte = 1, delay_ns = 1 }]
+"#;
+
+// Such a configuration with a link each way.
+fn named(rt: &impl Abort, alloc: Global) -> Result<Config, Fail>
     ensures ends { IfOk result (λ config. LinksJoinNodes config) }
     ensures nodes { IfOk result (λ config. length config.nodes ≡ 2) }
     ensures links { IfOk result (λ config. length config.links ≡ 2) }
 {
-    let nodes = vec![in alloc;
-        router(alloc, "router-number-01"),
-        host(alloc, "host-of-number-1", 0x0a00_0001, 1),
-    ]?;
-    let links = vec![in alloc; link(0, 1, 0), link(1, 0, 1)]?;
-    Ok(network(u64::MAX, nodes, links))
+    let mut config = config_of(alloc, NAMED)?;
+    assert!(rt; config.nodes.len() == 2);
+    assert!(rt; config.links.len() == 1);
+    let link = config.links.as_slice()[0];
+    let forth = LinkPlan {
+        from: 0,
+        to: 1,
+        ..link
+    };
+    let back = LinkPlan {
+        from: 1,
+        to: 0,
+        ..link
+    };
+    config.links = Listed::new(vec![in alloc; forth, back]?);
+    Ok(config)
 }
 
 // What happened at the host.
@@ -111,12 +130,12 @@ fn expect_line(rt: &impl Abort, config: &Config, event: &Event, want: &str)
 {
     let mut line = ArrayString::new();
     line_text(config, event, &mut line);
-    expect_same(rt, line.as_str(), want, "a line");
+    assert_eq!(rt; line.as_str(), want);
 }
 
 #[test]
 fn lines_tell_ranges_and_ticks(rt: HostRuntime) -> Result<(), Fail> {
-    let config = named(rt.alloc())?;
+    let config = named(&rt, rt.alloc())?;
     assert_eq!(&rt; LONGEST.len(), 242);
     expect_line(&rt, &config, &longest(), LONGEST);
     expect_line(&rt, &config, &shortest(), SHORTEST);
