@@ -143,7 +143,7 @@ local function add_shim(tree, bytes)
     local reading = setmetatable({bytes = bytes, place = 0, depth = 0, shown = {}}, Reading)
     local whole, told = pcall(Reading.shim, reading)
     if not whole then
-        tree:add(f.malformed, bytes):add_proto_expert_info(broken)
+        tree:add(f.malformed, bytes()):add_proto_expert_info(broken)
         return "malformed shim"
     end
     local above = tree
