@@ -1,8 +1,7 @@
-// What no script shows of the program: what it answers over files and a sink in memory, which files it
-// loads and which nodes it tells the gate of, that the parts of a network run at once, and what comes of
-// a replay where its own files and its sink want memory too. Whole replays, words and texts are shown by
-// `tests/replays` and `tests/commands`, and damage at each place by `tests/damage`.
-use crate::top::run;
+// What no script shows of the program: that it answers over files and a sink in memory, which files it loads and
+// which nodes it tells the gate of, that the parts of a network run at once, and what comes of a replay where its
+// own files and its sink want memory too. Whole replays, words and texts are shown by `tests/replays` and
+// `tests/commands`, and damage at each place by `tests/damage`.
 use std::alloc::AllocError;
 use std::test::Fail;
 use tva_outside::{MemoryShelf, MemorySink, OpenGate};
@@ -11,44 +10,16 @@ mod damage;
 mod gates;
 
 // Files by their names.
-static FILES: [(&str, &str); 11] = [
-    (
-        "edge",
-        "horizon_ns = 1000000000000\nmax_events = 1000\n[[router]]\nname = \"R1\"\nmaster = \"000102030405060708090a0b0c0d0e0f101112131415161718191a1b1c1d1e1f\"\nslots = 8\n",
-    ),
+static FILES: [(&str, &str); 4] = [
     (
         "walk",
         "horizon_ns = 1000000000\nmax_events = 1000\n[[router]]\nname = \"R1\"\nmaster = \"000102030405060708090a0b0c0d0e0f101112131415161718191a1b1c1d1e1f\"\nslots = 8\n[[host]]\nname = \"A\"\naddress = \"10.0.0.1\"\npolicy = \"client\"\n[[host]]\nname = \"B\"\naddress = \"10.0.1.1\"\npolicy = \"server\"\n[[link]]\nfrom = \"A\"\nto = \"R1\"\nns_per_byte = 10\ndelay_ns = 1000000\ntag = 1\n[[link]]\nfrom = \"R1\"\nto = \"A\"\nns_per_byte = 10\ndelay_ns = 1000000\n[[link]]\nfrom = \"R1\"\nto = \"B\"\nns_per_byte = 10\ndelay_ns = 1000000\n[[link]]\nfrom = \"B\"\nto = \"R1\"\nns_per_byte = 10\ndelay_ns = 1000000\ntag = 2\n[[route]]\nrouter = \"R1\"\nprefix = \"10.0.0.0/24\"\nvia = \"A\"\n[[route]]\nrouter = \"R1\"\nprefix = \"10.0.1.0/24\"\nvia = \"B\"\n",
     ),
     (
-        "trace",
-        "time,node,kind,src,dst,payload,shim\n5000000000,R1,list,10.0.0.1,10.0.1.1,472,00000000000a/1/10/0/R1@5\n5000000000,R1,list,10.0.0.1,10.0.1.1,472,00000000000a/1/10/0/0500112233445566\n7000000000,R1,list,10.0.0.1,10.0.1.1,472,00000000000a/1/2/0/R1@5\n",
-    ),
-    ("header", "time,node,kind,src,dst,payload,shim\n"),
-    (
-        "two",
-        "horizon_ns = 1000000000000\nmax_events = 2\n[[router]]\nname = \"R1\"\nmaster = \"000102030405060708090a0b0c0d0e0f101112131415161718191a1b1c1d1e1f\"\nslots = 8\n",
-    ),
-    (
-        "pair",
-        "horizon_ns = 1000000000000\nmax_events = 1000\n[[router]]\nname = \"R1\"\nmaster = \"000102030405060708090a0b0c0d0e0f101112131415161718191a1b1c1d1e1f\"\nslots = 8\n[[router]]\nname = \"R2\"\nmaster = \"000102030405060708090a0b0c0d0e0f101112131415161718191a1b1c1d1e1f\"\nslots = 8\n",
-    ),
-    (
-        "both",
-        "time,node,kind,src,dst,payload,shim\n5000000000,R2,list,10.0.0.1,10.0.1.1,472,00000000000a/1/10/0/R1@5\n5000000000,R1,list,10.0.0.1,10.0.1.1,472,00000000000a/1/10/0/R1@5\n5000000001,R2,list,10.0.0.1,10.0.1.1,472,00000000000a/1/10/0/R2@5\n",
-    ),
-    (
-        "ends",
-        "horizon_ns = 1000000000\nmax_events = 1000\n[[router]]\nname = \"R1\"\nmaster = \"000102030405060708090a0b0c0d0e0f101112131415161718191a1b1c1d1e1f\"\nslots = 8\n[[host]]\nname = \"A\"\naddress = \"10.0.0.1\"\npolicy = \"client\"\n[[host]]\nname = \"B\"\naddress = \"10.0.1.1\"\npolicy = \"server\"\n[[link]]\nfrom = \"A\"\nto = \"R2\"\nns_per_byte = 10\ndelay_ns = 1000000\ntag = 1\n[[link]]\nfrom = \"R1\"\nto = \"A\"\nns_per_byte = 10\ndelay_ns = 1000000\n[[link]]\nfrom = \"R1\"\nto = \"B\"\nns_per_byte = 10\ndelay_ns = 1000000\n[[link]]\nfrom = \"B\"\nto = \"R1\"\nns_per_byte = 10\ndelay_ns = 1000000\ntag = 2\n[[route]]\nrouter = \"R1\"\nprefix = \"10.0.0.0/24\"\nvia = \"A\"\n[[route]]\nrouter = \"R1\"\nprefix = \"10.0.1.0/24\"\nvia = \"B\"\n",
-    ),
-    (
-        "falling",
-        "time,node,kind,src,dst,payload,shim\n5000000000,R1,list,10.0.0.1,10.0.1.1,472,00000000000a/1/10/0/R1@5\n5000000000,R1,list,10.0.0.1,10.0.1.1,472,00000000000a/1/10/0/R1@5\n4999999999,R1,list,10.0.0.1,10.0.1.1,472,00000000000a/1/10/0/R1@5\n",
-    ),
-    (
         "steps",
         "time,node,kind,src,dst,payload,shim\n0,A,send,,10.0.1.1,77,\n10000000,A,send,,10.0.1.1,1000,\n",
     ),
+    ("header", "time,node,kind,src,dst,payload,shim\n"),
     ("report", REPORT),
 ];
 
@@ -73,33 +44,11 @@ fn shelf(rt: &impl AllocGlobal) -> Result<MemoryShelf, AllocError> {
     Ok(shelf)
 }
 
-// Words, and what is written where there is memory.
-const WRITTEN: [(&str, &str); 5] = [
-    ("replay walk steps", REPORT),
-    ("check walk", "config nodes=3 links=4 routes=2 slots=8\n"),
-    (
-        "shim 100600",
-        "v1 request demoted=0 protocol=6 entries=- return=-\n",
-    ),
-    (
-        "gen 7 1 walk",
-        "time,node,kind,src,dst,payload,shim\n83850,A,send,,10.0.0.1,269,\n",
-    ),
-    (
-        "audit walk steps report",
-        "R1 grants=1 charges=2 bytes=1080 worst=1080/65536\nreport ok lines=19\n",
-    ),
-];
-
-// The commands end well where there is memory, and not with want of it.
+// A replay ends well where there is memory, and not with want of it.
 #[test]
 fn answers_with_memory(rt: HostRuntime) -> Result<(), Fail> {
-    for (line, written) in WRITTEN {
-        let mut out = MemorySink::new(rt.alloc(), 4096);
-        let (words, mut shelf) = (words(&rt, line)?, shelf(&rt)?);
-        let status = run(&rt, rt.alloc(), &words, &mut shelf, &mut out, &OpenGate);
-        assert_eq!(rt; status.number(), 0, "{line}");
-        assert_eq!(rt; out.bytes(), written.as_bytes(), "{line}");
-    }
+    let mut out = MemorySink::new(rt.alloc(), 4096);
+    assert_eq!(rt; damage::replay(&rt, 0, &mut out, &OpenGate)?, 0);
+    assert_eq!(rt; out.bytes(), REPORT.as_bytes());
     Ok(())
 }

@@ -8,7 +8,7 @@ use std::sync::atomic::{AtomicU64, Ordering};
 use std::test::Fail;
 use std::thread::Threads;
 use std::time::{Clock, Instant};
-use tva_net::{Net, Window};
+use tva_net::{Memory, Net, Window};
 use tva_outside::Gate;
 
 const PLAN: &str =
@@ -90,7 +90,7 @@ fn the_gate_is_told_before_the_work(rt: HostRuntime) -> Result<(), Fail> {
         let trace = trace(alloc, first)?;
         let mut told = false;
         for _ in 0..TRIES {
-            let mut net = network(alloc, PLAN, trace.as_str())?;
+            let mut net = network(alloc, PLAN, trace.as_str(), Memory::All)?;
             if !first.is_empty() {
                 is_told_first(&rt, alloc, &mut net, 1)?;
             }

@@ -1,6 +1,0 @@
-//! Tests of audits of small networks. They stand in a crate of their own, since a crate is proved once
-//! more with its tests.
-#![tactic(auto)]
-
-#[cfg(test)]
-mod tests;

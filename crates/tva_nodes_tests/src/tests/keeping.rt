@@ -1,0 +1,103 @@
+// Networks of which memory keeps more or less: whatever it keeps, each window is the same.
+use super::{STEPS, WALK, network};
+use std::alloc::Global;
+use std::sync::atomic::{AtomicU64, Ordering};
+use std::test::Fail;
+use std::thread::Threads;
+use tva_log::Input;
+use tva_net::{Memory, Net, NetError, Node, Window};
+use tva_outside::Gate;
+
+// The walk's network with as many events as may be, and rows of a file of one segment and of ticks.
+const FILES: &str =
+    "time,node,kind,src,dst,payload,shim\n0,A,tick,,10.0.1.1,0,\n1000000,A,file,,10.0.1.1,100,100\n20000000,A,tick,,10.0.1.1,0,\n20000000,B,tick,,10.0.0.1,0,\n";
+
+// How often nodes were told.
+#[derive(Drop)]
+struct Starts {
+    all: AtomicU64,
+}
+
+impl Gate for Starts {
+    fn at_start(&self, _node: u16) {
+        self.all.fetch_add(1, Ordering::SeqCst);
+    }
+}
+
+// Works both to their end, at most a hundred windows, which must be the same. Tells the end.
+fn work_both<R: Threads + Sync, G: Gate>(
+    rt: &R,
+    alloc: Global,
+    gate: &G,
+    one: &mut Net,
+    other: &mut Net,
+) -> Result<Option<NetError>, Fail> {
+    for _ in 0..100 {
+        let first = one.step_window(rt, alloc, gate);
+        match (first, other.step_window(rt, alloc, gate)) {
+            (Ok(Window::Events(a)), Ok(Window::Events(b))) if a == b => {}
+            (Ok(Window::Ended), Ok(Window::Ended)) => return Ok(None),
+            (Err(a), Err(b)) if a == b => return Ok(Some(a)),
+            _ => return Err(Fail::from("another window")),
+        }
+    }
+    Err(Fail::from("no end"))
+}
+
+// How many events memory holds of the nodes, the times at which what they sent arrives, and those of what came to
+// them, summed.
+fn held(nodes: &[Node]) -> (usize, u64, u64) {
+    let mut held = (0usize, 0u64, 0u64);
+    for node in nodes {
+        held.0 = held.0.saturating_add(node.log().len());
+        for sending in node.outbox() {
+            held.1 = held.1.saturating_add(sending.arrive.0);
+        }
+        for input in node.inbox() {
+            held.2 = held.2.saturating_add(time_of(input));
+        }
+    }
+    held
+}
+
+fn time_of(input: &Input) -> u64 {
+    match input {
+        Input::FromTrace(row) => row.time.0,
+        Input::Arrival { time, .. } => time.0,
+    }
+}
+
+const PASSED: Option<NetError> = Some(NetError::EventLimit(17));
+
+// A trace, what is kept, how the network ends, how often its nodes are told, and what is held then.
+const KEPT: [(&str, Memory, Option<NetError>, u64, (usize, u64, u64)); 4] = [
+    (STEPS, Memory::All, PASSED, 30, (18, 44_046_650, 54_046_650)),
+    (STEPS, Memory::Events, PASSED, 30, (18, 0, 0)),
+    (FILES, Memory::All, None, 27, (16, 27_019_780, 68_019_780)),
+    (FILES, Memory::Events, None, 27, (16, 0, 0)),
+];
+
+#[test]
+fn windows_are_the_same_whatever_is_kept(rt: HostRuntime) -> Result<(), Fail> {
+    for (trace, keeps, end, starts, kept) in KEPT {
+        let gate = Starts {
+            all: AtomicU64::new(0),
+        };
+        let mut net = network(rt.alloc(), WALK, trace, keeps)?;
+        let mut other = network(rt.alloc(), WALK, trace, Memory::Nothing)?;
+        assert_eq!(rt;
+            work_both(&rt, rt.alloc(), &gate, &mut net, &mut other)?,
+            end
+        );
+        let sums = net.totals();
+        assert_eq!(rt;
+            work_both(&rt, rt.alloc(), &gate, &mut net, &mut other)?,
+            end
+        );
+        assert_eq!(rt; gate.all.load(Ordering::SeqCst), 2 * starts);
+        assert_eq!(rt; (net.totals(), other.totals()), (sums, sums));
+        assert_eq!(rt; held(net.into_nodes().as_slice()), kept);
+        assert_eq!(rt; held(other.into_nodes().as_slice()), (0, 0, 0));
+    }
+    Ok(())
+}
