@@ -1,7 +1,4 @@
 // That nodes are worked at once, which no clause says.
-ghost use Rattle.std.specs.Prelude.{IfOk};
-ghost use Rattle.tva_node.specs.States.{Stands};
-
 use super::calls::edge;
 use std::sync::atomic::{AtomicU64, Ordering};
 use std::test::Fail;
@@ -11,7 +8,7 @@ use tva_outside::Gate;
 
 const LIMIT: u64 = 100_000_000;
 
-// Holds the start of node 0 until another has started, and the starts of the others until node 0 has.
+// Holds node 0 until another has started, and the others until node 0 has.
 #[derive(Drop)]
 struct Meeting {
     first: AtomicU64,
@@ -43,8 +40,8 @@ fn nodes_are_worked_at_once(rt: HostRuntime) -> Result<(), Fail> {
         late: AtomicU64::new(0),
     };
     let alloc = rt.alloc();
-    let mut nodes = vec![in alloc; edge(alloc, 0)?, edge(alloc, 1)?, edge(alloc, 2)?]?;
-    advance_all(&rt, &gate, Time(10), nodes.as_mut_slice())?;
+    let mut nodes = [edge(alloc, 0)?, edge(alloc, 1)?, edge(alloc, 2)?];
+    advance_all(&rt, &gate, Time(10), &mut nodes)?;
     assert_eq!(rt; gate.late.load(Ordering::SeqCst), 0);
     assert_eq!(rt; gate.first.load(Ordering::SeqCst), 1);
     assert_eq!(rt; gate.others.load(Ordering::SeqCst), 2);

@@ -1,10 +1,11 @@
 // Calls that the program doesn't make, each once where there is memory.
-ghost use Rattle.std.specs.Prelude.{IfOk};
+ghost use Rattle.std.specs.Prelude.{◌≡◌, ◌≤◌, IfOk, OnOk};
 ghost use Rattle.tva_node.specs.States.{Stands};
 
 use super::config;
 use std::alloc::{AllocError, Global};
 use std::test::Fail;
+use std::thread::Threads;
 use tva_audit::{Audited, audit, sums};
 use tva_base::{Address, Flow, Happened, Listed, Name, PacketId, RouterPlan, Time};
 use tva_log::Input;
@@ -33,9 +34,11 @@ const FLOW: Flow = Flow {
     dst: Address(2),
 };
 
-// A router without links.
+// A router without links, to which nothing happened yet.
 pub fn edge(alloc: Global, number: u16) -> Result<Node, AllocError>
-    ensures { IfOk result Stands }
+    ensures stands { IfOk result Stands }
+    ensures horizon { IfOk result (λ node. node.horizon ≡ 1000) }
+    ensures worked { IfOk result (λ node. node.worked_to ≡ 0) }
 {
     let plan = NodePlan::Router(RouterPlan {
         name: Name::new("R"),
@@ -52,12 +55,13 @@ pub fn edge(alloc: Global, number: u16) -> Result<Node, AllocError>
     Node::build(alloc, Time(1000), number, &plan, &[])
 }
 
-// A router takes a row and a packet that it was given, and has no way for either. A request for more memory than
-// there can be is refused, and the node goes on.
-#[test]
-fn a_node_takes_what_it_is_given(rt: HostRuntime) -> Result<(), Fail> {
-    let mut node = edge(rt.alloc(), 7)?;
-    assert!(rt; node.reserve(usize::MAX).is_err());
+// Gives a node a row with a packet, and a packet that arrives before.
+fn give(node: &mut Node) -> Result<(), AllocError>
+    requires horizon { node.old.horizon ≡ 1000 }
+    requires worked { node.old.worked_to ≡ 0 }
+    requires stands { Stands node.old }
+    ensures stands { OnOk result (Stands node.new) }
+{
     node.post(Input::FromTrace(Row {
         time: Time(20),
         node: 7,
@@ -71,43 +75,62 @@ fn a_node_takes_what_it_is_given(rt: HostRuntime) -> Result<(), Fail> {
         time: Time(10),
         link: 3,
         packet: Packet::new(OTHER, FLOW, 0, 40, Carried::Nothing),
-    })?;
+    })
+}
+
+// A router takes a row and a packet in their order, and has no way for either. A request for more memory than
+// there can be is refused, and the node goes on.
+#[test]
+fn a_node_takes_what_it_is_given(rt: HostRuntime) -> Result<(), Fail> {
+    let mut node = edge(rt.alloc(), 7)?;
+    assert!(rt; node.reserve(usize::MAX).is_err());
+    give(&mut node)?;
     assert_eq!(rt; node.next_time(), Some(Time(10)));
     node.advance(Time(11))?;
     assert_eq!(rt; node.next_time(), Some(Time(20)));
     node.advance(Time(1000))?;
     assert_eq!(rt; node.next_time(), None);
     assert_eq!(rt; (node.inbox().len(), node.outbox().len()), (2, 0));
-    let lengths = [(10, Some(3), 60), (20, None, 50)];
-    assert_eq!(rt; node.log().len(), lengths.len());
-    for (event, wanted) in node.log().iter().zip(lengths) {
+    let wanted = [(10, Some(3), 60), (20, None, 50)];
+    assert_eq!(rt; node.log().len(), wanted.len());
+    for (event, wanted) in node.log().iter().zip(wanted.iter()) {
         let Happened::Arrived { length, from, .. } = event.happened else {
             return Err(Fail::from("another event"));
         };
-        assert_eq!(rt; (event.time.0, from, length), wanted);
+        assert_eq!(rt; (event.time.0, from, length), *wanted);
     }
     Ok(())
 }
 
-// The report of the walk, and of its one router the grant, the two charges and the bytes.
-#[test]
-fn an_audit_of_rows(rt: HostRuntime) -> Result<(), Fail> {
-    let alloc = rt.alloc();
-    let config = config(alloc, EDGE)?;
-    let rows = read_trace(alloc, LISTS.as_bytes(), &config)?;
-    match audit(&rt, alloc, &config, rows, REPORT.as_bytes(), &OpenGate) {
-        Ok(Audited::Same(sums)) => {
-            assert_eq!(rt; sums.len(), 1);
-            let sum = &sums[0];
-            assert_eq!(rt;
-                (sum.node, sum.grants, sum.charges, sum.bytes),
-                (0, 1, 1, 512)
-            );
-        }
-        _ => return Err(Fail::from("another answer")),
+// What an audit says of a report of those two lists.
+fn said(rt: &(impl Threads + Sync + AllocGlobal), report: &str) -> Result<Audited, Fail> {
+    let config = config(rt.alloc(), EDGE)?;
+    let rows = read_trace(rt.alloc(), LISTS.as_bytes(), &config)?;
+    match audit(rt, rt.alloc(), &config, rows, report.as_bytes(), &OpenGate) {
+        Ok(audited) => Ok(audited),
+        Err(_) => Err(Fail::from("an error")),
     }
-    let none = sums(&rt, alloc, &[edge(alloc, 4)?])?;
-    assert_eq!(rt; none.len(), 1);
-    assert_eq!(rt; (none[0].node, none[0].charges), (4, 0));
+}
+
+// The report is the run's, and what its one router let through; another differs in its last line.
+#[test]
+fn audits_of_rows(rt: HostRuntime) -> Result<(), Fail> {
+    let Audited::Same(found) = said(&rt, REPORT)? else {
+        return Err(Fail::from("a difference"));
+    };
+    assert_eq!(rt; found.len(), 1);
+    for sum in found.iter() {
+        assert_eq!(rt;
+            (sum.node, sum.grants, sum.charges, sum.bytes),
+            (0, 1, 1, 512)
+        );
+    }
+    let Audited::Differs(finding) = said(&rt, "x\n")? else {
+        return Err(Fail::from("no difference"));
+    };
+    let first = "5000000000 R1 in R1#1 512 trace regular - dropped:no-route";
+    assert_eq!(rt; (finding.line, finding.found.as_str()), (1, "x"));
+    assert_eq!(rt; finding.expected.as_str(), first);
+    assert_eq!(rt; sums(&rt, rt.alloc(), &[])?.len(), 0);
     Ok(())
 }

@@ -69,17 +69,32 @@ fn time_of(input: &Input) -> u64 {
 
 const PASSED: Option<NetError> = Some(NetError::EventLimit(17));
 
-// A trace, what is kept, how the network ends, how often its nodes are told, and what is held then.
-const KEPT: [(&str, Memory, Option<NetError>, u64, (usize, u64, u64)); 4] = [
-    (STEPS, Memory::All, PASSED, 30, (18, 44_046_650, 54_046_650)),
-    (STEPS, Memory::Events, PASSED, 30, (18, 0, 0)),
-    (FILES, Memory::All, None, 27, (16, 27_019_780, 68_019_780)),
-    (FILES, Memory::Events, None, 27, (16, 0, 0)),
+// A trace, what is kept, how the network ends, how often the nodes of both are told, how many
+// events are given, and what is held then.
+const KEPT: [(&str, Memory, Option<NetError>, u64, u64, (usize, u64, u64)); 4] = [
+    (
+        STEPS,
+        Memory::All,
+        PASSED,
+        60,
+        17,
+        (18, 44_046_650, 54_046_650),
+    ),
+    (STEPS, Memory::Events, PASSED, 60, 17, (18, 0, 0)),
+    (
+        FILES,
+        Memory::All,
+        None,
+        54,
+        16,
+        (16, 27_019_780, 68_019_780),
+    ),
+    (FILES, Memory::Events, None, 54, 16, (16, 0, 0)),
 ];
 
 #[test]
 fn windows_are_the_same_whatever_is_kept(rt: HostRuntime) -> Result<(), Fail> {
-    for (trace, keeps, end, starts, kept) in KEPT {
+    for (trace, keeps, end, starts, given, kept) in KEPT {
         let gate = Starts {
             all: AtomicU64::new(0),
         };
@@ -94,7 +109,8 @@ fn windows_are_the_same_whatever_is_kept(rt: HostRuntime) -> Result<(), Fail> {
             work_both(&rt, rt.alloc(), &gate, &mut net, &mut other)?,
             end
         );
-        assert_eq!(rt; gate.all.load(Ordering::SeqCst), 2 * starts);
+        assert_eq!(rt; gate.all.load(Ordering::SeqCst), starts);
+        assert_eq!(rt; sums.events, given);
         assert_eq!(rt; (net.totals(), other.totals()), (sums, sums));
         assert_eq!(rt; held(net.into_nodes().as_slice()), kept);
         assert_eq!(rt; held(other.into_nodes().as_slice()), (0, 0, 0));
