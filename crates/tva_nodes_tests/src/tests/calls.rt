@@ -4,6 +4,7 @@ ghost use Rattle.tva_node.specs.States.{Stands};
 
 use super::config;
 use std::alloc::{AllocError, Global};
+use std::process::Abort;
 use std::test::Fail;
 use std::thread::Threads;
 use tva_audit::{Audited, audit, sums};
@@ -78,8 +79,21 @@ fn give(node: &mut Node) -> Result<(), AllocError>
     })
 }
 
-// A router takes a row and a packet in their order, and has no way for either. A request for more memory than
-// there can be is refused, and the node goes on.
+// Holds what happened at a router that has no way for its inputs: the packet comes first, then the row.
+fn compare<R: Abort>(rt: &R, node: &Node) {
+    let wanted = [(10, Some(3), 60), (20, None, 50)];
+    let log = node.log();
+    assert_eq!(rt; log.len(), wanted.len());
+    for (event, wanted) in log.iter().zip(wanted.iter()) {
+        let Happened::Arrived { length, from, .. } = event.happened else {
+            panic!(rt; "another event");
+        };
+        assert_eq!(rt; (event.time.0, from, length), *wanted);
+    }
+}
+
+// A node takes its inputs in their order. A request for more memory than there can be is refused, and the node
+// goes on.
 #[test]
 fn a_node_takes_what_it_is_given(rt: HostRuntime) -> Result<(), Fail> {
     let mut node = edge(rt.alloc(), 7)?;
@@ -90,15 +104,9 @@ fn a_node_takes_what_it_is_given(rt: HostRuntime) -> Result<(), Fail> {
     assert_eq!(rt; node.next_time(), Some(Time(20)));
     node.advance(Time(1000))?;
     assert_eq!(rt; node.next_time(), None);
-    assert_eq!(rt; (node.inbox().len(), node.outbox().len()), (2, 0));
-    let wanted = [(10, Some(3), 60), (20, None, 50)];
-    assert_eq!(rt; node.log().len(), wanted.len());
-    for (event, wanted) in node.log().iter().zip(wanted.iter()) {
-        let Happened::Arrived { length, from, .. } = event.happened else {
-            return Err(Fail::from("another event"));
-        };
-        assert_eq!(rt; (event.time.0, from, length), *wanted);
-    }
+    assert_eq!(rt; node.inbox().len(), 2);
+    assert_eq!(rt; node.outbox().len(), 0);
+    compare(&rt, &node);
     Ok(())
 }
 

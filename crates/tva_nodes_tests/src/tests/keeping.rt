@@ -24,6 +24,15 @@ impl Gate for Starts {
     }
 }
 
+fn is_same(one: &Result<Window, NetError>, other: &Result<Window, NetError>) -> bool {
+    match (one, other) {
+        (Ok(Window::Events(one)), Ok(Window::Events(other))) => one.as_slice() == other.as_slice(),
+        (Ok(Window::Ended), Ok(Window::Ended)) => true,
+        (Err(one), Err(other)) => one == other,
+        _ => false,
+    }
+}
+
 // Works both to their end, at most a hundred windows, which must be the same. Tells the end.
 fn work_both<R: Threads + Sync, G: Gate>(
     rt: &R,
@@ -33,12 +42,14 @@ fn work_both<R: Threads + Sync, G: Gate>(
     other: &mut Net,
 ) -> Result<Option<NetError>, Fail> {
     for _ in 0..100 {
-        let first = one.step_window(rt, alloc, gate);
-        match (first, other.step_window(rt, alloc, gate)) {
-            (Ok(Window::Events(a)), Ok(Window::Events(b))) if a == b => {}
-            (Ok(Window::Ended), Ok(Window::Ended)) => return Ok(None),
-            (Err(a), Err(b)) if a == b => return Ok(Some(a)),
-            _ => return Err(Fail::from("another window")),
+        let window = one.step_window(rt, alloc, gate);
+        if !is_same(&window, &other.step_window(rt, alloc, gate)) {
+            return Err(Fail::from("another window"));
+        }
+        match window {
+            Ok(Window::Events(_)) => {}
+            Ok(Window::Ended) => return Ok(None),
+            Err(error) => return Ok(Some(error)),
         }
     }
     Err(Fail::from("no end"))
