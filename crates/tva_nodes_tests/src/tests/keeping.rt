@@ -4,7 +4,7 @@ use std::alloc::Global;
 use std::sync::atomic::{AtomicU64, Ordering};
 use std::test::Fail;
 use std::thread::Threads;
-use tva_log::Input;
+use tva_log::{Input, Sending};
 use tva_net::{Memory, Net, NetError, Node, Window};
 use tva_outside::Gate;
 
@@ -61,14 +61,26 @@ fn held(nodes: &[Node]) -> (usize, u64, u64) {
     let mut held = (0usize, 0u64, 0u64);
     for node in nodes {
         held.0 = held.0.saturating_add(node.log().len());
-        for sending in node.outbox() {
-            held.1 = held.1.saturating_add(sending.arrive.0);
-        }
-        for input in node.inbox() {
-            held.2 = held.2.saturating_add(time_of(input));
-        }
+        held.1 = held.1.saturating_add(times_sent(node.outbox()));
+        held.2 = held.2.saturating_add(times_taken(node.inbox()));
     }
     held
+}
+
+fn times_sent(sendings: &[Sending]) -> u64 {
+    let mut times = 0u64;
+    for sending in sendings {
+        times = times.saturating_add(sending.arrive.0);
+    }
+    times
+}
+
+fn times_taken(inputs: &[Input]) -> u64 {
+    let mut times = 0u64;
+    for input in inputs {
+        times = times.saturating_add(time_of(input));
+    }
+    times
 }
 
 fn time_of(input: &Input) -> u64 {
@@ -80,50 +92,55 @@ fn time_of(input: &Input) -> u64 {
 
 const PASSED: Option<NetError> = Some(NetError::EventLimit(17));
 
-// A trace, what is kept, how the network ends, how often the nodes of both are told, how many
-// events are given, and what is held then.
-const KEPT: [(&str, Memory, Option<NetError>, u64, u64, (usize, u64, u64)); 4] = [
+// Works both to their end and once more, and tells the end, how often their nodes were told, and the events given.
+fn ends<R: Threads + Sync>(
+    rt: &R,
+    alloc: Global,
+    one: &mut Net,
+    other: &mut Net,
+) -> Result<(Option<NetError>, u64, u64), Fail> {
+    let gate = Starts {
+        all: AtomicU64::new(0),
+    };
+    let end = work_both(rt, alloc, &gate, one, other)?;
+    if end != work_both(rt, alloc, &gate, one, other)? || one.totals() != other.totals() {
+        return Err(Fail::from("another end"));
+    }
+    Ok((end, gate.all.load(Ordering::SeqCst), one.totals().events))
+}
+
+// A trace, what is kept, how the network ends, how often the nodes of both are told, how many events are given, and
+// what is held then.
+const KEPT: [(
+    &str,
+    Memory,
+    (Option<NetError>, u64, u64),
+    (usize, u64, u64),
+); 4] = [
     (
         STEPS,
         Memory::All,
-        PASSED,
-        60,
-        17,
+        (PASSED, 60, 17),
         (18, 44_046_650, 54_046_650),
     ),
-    (STEPS, Memory::Events, PASSED, 60, 17, (18, 0, 0)),
+    (STEPS, Memory::Events, (PASSED, 60, 17), (18, 0, 0)),
     (
         FILES,
         Memory::All,
-        None,
-        54,
-        16,
+        (None, 54, 16),
         (16, 27_019_780, 68_019_780),
     ),
-    (FILES, Memory::Events, None, 54, 16, (16, 0, 0)),
+    (FILES, Memory::Events, (None, 54, 16), (16, 0, 0)),
 ];
 
 #[test]
 fn windows_are_the_same_whatever_is_kept(rt: HostRuntime) -> Result<(), Fail> {
-    for (trace, keeps, end, starts, given, kept) in KEPT {
-        let gate = Starts {
-            all: AtomicU64::new(0),
-        };
-        let mut net = network(rt.alloc(), WALK, trace, keeps)?;
-        let mut other = network(rt.alloc(), WALK, trace, Memory::Nothing)?;
-        assert_eq!(rt;
-            work_both(&rt, rt.alloc(), &gate, &mut net, &mut other)?,
-            end
-        );
-        let sums = net.totals();
-        assert_eq!(rt;
-            work_both(&rt, rt.alloc(), &gate, &mut net, &mut other)?,
-            end
-        );
-        assert_eq!(rt; gate.all.load(Ordering::SeqCst), starts);
-        assert_eq!(rt; sums.events, given);
-        assert_eq!(rt; (net.totals(), other.totals()), (sums, sums));
-        assert_eq!(rt; held(net.into_nodes().as_slice()), kept);
+    for (trace, keeps, end, kept) in &KEPT {
+        let mut net = network(rt.alloc(), WALK, *trace, *keeps)?;
+        let mut other = network(rt.alloc(), WALK, *trace, Memory::Nothing)?;
+        let ended = ends(&rt, rt.alloc(), &mut net, &mut other)?;
+        assert_eq!(rt; ended, *end);
+        assert_eq!(rt; held(net.into_nodes().as_slice()), *kept);
         assert_eq!(rt; held(other.into_nodes().as_slice()), (0, 0, 0));
     }
     Ok(())
