@@ -1,13 +1,12 @@
 ghost use Rattle.std.specs.Prelude.{IfSome};
 
 mod cases;
-mod plain;
 
 use crate::fair_queues::FairQueues;
 use crate::measured::Measured;
 use crate::offered::Offered;
 use cases::CASES;
-use std::alloc::{AllocError, Global};
+use std::alloc::Global;
 use std::process::Abort;
 use std::test::Fail;
 use tva_base::DrrLimits;
