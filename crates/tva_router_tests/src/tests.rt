@@ -222,16 +222,13 @@ fn restart(rt: &impl Abort, replay: &mut Replay, call: &str) {
     replay.plan.master = OTHER;
 }
 
-/// A router by that line, where it is the line of one.
-fn built(rt: &impl Abort, alloc: Global, line: &str) -> Result<Option<Replay>, Fail> {
+/// A router by that line.
+fn built(rt: &impl Abort, alloc: Global, line: &str) -> Result<Replay, Fail> {
     if line.starts_with("edge") {
-        return Ok(Some(replay_of(alloc, edge(alloc, line))?));
+        return Ok(replay_of(alloc, edge(alloc, line))?);
     }
-    if line.starts_with("links") {
-        let plan = linked(alloc, line, limits_of(rt, line))?;
-        return Ok(Some(replay_of(alloc, plan)?));
-    }
-    Ok(None)
+    let plan = linked(alloc, line, limits_of(rt, line))?;
+    Ok(replay_of(alloc, plan)?)
 }
 
 /// What a call is answered, in words.
@@ -256,38 +253,34 @@ fn answer(rt: &impl Abort, alloc: Global, replay: &mut Replay, line: &str) -> Re
     Ok(true)
 }
 
-/// Builds the router of a line, or makes the call of a line on it. It tells whether there was a call.
-fn follow(
-    rt: &impl Abort,
-    alloc: Global,
-    replay: &mut Option<Replay>,
-    line: &str,
-) -> Result<bool, Fail> {
-    if let Some(new) = built(rt, alloc, line)? {
-        *replay = Some(new);
-        return Ok(false);
-    }
-    match replay {
-        Some(replay) => answer(rt, alloc, replay, line),
-        None => Ok(false),
-    }
-}
-
-/// Follows all lines.
-fn follow_all(rt: &impl Abort, alloc: Global, replay: &mut Option<Replay>) -> Result<(), Fail> {
+/// Makes the calls of a case on its router, and counts them.
+fn play_on(rt: &impl Abort, alloc: Global, replay: &mut Replay, case: &str) -> Result<u64, Fail> {
     let mut calls = 0u64;
-    for line in cases().lines() {
-        if follow(rt, alloc, replay, line)? {
+    for line in case.lines() {
+        if answer(rt, alloc, replay, line)? {
             calls = calls.wrapping_add(1);
         }
     }
-    assert_eq!(rt; calls, 280);
-    Ok(())
+    Ok(calls)
+}
+
+/// Builds the router of a case, and makes its calls. A router is let go in few places: each costs the proof much.
+fn play(rt: &impl Abort, alloc: Global, case: &str) -> Result<u64, Fail> {
+    let Some(line) = case.lines().nth(1) else {
+        return Ok(0);
+    };
+    let mut replay = built(rt, alloc, line)?;
+    play_on(rt, alloc, &mut replay, case)
 }
 
 #[test]
 fn replays_of_one_router(rt: HostRuntime) -> Result<(), Fail> {
-    follow_all(&rt, rt.alloc(), &mut None)
+    let mut calls = 0u64;
+    for case in cases().split("case ") {
+        calls = calls.wrapping_add(play(&rt, rt.alloc(), case)?);
+    }
+    assert_eq!(rt; calls, 280);
+    Ok(())
 }
 
 /// A request of no entries that passed so many routers.
