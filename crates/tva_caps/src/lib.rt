@@ -10,8 +10,6 @@ mod known;
 mod laws;
 mod minters;
 mod secrets;
-#[cfg(test)]
-mod tests;
 
 pub use formulas::{capability, precap_at};
 pub use kept::KeptSecret;

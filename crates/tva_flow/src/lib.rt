@@ -10,8 +10,6 @@ mod hash;
 mod kept;
 mod laws;
 mod table;
-#[cfg(test)]
-mod tests;
 mod verdicts;
 
 pub use cache::FlowCache;

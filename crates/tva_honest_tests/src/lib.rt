@@ -1,6 +1,5 @@
-//! Tests of honest senders. They stand in a crate of their own, since a crate is proved once more with its tests.
-//! One is a law: what worked walks show of steady paths besides those that are steady is proved of the definitions
-//! as they stand.
+//! A test of honest senders that is a law: what worked walks show of steady paths besides those that are steady is
+//! proved of the definitions as they stand. It stands in a crate of its own, since no promise rests on it.
 #![tactic(auto)]
 
 ghost use Rattle.std.specs.Prelude.{ℕ};
@@ -11,9 +10,6 @@ ghost use Rattle.tva_honest.specs.Deals.{coming, comings, deals};
 ghost use Rattle.tva_honest.specs.Paths.{IsSteadyPath};
 ghost use Rattle.tva_honest.specs.Walk.{walk_b, walk_flow, walk_host_a, walk_nonce, walk_nonce_comes};
 ghost use Rattle.tva_honest_tests.specs.Restart.{restarting_router, restart_log_a, restart_log_router, restart_fate};
-
-#[cfg(test)]
-mod tests;
 
 /// The walk over a restart: the router restarts at 8,000,000 ns with another master, between the list of a sender and
 /// its next packet, which shows the same grant by its nonce alone. No path is steady up to that packet, whatever its

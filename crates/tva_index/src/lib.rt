@@ -11,8 +11,6 @@ mod key_ring;
 mod links;
 mod lowest;
 mod numbered_keys;
-#[cfg(test)]
-mod tests;
 mod tree;
 
 pub use buckets::Buckets;

@@ -8,6 +8,3 @@ mod kept;
 mod past;
 
 pub use kept::Kept;
-
-#[cfg(test)]
-mod tests;

@@ -10,6 +10,3 @@ mod sets;
 
 pub use laws::noted_once_is_noted;
 pub use policies::Policy;
-
-#[cfg(test)]
-mod tests;

@@ -1,0 +1,2 @@
+mod premises;
+mod verdicts;
