@@ -92,21 +92,28 @@ fn compare<R: Abort>(rt: &R, node: &Node) {
     }
 }
 
-// A node takes its inputs in their order. A request for more memory than there can be is refused, and the node
-// goes on.
-#[test]
-fn a_node_takes_what_it_is_given(rt: HostRuntime) -> Result<(), Fail> {
-    let mut node = edge(rt.alloc(), 7)?;
+// Has a node refuse a request for more memory than there can be, and then take its inputs in their order.
+fn work<R: Abort>(rt: &R, node: &mut Node) -> Result<(), AllocError>
+    requires horizon { node.old.horizon ≡ 1000 }
+    requires worked { node.old.worked_to ≡ 0 }
+    requires stands { Stands node.old }
+{
     assert!(rt; node.reserve(usize::MAX).is_err());
-    give(&mut node)?;
+    give(node)?;
     assert_eq!(rt; node.next_time(), Some(Time(10)));
     node.advance(Time(11))?;
     assert_eq!(rt; node.next_time(), Some(Time(20)));
     node.advance(Time(1000))?;
     assert_eq!(rt; node.next_time(), None);
-    assert_eq!(rt; node.inbox().len(), 2);
-    assert_eq!(rt; node.outbox().len(), 0);
-    compare(&rt, &node);
+    assert_eq!(rt; (node.inbox().len(), node.outbox().len()), (2, 0));
+    compare(rt, node);
+    Ok(())
+}
+
+#[test]
+fn a_node_takes_what_it_is_given(rt: HostRuntime) -> Result<(), Fail> {
+    let mut node = edge(rt.alloc(), 7)?;
+    work(&rt, &mut node)?;
     Ok(())
 }
 
