@@ -18,15 +18,31 @@ RIGHTFUL = ["as_regular", "as_renewal", "as_request"]
 CLASS_OF_SHAPE = {"request": "request", "list": "regular", "nonce": "regular", "renewal": "regular", "legacy": "legacy"}
 
 
-def events(path):
-    """The events of a report, without its last line, each as (time, node, what, id, length, fields):
+def lines_of(report):
+    """The lines of a report: of a path, or of lines as they come."""
+    if not isinstance(report, (str, os.PathLike)):
+        yield from report
+        return
+    with open(report, encoding="ascii") as file:
+        yield from file
+
+
+def breaks_off(path):
+    """Whether a report lacks its last line, and so is no whole one."""
+    with open(path, "rb") as file:
+        file.seek(max(0, os.path.getsize(path) - 512))
+        last = file.read().splitlines()[-1:]
+    return not (last and last[0].startswith(b"total "))
+
+
+def events(report):
+    """The events of a report, a path or lines, without its last line, each as (time, node, what, id, length, fields):
     the fields are what stands behind the length. A tick that sends nothing has no packet: no id, and length 0."""
-    with open(path, encoding="ascii") as file:
-        for line in file:
-            words = line.split()
-            if words and words[0] != "total":
-                name, length, *fields = words[3:] or ["", 0]
-                yield Event(int(words[0]), words[1], words[2], name, int(length), fields)
+    for line in lines_of(report):
+        words = line.split()
+        if words and words[0] != "total":
+            name, length, *fields = words[3:] or ["", 0]
+            yield Event(int(words[0]), words[1], words[2], name, int(length), fields)
 
 
 class Packet:
@@ -73,11 +89,11 @@ class Packet:
             self.dropped, self.dropped_at = outcome.partition(":")[2], node
 
 
-def packets(path):
-    """The packets of a report by their names, in the order in which they were made."""
+def packets(report, senders=None):
+    """The packets of a report by their names, in the order in which they were made: of all senders, or of these."""
     found = {}
-    for event in events(path):
-        if event.what == "tick":
+    for event in events(report):
+        if event.what == "tick" or senders is not None and event.id.partition("#")[0] not in senders:
             continue
         packet = found.get(event.id) or found.setdefault(event.id, Packet(event.id))
         packet.ended = event.time
@@ -100,6 +116,8 @@ def packets(path):
             packet.received, packet.receiver, packet.what = event.time, event.node, event.fields[1]
             if event.fields[3] != "-":
                 name, length, shape, _, outcome = event.fields[3].split("/")
+                if senders is not None and name.partition("#")[0] not in senders:
+                    continue
                 reply = found.setdefault(name, Packet(name))
                 reply.answers, reply.kind, reply.shape, reply.ended = event.id, CLASS_OF_SHAPE[shape], shape, event.time
                 reply._begins(event.time, int(length))
@@ -107,10 +125,10 @@ def packets(path):
     return found
 
 
-def refuse(text):
-    """Ends with one line and the status of wrong words."""
+def refuse(text, status=2):
+    """Ends with one line, and the status of wrong words unless another is said."""
     print(f"{os.path.basename(sys.argv[0])}: {text}", file=sys.stderr)
-    sys.exit(2)
+    sys.exit(status)
 
 
 def made_of(report):
@@ -135,13 +153,13 @@ def quantile(numbers, percent):
 
 
 def numbers_of(report, made):
-    """What a report comes to for the honest packets: how many were to be sent; how many of those a sender sent as
+    """What a report, a path or lines, comes to for the honest packets: how many were to be sent; how many of those a sender sent as
     legacy by its own choice, and how many a router marked; how many arrived, and as what; and of those that arrived
     the median delay, and the one that 95 of 100 don't exceed, in nanoseconds. Where users transfer files, it is what
     becomes of these."""
     if "transfers" in made:
-        return transfers.numbers_of(report, made)
-    those = honest(packets(report), made)
+        return transfers.numbers_of(lines_of(report), made)
+    those = honest(packets(report, set(made["honest"])), made)
     arrived = [packet for packet in those if packet.received is not None]
     delays = [packet.received - packet.sent for packet in arrived]
     return {
@@ -162,4 +180,6 @@ def numbers(stem):
         with open(stem + ".numbers", encoding="utf-8") as file:
             return json.load(file)
     except (OSError, ValueError):
+        if breaks_off(stem + ".report"):
+            refuse(f"{stem}.report breaks off: it has no last line with its sums")
         return numbers_of(stem + ".report", made_of(stem + ".report"))

@@ -25,6 +25,8 @@ NEVER = 10**13  # nanoseconds: no host asks again in so short a run
 def begins(it, number):
     """When the number-th user begins each of its files."""
     first = FIRST + int(random.Random(f"{it.seed} user {number}").random() * WITHIN)
+    if it.honest_at:
+        first = it.honest_at.of(it.seed, "honest", number)
     return [first + place * EVERY for place in range(FILES)]
 
 
@@ -48,16 +50,15 @@ def rows_most(it):
     return FILES * (2 + EVERY // (it.tick * MILLISECOND))
 
 
-def numbers_of(report, made):
-    """How many transfers were begun, and of those that finish the times in nanoseconds."""
+def numbers_of(lines, made):
+    """How many transfers were begun, and of those that finish the times in nanoseconds, by the lines of a report."""
     told, times = made["transfers"], []
-    with open(report, encoding="ascii") as file:
-        for line in file:
-            if " data:" not in line:
-                continue
-            words = line.split()
-            number, first, length = map(int, words[-1].split(":")[1:])
-            if first + length == told["bytes"]:
-                time = int(words[0]) - told["begin_ns"][words[3].partition("#")[0]][number]
-                times += [time] if time < told["limit_ns"] else []
+    for line in lines:
+        if " data:" not in line:
+            continue
+        words = line.split()
+        number, first, length = map(int, words[-1].split(":")[1:])
+        if first + length == told["bytes"]:
+            time = int(words[0]) - told["begin_ns"][words[3].partition("#")[0]][number]
+            times += [time] if time < told["limit_ns"] else []
     return {"begun": sum(map(len, told["begin_ns"].values())), "finished": len(times), "times": sorted(times)}
