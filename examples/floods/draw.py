@@ -5,50 +5,69 @@
     draw.py transfers FOLDER [FLOOD..] PICTURE  how many transfers finish and how long they take, against the attackers
     draw.py classes REPORT.. PICTURE            how the first bottleneck is filled over time, by class
     draw.py packets REPORT.. PICTURE            what became of each honest packet
+    draw.py data shares|transfers|classes|packets ..   the numbers of each curve or area of such a picture, as CSV
     draw.py table FOLDER [FLOOD..]              the numbers of the first picture, as lines of a table
     draw.py table-of-transfers FOLDER [FLOOD..] those of the second
 
 FOLDER holds the runs of a sweep: FLOOD is a flood or a series (legacy-with) in it, and without any all are taken; runs
-with transfers are for the second picture and its table, all others for the first.
+with transfers are for the second picture and its table, all others for the first. The tables write FOLDER/runs.csv and
+FOLDER/means.csv anew as well, as a sweep does at its end.
 Names, rates, seeds and links are those in the .json beside each report. PICTURE ends in .svg, .pdf or .png, and is as
 wide as a column of a paper, 84 mm, with letters of 8 pt; with `--columns 2` behind the first word it is 178 mm wide.
-Where there are several seeds a point is their mean, and its bar leads from the least to the greatest.
-The caption is printed. It wants gnuplot: apt-get install gnuplot-nox, brew install gnuplot, or what your system calls it.
+A series has the same colour and mark in each picture; without the defence its line is dashed and its marks are hollow.
+Where there are several seeds a point is their mean, and its bar the 95 % interval of it by Student's t. The caption is
+printed. The same numbers give the same bytes. It wants matplotlib: apt-get install python3-matplotlib, or what your
+system calls it.
 """
 import glob
+import hashlib
 import itertools
-import json
 import os
-import shutil
-import subprocess
 import sys
 
 import make
 import reports
-from reports import refuse
+import runs
+from debian import import_debian  # of examples, which make.py looks into
+from runs import mean
+from words import refuse
 
 SECOND = 1_000_000_000
 STEP = 100_000_000  # nanoseconds of one step of the picture of classes
 MORE = SECOND  # how long the pictures over time go on behind the flood
 
-# curves are told apart by their points and dashes, areas by their shades and hatches; colours come on top
-CURVES = [("#000000", 7, 1), ("#D55E00", 4, 2), ("#0072B2", 9, 3), ("#009E73", 13, 4), ("#CC79A7", 3, 5), ("#E69F00", 11, 6), ("#56B4E9", 6, 7)]
+BLACK, ORANGE, BLUE, GREEN, PINK, YELLOW, SKY, WINE = COLOURS = ["#000000", "#D55E00", "#0072B2", "#009E73", "#CC79A7", "#E69F00", "#56B4E9", "#882255"]
+MARKS = ["o", "^", "s", "D", "v", "P", "X", "*", "<", ">", "p", "h", "d", "8"]
+# a series' colour and mark, by its name without `-transfers` and the defence; others have theirs by their names' digest
+STYLES = {
+    "legacy": (BLACK, "o"),
+    "requests": (ORANGE, "^"),
+    "authorised": (BLUE, "s"),
+    "authorised-4-colluders": (SKY, "D"),
+    "mixed": (GREEN, "v"),
+    "forged-grants": (PINK, "P"),
+    "forged-notices": (YELLOW, "X"),
+    "forged-packets": (WINE, "*"),
+}
+# areas are told apart by their shades and hatches; colours come on top
+HATCHED = dict(facecolor="#FFFFFF", edgecolor=PINK, hatch="//////", linewidth=0.3)
 PARTS = [
-    ("requests", 'fs solid 1.0 noborder lc rgb "#000000"'),
-    ("regular, honest", 'fs solid 1.0 noborder lc rgb "#0072B2"'),
-    ("regular, others", 'fs pattern 4 border rgb "#CC79A7" lc rgb "#CC79A7"'),
-    ("legacy", 'fs solid 1.0 noborder lc rgb "#CCCCCC"'),
+    ("requests", dict(facecolor=BLACK)),
+    ("regular, honest", dict(facecolor=BLUE)),
+    ("regular, others", HATCHED),
+    ("legacy", dict(facecolor="#CCCCCC")),
 ]
 FATES = [
-    ("regular", 'fs solid 1.0 noborder lc rgb "#0072B2"'),
-    ("request", 'fs solid 1.0 noborder lc rgb "#000000"'),
-    ("legacy", 'fs solid 1.0 noborder lc rgb "#CCCCCC"'),
-    ("demoted", 'fs pattern 4 border rgb "#CC79A7" lc rgb "#CC79A7"'),
-    ("dropped", 'fs solid 1.0 border rgb "#D55E00" lc rgb "#FFFFFF"'),
+    ("regular", dict(facecolor=BLUE)),
+    ("request", dict(facecolor=BLACK)),
+    ("legacy", dict(facecolor="#CCCCCC")),
+    ("demoted", HATCHED),
+    ("dropped", dict(facecolor="#FFFFFF", edgecolor=ORANGE, linewidth=0.5)),
 ]
 WIDTHS = {1: 84, 2: 178}  # millimetres
-# millimetres from one row of panels to the next, to the upper edge of a plot and to its lower one; and of a line of the key
-ROW, UPPER, LOWER, LINE = 45, 6, 32, 4.8
+# millimetres from one row of panels to the next, to the upper edge of a plot and to its lower one; of a line of the key,
+# and of the title
+ROW, UPPER, LOWER, LINE, TOP = 42, 6, 33, 4.2, 6
 
 
 # ## the runs of a folder
@@ -76,21 +95,29 @@ class Series:
         """For each seed with transfers that finish what `of` makes of their times, in seconds."""
         return [of(numbers["times"]) / SECOND for numbers in self.rates[rate] if numbers["times"]]
 
-    def title(self):
-        return self.said + ("" if self.defence else ", without")
+    def base(self):
+        """What is drawn in one colour: with the defence and without it, and with transfers and without."""
+        return self.name.rpartition("-")[0].replace("-transfers", "", 1)
 
 
 def found_in(folder, floods, transfers=False):
     """The series of a folder, of transfers or of packets, in the order of the floods and then of their names."""
     if not os.path.isdir(folder):
         refuse(f"there is no folder {folder}")
-    found = {}
+    found, makers = {}, {}
     for path in sorted(glob.glob(os.path.join(glob.escape(folder), "*.json"))):
         stem = os.path.splitext(path)[0]
+        if not (os.path.exists(stem + ".numbers") or os.path.exists(stem + ".report")):
+            continue
         made = reports.made_of(path)
-        if transfers == ("transfers" in made) and (os.path.exists(stem + ".numbers") or os.path.exists(stem + ".report")):
+        if transfers == ("transfers" in made):
             series = found.setdefault(made["series"], Series(made))
             series.rates.setdefault(made["rate"], []).append(reports.numbers(stem))
+            of = series.rates[made["rate"]][-1].get("of")
+            makers.setdefault((of["program"], of["scripts"]) if of else None, os.path.basename(stem))
+    if len(set(makers) - {None}) > 1:
+        one, other = [name for of, name in makers.items() if of][:2]
+        refuse(f"{folder} has runs of two programs or by two versions of the scripts, such as {one} and {other}: sweep --resume makes the old ones anew")
     what = "runs with transfers" if transfers else "runs"
     for flood in floods:
         if not any(flood in (it.flood, it.name) for it in found.values()):
@@ -101,102 +128,83 @@ def found_in(folder, floods, transfers=False):
     return sorted(taken, key=lambda it: (make.FLOODS.index(it.flood), not it.defence, len(it.name), it.name))
 
 
-def mean(numbers):
-    return sum(numbers) / len(numbers)
-
-
 def said_rate(rate):
     return f"{rate:g}"
 
 
-# ## gnuplot
+# ## drawing
 
 
-def gnuplot():
-    if shutil.which("gnuplot") is None:
-        refuse("gnuplot isn't installed: apt-get install gnuplot-nox, brew install gnuplot, or what your system calls it")
-
-
-def terminal(picture, width, height):
-    """The terminal of a picture of so many millimetres, with letters of 8 pt."""
-    kind = os.path.splitext(picture)[1]
-    if kind == ".pdf":
-        return f'pdfcairo size {width / 10}cm,{height / 10}cm font "sans-serif,8" fontscale 0.75 linewidth 0.7'
-    dots = 96 / 25.4 * (2 if kind == ".png" else 1)
-    name, letters = ("pngcairo", 16 * 4 / 3 * 0.75) if kind == ".png" else ("svg", 8 * 4 / 3)
-    return f'{name} size {width * dots:.0f},{height * dots:.0f} font "sans-serif,{letters:g}" background rgb "white"'
-
-
-def block(name, rows):
-    return f"${name} << END\n" + "".join(" ".join(map(str, row)) + "\n" for row in rows or [("NaN",) * 6]) + "END\n"
+def matplotlib():
+    """Its pyplot, with settings of our own alone."""
+    try:
+        whole = import_debian("matplotlib")
+        whole.use("Agg")
+        plot = import_debian("matplotlib.pyplot")
+    except ImportError:
+        refuse("matplotlib isn't installed: apt-get install python3-matplotlib, or what your system calls it")
+    whole.rcParams.update(whole.rcParamsDefault)
+    ours = {"font.family": "DejaVu Sans", "font.size": 8, "axes.titlesize": 8, "axes.labelsize": 8, "xtick.labelsize": 7, "ytick.labelsize": 7}
+    ours |= {"axes.spines.top": False, "axes.spines.right": False, "axes.linewidth": 0.6, "hatch.linewidth": 0.6, "legend.frameon": False, "legend.fontsize": 7}
+    # letters as outlines look alike everywhere, and names in the file come of the salt and not of chance
+    whole.rcParams.update({**ours, "svg.fonttype": "path", "svg.hashsalt": "tva", "pdf.fonttype": 42})
+    return plot
 
 
 class Panel:
-    """A part of a picture: its title, settings, blocks of data, and curves."""
+    """A part of a picture: its title, its numbers as rows for `data`, and how it is drawn into axes."""
 
-    def __init__(self, title, settings):
-        self.title, self.settings, self.blocks, self.curves = title, settings, "", []
-
-    def add(self, rows, curve):
-        """A curve of these rows; `$data` in it is their name."""
-        name = f"data{len(self.curves)}"
-        self.blocks += block(name, rows)
-        self.curves.append(curve.replace("$data", "$" + name))
-
-    def script(self):
-        return self.blocks + f'set title "{self.title}" offset 0,-0.6\n{self.settings}\nplot ' + ", ".join(self.curves) + "\n"
+    def __init__(self, title, header, rows, onto):
+        self.title, self.header, self.rows, self.onto = title, header, rows, onto
 
 
-def draw(picture, panels, key, columns):
-    """Draws panels in so many columns, with a key below them: pairs of a text and how it is drawn."""
+def draw(picture, title, panels, key, columns, caption):
+    """Draws panels in so many columns, with a key below them: pairs of a text and what makes its sample."""
+    plot = matplotlib()
     width = WIDTHS[columns]
     rows = -(-len(panels) // columns)
-    across = columns * (2 if max(len(text) for text, _ in key) < 22 else 1)
-    foot = 5 + LINE * -(-len(key) // across)
-    height = ROW * rows + foot
-    script = f"""set terminal {terminal(picture, width, height)}
-set output "{picture}"
-set encoding utf8
-set border 3 lw 0.7
-set tics nomirror out scale 0.5
-set grid ytics lc rgb "#DDDDDD" lt 1 lw 0.5
-unset key
-set multiplot
-"""
+    across = columns * (2 if max(len(text) for text, _ in key) < 27 else 1)
+    foot = 3 + LINE * -(-len(key) // across)
+    height = TOP + ROW * rows + foot
+    figure = plot.figure(figsize=(width / 25.4, height / 25.4))
+    figure.text(0.5, 1 - 3 / height, title, ha="center", va="center", fontweight="bold")
     for place, panel in enumerate(panels):
         row, column = divmod(place, columns)
-        left, right = (column * width / columns + 14) / width, ((column + 1) * width / columns - 3) / width
-        top, bottom = 1 - (row * ROW + UPPER) / height, 1 - (row * ROW + LOWER) / height
-        script += f"set lmargin at screen {left:.4f}\nset rmargin at screen {right:.4f}\nset tmargin at screen {top:.4f}\nset bmargin at screen {bottom:.4f}\n"
-        script += panel.script()
-    # the key is a plot of its own, of which nothing but the key is seen
-    script += f"""unset title
-unset xlabel
-unset ylabel
-unset tics
-unset border
-unset grid
-unset logscale
-set xrange [0:1]
-set yrange [0:1]
-set lmargin at screen 0
-set rmargin at screen 1
-set bmargin at screen 0
-set tmargin at screen {foot / height:.4f}
-set key at screen {4 / width:.4f},screen {(foot - 3) / height:.4f} left top maxrows {-(-len(key) // across)} Left reverse samplen 3 spacing 1.1
-plot """
-    script += ", ".join(f'NaN {style} title "{text}"' for text, style in key) + "\nunset multiplot\n"
-    done = subprocess.run(["gnuplot"], input=script, text=True, stderr=subprocess.PIPE)
-    if done.returncode:
-        refuse(f"gnuplot refuses {picture}: {done.stderr.strip().splitlines()[-1] if done.stderr.strip() else done.returncode}")
+        left, right = column * width / columns + 14, (column + 1) * width / columns - 3
+        top, bottom = TOP + row * ROW + UPPER, TOP + row * ROW + LOWER
+        axes = figure.add_axes([left / width, 1 - bottom / height, (right - left) / width, (bottom - top) / height])
+        axes.set_title(panel.title, pad=4)
+        axes.tick_params(width=0.6, length=2, pad=2)
+        axes.grid(axis="y", color="#DDDDDD", linewidth=0.4)
+        axes.set_axisbelow(True)
+        panel.onto(axes)
+    samples = [sample(plot) for _, sample in key]
+    figure.legend(samples, [text for text, _ in key], loc="lower left", bbox_to_anchor=(2 / width, 1 / height), ncol=across, handlelength=2.6, columnspacing=1.2, labelspacing=0.35, borderaxespad=0, borderpad=0)
+    # no times and no versions, so that the same numbers give the same bytes
+    told = {".svg": {"Date": None, "Creator": None, "Title": title, "Description": caption}, ".pdf": {"CreationDate": None, "Creator": None, "Producer": None, "Title": title, "Subject": caption}, ".png": {"Software": None}}
+    kind = os.path.splitext(picture)[1]
+    part = picture + ".part"
+    try:
+        figure.savefig(part, format=kind[1:], metadata=told[kind], dpi=192)
+        os.replace(part, picture)
+    except OSError as fault:
+        runs.remove(part)
+        refuse(f"{picture}: {fault.strerror}")
 
 
 # ## what becomes of the honest packets
 
 
-def style(number):
-    colour, point, dash = CURVES[number % len(CURVES)]
-    return f'lc rgb "{colour}" pt {point} ps 0.7 dt {dash} lw 1.4'
+def styles(every):
+    """The colour and mark of each of these series. One whose name has none of its own has that of its digest, or of two
+    with the same in one picture the next."""
+    others = [(colour, mark) for mark in MARKS for colour in COLOURS if (colour, mark) not in STYLES.values()]
+    taken = {}
+    for base in sorted({series.base() for series in every}):
+        if base not in STYLES:
+            place = int(hashlib.sha256(base.encode()).hexdigest(), 16)
+            taken[base] = next(it for it in (others[(place + more) % len(others)] for more in range(len(others))) if it not in taken.values())
+    return {**STYLES, **taken}
 
 
 def place_of(rate, rates):
@@ -204,84 +212,140 @@ def place_of(rate, rates):
     return rate or min((it for it in rates if it), default=1) / 2
 
 
-def rates_axis(rates, label):
-    """The settings of the axis of rates, which has just those that were made."""
+def rates_axis(axes, rates, label):
+    """The axis of rates, which has just those that were made."""
     places = [place_of(rate, rates) for rate in rates]
-    # where the next one is near, a rate has its tic alone
+    # where the next one is near, a rate has its tick alone
     near = {place for place, after in zip(places, places[1:]) if after < 1.4 * place}
-    tics = ", ".join(f'"{"" if place in near else said_rate(rate)}" {place:g}' for rate, place in zip(rates, places))
-    return f"""set logscale x
-set xrange [{min(places) / 1.3:g}:{max(places) * 1.3:g}]
-set xtics ({tics})
-set xlabel "{label}" offset 0,0.6
-"""
+    axes.set_xscale("log")
+    axes.set_xlim(min(places) / 1.3, max(places) * 1.3)
+    axes.set_xticks(places, ["" if place in near else said_rate(rate) for rate, place in zip(rates, places)])
+    axes.set_xticks([], minor=True)
+    axes.set_xlabel(label, labelpad=1)
 
 
-def spread(series, rates, numbers):
-    """Rows of a curve: where, the mean, the least and the greatest."""
+def points(series, numbers):
+    """The points of a curve: the rate, how many seeds, their mean, and the ends of its interval."""
     told = [(rate, numbers(series, rate)) for rate in sorted(series.rates)]
-    return [(f"{place_of(rate, rates):g}", *(f"{it:.4g}" for it in (mean(of), min(of), max(of)))) for rate, of in told if of]
+    return [(rate, len(of), *runs.interval(of)) for rate, of in told if of]
 
 
 RATE = "attackers' rate, in times the bottleneck's"
+CURVES = ["panel", "series", "rate", "seeds", "mean", "low", "high"]
 
 
 def curve_panel(title, settings, rates, all_series, numbers, label=RATE):
-    panel = Panel(title, rates_axis(rates, label) + settings)
-    for number, series in all_series:
-        rows = spread(series, rates, numbers)
-        panel.add(rows, f"$data using 1:2 with linespoints {style(number)}")
-        panel.add(rows, f"$data using 1:2:3:4 with yerrorbars {style(number)}")
-    return panel
+    """A panel of curves. Those that lie on one another are told apart: each is thinner than the ones below it, and its
+    marks stand a little beside theirs."""
+    curves = [(series, points(series, numbers)) for series in all_series]
+    curves = [(series, those) for series, those in curves if those]
+    look = styles(all_series)
+
+    def onto(axes):
+        for place, (series, those) in enumerate(curves):
+            beside = 1.025 ** (place - (len(curves) - 1) / 2)
+            at = [place_of(rate, rates) * beside for rate, *_ in those]
+            middles = [middle for _, _, middle, _, _ in those]
+            colour, mark = look[series.base()]
+            line = dict(color=colour, marker=mark, markersize=3.6, markeredgewidth=0.7, linewidth=2.6 - 1.8 * place / max(1, len(curves) - 1))
+            axes.plot(at, middles, **line, **({} if series.defence else dict(linestyle=(0, (3, 1.5)), markerfacecolor="#FFFFFF")), zorder=2 + place)
+            bars = [(x, middle, low, high) for x, (_, _, middle, low, high) in zip(at, those) if low is not None and high > low]
+            if bars:
+                spans = [[middle - low for _, middle, low, _ in bars], [high - middle for _, middle, _, high in bars]]
+                axes.errorbar([x for x, *_ in bars], [middle for _, middle, *_ in bars], spans, fmt="none", ecolor=colour, elinewidth=0.7, capsize=1.6, capthick=0.7, zorder=20)
+        rates_axis(axes, rates, label)
+        settings(axes, [middle for _, those in curves for _, _, middle, _, _ in those])
+
+    rows = [[title, series.name, said_rate(rate), seeds, *("" if it is None else f"{it:.6g}" for it in numbers)] for series, those in curves for rate, seeds, *numbers in those]
+    return Panel(title, CURVES, rows, onto) if curves else None
 
 
-def shares(folder, floods, picture, columns):
-    every = list(enumerate(found_in(folder, floods)))
-    rates = sorted({rate for _, series in every for rate in series.rates})
-    behind = [pair for pair in every if pair[1].defence]
-    bare = [pair for pair in every if not pair[1].defence]
-    percents = 'unset logscale y\nset yrange [0:104]\nset ytics 25\nset ylabel "honest packets, %" offset 1.5,0'
-    delays = 'set logscale y\nset yrange [9:1100]\nset ytics (10, 100, 1000)\nset ylabel "milliseconds" offset 1.5,0'
-    arrived = lambda series, rate: series.percent(rate, "arrived")
-    panels = [
-        curve_panel("that arrive, with the defence", percents, rates, behind, arrived),
-        curve_panel("that arrive in their own right", percents, rates, behind, lambda it, rate: it.percent(rate, *reports.RIGHTFUL)),
-        curve_panel("that arrive, without the defence", percents, rates, bare, arrived),
-        curve_panel("delay of those that arrive: median", delays, rates, every, lambda it, rate: it.milliseconds(rate, "delay")),
-    ]
-    panels = [panel for panel in panels if panel.curves]
-    draw(picture, panels, [(series.title(), f"with linespoints {style(number)}") for number, series in every], columns)
-    print(
-        "What becomes of the honest packets against the attackers' rate: the share that arrives; the share that arrives"
-        " in its own right, as a regular packet, a renewal or a request; the share that arrives without the defence;"
-        f" and the median delay. {points_of(every)}"
-    )
+def key_of(every):
+    """The key of curves: each series once, and what is otherwise without the defence."""
+    look, key, seen = styles(every), [], set()
+    for series in every:
+        if series.base() not in seen:
+            seen.add(series.base())
+            colour, mark = look[series.base()]
+            key.append((series.said, sample_of(color=colour, marker=mark, linewidth=1.4)))
+    if any(not series.defence for series in every):
+        key.append(("with the defence", sample_of(color="#777777", marker="o", linewidth=1.4)))
+        key.append(("without the defence", sample_of(color="#777777", marker="o", linewidth=1.4, linestyle=(0, (3, 1.5)), markerfacecolor="#FFFFFF")))
+    return key
+
+
+def sample_of(**keys):
+    return lambda plot: plot.Line2D([], [], markersize=3.6, markeredgewidth=0.7, **keys)
+
+
+def percents(what):
+    def settings(axes, middles):
+        axes.set_ylim(-2, 104)
+        axes.set_yticks(range(0, 101, 25))
+        axes.set_ylabel(what, labelpad=2)
+
+    return settings
+
+
+def logarithmic(what, ticks):
+    """An axis that has room for all points; a bar may go past its ends."""
+
+    def settings(axes, middles):
+        axes.set_yscale("log", nonpositive="clip")
+        low, high = min(ticks[0], *middles) / 1.15, max(ticks[-2], *middles) * 1.5
+        axes.set_ylim(low, high)
+        axes.set_yticks([it for it in ticks if it <= high], [f"{it:g}" for it in ticks if it <= high])
+        axes.set_yticks([], minor=True)
+        axes.set_ylabel(what, labelpad=2)
+
+    return settings
 
 
 def points_of(every):
     """What the points of curves are."""
-    seeds = sorted({len(those) for _, series in every for those in series.rates.values()})
+    seeds = sorted({len(those) for series in every for those in series.rates.values()})
     if seeds == [1]:
         return "By one seed."
-    return f"Points are means over {' or '.join(map(str, seeds))} seeds, bars go from the least to the greatest."
+    return f"Points are means over {' or '.join(map(str, seeds))} seeds, bars their 95 % intervals by Student's t."
 
 
-def transfers(folder, floods, picture, columns):
-    every = list(enumerate(found_in(folder, floods, transfers=True)))
-    rates = sorted({rate for _, series in every for rate in series.rates})
-    percents = 'unset logscale y\nset yrange [0:104]\nset ytics 25\nset ylabel "transfers, %" offset 1.5,0'
-    times = 'set logscale y\nset yrange [0.25:11]\nset ytics (0.3, 1, 3, 10)\nset ylabel "seconds" offset 1.5,0'
-    label, panels = "attackers of 1 Mbit/s each", []
-    for defence, said in ((True, "with the defence"), (False, "without the defence")):
-        those = [pair for pair in every if pair[1].defence == defence]
-        panels.append(curve_panel(f"that finish, {said}", percents, rates, those, lambda it, rate: it.finished(rate), label))
-        panels.append(curve_panel(f"mean time, {said}", times, rates, those, lambda it, rate: it.seconds(rate, mean), label))
-    panels = [panel for panel in panels if panel.curves]
-    draw(picture, panels, [(series.title(), f"with linespoints {style(number)}") for number, series in every], columns)
-    print(
-        "Transfers against the number of attackers: the share that finishes before the user's next one begins, and the"
-        f" mean time of those that finish, with the defence and without it. {points_of(every)}"
+def shares(folder, floods):
+    every = found_in(folder, floods)
+    rates = sorted({rate for series in every for rate in series.rates})
+    share, delay = percents("honest packets, %"), logarithmic("milliseconds", (10, 100, 1_000, 10_000))
+    late = lambda field: lambda it, rate: it.milliseconds(rate, field)
+    panels = [
+        curve_panel("that arrive", share, rates, every, lambda it, rate: it.percent(rate, "arrived")),
+        curve_panel("that arrive in their own right", share, rates, [it for it in every if it.defence], lambda it, rate: it.percent(rate, *reports.RIGHTFUL)),
+        curve_panel("delay of those that arrive: median", delay, rates, every, late("delay")),
+        curve_panel("delay of those that arrive: 95 of 100", delay, rates, every, late("late")),
+    ]
+    caption = (
+        "What becomes of the honest packets against the attackers' rate: the share that arrives; the share that arrives"
+        " in its own right, as a regular packet, a renewal or a request, which without the defence is none; and of those that"
+        " arrive the median delay, and the least that 95 of 100 don't exceed. A delay is that of packets that arrive: where"
+        f" most are lost, one that falls means no better service. {points_of(every)}"
     )
+    return "What becomes of the honest packets", panels, key_of(every), caption
+
+
+def transfers(folder, floods):
+    every = found_in(folder, floods, transfers=True)
+    rates = sorted({rate for series in every for rate in series.rates})
+    time, label = logarithmic("seconds", (0.3, 1, 3, 10)), "attackers of 1 Mbit/s each"
+    panels = [
+        curve_panel("that finish", percents("transfers, %"), rates, every, lambda it, rate: it.finished(rate), label),
+        curve_panel("mean time of those that finish", time, rates, every, lambda it, rate: it.seconds(rate, mean), label),
+    ]
+    caption = (
+        "Transfers against the number of attackers: the share that finishes before the user's next one begins, and the"
+        " mean time of those that finish, with the defence and without it. Where none finishes there is no time, and where"
+        f" few do it is that of the lucky ones. {points_of(every)}"
+    )
+    return "What becomes of the users' transfers", panels, key_of(every), caption
+
+
+# ## tables
 
 
 def table_of_transfers(folder, floods):
@@ -323,9 +387,11 @@ def title_of(made):
     return f"{said_rate(made['rate'])} times: {made['said']}" + ("" if made["defence"] else ", without the defence")
 
 
-def seconds_axis(made):
+def seconds_axis(axes, made):
     until = (made["flood_until_ns"] + MORE) / SECOND
-    return f'unset logscale\nset xrange [0:{until:g}]\nset xtics {max(1, until // 8):g}\nset xlabel "seconds" offset 0,0.6\n'
+    axes.set_xlim(0, until)
+    axes.set_xticks(range(0, int(until) + 1, int(max(1, until // 8))))
+    axes.set_xlabel("seconds", labelpad=1)
 
 
 def part_of(event, honest):
@@ -351,21 +417,32 @@ def filled(report, made):
     return sums
 
 
-def classes(paths, picture, columns):
-    panels = []
-    for path in paths:
-        made = reports.made_of(path)
-        panel = Panel(title_of(made), seconds_axis(made) + f'set yrange [0:100]\nset ytics 25\nset ylabel "of the time, %" offset 1.5,0\nset boxwidth {STEP / SECOND}')
-        heights = [[100 * sum(parts[: place + 1]) / STEP for place in range(len(parts))] for parts in filled(path, made)]
-        # the highest first, so that the lower ones are drawn over it; hatches don't cover, so white comes before them
-        for place, (_, drawn) in reversed(list(enumerate(PARTS))):
-            rows = [(f"{(step + 0.5) * STEP / SECOND:.2f}", f"{of[place]:.2f}") for step, of in enumerate(heights)]
-            if "pattern" in drawn:
-                panel.add(rows, '$data using 1:2 with boxes fs solid 1.0 noborder lc rgb "#FFFFFF"')
-            panel.add(rows, f"$data using 1:2 with boxes {drawn}")
-        panels.append(panel)
-    draw(picture, panels, [(text, f"with boxes {drawn}") for text, drawn in PARTS], columns)
-    print("With what the bottleneck is busy, in steps of a tenth of a second, by the class of its packets; regular ones by whose they are.")
+def area_of(keys):
+    return lambda plot: plot.Rectangle((0, 0), 1, 1, **keys)
+
+
+def fill_panel(path):
+    """How the bottleneck of a report is filled over time: each part stands on those below it."""
+    made = reports.made_of(path)
+    title, steps = title_of(made), filled(path, made)
+    heights = [[100 * sum(parts[: place + 1]) / STEP for parts in steps] for place in range(len(PARTS))]
+    edges = [step * STEP / SECOND for step in range(len(steps) + 1)]
+
+    def onto(axes):
+        for place, (_, drawn) in enumerate(PARTS):
+            axes.stairs(heights[place], edges, baseline=heights[place - 1] if place else 0, fill=True, **{**drawn, "linewidth": 0})
+        axes.set_ylim(0, 100)
+        axes.set_yticks(range(0, 101, 25))
+        axes.set_ylabel("of the time, %", labelpad=2)
+        seconds_axis(axes, made)
+
+    rows = [[title, PARTS[place][0], f"{edges[step]:g}", f"{100 * parts[place] / STEP:.6g}"] for place in range(len(PARTS)) for step, parts in enumerate(steps)]
+    return Panel(title, ["panel", "part", "from_s", "percent"], rows, onto)
+
+
+def classes(paths):
+    caption = "With what the bottleneck is busy, in steps of a tenth of a second, by the class of its packets; regular ones by whose they are."
+    return "With what the bottleneck is busy", [fill_panel(path) for path in paths], [(text, area_of(drawn)) for text, drawn in PARTS], caption
 
 
 def spans(those, every):
@@ -378,52 +455,88 @@ def spans(those, every):
             yield fate, sender, sent[0], end
 
 
-def packets(paths, picture, columns):
-    panels = []
-    for path in paths:
-        made = reports.made_of(path)
-        place = {name: number for number, name in enumerate(made["honest"], 1)}
-        tics = ", ".join(f'"{name}" {number}' for name, number in place.items())
-        panel = Panel(title_of(made), seconds_axis(made) + f"set yrange [{len(place) + 0.6}:0.4]\nset ytics ({tics})\nset ylabel ''")
-        every = list(spans(reports.honest(reports.packets(path), made), made["honest_every_ns"]))
+def fate_panel(path):
+    """What became of each honest packet of a report: a bar for each run of packets with one fate."""
+    made = reports.made_of(path)
+    title = title_of(made)
+    place = {name: number for number, name in enumerate(made["honest"], 1)}
+    every = sorted(spans(reports.honest(reports.packets(path, set(place)), made), made["honest_every_ns"]), key=lambda span: (place[span[1]], span[2]))
+
+    def onto(axes):
         for fate, drawn in FATES:
-            rows = [(f"{begin / SECOND:.4f}", f"{end / SECOND:.4f}", place[sender]) for told, sender, begin, end in every if told == fate]
-            panel.add(rows, f"$data using 1:3:1:2:($3-0.35):($3+0.35) with boxxyerror {drawn}")
-        panels.append(panel)
-    draw(picture, panels, [(text, f"with boxes {drawn}") for text, drawn in FATES], columns)
-    print("What became of each packet of each honest sender, at the time at which it was sent.")
+            for name, number in place.items():
+                bars = [(begin / SECOND, (end - begin) / SECOND) for told, sender, begin, end in every if (told, sender) == (fate, name)]
+                if bars:
+                    axes.broken_barh(bars, (number - 0.35, 0.7), **{"linewidth": 0, **drawn})
+        axes.set_ylim(len(place) + 0.6, 0.4)
+        axes.set_yticks(list(place.values()), list(place))
+        axes.grid(False)
+        seconds_axis(axes, made)
+
+    rows = [[title, fate, sender, f"{begin / SECOND:.6f}", f"{end / SECOND:.6f}"] for fate, sender, begin, end in every]
+    return Panel(title, ["panel", "fate", "sender", "from_s", "until_s"], rows, onto)
+
+
+def packets(paths):
+    caption = "What became of each packet of each honest sender, at the time at which it was sent."
+    return "What became of each honest packet", [fate_panel(path) for path in paths], [(text, area_of(drawn)) for text, drawn in FATES], caption
 
 
 # ## words
 
 
+FORMS = "shares or transfers FOLDER [FLOOD..] PICTURE, classes or packets REPORT.. PICTURE, data with one of these without PICTURE, table or table-of-transfers FOLDER [FLOOD..]"
+
+
+def picture_of(what, words):
+    """The title, panels, key and caption of a picture."""
+    if what in ("shares", "transfers"):
+        return (shares if what == "shares" else transfers)(words[0], words[1:])
+    for report in words:
+        if not os.path.isfile(report):
+            refuse(f"there is no report {report}")
+        if reports.breaks_off(report):
+            refuse(f"{report} breaks off: it has no last line with its sums")
+    return {"classes": classes, "packets": packets}[what](words)
+
+
+def print_data(panels):
+    """The numbers of a picture as CSV."""
+    rows = [dict(zip(panel.header, row)) for panel in panels for row in panel.rows]
+    print(runs.as_csv(panels[0].header, rows), end="")
+
+
 def main():
     words = sys.argv[1:]
-    if words in (["--help"], ["-h"]):
+    if words[:1] in (["--help"], ["-h"]):
         return print(__doc__)
-    columns = 1
+    columns, data = 1, words[:1] == ["data"]
+    words = words[1:] if data else words
     if words[1:2] == ["--columns"]:
         if words[2:3] not in (["1"], ["2"]):
             refuse("--columns is 1 or 2")
         columns, words = int(words[2]), words[:1] + words[3:]
     what, words = (words[0], words[1:]) if words else ("", [])
-    if what in ("table", "table-of-transfers") and words:
-        return (table if what == "table" else table_of_transfers)(words[0], words[1:])
-    if what not in ("shares", "transfers", "classes", "packets") or len(words) < 2:
-        refuse("shares or transfers FOLDER [FLOOD..] PICTURE, classes or packets REPORT.. PICTURE, table or table-of-transfers FOLDER [FLOOD..]")
+    if what in ("table", "table-of-transfers") and words and not data:
+        (table if what == "table" else table_of_transfers)(words[0], words[1:])
+        try:
+            return runs.write_tables(words[0])
+        except OSError as fault:
+            refuse(f"{fault.filename}: {fault.strerror}")
+    if what not in ("shares", "transfers", "classes", "packets") or len(words) < (1 if data else 2):
+        refuse(FORMS)
+    if data:
+        _, panels, _, _ = picture_of(what, words)
+        return print_data([panel for panel in panels if panel])
     *those, picture = words
     if os.path.splitext(picture)[1] not in (".svg", ".pdf", ".png"):
         refuse(f"{picture} is no name of a picture: it ends in .svg, .pdf or .png")
     if not os.path.isdir(os.path.dirname(os.path.abspath(picture))):
         refuse(f"there is no folder {os.path.dirname(picture)}")
-    gnuplot()
-    if what in ("shares", "transfers"):
-        return (shares if what == "shares" else transfers)(those[0], those[1:], picture, columns)
-    for report in those:
-        if not os.path.isfile(report):
-            refuse(f"there is no report {report}")
-    return {"classes": classes, "packets": packets}[what](those, picture, columns)
+    title, panels, key, caption = picture_of(what, those)
+    draw(picture, title, [panel for panel in panels if panel], key, columns, caption)
+    print(caption)
 
 
 if __name__ == "__main__":
-    main()
+    runs.stoppable("draw.py", main)

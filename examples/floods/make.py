@@ -98,6 +98,9 @@ STRANGE_NONCE = "1206" + "ffffffffffff"
 
 # limits of the links of single hosts, past which no flood needs them
 SMALL = dict(request_queues=4, regular_queues=8, request_ring=32, regular_ring=64, legacy_ring=64)
+# and those of attackers where there are more than so many of them, since all queues together have a million places
+MANY = 200
+SMALLEST = dict(request_queues=4, regular_queues=8, request_ring=16, regular_ring=16, legacy_ring=32)
 
 
 class Starts:
@@ -202,7 +205,7 @@ def build(it):
         tag = 1 if it.shared_tag and number == 1 else 100 + number
         network.host(f"F{number}", address_of(number), policy="client", retry_ns=1_001 * MILLISECOND)
         fast = dict(tag=tag, ns_per_byte=it.setting.bottleneck // 200)
-        join_host(it, network, f"F{number}", in_turn(layout.attackers, number), there=fast, **SMALL)
+        join_host(it, network, f"F{number}", in_turn(layout.attackers, number), there=fast, **(SMALL if it.attackers <= MANY else SMALLEST))
     network.say("A colluder grants all that it can to whoever asks.")
     for number in range(1, colluders_of(it) + 1):
         network.host(f"C{number}", f"10.3.1.{number}", policy="server", n=1023, t=63, grants=1_000_000)
@@ -388,7 +391,7 @@ def pulse(word):
 
 def reader(program):
     """A reader of the words of this script."""
-    words = Words(program, __doc__)
+    words = Words(program, __doc__, usage=argparse.SUPPRESS)
     words.add_argument("flood", choices=FLOODS)
     words.add_argument("rate", type=rate)
     words.add_argument("folder")
@@ -466,7 +469,7 @@ def settle(words, it):
         words.error(f"at rate {it.rate:g} the trace would have more than {ROWS_MOST} rows or 64 MiB")
     if len(name_of(it)) > NAME_MOST:
         words.error(f"the name of such a run would be longer than {NAME_MOST} letters")
-    if it.attackers > 200:  # fewer always fit
+    if it.attackers > MANY:  # fewer always fit
         look_at_size(words, it)
     return it
 

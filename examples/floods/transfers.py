@@ -5,7 +5,9 @@ none gets in the way of the next. A tick comes each second until the next file b
 the transfer stands still. A transfer finishes where its last byte is delivered before the user's next one would begin;
 its time goes from its beginning to that delivery.
 """
+import os
 import random
+import sys
 
 SECOND = 1_000_000_000
 MILLISECOND = 1_000_000
@@ -62,3 +64,11 @@ def numbers_of(lines, made):
             time = int(words[0]) - told["begin_ns"][words[3].partition("#")[0]][number]
             times += [time] if time < told["limit_ns"] else []
     return {"begun": sum(map(len, told["begin_ns"].values())), "finished": len(times), "times": sorted(times)}
+
+
+if __name__ == "__main__":
+    sys.path.append(os.path.dirname(os.path.dirname(os.path.abspath(__file__))))
+    from words import Words, refuse
+
+    Words("transfers.py", __doc__).parse_args()
+    refuse("it is make.py --transfers that makes transfers")
