@@ -1,0 +1,208 @@
+"""How the scripts of examples read reports and traces, which may be large: part by part, and of what they keep no more
+than numbers of eight bytes. What is summed by many keys goes through files without names."""
+import array
+import bisect
+import collections
+import csv
+import heapq
+import itertools
+import marshal
+import os
+import shutil
+import sys
+import tempfile
+
+from words import refuse
+
+PART = 1 << 16  # bytes of a report that are read at once
+LINE_MOST = 255
+KEYS_MOST = 10_000  # keys of a table that are held at once
+
+
+# ## reports
+
+
+class Report:
+    """A report in a file, a pipe or, as `-`, standard input. What can't be read twice is copied to a file without a
+    name first. A report without its last line is refused, or with `partial` told of."""
+
+    def __init__(self, path, partial=False):
+        self.path, self.before, self.lines = path, 0, []
+        try:
+            self.file = open(0 if path == "-" else path, "rb", closefd=path != "-")
+            if not self.file.seekable() or not os.path.isfile(path):
+                copy = tempfile.TemporaryFile()
+                shutil.copyfileobj(self.file, copy)
+                self.file = copy
+        except OSError as fault:
+            refuse(f"there is no file {path}" if isinstance(fault, FileNotFoundError) else f"{path}: {fault.strerror.lower()}")
+        self.whole = self.last_line().startswith(b"total events=")
+        if not self.whole and not partial:
+            refuse(f"{path} is no whole report: its last line, with the total, is missing (--partial goes on without it)")
+
+    def last_line(self):
+        """The last line, or nothing where it lacks its line feed."""
+        size = self.file.seek(0, os.SEEK_END)
+        self.file.seek(max(0, size - 2 * LINE_MOST))
+        *_, line, rest = [b""] + self.file.read().split(b"\n")
+        return line if rest == b"" else b""
+
+    def parts(self):
+        """Lists of lines, without the last one of the report and without what follows the last line feed."""
+        self.file.seek(0)
+        self.before, self.lines, rest = 0, [], b""
+        while data := self.file.read(PART):
+            data, found, rest = (rest + data).rpartition(b"\n")
+            self.before += len(self.lines)
+            self.lines = []
+            if found:
+                self.lines = self.split(data)
+                yield self.lines[:-1] if self.whole and not rest and self.lines[-1].startswith("total ") else self.lines
+            elif len(rest) > PART:
+                self.wrong("", "is no line of a report")
+        if not self.whole:
+            print(f"{os.path.basename(sys.argv[0])}: {self.path} breaks off behind line {self.before + len(self.lines)}", file=sys.stderr)
+            self.whole = True  # that is told once
+
+    def split(self, data):
+        """The lines of these bytes. None has what would have to be quoted elsewhere."""
+        try:
+            text = data.decode("ascii")
+        except UnicodeDecodeError as fault:
+            self.lines = data[: fault.start].decode("ascii").split("\n")
+            self.wrong(self.lines[-1], "is no text of a report")
+        if '"' in text or "," in text or "\\" in text:
+            self.lines = text.split("\n")
+            self.wrong(next(line for line in self.lines if '"' in line or "," in line or "\\" in line), "is no line of a report")
+        return text.split("\n")
+
+    def wrong(self, line, text="is no event of a report"):
+        """Refuses the report for one of the lines of the part that was read last."""
+        number = self.before + (self.lines.index(line) + 1 if line in self.lines else 1)
+        shown = f": {line[:60]}" if line.isprintable() and line else ""
+        refuse(f"{self.path}: line {number} {text}{shown}")
+
+
+# ## traces
+
+
+def number_of(address):
+    """The number of an address that is written as four numbers."""
+    one, two, three, four = map(int, address.split("."))
+    return one << 24 | two << 16 | three << 8 | four
+
+
+def address_of(number):
+    return f"{number >> 24}.{number >> 16 & 255}.{number >> 8 & 255}.{number & 255}"
+
+
+def rows(trace):
+    """The records of a trace behind its header, as lists of fields."""
+    try:
+        with open(trace, newline="", encoding="utf-8-sig") as file:
+            records = (fields for fields in csv.reader(file) if fields)
+            if next(records, None) != ["time", "node", "kind", "src", "dst", "payload", "shim"]:
+                refuse(f"{trace} is no trace: it has another header")
+            for number, fields in enumerate(records, 2):
+                if len(fields) != 7:
+                    refuse(f"{trace}: record {number} has {len(fields)} fields")
+                yield fields
+    except FileNotFoundError:
+        refuse(f"there is no file {trace}")
+    except (OSError, ValueError, csv.Error):
+        refuse(f"{trace} is no trace")
+
+
+def flows_of(trace):
+    """For each node the flows of its rows, in their order, as two arrays: the numbers of the sources, one higher each,
+    or 0 where the row has none, and those of the destinations."""
+    found, numbers = collections.defaultdict(lambda: (array.array("Q"), array.array("I"))), {"": -1}
+    for _, node, _, source, destination, _, _ in rows(trace):
+        sources, destinations = found[node]
+        try:
+            for address in (source, destination):
+                if address not in numbers:
+                    numbers = {"": -1} if len(numbers) == KEYS_MOST else numbers
+                    numbers[address] = number_of(address)
+            sources.append(numbers.get(source, -1) + 1 if source else 0)
+            destinations.append(numbers.get(destination) or number_of(destination))
+        except (ValueError, OverflowError):
+            refuse(f"{trace} is no trace: {source or destination} is no address")
+    return found
+
+
+# ## sums by keys, in their order
+
+
+class Table:
+    """Records by keys. Where the keys are many, those so far go to a file, and `joined` makes one of the records of a
+    key at last. A record is a list of numbers, or an array of them."""
+
+    def __init__(self, fresh, joined):
+        self.fresh, self.joined, self.found, self.files = fresh, joined, {}, []
+
+    def of(self, key):
+        record = self.found.get(key)
+        if record is None:
+            if len(self.found) == KEYS_MOST:
+                self.spill()
+            record = self.found[key] = self.fresh()
+        return record
+
+    def spill(self):
+        file = tempfile.TemporaryFile()
+        for item in sorted(self.found.items(), key=lambda item: item[0]):
+            marshal.dump(item, file)
+        self.files.append(file)
+        self.found = {}
+
+    def items(self):
+        """Keys and records by the order of keys. The table is empty afterwards."""
+        if not self.files:
+            yield from sorted(self.found.items(), key=lambda item: item[0])
+        else:
+            self.spill()
+            merged = heapq.merge(*map(items_of, self.files), key=lambda item: item[0])
+            for key, those in itertools.groupby(merged, key=lambda item: item[0]):
+                yield key, self.joined([record for _, record in those])
+        self.found, self.files = {}, []
+
+
+def items_of(file):
+    file.seek(0)
+    while True:
+        try:
+            yield marshal.load(file)
+        except EOFError:
+            return
+
+
+# ## quantiles
+
+
+def quantiles(numbers, percents):
+    """For each of these the least of some numbers that so many percent of them don't exceed. They are exact, and what
+    isn't asked for isn't sorted."""
+    ranks = [max(1, -(-percent * len(numbers) // 100)) - 1 for percent in percents]
+    told = of_ranks(numbers, sorted(set(ranks)))
+    return [told[rank] for rank in ranks]
+
+
+def of_ranks(numbers, ranks):
+    """For each of these ranks, which count from 0, the number that has it."""
+    if len(numbers) <= PART:
+        inorder = sorted(numbers)
+        return {rank: inorder[rank] for rank in ranks}
+    bounds = sorted({bound for number in numbers[:: len(numbers) // 256] for bound in (number, number + 1)})
+    counts = collections.Counter(bisect.bisect_right(bounds, number) for number in numbers)
+    told, first = {}, 0
+    for place in range(len(bounds) + 1):
+        inside = [rank - first for rank in ranks if first <= rank < first + counts[place]]
+        least, most = bounds[place - 1] if place else 0, bounds[place] if place < len(bounds) else 1 << 64
+        if inside and most - least == 1:
+            told.update((rank + first, least) for rank in inside)
+        elif inside:
+            those = of_ranks(array.array("Q", (number for number in numbers if least <= number < most)), inside)
+            told.update((rank + first, number) for rank, number in those.items())
+        first += counts[place]
+    return told
