@@ -29,3 +29,17 @@ def whole(least, most):
         return int(word)
 
     return read
+
+
+def ended(main):
+    """Runs a script, and ends it with its status, also where who reads has enough, or Ctrl-C was pressed."""
+    try:
+        status = main()
+        sys.stdout.flush()
+    except BrokenPipeError:
+        os.dup2(os.open(os.devnull, os.O_WRONLY), sys.stdout.fileno())
+        status = 0
+    except KeyboardInterrupt:
+        print(f"{os.path.basename(sys.argv[0])}: interrupted", file=sys.stderr)
+        status = 130
+    sys.exit(status)

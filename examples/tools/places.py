@@ -6,7 +6,21 @@ import re
 TOP = os.path.dirname(os.path.dirname(os.path.dirname(os.path.abspath(__file__))))
 TABLES = ("router", "host", "link", "route", "restart", "reroute")
 
-Key = collections.namedtuple("Key", "said default")
+# the forms that FORMATS.md says below its table
+ADDRESS = "four numbers from 0 to 255 without leading zeros, joined by dots"
+FORMS = {
+    "a name as above": "1 to 16 letters, digits, _, -",
+    "an address": f"{ADDRESS}, as 10.0.1.1",
+    "a prefix": f"{ADDRESS}, then / and 0 to 32, as 10.0.1.0/24",
+    "at most 1,024 addresses": f"at most 1,024 addresses, each {ADDRESS}",
+}
+
+
+class Key(collections.namedtuple("Key", "said later default")):
+    """What is said of a key's value, in version 1 and in version 2, and its default."""
+
+    def of(self, version):
+        return self.later if version == 2 else self.said
 
 
 def known_keys():
@@ -18,13 +32,20 @@ def known_keys():
             cells = [cell.strip() for cell in line.strip().strip("|").split("|")]
             if not inside or len(cells) != 4 or cells[0] not in ("top", *TABLES):
                 continue
-            names, said = re.findall(r"`(\w+)`", cells[1]), cells[2].split("; ")
-            defaults = cells[3].split("; ")
+            names = re.findall(r"`(\w+)`", cells[1])
+            said, _, later = cells[2].replace("`", "").partition(". Where version is 2, ")
             for place, name in enumerate(names):
-                own = said[place] if len(said) == len(names) else cells[2]
-                default = defaults[place] if len(defaults) == len(names) else cells[3]
-                found[cells[0]][name] = Key(own.replace("`", ""), default.replace("`", "") or None)
+                own, own_later = (FORMS.get(it, it) for it in (of(place, names, said), of(place, names, later or said)))
+                found[cells[0]][name] = Key(own, own_later, of(place, names, cells[3].replace("`", "")) or None)
     return found
+
+
+def of(place, names, said):
+    """What is said of one of some keys that share a row: each its own part, or all of it."""
+    for mark in ("; ", ", "):
+        if len(parts := said.split(mark)) == len(names):
+            return parts[place]
+    return said
 
 
 # ## the text: a walk over TOML that keeps where tables and keys begin

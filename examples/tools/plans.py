@@ -150,3 +150,9 @@ def meant(path):
     if plan.faults:
         refuse(f"{path} has faults, of which the first is: {' '.join(map(str, plan.faults[0]))}")
     return plan
+
+
+def address_of(prefix):
+    """An address, or with a number of bits a prefix, as it is written."""
+    number, bits = prefix
+    return f"{number >> 24}.{number >> 16 & 255}.{number >> 8 & 255}.{number & 255}" + ("" if bits is None else f"/{bits}")
