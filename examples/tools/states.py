@@ -85,7 +85,7 @@ class Slots:
             flows = router.living(begin + self.step - 1)
             if router.most:
                 yield [begin, name, flows, router.most, router.slots]
-            router.most = flows
+            router.most = router.living(begin + self.step)  # what the next step begins with
 
     def goes_on(self):
         return any(router.ends for router in self.routers.values())
