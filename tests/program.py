@@ -1,5 +1,6 @@
-"""The program that the scripts run: the one that the variable TVA names, or that of crates/tva/out, which is proved
-and built first where it isn't there."""
+"""What the scripts of tests share: the words that they read, and the program that they run. That is the one that a word
+or the variable TVA names, or that of crates/tva/out, which is proved and built first where it isn't there."""
+import argparse
 import os
 import shutil
 import subprocess
@@ -8,6 +9,34 @@ import sys
 TOP = os.path.dirname(os.path.dirname(os.path.abspath(__file__)))
 CRATE = os.path.join(TOP, "crates", "tva")
 PROVED = os.path.join(CRATE, "out", "tva")
+sys.path.append(os.path.join(TOP, "examples"))
+
+from words import Words, refuse  # noqa: E402, F401
+
+
+def words_of(name, text):
+    """The words of a script. `--help` and `-h` print its docstring, and a wrong word ends it with status 2."""
+    words = Words(name, text, usage=argparse.SUPPRESS)
+    words.add_argument("words", nargs="*", help=argparse.SUPPRESS)
+    return words.parse_args().words
+
+
+def program_and_parts(name, text, parts):
+    """The words of a script that name another program, or None, and parts of it. A second program ends the script."""
+    words = words_of(name, text)
+    others = [word for word in words if word not in parts]
+    if len(others) > 1:
+        refuse(f"{others[1]} is no part: they are {' '.join(parts)}", name)
+    return (others or [None])[0], [word for word in words if word in parts]
+
+
+def parts_of(name, text, parts):
+    """The words of a script that name parts of it. Another one ends the script."""
+    words = words_of(name, text)
+    for word in words:
+        if word not in parts:
+            refuse(f"there is no part {word}: they are {' '.join(parts)}", name)
+    return words
 
 
 def program(name, given=None):
@@ -16,14 +45,12 @@ def program(name, given=None):
     if wanted:
         path = shutil.which(wanted)
         if path is None:
-            print(f"{name}: there is no program {wanted}", file=sys.stderr)
-            sys.exit(2)
+            refuse(f"there is no program {wanted}", name)
         return os.path.abspath(path)
     if not os.path.exists(PROVED):
         print(f"{name}: proves and builds the program first", file=sys.stderr)
         if shutil.which("rt"):
             subprocess.run(["rt", "run", "--", "shim", "100600"], cwd=CRATE, stdin=subprocess.DEVNULL, stdout=subprocess.DEVNULL)
     if not os.path.exists(PROVED):
-        print(f"{name}: there is no program: `rt run` in crates/tva builds it, or the variable TVA names one", file=sys.stderr)
-        sys.exit(2)
+        refuse("there is no program: `rt run` in crates/tva builds it, or the variable TVA names one", name)
     return PROVED
