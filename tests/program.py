@@ -21,12 +21,16 @@ def words_of(name, text):
     return words.parse_args().words
 
 
+def unknown(word, parts):
+    return f"there is no {word}" + (f": there are {' '.join(parts)}" if len(parts) < 40 else "")
+
+
 def program_and_parts(name, text, parts):
     """The words of a script that name another program, or None, and parts of it. A second program ends the script."""
     words = words_of(name, text)
     others = [word for word in words if word not in parts]
     if len(others) > 1:
-        refuse(f"{others[1]} is no part: they are {' '.join(parts)}", name)
+        refuse(unknown(others[1], parts), name)
     return (others or [None])[0], [word for word in words if word in parts]
 
 
@@ -35,7 +39,7 @@ def parts_of(name, text, parts):
     words = words_of(name, text)
     for word in words:
         if word not in parts:
-            refuse(f"there is no part {word}: they are {' '.join(parts)}", name)
+            refuse(unknown(word, parts), name)
     return words
 
 
