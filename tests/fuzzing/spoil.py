@@ -109,10 +109,12 @@ def value(rng, network):
             setattr(network, key, [] if key in network.top else getattr(network, key))
 
 
-def count(rng, network):
-    several = [("route", 65_537), ("restart", 65_537), ("reroute", 65_537)]
-    table, most = rng.choice([("router", 1_025), ("host", 1_025), ("link", 4_097), *several])
-    number = most - rng.choice([0, 0, 0, 1])
+COUNTS = {"router": 1_025, "host": 1_025, "link": 4_097, "route": 65_537, "restart": 65_537, "reroute": 65_537}
+
+
+def count(rng, network, table=None):
+    table = table or rng.choice(list(COUNTS))
+    number = COUNTS[table] - rng.choice([0, 0, 0, 1])
     setattr(network, table, [])
     network.top[table] = Raw("[" + "{}," * number + "]")
 

@@ -37,9 +37,13 @@ def load(name, most):
             data = file.read(most + 1)
     except (OSError, ValueError):
         raise Refused(READ_FAULT, "read fault") from None
-    if len(data) > most:
+    if is_too_large(data, most):
         raise Refused(TOO_LARGE, f"too large: {most + 1}")
     return data
+
+
+def is_too_large(data, most):
+    return len(data) > most
 
 
 def read_config(name):
@@ -68,11 +72,15 @@ def replay(config_name, trace_name):
 def replay_of(config, rows):
     running, written, events, most = run.Run(config, rows), (), [], config.top.most_events
     for window in run.windows(running):
-        if len(events) + len(window) > most:
+        if are_too_many(len(events) + len(window), most):
             return Answer(EVENT_LIMIT, written, f"more than {most} events", running)
         events += window
         written += ("".join(report.line(config, it) for it in window).encode(),) if window else ()
     return Answer(DONE, written + (report.total(events).encode(),), "", running)
+
+
+def are_too_many(count, most):
+    return count > most
 
 
 def audit(config_name, trace_name, report_name):
@@ -117,7 +125,7 @@ def check(name):
 
 def shim(digits):
     data = meant(texts.hexadecimal(digits.encode()))
-    meant(data if len(data) <= SHIM_MOST else None)
+    meant(data if texts.has_at_most(data, SHIM_MOST) else None)
     return done(shims.words(data) + "\n")
 
 

@@ -6,6 +6,7 @@ from . import shims, texts, toml
 REQUIRED = object()
 NODES_MOST, LINKS_MOST, ROUTES_MOST = 1_024, 4_096, 65_536
 CHANGES_MOST = 65_536
+MANY = 1_024
 SLOTS_MOST = PLACES_MOST = 1_000_000
 SECOND = 1_000_000_000
 
@@ -21,7 +22,15 @@ class Fault(Exception):
 
 
 def whole(least, most):
-    return lambda value: value if type(value) is int and least <= value <= most else None
+    return lambda value: value if type(value) is int and is_from(least, value) and is_up_to(value, most) else None
+
+
+def is_from(least, value):
+    return least <= value
+
+
+def is_up_to(value, most):
+    return value <= most
 
 
 def text(reader):
@@ -38,7 +47,7 @@ def one_of(*words):
 
 def many(reader):
     def read(values):
-        told = [reader(value) for value in values] if isinstance(values, list) and len(values) <= 1_024 else [None]
+        told = [reader(value) for value in values] if isinstance(values, list) and is_up_to(len(values), MANY) else [None]
         return None if None in told else told
 
     return read
@@ -195,7 +204,7 @@ def check_counts(top):
         ("restart", len(top.restart), CHANGES_MOST),
         ("reroute", len(top.reroute), CHANGES_MOST),
     ]:
-        if count > most:
+        if is_past(count, most):
             raise Fault("count", table, 0, "-")
 
 
@@ -210,8 +219,17 @@ def check_nodes(routers, hosts):
         if host.address in [earlier.address for earlier in hosts[:entry]]:
             raise Fault("addresses", "host", entry, "address")
     for entry, host in enumerate(hosts):
-        if host.retry_ns < SECOND + host.margin_ns:
+        if is_too_soon(host):
             raise Fault("retry", "host", entry, "retry_ns")
+
+
+def is_too_soon(host):
+    """Whether a host asks again within the margin and a second."""
+    return host.retry_ns < SECOND + host.margin_ns
+
+
+def is_past(count, most):
+    return count > most
 
 
 def ends(link):
@@ -256,9 +274,13 @@ def check_via(links, told, table, entry):
 
 def check_time(last, key, told, table, entry):
     """Whether a change comes later than the last one with its key, whose time is noted."""
-    if key in last and last[key] >= told.at_ns:
+    if key in last and is_no_later(told.at_ns, last[key]):
         raise Fault("times", table, entry, "at_ns")
     last[key] = told.at_ns
+
+
+def is_no_later(time, before):
+    return time <= before
 
 
 def check_restarts(routers, restarts):
@@ -285,9 +307,9 @@ def places_of(link):
 
 
 def check_sums(routers, links):
-    if sum(router.slots for router in routers) > SLOTS_MOST:
+    if is_past(sum(router.slots for router in routers), SLOTS_MOST):
         raise Fault("slots", "router", 0, "slots")
-    if sum(places_of(link) for link in links) > PLACES_MOST:
+    if is_past(sum(places_of(link) for link in links), PLACES_MOST):
         raise Fault("rings", "link", 0, "-")
 
 

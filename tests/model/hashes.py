@@ -54,13 +54,22 @@ def age(second, shown):
     return (second - shown[0]) % STAMPS
 
 
+def is_over(old, rights):
+    """Whether the seconds of a grant are over, so many after it was minted."""
+    return old >= rights.t
+
+
+def is_before_all(second):
+    return second < 0
+
+
 def check(plan, now, flow, shown, rights):
     """The grant for which a value stands at a router, `expired` or `bad-hash`."""
     second = router_second(plan, now)
     old = age(second, shown)
-    if old >= rights.t:
+    if is_over(old, rights):
         return "expired"
     minted = second - old
-    if minted < 0 or shown != capability(precapability(plan.master, flow, minted), rights):
+    if is_before_all(minted) or shown != capability(precapability(plan.master, flow, minted), rights):
         return "bad-hash"
     return Grant(flow, rights, minted)

@@ -96,14 +96,27 @@ def may_ask(plan, entries, now):
 
 
 def fits(plan, grant, now, size):
-    in_time = now + plan.margin_ns + hashes.SECOND <= grant.asked + grant.rights.t * hashes.SECOND
-    return in_time and grant.used + size <= router.UNIT * grant.rights.n
+    return is_in_time(plan, grant, now) and has_left(grant, size)
+
+
+def is_in_time(plan, grant, now):
+    return now + plan.margin_ns + hashes.SECOND <= grant.asked + grant.rights.t * hashes.SECOND
+
+
+def has_left(grant, size):
+    """Whether a grant has units left for so many bytes."""
+    return grant.used + size <= router.UNIT * grant.rights.n
 
 
 def is_half_gone(grant, now, size):
     """Whether more than half of the units are used with this, or more than half of the seconds are over."""
     units_gone = 2 * (grant.used + size) > router.UNIT * grant.rights.n
     return units_gone or 2 * (now - grant.asked) > grant.rights.t * hashes.SECOND
+
+
+def is_kept(plan, grant, now):
+    """Whether routers still keep a grant, by a host's reckoning."""
+    return now + plan.margin_ns < grant.life
 
 
 def shape(plan, entries, now, body):
@@ -114,7 +127,7 @@ def shape(plan, entries, now, body):
         list_fits, nonce_fits = fits(plan, grant, now, list_size), fits(plan, grant, now, 28 + body)
         if may_ask(plan, entries, now) and list_fits and is_half_gone(grant, now, list_size):
             return "renewal"
-        if now + plan.margin_ns < grant.life and nonce_fits:
+        if is_kept(plan, grant, now) and nonce_fits:
             return "nonce"
         if list_fits:
             return "list"

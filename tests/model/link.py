@@ -70,7 +70,7 @@ class Ring:
         packet = turn.inside.take(quantum)
         turn.deficit -= length(packet)
         following = turn.inside.first()
-        if following is not None and turn.deficit >= length(following):
+        if following is not None and goes_on(turn, following):
             return packet
         self.turns.pop(0)
         if following is not None:
@@ -89,6 +89,11 @@ class Ring:
     def waiting(self):
         """All packets."""
         return [packet for turn in self.turns for packet in turn.inside.waiting()]
+
+
+def goes_on(turn, following):
+    """Whether a turn has bytes left for what follows in it."""
+    return turn.deficit >= length(following)
 
 
 def new_turn(ring, keys, quantum):
@@ -132,7 +137,7 @@ class Link:
         """What a free link does: it starts a packet, which is returned with its class, or waits, or does nothing."""
         request = self.requests.first()
         self.decides = None
-        if request is not None and cost(self.plan, request) <= credit(self, now):
+        if request is not None and is_paid(self, request, now):
             self.started.append(Started(now, cost(self.plan, request)))
             return self.start(now, "request", self.requests.take(self.plan.quantum))
         if self.regular.first() is not None:
@@ -152,6 +157,11 @@ class Link:
 def cost(plan, packet):
     """The nanoseconds of credit that a request takes."""
     return length(packet) * plan.share * plan.ns_per_byte
+
+
+def is_paid(link, request, now):
+    """Whether there is credit for a request."""
+    return cost(link.plan, request) <= credit(link, now)
 
 
 def credit(link, now):

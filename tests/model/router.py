@@ -120,9 +120,13 @@ def list_verdict(plan, charges, now, packet):
         return "superseded"
     if is_over(charges, grant, now, packet):
         return "over-n"
-    if not lives(own, now) and living(charges, now) >= plan.slots:
+    if not lives(own, now) and is_cache_full(plan, charges, now):
         return "cache-full"
     return Charge(now, grant, shim.nonce, length(packet))
+
+
+def is_cache_full(plan, charges, now):
+    return living(charges, now) >= plan.slots
 
 
 def is_superseded(holder, grant):
@@ -138,7 +142,7 @@ def nonce_verdict(plan, charges, now, packet):
     if not lives(own, now) or own[-1].nonce != packet.carried.nonce:
         return "unknown-nonce"
     grant = own[-1].grant
-    if hashes.router_second(plan, now) >= grant.second + grant.rights.t:
+    if hashes.is_over(hashes.router_second(plan, now) - grant.second, grant.rights):
         return "expired"
     if is_over(charges, grant, now, packet):
         return "over-n"
@@ -181,10 +185,14 @@ def fate(plan, charges, now, tag, packet):
 
 def request_fate(plan, now, tag, packet):
     shim = packet.carried
-    if len(shim.entries) == shims.CAPABILITIES_MOST:
+    if is_path_full(shim):
         return Fate(marked(packet), "path-full")
     entry = shims.Entry(tag, fresh(plan, now, packet.flow))
     return Fate(packet._replace(carried=shim._replace(entries=shim.entries + (entry,))))
+
+
+def is_path_full(shim):
+    return len(shim.entries) == shims.CAPABILITIES_MOST
 
 
 def passed(plan, now, packet):

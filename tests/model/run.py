@@ -170,7 +170,7 @@ class Run:
 
     def reach(self, reaching):
         """Puts into the queue what reaches a node, unless that is past the horizon."""
-        if reaching.time <= self.config.top.horizon:
+        if self.is_within(reaching.time):
             heapq.heappush(self.queue, (reaching.time, reaching.node, turn(reaching), self.put, reaching))
             self.put += 1
 
@@ -178,7 +178,11 @@ class Run:
         """The next time at which something reaches a node or a link decides by itself, or None."""
         times = [self.queue[0][0]] if self.queue else []
         times += [link.decides for node in self.nodes for link in node.links.values() if link.decides is not None]
-        return min(times) if times and min(times) <= self.config.top.horizon else None
+        return min(times) if times and self.is_within(min(times)) else None
+
+    def is_within(self, time):
+        """Whether a time is not behind the horizon."""
+        return time <= self.config.top.horizon
 
     def work(self, now):
         """What happens at the next time: at each node first what reaches it, then what its links start, by number."""
@@ -223,6 +227,10 @@ def decides(link, now, is_reached):
 # ## windows
 
 
+def is_in_window(now, end):
+    return now < end
+
+
 def window_length(config):
     """The least delay, or all of the run where there is no link."""
     return min([link.delay_ns for link in config.links], default=config.top.horizon + 1)
@@ -233,7 +241,7 @@ def windows(run):
     now = run.next_time()
     while now is not None:
         end, happened = now + window_length(run.config), []
-        while now is not None and now < end:
+        while now is not None and is_in_window(now, end):
             happened += run.work(now)
             now = run.next_time()
         yield happened

@@ -226,10 +226,19 @@ def read_shim(data):
 
 def is_within_limits(shim):
     granted = shim.back.capabilities if shim.back else ()
-    if max(len(shim.entries), len(shim.capabilities), len(granted)) > CAPABILITIES_MOST:
+    if not all(map(is_list, (shim.entries, shim.capabilities, granted))):
         return False
     rights = [shim.rights] + ([shim.back.rights] if shim.back and shim.back.rights else [])
-    return shim.pointer <= len(shim.capabilities) and all(it.n <= units_most(shim.version) for it in rights)
+    return points_within(shim) and all(it.n <= units_most(shim.version) for it in rights)
+
+
+def is_list(items):
+    """Whether a shim may have as many entries or capabilities."""
+    return len(items) <= CAPABILITIES_MOST
+
+
+def points_within(shim):
+    return shim.pointer <= len(shim.capabilities)
 
 
 # ## words

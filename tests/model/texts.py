@@ -6,6 +6,7 @@ import re
 LETTERS = b"ABCDEFGHIJKLMNOPQRSTUVWXYZabcdefghijklmnopqrstuvwxyz"
 DIGITS = b"0123456789"
 HEXADECIMAL = b"0123456789abcdefABCDEF"
+DIGITS_MOST, NAME_MOST, PART_MOST = 20, 16, 255
 ADDRESS = re.compile(rb"\.".join([b"(0|[1-9][0-9]{0,2})"] * 4))
 
 
@@ -15,10 +16,18 @@ def consists_of(text, characters):
 
 def decimal(text, most):
     """A number of 1 to 20 digits, with or without leading zeros, which is at most `most`."""
-    if not 1 <= len(text) <= 20 or not consists_of(text, DIGITS):
+    if not 1 <= len(text) or not has_at_most(text, DIGITS_MOST) or not consists_of(text, DIGITS):
         return None
     number = int(text)
-    return number if number <= most else None
+    return number if is_at_most(number, most) else None
+
+
+def has_at_most(text, most):
+    return len(text) <= most
+
+
+def is_at_most(number, most):
+    return number <= most
 
 
 def hexadecimal(text, size=None):
@@ -31,14 +40,14 @@ def hexadecimal(text, size=None):
 
 def name(text):
     """The name of a node."""
-    return text.decode() if 1 <= len(text) <= 16 and consists_of(text, LETTERS + DIGITS + b"_-") else None
+    return text.decode() if text and has_at_most(text, NAME_MOST) and consists_of(text, LETTERS + DIGITS + b"_-") else None
 
 
 def address(text):
     """A number of 32 bits."""
     found = ADDRESS.fullmatch(text)
     parts = [int(part) for part in found.groups()] if found else [256]
-    return int.from_bytes(bytes(parts), "big") if max(parts) <= 255 else None
+    return int.from_bytes(bytes(parts), "big") if is_at_most(max(parts), PART_MOST) else None
 
 
 def front(number, bits):

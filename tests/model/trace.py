@@ -93,7 +93,16 @@ def check(holds, record, rule):
 def is_kind(config, kind, node, before):
     """Whether a node may have a row of a kind behind those before."""
     is_own = kind in OWN and node >= len(config.routers)
-    return kind in INJECTED or is_own and (kind != b"file" or before.files[node] < FILES_MOST)
+    return kind in INJECTED or is_own and (kind != b"file" or has_place(before, node))
+
+
+def has_place(before, node):
+    """Whether a host may have a file more."""
+    return before.files[node] < FILES_MOST
+
+
+def is_in_order(time, before):
+    return time >= before.last
 
 
 def payload_of(kind, text):
@@ -103,13 +112,18 @@ def payload_of(kind, text):
     return payload if payload is not None and payload >= least else None
 
 
+def is_row(record):
+    """Whether there may be a record of that number. The first one is the header."""
+    return record <= ROWS_MOST + 1
+
+
 def read_row(config, names, record, fields, before):
-    check(record <= ROWS_MOST + 1, record, "rows")
+    check(is_row(record), record, "rows")
     check(len(fields) == len(HEADER), record, "fields")
     time, node, kind, source, destination, payload, shim = fields
     time = texts.decimal(time, config.top.horizon)
     check(time is not None, record, "time")
-    check(time >= before.last, record, "order")
+    check(is_in_order(time, before), record, "order")
     check(node in names, record, "node")
     node = names.index(node)
     check(is_kind(config, kind, node, before), record, "kind")
@@ -151,7 +165,7 @@ def read_file(text, flow, segment):
 
 def read_raw(text, _config, _flow):
     data = meant(texts.hexadecimal(text))
-    if len(data) > SHIM_MOST:
+    if not texts.has_at_most(data, SHIM_MOST):
         raise ValueError
     return (shims.read_shim(data) or shims.Malformed(len(data))) if data else None
 
@@ -169,7 +183,7 @@ def read_list(text, config, flow):
     units = meant(texts.decimal(units, shims.units_most(2)))
     rights = shims.Rights(units, meant(texts.decimal(seconds, shims.seconds_most(2))))
     items = items.split(b";") if items else []
-    if len(items) > shims.CAPABILITIES_MOST:
+    if not shims.is_list(items):
         raise ValueError
     return shims.Shim(
         shims.version_of(rights),
