@@ -316,6 +316,20 @@ def notices(rng):
     return network, rows + [(3 * 10**7 + it * 10**7, "A", "send", "", PEERS["B"], 0, "") for it in range(rng.choice([2, 3, 4]))]
 
 
+def notice_with_ack(rng):
+    """The same with a file behind the restart."""
+    network, rows = notices(rng)
+    return network, rows[:2] + [(3 * 10**7, "A", "file", "", PEERS["B"], rng.choice([1, 100]), rng.choice([100, 200]))]
+
+
+def renewal_with_range(rng):
+    """A file that takes more than half of the units that are left, when its host may ask again."""
+    network = over_router(rng)
+    network.host[1] |= {"n": 1, "t": 10}
+    size = rng.choice([600, 700, 900])
+    return network, [(0, "A", "send", "", PEERS["B"], 0, ""), (SECOND + 10**7, "A", "file", "", PEERS["B"], size, size)]
+
+
 def files(rng):
     """Files with ticks that come before what they would go on with."""
     network = two_hosts(rng)
@@ -337,6 +351,13 @@ def cut(rng):
         network.top["horizon_ns"] = max(rows[-1][0], rng.choice(happened).time + rng.choice(BY_ONE))
     return network, rows
 
+
+# what is aimed at other kinds that are seldom
+KINDS = {
+    "outcome of a reply dropped:no-queue": reply_without_queue,
+    "acknowledgement that is sent on a notice": notice_with_ack,
+    "receipt with a range renewal": renewal_with_range,
+}
 
 # what is aimed at each limit
 NETWORKS = {key.replace("_", "-"): of_link(key) for kind in ("request", "regular") for key in (f"{kind}_queues", f"{kind}_ring", f"{kind}_queue_bytes", f"{kind}_bytes")}
