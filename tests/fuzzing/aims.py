@@ -367,7 +367,7 @@ NETWORKS |= {"paid": waits, "deficit": deficits, "free": waits, "window-end": wa
 NETWORKS |= {"change": restarts, "end-of-life": turns, "seconds": turns, "same-second": grants, "budget": grants, "slots": slots}
 NETWORKS |= {"second-0": grants, "hop-limit-32": loops, "path": paths, "equal-grants": equals, "report-line": grants, "row-order": waits}
 NETWORKS |= {"notices": notices, "grants": policy, "units-most": rights_most, "seconds-most": rights_most, "file-done": files, "told-before": files}
-NETWORKS |= {"items": paths, "pointer": grants, "retry": policy, "least-value": cut, "greatest-value": policy, "number": notices}
+NETWORKS |= {"items": paths, "retry": policy, "least-value": cut, "greatest-value": policy, "number": notices}
 
 
 # ## texts with a fault of a kind
@@ -448,4 +448,11 @@ def long_words(rng):
     return ["replay", "config", "trace"], files | {"trace": traces.text_of(rng, [row]).encode()}
 
 
-TEXTS = {"counts": counts, "times": two_changes, "file-size": full_file, "characters": long_words}
+def pointers(rng):
+    """A shim whose pointer stands behind its last capability, or before it."""
+    items = tuple(rng.randbytes(8) for _ in range(rng.choice([1, 2, 16])))
+    told = shims.Shim(1, rng.choice(["list", "renewal"]), nonce=1, pointer=len(items) - rng.choice([0, 0, 1]), rights=shims.Rights(1, 2))
+    return ["shim", shims.layout(told._replace(capabilities=items)).hex()], {}
+
+
+TEXTS = {"pointer": pointers, "counts": counts, "times": two_changes, "file-size": full_file, "characters": long_words}

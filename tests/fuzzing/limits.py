@@ -9,7 +9,7 @@ from .readings import READINGS, Reading
 
 
 class Limit(Reading):
-    """A reading with one function, which is to be without effects, and whether the model takes what is just equal."""
+    """A reading of a limit. The first of its functions says otherwise where the limit is met, and has no effects."""
 
 
 LIMITS = []
@@ -27,6 +27,21 @@ def limit(name, says, of, replaced):
         return function
 
     return keep
+
+
+def and_later():
+    """A further function of the last limit: what a link doesn't do at a time it tries a nanosecond later. Without it that time
+    never ends."""
+    right = run.Run.work
+
+    def work(self, now):
+        happened = right(self, now)
+        for its_link in (it for node in self.nodes for it in node.links.values()):
+            if its_link.decides is not None and its_link.decides <= now:
+                its_link.decides = now + 1
+        return happened
+
+    LIMITS[-1].replaced.append((run.Run, "work", work))
 
 
 def changed(plan, **more):
@@ -67,6 +82,9 @@ def _(right, its_link, request, now):
     return link.cost(its_link.plan, request) < link.credit(its_link, now)
 
 
+and_later()
+
+
 @limit("deficit", "a turn ends where its bytes are just enough for what follows", link, "goes_on")
 def _(right, turn, following):
     return turn.deficit > shims.length(following)
@@ -75,6 +93,9 @@ def _(right, turn, following):
 @limit("free", "a link isn't free yet when its packet ends", run, "decides")
 def _(right, its_link, now, is_reached):
     return its_link.free_at < now and right(its_link, now, is_reached)
+
+
+and_later()
 
 
 # ## routers
@@ -298,7 +319,7 @@ class Watch:
     def __enter__(self):
         told = {}
         for it in LIMITS:
-            [(of, name, wrong)] = it.replaced
+            of, name, wrong = it.replaced[0]
             told.setdefault((of, name), []).append((it.name, wrong))
         for (of, name), readings in told.items():
             right = getattr(of, name)
