@@ -2,7 +2,7 @@
 fault, and shims, of one kind."""
 from types import SimpleNamespace
 
-from model import configuration, host, link, router, run, shims, trace
+from model import commands, configuration, host, link, router, run, shims, trace
 
 from . import changes, networks, spoil, traces
 from .networks import MASTERS, SECOND, chance
@@ -55,7 +55,9 @@ class Measured:
 
 def two_hosts(rng, **keys):
     hosts = [{"name": name, "address": address} for name, address in PEERS.items()]
-    ends = [{"from": one, "to": other, "ns_per_byte": rng.choice([1, 10, 1_000]), "delay_ns": rng.choice([1, 1_000, 10**6])} for one, other in ("AB", "BA")]
+    ends = [{"from": one, "to": other, "delay_ns": rng.choice([1, 1_000, 10**6])} for one, other in ("AB", "BA")]
+    for told in ends:
+        told["ns_per_byte"] = rng.choice([1, 10, 1_000])
     ends[0] |= {"share": rng.choice([2, 2, 3]), "burst": rng.choice([4_096, 5_000])} | keys
     return network_of(host=hosts, link=ends)
 
@@ -105,8 +107,8 @@ def of_link(key):
     least = 2_048 if key.endswith("bytes") else 1
 
     def make(rng):
-        levels = {"request_levels": 2, "request_inner": 64} if key == "request_inner" else {"request_levels": rng.choice([1, 1, 2]), "request_inner": 64}
-        network, rows = two_hosts(rng, **levels), raw_rows(rng, kind)
+        levels = 2 if key == "request_inner" else rng.choice([1, 1, 2])
+        network, rows = two_hosts(rng, request_levels=levels, request_inner=64), raw_rows(rng, kind)
         replaced, measure = ("refuses_legacy", legacy_measures) if kind == "legacy" else ("refuses", link_measures)
         with Measured(link, replaced, measure) as told:
             run_of(rng, network, rows)
@@ -121,7 +123,8 @@ def of_link(key):
 def deficits(rng):
     """A quantum with which a turn has just the bytes of what follows."""
     quantum = rng.choice([2_048, 2_500])
-    network, rows = two_hosts(rng, quantum=quantum, burst=100_000, request_levels=rng.choice([1, 1, 2])), raw_rows(rng, rng.choice(["request", "regular"]))
+    network = two_hosts(rng, quantum=quantum, burst=100_000, request_levels=rng.choice([1, 1, 2]))
+    rows = raw_rows(rng, rng.choice(["request", "regular"]))
     with Measured(link, "goes_on", lambda turn, following: shims.length(following) - turn.deficit) as told:
         run_of(rng, network, rows)
     found = [quantum + it for it in told[:4] if quantum + it >= 2_048]
@@ -360,8 +363,9 @@ KINDS = {
 }
 
 # what is aimed at each limit
-NETWORKS = {key.replace("_", "-"): of_link(key) for kind in ("request", "regular") for key in (f"{kind}_queues", f"{kind}_ring", f"{kind}_queue_bytes", f"{kind}_bytes")}
-NETWORKS |= {key.replace("_", "-"): of_link(key) for key in ("request_inner", "legacy_ring", "legacy_bytes")}
+LINK_KEYS = [f"{kind}_{key}" for kind in ("request", "regular") for key in ("queues", "ring", "queue_bytes", "bytes")]
+LINK_KEYS += ["request_inner", "legacy_ring", "legacy_bytes"]
+NETWORKS = {key.replace("_", "-"): of_link(key) for key in LINK_KEYS}
 NETWORKS |= {name: of_host(name) for name in ("ask-again", "margin", "units-left", "half-units", "half-seconds", "kept")}
 NETWORKS |= {"paid": waits, "deficit": deficits, "free": waits, "window-end": waits, "horizon": cut, "max-events": cut}
 NETWORKS |= {"change": restarts, "end-of-life": turns, "seconds": turns, "same-second": grants, "budget": grants, "slots": slots}
@@ -393,7 +397,8 @@ def shim_of(rng, version, kind):
     if kind == "request":
         return shims.layout(told._replace(entries=request_shim(rng).entries))
     items = tuple(rng.randbytes(8) for _ in range(rng.choice([0, 1, 2, 16])))
-    more = {} if kind == "nonce" else {"rights": shims.Rights(rng.choice([0, 1, 1_023]), rng.choice([0, 63])), "capabilities": items, "pointer": rng.randrange(len(items) + 1)}
+    rights = shims.Rights(rng.choice([0, 1, 1_023]), rng.choice([0, 63]))
+    more = {} if kind == "nonce" else {"rights": rights, "capabilities": items, "pointer": rng.randrange(len(items) + 1)}
     back = rng.choice([None, shims.Back(), shims.Back(shims.Rights(1, 2), (rng.randbytes(8),))])
     return shims.layout(told._replace(nonce=rng.getrandbits(48), back=back, **more))
 
@@ -428,11 +433,7 @@ def two_changes(rng):
 
 def full_file(rng):
     config = networks.text_of(rng, one_router(rng)).encode() + b"#"
-    return ["check", "config"], {"config": config.ljust(configuration_most() - 1, b"x") + b"\n"}
-
-
-def configuration_most():
-    return 1 << 20
+    return ["check", "config"], {"config": config.ljust(commands.CONFIG_MOST - 1, b"x") + b"\n"}
 
 
 def long_words(rng):

@@ -27,8 +27,13 @@ def replacing(of, name, function):
 
 right_credit = link.credit
 
-TWICE = replacing(router, "is_over", lambda charges, grant, now, packet: router.used(charges, grant, now) + router.length(packet) > 2 * router.UNIT * grant.rights.n)
-A_BYTE_MORE = replacing(link, "credit", lambda its_link, now: right_credit(its_link, now) + its_link.plan.share * its_link.plan.ns_per_byte)
+
+def twice(charges, grant, now, packet):
+    return router.used(charges, grant, now) + router.length(packet) > 2 * router.UNIT * grant.rights.n
+
+
+def a_byte_more(its_link, now):
+    return right_credit(its_link, now) + its_link.plan.share * its_link.plan.ns_per_byte
 
 
 def longer(file, taken, number):
@@ -36,6 +41,8 @@ def longer(file, taken, number):
     return Data(number, first, min(file.segment, file.size - first + 1))
 
 
+TWICE = replacing(router, "is_over", twice)
+A_BYTE_MORE = replacing(link, "credit", a_byte_more)
 LONGER = replacing(transfers, "segment", longer)
 
 
