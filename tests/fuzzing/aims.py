@@ -389,7 +389,18 @@ def config_fault(rng, rule, table, network):
     return networks.text_of(rng, network).encode()
 
 
-def shim_of(rng, version, kind):
+def trace_fault(rng, rule):
+    """A configuration, and a trace with a fault by a way that makes its kind."""
+    network, rows = rng.choice([grants, notices, files, waits])(rng)
+    lines = [traces.HEADER, *(",".join(map(str, it)) for it in rows[: rng.randrange(1, 8)])]
+    if rule in spoil.FIELDS:
+        spoil.field(rng, lines, rule)
+    else:
+        {"order": spoil.order, "fields": spoil.fields, "header": spoil.header}[rule](rng, lines)
+    return {"config": networks.text_of(rng, network).encode(), "trace": ("\n".join(lines) + "\n").encode()}
+
+
+def shim_of(rng, version, kind=None):
     """A shim of a version and a kind, or bytes that are none."""
     if version == "malformed":
         return rng.randbytes(rng.choice([1, 2, 8, 60]))

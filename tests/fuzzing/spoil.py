@@ -269,11 +269,11 @@ FIELDS = {
 COLUMNS = list(FIELDS)
 
 
-def field(rng, lines):
+def field(rng, lines, name=None):
     """A field that isn't meant, mostly."""
     place = rng.randrange(1, len(lines))
     words = lines[place].split(",")
-    name = rng.choice(COLUMNS)
+    name = name or rng.choice(COLUMNS)
     words[COLUMNS.index(name) % len(words)] = rng.choice(FIELDS[name])
     lines[place] = ",".join(words)
 
