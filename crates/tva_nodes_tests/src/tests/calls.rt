@@ -7,7 +7,7 @@ use std::alloc::{AllocError, Global};
 use std::process::Abort;
 use std::test::Fail;
 use std::thread::Threads;
-use tva_audit::{Audited, audit, sums};
+use tva_audit::{AuditError, Audited, RouterSum, audit, sums};
 use tva_base::{Address, Flow, Happened, Listed, Name, PacketId, RouterPlan, Time};
 use tva_log::Input;
 use tva_node::Node;
@@ -56,27 +56,51 @@ pub fn edge(alloc: Global, number: u16) -> Result<Node, AllocError>
     Node::build(alloc, Time(1000), number, &plan, &[])
 }
 
-// Gives a node a row with a packet, and a packet that arrives before.
+// Gives a node a row with a packet.
+fn give_row(node: &mut Node, time: u64, payload: u16) -> Result<(), AllocError>
+    requires horizon { node.old.horizon ≡ 1000 }
+    requires worked { node.old.worked_to ≡ 0 }
+    requires time { time ≤ 1000 }
+    requires payload { payload ≤ 1600 }
+    ensures horizon { OnOk result (node.new.horizon ≡ 1000) }
+    ensures worked { OnOk result (node.new.worked_to ≡ 0) }
+    ensures stands { Stands node.old → OnOk result (Stands node.new) }
+{
+    node.post(Input::FromTrace(Row {
+        time: Time(time),
+        node: 7,
+        what: RowWhat::Inject {
+            flow: FLOW,
+            payload,
+            carried: Carried::Nothing,
+        },
+    }))
+}
+
+// Gives a node a packet that arrives.
+fn give_packet(node: &mut Node, time: u64, payload: u16) -> Result<(), AllocError>
+    requires horizon { node.old.horizon ≡ 1000 }
+    requires worked { node.old.worked_to ≡ 0 }
+    requires time { time ≤ 1000 }
+    requires payload { payload ≤ 1600 }
+    ensures stands { Stands node.old → OnOk result (Stands node.new) }
+{
+    node.post(Input::Arrival {
+        time: Time(time),
+        link: 3,
+        packet: Packet::new(OTHER, FLOW, 0, payload, Carried::Nothing),
+    })
+}
+
+// Gives a node a row, and a packet that arrives before.
 fn give(node: &mut Node) -> Result<(), AllocError>
     requires horizon { node.old.horizon ≡ 1000 }
     requires worked { node.old.worked_to ≡ 0 }
     requires stands { Stands node.old }
     ensures stands { OnOk result (Stands node.new) }
 {
-    node.post(Input::FromTrace(Row {
-        time: Time(20),
-        node: 7,
-        what: RowWhat::Inject {
-            flow: FLOW,
-            payload: 30,
-            carried: Carried::Nothing,
-        },
-    }))?;
-    node.post(Input::Arrival {
-        time: Time(10),
-        link: 3,
-        packet: Packet::new(OTHER, FLOW, 0, 40, Carried::Nothing),
-    })
+    give_row(node, 20, 30)?;
+    give_packet(node, 10, 40)
 }
 
 // Holds what happened at a router that has no way for its inputs: the packet comes first, then the row.
@@ -92,60 +116,102 @@ fn compare<R: Abort>(rt: &R, node: &Node) {
     }
 }
 
+// Works a node that was given its inputs, and tells its next time before the packet, before the row and after both.
+fn work(node: &mut Node) -> Result<[Option<Time>; 3], AllocError>
+    requires horizon { node.old.horizon ≡ 1000 }
+    requires worked { node.old.worked_to ≡ 0 }
+    requires stands { Stands node.old }
+{
+    give(node)?;
+    let first = node.next_time();
+    node.advance(Time(11))?;
+    let second = node.next_time();
+    node.advance(Time(1000))?;
+    Ok([first, second, node.next_time()])
+}
+
 // Has a node refuse a request for more memory than there can be, and then take its inputs in their order.
-fn work<R: Abort>(rt: &R, node: &mut Node) -> Result<(), AllocError>
+fn take<R: Abort>(rt: &R, node: &mut Node) -> Result<(), AllocError>
     requires horizon { node.old.horizon ≡ 1000 }
     requires worked { node.old.worked_to ≡ 0 }
     requires stands { Stands node.old }
 {
     assert!(rt; node.reserve(usize::MAX).is_err());
-    give(node)?;
-    assert_eq!(rt; node.next_time(), Some(Time(10)));
-    node.advance(Time(11))?;
-    assert_eq!(rt; node.next_time(), Some(Time(20)));
-    node.advance(Time(1000))?;
-    assert_eq!(rt; node.next_time(), None);
+    let times = work(node)?;
+    assert_eq!(rt; times, [Some(Time(10)), Some(Time(20)), None]);
     assert_eq!(rt; (node.inbox().len(), node.outbox().len()), (2, 0));
     compare(rt, node);
     Ok(())
 }
 
+fn build_and_take<R: Abort>(rt: &R, alloc: Global) -> Result<(), AllocError> {
+    let mut node = edge(alloc, 7)?;
+    take(rt, &mut node)
+}
+
 #[test]
 fn a_node_takes_what_it_is_given(rt: HostRuntime) -> Result<(), Fail> {
-    let mut node = edge(rt.alloc(), 7)?;
-    work(&rt, &mut node)?;
+    build_and_take(&rt, rt.alloc())?;
     Ok(())
 }
 
-// What an audit says of a report of those two lists.
-fn said(rt: &(impl Threads + Sync + AllocGlobal), report: &str) -> Result<Audited, Fail> {
-    let config = config(rt.alloc(), EDGE)?;
-    let rows = read_trace(rt.alloc(), LISTS.as_bytes(), &config)?;
-    match audit(rt, rt.alloc(), &config, rows, report.as_bytes(), &OpenGate) {
-        Ok(audited) => Ok(audited),
-        Err(_) => Err(Fail::from("an error")),
+// What routers let through: of each its node, and its grants, charges and bytes.
+fn put_sums(alloc: Global, sums: &[RouterSum]) -> Result<String, AllocError> {
+    let mut text = String::new(alloc);
+    for sum in sums {
+        let one = format!(in alloc;
+            "{} {} {} {},",
+            sum.node, sum.grants, sum.charges, sum.bytes
+        )?;
+        text.push_str(one.as_str())?;
+    }
+    Ok(text)
+}
+
+fn put_answer(alloc: Global, answer: &Result<Audited, AuditError>) -> Result<String, AllocError> {
+    match answer {
+        Ok(Audited::Same(sums)) => put_sums(alloc, sums.as_slice()),
+        Ok(Audited::Differs(finding)) => format!(in alloc;
+            "line {}: {}; {}",
+            finding.line,
+            finding.expected.as_str(),
+            finding.found.as_str()
+        ),
+        Err(_) => format!(in alloc; "an error"),
     }
 }
 
-// The report is the run's, and what its one router let through; another differs in its last line.
+// What an audit says of a report of those two lists.
+fn said<R: Threads + Sync>(rt: &R, alloc: Global, report: &str) -> Result<String, Fail> {
+    let config = config(alloc, EDGE)?;
+    let rows = read_trace(alloc, LISTS.as_bytes(), &config)?;
+    let answer = audit(rt, alloc, &config, rows, report.as_bytes(), &OpenGate);
+    let text = put_answer(alloc, &answer)?;
+    Ok(text)
+}
+
+// A report, and what an audit says of it: the run's, and what its one router let through; or another first line.
+const SAID: [(&str, &str); 2] = [
+    (REPORT, "0 1 1 512,"),
+    (
+        "x\n",
+        "line 1: 5000000000 R1 in R1#1 512 trace regular - dropped:no-route; x",
+    ),
+];
+
 #[test]
 fn audits_of_rows(rt: HostRuntime) -> Result<(), Fail> {
-    let Audited::Same(found) = said(&rt, REPORT)? else {
-        return Err(Fail::from("a difference"));
-    };
-    assert_eq!(rt; found.len(), 1);
-    for sum in found.iter() {
-        assert_eq!(rt;
-            (sum.node, sum.grants, sum.charges, sum.bytes),
-            (0, 1, 1, 512)
-        );
+    for (report, wanted) in &SAID {
+        let text = said(&rt, rt.alloc(), *report)?;
+        assert_eq!(rt; text.as_str(), *wanted);
     }
-    let Audited::Differs(finding) = said(&rt, "x\n")? else {
-        return Err(Fail::from("no difference"));
-    };
-    let first = "5000000000 R1 in R1#1 512 trace regular - dropped:no-route";
-    assert_eq!(rt; (finding.line, finding.found.as_str()), (1, "x"));
-    assert_eq!(rt; finding.expected.as_str(), first);
-    assert_eq!(rt; sums(&rt, rt.alloc(), &[])?.len(), 0);
+    Ok(())
+}
+
+// The sums of no nodes are none.
+#[test]
+fn no_nodes_have_no_sums(rt: HostRuntime) -> Result<(), Fail> {
+    let none = sums(&rt, rt.alloc(), &[])?;
+    assert_eq!(rt; none.len(), 0);
     Ok(())
 }
