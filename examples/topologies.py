@@ -14,7 +14,7 @@ and gives the text of a configuration:
 
 `dumbbell`, `parking_lot` and `tree` lay routers and the links between them, and say in a `Layout` where senders,
 attackers, servers and colluders belong and which links are the bottlenecks. Whoever adds a topology adds a function
-that returns a layout, and its name to `TOPOLOGIES`. Plain Python 3.
+that returns a layout, and its name to `TOPOLOGIES`.
 """
 import collections
 import hashlib

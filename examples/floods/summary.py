@@ -13,7 +13,7 @@ times of the first sending and of the last event in nanoseconds, and the mean de
 REPORT may be a pipe, or - for standard input. A report that lacks its last line is refused, or with --partial summed
 as far as it goes. It takes some 50 MB of memory at most, whatever the report is: what is known of a packet is kept until
 it is received or dropped, in 24 bytes. It ends with 2 where its words are wrong, or what it reads is no report or no
-trace. It wants Python 3.11.
+trace.
 """
 import array
 import collections

@@ -1,4 +1,4 @@
-"""A second model of the program, in plain Python 3 with the standard library alone.
+"""A second model of the program, in plain Python with the standard library alone.
 
 It is written from docs/MODEL.md and docs/FORMATS.md, and shares no line with the program. It keeps whole lists of
 what happened and sums over them, and takes one time after another; so it is slow, and easy to follow.
