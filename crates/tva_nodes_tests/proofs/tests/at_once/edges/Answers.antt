@@ -7,4 +7,4 @@ use Rattle.tva_nodes_tests.proofs.tests.at_once.edges.Goals as goal
 pub loop-number-preserved : goal.loop-number-preserved
 loop-number-preserved c =
     subst (λ (vs : List NodeState). AllByRecursion Stands vs) (sym c.in_ok-push.ensures.items)
-    (one_more c.loop-number.nodes.items _ c.loop-number.invariant c.in_ok-edge.ensures)
+    (one_more c.loop-number.nodes.items _ c.loop-number.invariant c.in_ok-edge.ensures.stands)
