@@ -1,32 +1,35 @@
-"""Runs a command in a session of its own, for so many seconds at most. Where it is too late, or the script is broken
-off, all of the session is killed, so that no child of the command lives on."""
+"""How a script runs a command for so many seconds at most, and how it ends where it is broken off. The command gets a
+session of its own, which is killed where it is too late or the script is broken off, so that no child lives on."""
 import os
 import signal
 import subprocess
+import sys
+import tempfile
 
 
 def bounded(command, seconds, **more):
     """The status of a command, and all that it writes. The status is None where there was none in time."""
-    running = subprocess.Popen(command, stdin=subprocess.DEVNULL, stdout=subprocess.PIPE, stderr=subprocess.STDOUT, start_new_session=True, **more)
-    with running:
+    with tempfile.TemporaryFile() as said:
+        running = subprocess.Popen(command, stdin=subprocess.DEVNULL, stdout=said, stderr=subprocess.STDOUT, start_new_session=True, **more)
         try:
-            said, status = running.communicate(timeout=seconds)[0], running.returncode
+            status = running.wait(seconds)
         except subprocess.TimeoutExpired:
-            kill(running)
-            said, status = running.communicate()[0], None
-        except BaseException:
-            kill(running)
-            raise
-    return status, said.decode(errors="replace")
+            status = None
+        finally:
+            if running.returncode is None:
+                os.killpg(running.pid, signal.SIGKILL)
+                running.wait()
+        said.seek(0)
+        return status, said.read().decode(errors="replace")
 
 
-def kill(running):
-    try:
-        os.killpg(running.pid, signal.SIGKILL)
-    except ProcessLookupError:
-        pass
-
-
-def break_off_at_sigterm():
-    """Lets SIGTERM do what Ctrl-C does, since it doesn't reach a session of its own."""
+def end_with(main, name):
+    """Runs a script, and ends it with its status, or with 130 and one line where Ctrl-C or SIGTERM breaks it off. SIGTERM
+    is taken for Ctrl-C, since neither reaches a session of its own."""
     signal.signal(signal.SIGTERM, signal.default_int_handler)
+    try:
+        status = main()
+    except KeyboardInterrupt:
+        print(f"{name}: broken off", file=sys.stderr)
+        status = 130
+    sys.exit(status)
