@@ -12,7 +12,6 @@ mod laws;
 mod measured;
 mod offered;
 mod places;
-mod ring;
 mod slot;
 #[cfg(test)]
 mod tests;
@@ -22,4 +21,3 @@ pub use fair_queues::FairQueues;
 pub use laws::{bytes_ahead_fall, items_go_within_bounds, queues_are_served_alike};
 pub use measured::Measured;
 pub use offered::Offered;
-pub use ring::take_first;

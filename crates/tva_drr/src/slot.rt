@@ -4,9 +4,8 @@ ghost use Rattle.tva_drr.specs.Queues.{queue, bytes_in, first};
 ghost use Rattle.tva_drr.specs.Slots.{slot};
 
 use crate::measured::Measured;
-use crate::ring::take_first;
+use circular_buffer::HeapCircularBuffer;
 use std::alloc::{AllocError, Global};
-use std::collections::VecDeque;
 use std::marker::Model;
 
 /// The items that wait under one key, in a ring whose memory is taken when it is made.
@@ -15,12 +14,11 @@ pub(crate) struct Slot<T: Measured> {
     key: u32,
     deficit: u32,
     bytes: u32,
-    ring: VecDeque<T>,
+    ring: HeapCircularBuffer<T>,
 }
 
 impl<T: Measured> Model for Slot<T> {
     ghost use Rattle.std.specs.Prelude.{◌≡◌};
-    ghost use Rattle.std.specs.VecDeque.{deque_capacity};
     ghost use Rattle.tva_drr.specs.Queues.{queue, bytes_in};
     ghost use Rattle.tva_drr.specs.Slots.{SlotOf, slot, slot_code};
 
@@ -28,7 +26,7 @@ impl<T: Measured> Model for Slot<T> {
 
     ghost coded = { slot_code T.code };
 
-    ghost view = { λ w. slot (queue w.key w.deficit w.ring.items) (deque_capacity w.ring) };
+    ghost view = { λ w. slot (queue w.key w.deficit w.ring.items) w.ring.capacity };
 
     ghost invariant = { λ w. w.bytes ≡ bytes_in T.measure w.ring.items };
 }
@@ -38,7 +36,7 @@ impl<T: Measured> Slot<T> {
     pub fn with_places(alloc: Global, places: usize) -> Result<Self, AllocError>
         ensures { IfOk result (λ s. s ≡ slot (queue 0 0 []) places) }
     {
-        let ring = VecDeque::with_capacity(alloc, places)?;
+        let ring = HeapCircularBuffer::with_capacity(alloc, places)?;
         Ok(Slot {
             key: 0,
             deficit: 0,
@@ -104,7 +102,10 @@ impl<T: Measured> Slot<T> {
             (self.old.queue.items ++ item ∷ [])) self.old.room }
     {
         self.bytes += item.length();
-        self.ring.push_back_reserved(item);
+        match self.ring.try_push_back(item) {
+            Ok(()) => {}
+            Err(_item) => unreachable!(),
+        }
     }
 
     /// Takes the first item, which the deficit covers.
@@ -119,7 +120,7 @@ impl<T: Measured> Slot<T> {
         let length = self.head_length()?;
         self.bytes -= length;
         self.deficit -= length;
-        take_first(&mut self.ring)
+        self.ring.pop_front()
     }
 }
 

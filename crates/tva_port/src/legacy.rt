@@ -1,6 +1,5 @@
 // The legacy packets of a link, first in, first out.
 ghost use Rattle.std.specs.Prelude.{◌≡◌, ◌==◌, ◌+◌, ◌^◌, ◌≤◌, ◌<◌, nat_lt, ◌||◌, if◌then◌else◌, [], ◌∷◌, ◌++◌, length, drop, Some, None, IsSome, IfOk};
-ghost use Rattle.std.specs.VecDeque.{deque_capacity};
 ghost use Rattle.tva_drr.specs.Queues.{first};
 ghost use Rattle.tva_shim.specs.Packets.{PacketData, packet_length};
 ghost use Rattle.tva_base.specs.declared.packet.Class.TheVariants.{Legacy};
@@ -13,11 +12,11 @@ ghost use Rattle.tva_port.specs.Lists.{LegacyData, legacy_data, lacks_room, lega
 use crate::hand::{Answer, Hand, Next, length_in};
 use crate::held::{HeldPacket, held_in, start_held};
 use crate::stock::Stock;
+use circular_buffer::HeapCircularBuffer;
 use std::alloc::{AllocError, Global};
-use std::collections::VecDeque;
 use std::marker::Model;
 use tva_base::Class;
-use tva_drr::{Measured, take_first};
+use tva_drr::Measured;
 
 /// Packets in the order in which they came, at most so many and of at most so many bytes in all.
 /// All memory is taken when it is made.
@@ -25,19 +24,18 @@ use tva_drr::{Measured, take_first};
 pub(crate) struct LegacyList {
     most: u32,
     bytes: u32,
-    ring: VecDeque<HeldPacket>,
+    ring: HeapCircularBuffer<HeldPacket>,
 }
 
 impl Model for LegacyList {
     ghost use Rattle.std.specs.Prelude.{◌≡◌, ◌≤◌, ◌^◌, length};
-    ghost use Rattle.std.specs.VecDeque.{deque_capacity};
     ghost use Rattle.tva_shim.specs.Packets.{packet_length};
     ghost use Rattle.tva_drr.specs.Queues.{bytes_in};
     ghost use Rattle.tva_port.specs.Lists.{LegacyData, legacy_data};
 
     ghost Value = { LegacyData };
 
-    ghost view = { λ w. legacy_data (deque_capacity w.ring) w.most w.ring.items };
+    ghost view = { λ w. legacy_data w.ring.capacity w.most w.ring.items };
 
     ghost invariant = { λ w. (w.bytes ≡ bytes_in packet_length w.ring.items)
         × (w.bytes ≤ w.most)
@@ -45,8 +43,8 @@ impl Model for LegacyList {
 }
 
 /// Whether one more packet has no place.
-fn lacks_place(ring: &VecDeque<HeldPacket>) -> bool
-    ensures { result ≡ nat_lt (deque_capacity ring.now) (length ring.now.items + 1) }
+fn lacks_place(ring: &HeapCircularBuffer<HeldPacket>) -> bool
+    ensures { result ≡ nat_lt ring.now.capacity (length ring.now.items + 1) }
 {
     ring.capacity() < ring.len() + 1
 }
@@ -57,7 +55,7 @@ impl LegacyList {
         requires { most ≤ 2 ^ 30 }
         ensures { IfOk result (λ list. list ≡ legacy_data places most []) }
     {
-        let ring = VecDeque::with_capacity(alloc, places as usize)?;
+        let ring = HeapCircularBuffer::with_capacity(alloc, places as usize)?;
         Ok(LegacyList {
             most,
             bytes: 0,
@@ -89,7 +87,10 @@ impl LegacyList {
             return Answer::QueueFull;
         }
         self.bytes += bytes;
-        self.ring.push_back_reserved(held_in(hand, stock));
+        match self.ring.try_push_back(held_in(hand, stock)) {
+            Ok(()) => {}
+            Err(_held) => unreachable!(),
+        }
         Answer::Queued
     }
 
@@ -110,7 +111,7 @@ impl LegacyList {
         ensures count { stock.new.count ≡ stock.old.count + started_count (decision_by result hand.new) }
         ensures room { stock.new.room ≡ stock.old.room }
     {
-        let taken = take_first(&mut self.ring);
+        let taken = self.ring.pop_front();
         if let Some(held) = &taken {
             self.bytes -= held.length();
         }
