@@ -7,7 +7,6 @@ use Rattle.tva_log.proofs.kinds.Sending.TheSendSync as Sending
 use Rattle.tva_node.proofs.links.Links.TheSendSync as Links
 use Rattle.tva_node.proofs.role.Role.TheSendSync as Role
 use Rattle.tva_waiting.proofs.flights.Flight.TheSendSync as Flight
-use Rattle.tva_waiting.proofs.flights.Hands.TheSendSync as Hands
 use Rattle.tva_waiting.proofs.memory.Memory.TheSendSync as Memory
 use Rattle.tva_waiting.proofs.waiting.Waiting.TheSendSync as Waiting
 use Rattle.tva_waiting.specs.contracts.inbox.Inbox as Inbox
@@ -34,9 +33,9 @@ inbox_send = search (sendable, crosses, given_send) depth 60 fits 4000
 pub inbox_sync : IsSync Inbox.the_row
 inbox_sync = search (sendable, crosses, given_sync) depth 60 fits 4000
 
-ruleset held_send = (Event.the_send, Event.the_field_send, Hands.the_send, Hands.the_field_send, Links.the_send, Role.the_send, Role.the_field_send, Waiting.the_send, inbox_send, outbox_send)
+ruleset held_send = (Event.the_send, Event.the_field_send, Links.the_send, Role.the_send, Role.the_field_send, Waiting.the_send, inbox_send, outbox_send)
 
-ruleset held_sync = (Event.the_sync, Event.the_field_sync, Hands.the_sync, Hands.the_field_sync, Links.the_sync, Role.the_sync, Role.the_field_sync, Waiting.the_sync, inbox_sync, outbox_sync)
+ruleset held_sync = (Event.the_sync, Event.the_field_sync, Links.the_sync, Role.the_sync, Role.the_field_sync, Waiting.the_sync, inbox_sync, outbox_sync)
 
 pub node_send : IsSend Node.the_row
 node_send = search (sendable, crosses, held_send) depth 60 fits 4000

@@ -22,11 +22,11 @@ use tva_base::{Event, LinkPlan, Time};
 use tva_log::{Input, Sending};
 use tva_past::Kept;
 use tva_plan::NodePlan;
-use tva_port::Port;
-use tva_router::Router;
+use tva_port::HandPort;
+use tva_router::HandRouter;
 use tva_trace::{PackedRows, Row};
 use tva_transfer::Courier;
-use tva_waiting::{Flight, Hands, Inbox, Memory, Waiting};
+use tva_waiting::{Flight, Inbox, Memory, Waiting};
 
 // An event at a router costs about as much as so many at a host.
 const ROUTER_EVENT: u64 = 3;
@@ -103,7 +103,6 @@ impl Node {
                 waiting: Waiting::new(alloc),
                 log: Kept::new(alloc),
                 outbox: Outbox::new(alloc, keeps),
-                hands: Hands::new(alloc),
                 worked_to: 0,
             },
         })
@@ -359,14 +358,14 @@ fn role_of(
 {
     match plan {
         NodePlan::Router(router) => Ok(Role::Router(Routed {
-            router: Router::build(alloc, router)?,
+            router: HandRouter::build(alloc, router)?,
             next: 1,
             changes: Changes::of(alloc, router.reroutes.as_slice())?,
         })),
         NodePlan::Host(host) => Ok(Role::Host(Hosted {
             courier: Courier::build(alloc, number, host)?,
             uplink: host.uplink,
-            port: Port::build(alloc, links[0].1.limits)?,
+            port: HandPort::build(alloc, links[0].1.limits)?,
         })),
     }
 }

@@ -17,11 +17,11 @@ use std::cmp;
 use tva_base::{Class, Event, Happened, Outcome, Time};
 use tva_past::Kept;
 use tva_port::{Hand, Next, id_in, length_in};
-use tva_waiting::{Flight, Hands, Inbox, Waiting};
+use tva_waiting::{Flight, Inbox, Waiting};
 
 /// A node's inputs, its sendings and its events; its inputs that are not taken yet, and its links out by
 /// their numbers; the time up to which it is worked and the horizon, in nanoseconds; its number, what it
-/// is, empty hands for packets on their way, and its allocator. What each window looks at stands in front.
+/// is, and its allocator. What each window looks at stands in front.
 #[derive(Drop)]
 pub(crate) struct Parts {
     pub inbox: Inbox,
@@ -33,7 +33,6 @@ pub(crate) struct Parts {
     pub horizon: u64,
     pub number: u16,
     pub role: Role,
-    pub hands: Hands,
     pub alloc: Global,
 }
 
@@ -150,15 +149,11 @@ impl Parts {
     {
         if self.waiting.is_row() {
             let row = self.waiting.take_row();
-            let happened = self
-                .role
-                .take_row(self.alloc, &mut self.hands, self.number, row)?;
+            let happened = self.role.take_row(self.alloc, self.number, row)?;
             return self.note_taken(now, happened);
         }
         let flight = self.waiting.take_flight();
-        let happened = self
-            .role
-            .take_flight(self.alloc, &mut self.hands, self.number, flight)?;
+        let happened = self.role.take_flight(self.alloc, self.number, flight)?;
         self.note_taken(now, happened)
     }
 
@@ -214,16 +209,14 @@ impl Parts {
             self.links.put(place, Some(free.0));
             return Ok(());
         }
-        let mut hand = self.hands.take(self.alloc)?;
+        let mut hand = Hand::empty();
         match self.role.decide(Time(now), number, &mut hand) {
             Next::Start(class) => self.note_start(place, now, class, hand),
             Next::WaitUntil(time) => {
-                self.hands.put(hand);
                 self.links.put(place, Some(time.0));
                 Ok(())
             }
             Next::Idle => {
-                self.hands.put(hand);
                 self.links.put(place, None);
                 Ok(())
             }
@@ -271,8 +264,7 @@ impl Parts {
             },
         })?;
         let arrive = Time(end + link.plan.delay);
-        self.outbox
-            .push(Flight::of(link.number, arrive, hand, &mut self.hands))?;
+        self.outbox.push(Flight::of(link.number, arrive, hand))?;
         Ok(())
     }
 }

@@ -31,17 +31,17 @@ use crate::changes::Changes;
 use std::alloc::{AllocError, Global};
 use tva_base::{BackKind, Happened, Outcome, PacketId, ReplyLine, ShapeKind, Time};
 use tva_host::{Made, Receipt};
-use tva_port::{Hand, Next, Port, id_in, length_in};
-use tva_router::{Router, outcome_of};
+use tva_port::{Hand, HandPort, Next, id_in, length_in};
+use tva_router::{HandRouter, outcome_of};
 use tva_shim::{Carried, Packet, ReturnInfo, class_of, length, queue_key};
 use tva_trace::{Row, RowWhat};
 use tva_transfer::{Courier, Landed};
-use tva_waiting::{Flight, Hands};
+use tva_waiting::Flight;
 
 /// A router, the ordinal of its next packet from the trace, and how far its changes are made.
 #[derive(Drop)]
 pub struct Routed {
-    pub router: Router,
+    pub router: HandRouter,
     pub next: u64,
     pub changes: Changes,
 }
@@ -51,7 +51,7 @@ pub struct Routed {
 pub struct Hosted {
     pub courier: Courier,
     pub uplink: u16,
-    pub port: Port,
+    pub port: HandPort,
 }
 
 /// A router or a host.
@@ -64,13 +64,7 @@ pub enum Role {
 impl Role {
     /// Takes a row at its time, and tells what happened. The error is want of memory.
     #[inline(always)]
-    pub fn take_row(
-        &mut self,
-        alloc: Global,
-        hands: &mut Hands,
-        number: u16,
-        row: Row,
-    ) -> Result<Happened, AllocError>
+    pub fn take_row(&mut self, alloc: Global, number: u16, row: Row) -> Result<Happened, AllocError>
         requires time { IsBy (row.time.0) self.old }
         requires horizon { row.time.0 ≤ 1000000000000000 }
         requires fits { FitsRow (role_plan self.old) row.what }
@@ -81,8 +75,8 @@ impl Role {
         ensures last { IfOk result (λ told. IsBy (row.time.0) self.new) }
     {
         match self {
-            Role::Router(routed) => routed.take_row(alloc, hands, number, row),
-            Role::Host(hosted) => hosted.take_row(alloc, hands, row),
+            Role::Router(routed) => routed.take_row(alloc, number, row),
+            Role::Host(hosted) => hosted.take_row(alloc, row),
         }
     }
 
@@ -91,7 +85,6 @@ impl Role {
     pub fn take_flight(
         &mut self,
         alloc: Global,
-        hands: &mut Hands,
         number: u16,
         flight: Flight,
     ) -> Result<Happened, AllocError>
@@ -104,8 +97,8 @@ impl Role {
         ensures last { IfOk result (λ told. IsBy (flight.arrive.0) self.new) }
     {
         match self {
-            Role::Router(routed) => routed.take_flight(alloc, hands, number, flight),
-            Role::Host(hosted) => hosted.take_flight(alloc, hands, flight),
+            Role::Router(routed) => routed.take_flight(alloc, number, flight),
+            Role::Host(hosted) => hosted.take_flight(alloc, flight),
         }
     }
 
@@ -150,13 +143,7 @@ impl Role {
 
 impl Routed {
     #[inline(always)]
-    fn take_row(
-        &mut self,
-        alloc: Global,
-        hands: &mut Hands,
-        number: u16,
-        row: Row,
-    ) -> Result<Happened, AllocError>
+    fn take_row(&mut self, alloc: Global, number: u16, row: Row) -> Result<Happened, AllocError>
         requires time { IsRoutedBy (row.time.0) self.old }
         requires horizon { row.time.0 ≤ 1000000000000000 }
         requires fits { FitsRow (plans.Router self.old.router.built) row.what }
@@ -165,19 +152,16 @@ impl Routed {
         ensures plan { self.new.router.built ≡ self.old.router.built }
         ensures last { IfOk result (λ told. IsRoutedBy (row.time.0) self.new) }
     {
-        let mut hand = hands.take(alloc)?;
         self.change(row.time);
-        hand.put(self.packet_of(number, row.what));
-        let happened = self.arrive(row.time, None, &mut hand);
-        hands.put(hand);
-        Ok(happened)
+        let packet = self.packet_of(number, row.what);
+        let mut hand = Hand::of(alloc, packet)?;
+        Ok(self.arrive(row.time, None, &mut hand))
     }
 
     #[inline(always)]
     fn take_flight(
         &mut self,
         alloc: Global,
-        hands: &mut Hands,
         number: u16,
         flight: Flight,
     ) -> Result<Happened, AllocError>
@@ -190,11 +174,9 @@ impl Routed {
     {
         let time = flight.arrive();
         let link = flight.link();
-        let mut hand = flight.into_hand(alloc, hands)?;
+        let mut hand = flight.into_hand(alloc)?;
         self.change(time);
-        let happened = self.arrive(time, Some(link), &mut hand);
-        hands.put(hand);
-        Ok(happened)
+        Ok(self.arrive(time, Some(link), &mut hand))
     }
 
     // The next packet from the trace.
@@ -249,12 +231,7 @@ impl Routed {
 impl Hosted {
     // What comes of a packet that arrives.
     #[inline(always)]
-    fn take_flight(
-        &mut self,
-        alloc: Global,
-        hands: &mut Hands,
-        flight: Flight,
-    ) -> Result<Happened, AllocError>
+    fn take_flight(&mut self, alloc: Global, flight: Flight) -> Result<Happened, AllocError>
         requires host { self.old.courier.host.last ≤ flight.arrive.0 }
         requires port { self.old.port.last ≤ flight.arrive.0 }
         requires horizon { flight.arrive.0 ≤ 1000000000000000 }
@@ -266,23 +243,13 @@ impl Hosted {
     {
         let now = flight.arrive();
         let from = flight.link();
-        let mut hand = flight.into_hand(alloc, hands)?;
-        let Some(packet) = hand.take() else {
-            unreachable!()
-        };
-        let happened = self.receive(alloc, now, from, packet, &mut hand)?;
-        hands.put(hand);
-        Ok(happened)
+        let packet = flight.into_packet();
+        self.receive(alloc, now, from, packet)
     }
 
     // Makes the packet of a row, or takes it from there, and offers it to the link. For a tick there may be
     // nothing to send.
-    fn take_row(
-        &mut self,
-        alloc: Global,
-        hands: &mut Hands,
-        row: Row,
-    ) -> Result<Happened, AllocError>
+    fn take_row(&mut self, alloc: Global, row: Row) -> Result<Happened, AllocError>
         requires host { self.old.courier.host.last ≤ row.time.0 }
         requires port { self.old.port.last ≤ row.time.0 }
         requires horizon { row.time.0 ≤ 1000000000000000 }
@@ -292,14 +259,12 @@ impl Hosted {
         ensures plan { self.new.courier.host.plan ≡ self.old.courier.host.plan }
         ensures last { IfOk result (λ told. (self.new.courier.host.last ≤ row.time.0) × (self.new.port.last ≤ row.time.0)) }
     {
-        let mut hand = hands.take(alloc)?;
         let Some(Made { packet, shape }) = self.make(alloc, row.time, row.what)? else {
             return Ok(Happened::Ticked);
         };
         let id = packet.id;
         let length = length(&packet);
-        let outcome = self.queue(row.time, packet, &mut hand);
-        hands.put(hand);
+        let outcome = self.queue(alloc, row.time, packet)?;
         Ok(Happened::Sent {
             id,
             length,
@@ -315,7 +280,6 @@ impl Hosted {
         now: Time,
         from: u16,
         packet: Packet,
-        hand: &mut Hand,
     ) -> Result<Happened, AllocError>
         requires host { self.old.courier.host.last ≤ now.0 }
         requires port { self.old.port.last ≤ now.0 }
@@ -330,7 +294,7 @@ impl Hosted {
         let payload = packet.payload;
         let Landed { receipt, range } = self.courier.receive(alloc, now, packet)?;
         let Receipt { what, back, reply } = receipt;
-        let reply = self.answer(now, reply, hand);
+        let reply = self.answer(alloc, now, reply)?;
         Ok(Happened::Received {
             id,
             length,
@@ -379,48 +343,57 @@ impl Hosted {
     }
 
     // Offers a reply to the link, and tells of it.
-    fn answer(&mut self, now: Time, reply: Option<Made>, hand: &mut Hand) -> Option<ReplyLine>
+    fn answer(
+        &mut self,
+        alloc: Global,
+        now: Time,
+        reply: Option<Made>,
+    ) -> Result<Option<ReplyLine>, AllocError>
         requires time { self.old.port.last ≤ now.0 }
         requires horizon { now.0 ≤ 1000000000000000 }
         ensures told { (log : List PortEntry) → PortStandsFor self.old.port log
-            → result ≡ reply_told reply (reply_went self.old.uplink self.old.port.limits log reply) }
+            → IfOk result (λ told. told ≡ reply_told reply (reply_went self.old.uplink self.old.port.limits log reply)) }
         ensures stands { (log : List PortEntry) → PortStandsFor self.old.port log
-            → PortStandsFor self.new.port (log ++ cons_option
-            (reply_at self.old.uplink now.0 reply (reply_went self.old.uplink self.old.port.limits log reply)) []) }
+            → IfOk result (λ told. PortStandsFor self.new.port (log ++ cons_option
+            (reply_at self.old.uplink now.0 reply (reply_went self.old.uplink self.old.port.limits log reply)) [])) }
         ensures same { (self.new.courier ≡ self.old.courier) × (self.new.uplink ≡ self.old.uplink)
             × (self.new.port.limits ≡ self.old.port.limits) }
         ensures last { self.new.port.last ≤ now.0 }
     {
-        let Made { packet, shape } = reply?;
+        let Some(Made { packet, shape }) = reply else {
+            return Ok(None);
+        };
         let id = packet.id;
         let length = length(&packet);
         let back = back_kind(&packet.carried);
-        let outcome = self.queue(now, packet, hand);
-        Some(ReplyLine {
+        let outcome = self.queue(alloc, now, packet)?;
+        Ok(Some(ReplyLine {
             id,
             length,
             shape,
             back,
             outcome,
-        })
+        }))
     }
 
-    // Offers a packet to the link, in that hand.
-    fn queue(&mut self, now: Time, packet: Packet, hand: &mut Hand) -> Outcome
+    // Offers a packet to the link.
+    fn queue(&mut self, alloc: Global, now: Time, packet: Packet) -> Result<Outcome, AllocError>
         requires time { self.old.port.last ≤ now.0 }
         requires horizon { now.0 ≤ 1000000000000000 }
         ensures outcome { (log : List PortEntry) → PortStandsFor self.old.port log
-            → result ≡ went_out self.old.uplink self.old.port.limits log packet }
+            → IfOk result (λ outcome. outcome ≡ went_out self.old.uplink self.old.port.limits log packet) }
         ensures stands { (log : List PortEntry) → PortStandsFor self.old.port log
-            → PortStandsFor self.new.port (log ++ entered_by result now.0 (class_by_shim packet.carried) packet self.old.uplink) }
+            → IfOk result (λ outcome. PortStandsFor self.new.port
+            (log ++ entered_by outcome now.0 (class_by_shim packet.carried) packet self.old.uplink)) }
         ensures same { (self.new.courier ≡ self.old.courier) × (self.new.uplink ≡ self.old.uplink)
             × (self.new.port.limits ≡ self.old.port.limits) }
-        ensures last { self.new.port.last ≡ now.0 }
+        ensures last { self.new.port.last ≤ now.0 }
     {
         let class = class_of(&packet);
         let key = queue_key(class, &packet);
-        hand.put(packet);
-        outcome_of(self.uplink, self.port.queue_from(now, class, key, hand))
+        let mut hand = Hand::of(alloc, packet)?;
+        let answer = self.port.queue_from(now, class, key, &mut hand);
+        Ok(outcome_of(self.uplink, answer))
     }
 }
 

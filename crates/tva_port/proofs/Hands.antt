@@ -1,11 +1,24 @@
 -- What is known of a packet in the caller's hand.
-use Rattle.std.proofs.Common.{◌≡◌, ℕ, false, Option, Some, None, refl, sym, true≢false}
+use Rattle.std.proofs.Common.{◌≡◌, ℕ, Bool, true, false, cond, Option, Some, None, refl, sym, ap, true≢false}
 use Rattle.std.specs.Prelude.{IsSome}
 use Rattle.tva_base.specs.declared.limits.LinkLimits.{LinkLimits}
-use Rattle.tva_shim.specs.Packets.{PacketData}
+use Rattle.tva_base.specs.declared.packet.Class.{Class}
+use Rattle.tva_base.specs.declared.packet.Class.TheVariants.{Request, Regular, Legacy}
+use Rattle.tva_shim.specs.Packets.{PacketData, packet_length}
+use Rattle.tva_shim.specs.Shows.{inner_key_of}
+use Rattle.tva_drr.specs.declared.offered.Offered.{Offered}
+use Rattle.tva_drr.specs.declared.offered.Offered.TheVariants as offers
+use Rattle.tva_drr.specs.Offer.{lacks_queue, lacks_room}
+use Rattle.tva_hier.specs.Offer.{lacks_place, lacks_space}
+use Rattle.tva_port.specs.declared.requests.RequestQueues.{RequestQueues}
+use Rattle.tva_port.specs.declared.requests.RequestQueues.TheVariants.{OneLevel, TwoLevels}
+use Rattle.tva_port.specs.declared.hand.Answer.{Answer}
+use Rattle.tva_port.specs.declared.hand.Answer.TheVariants as answers
+use Rattle.tva_port.specs.Hand.{AreOneAnswer, answer_by, kept_by}
+use Rattle.tva_port.specs.Levels.{request_answer}
 use Rattle.tva_port.specs.declared.decision.Decision.{Decision}
 use Rattle.tva_port.specs.declared.decision.Decision.TheVariants.{Start, WaitUntil, Idle}
-use Rattle.tva_port.specs.Waiting.{Waiting}
+use Rattle.tva_port.specs.Waiting.{Waiting, lacks_legacy_room, queue_answer}
 use Rattle.tva_port.specs.Decide.{is_start}
 use Rattle.tva_port.specs.Steps.{decision_leaves, freed}
 
@@ -28,3 +41,36 @@ pub rested_free : (l : LinkLimits) (free now : ℕ) (d : Decision) → is_start 
 rested_free l free now (Start class packet) e = absurd (true≢false e)
 rested_free l free now (WaitUntil time) e = refl
 rested_free l free now Idle e = refl
+
+-- ## what a hand holds after an offer
+
+-- an answer gives back no other packet
+abbrev pub IsOf : PacketData → Offered PacketData → Type 0
+IsOf p offers.Queued = Unit {0}
+IsOf p (offers.NoQueue q) = q ≡ p
+IsOf p (offers.QueueFull q) = q ≡ p
+
+of_tests : (b c : Bool) (p : PacketData) → IsOf p (cond b (offers.NoQueue p) (cond c (offers.QueueFull p) offers.Queued))
+of_tests true c p = refl
+of_tests false true p = refl
+of_tests false false p = tt
+
+of_requests : (rs : RequestQueues) (key : ℕ) (p : PacketData) → IsOf p (request_answer rs key p)
+of_requests (OneLevel f) key p = of_tests (lacks_queue f key) (lacks_room packet_length f key p) p
+of_requests (TwoLevels h) key p = of_tests (lacks_place h key (inner_key_of p)) (lacks_space packet_length h key (inner_key_of p) p) p
+
+of_legacy : (b : Bool) (p : PacketData) → IsOf p (cond b (offers.QueueFull p) offers.Queued)
+of_legacy true p = refl
+of_legacy false p = tt
+
+pub of_queue : (l : LinkLimits) (w : Waiting) (class : Class) (key : ℕ) (p : PacketData) → IsOf p (queue_answer l w class key p)
+of_queue l w Request key p = of_requests w.requests key p
+of_queue l w Regular key p = of_tests (lacks_queue w.regulars key) (lacks_room packet_length w.regulars key p) p
+of_queue l w Legacy key p = of_legacy (lacks_legacy_room l w.legacy p) p
+
+pub kept : (answer : Answer) (hand : Option PacketData) (p : PacketData) → AreOneAnswer answer hand → IsOf p (answer_by answer hand) → hand ≡ kept_by answer p
+kept answers.Queued hand p one of = one
+kept answers.NoQueue None p one of = absurd (true≢false (sym one))
+kept answers.NoQueue (Some q) p one of = ap Some of
+kept answers.QueueFull None p one of = absurd (true≢false (sym one))
+kept answers.QueueFull (Some q) p one of = ap Some of

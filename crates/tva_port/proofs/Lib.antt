@@ -9,6 +9,7 @@ pub mod Holding
 pub mod Limits
 pub mod Standing
 pub mod Counts
+pub mod Sound
 pub mod Stocked
 pub mod Resting
 pub mod Idling

@@ -1,101 +1,144 @@
--- A port stays within its limits, and has a hand for each place and one more.
-use Rattle.std.proofs.Common.{◌≡◌, ℕ, ◌+◌, ◌≤◌, ◌<◌, List, [], Option, Some, None, refl, sym, ap, ◌∙◌, subst, arith}
+-- A port for packets by value has memory for each that it takes, and room for each that it gives.
+use Rattle.std.proofs.Common.{◌≡◌, ℕ, ◌+◌, ◌≤◌, List, [], ◌++◌, Option, Some, None, refl, sym, ap, ◌∙◌, subst, inl, inr, append-nil, arith}
 use Rattle.tva_base.specs.declared.limits.LinkLimits.{LinkLimits}
 use Rattle.tva_base.specs.declared.limits.DrrLimits.{DrrLimits}
 use Rattle.tva_base.specs.declared.packet.Class.{Class}
-use Rattle.tva_base.specs.declared.packet.Class.TheVariants.{Request, Regular, Legacy}
 use Rattle.tva_base.specs.Plan.{AreLinkLimits}
-use Rattle.tva_shim.specs.Packets.{PacketData, packet_length}
+use Rattle.tva_shim.specs.Packets.{PacketData}
 use Rattle.tva_drr.specs.declared.offered.Offered.{Offered}
-use Rattle.tva_drr.specs.Queues.{Fair, fair}
 use Rattle.tva_port.specs.declared.decision.Decision.{Decision}
 use Rattle.tva_port.specs.declared.decision.Decision.TheVariants.{Start, WaitUntil, Idle}
-use Rattle.tva_port.specs.Levels.{none_under, no_requests, limits_in}
-use Rattle.tva_port.specs.declared.requests.RequestQueues.{RequestQueues}
-use Rattle.tva_port.specs.Requests.{cap}
-use Rattle.tva_port.specs.Lists.{LegacyData, IsSound}
-use Rattle.tva_port.specs.Waiting.{Waiting, waiting, waiting_after, queue_answer}
-use Rattle.tva_port.specs.Decide.{decide_on}
-use Rattle.tva_port.specs.Keeps.{IsWithinLimits}
-use Rattle.tva_port.specs.Steps.{put_leaves, decision_leaves, paid}
-use Rattle.tva_port.specs.Counts.{request_count, queued_count, started_count, places_in, StockData, IsStocked}
-use Rattle.tva_port.proofs.Limits.{begins, within-queued, within-started}
+use Rattle.tva_port.specs.declared.hand.Answer.{Answer}
+use Rattle.tva_port.specs.declared.hand.Answer.TheVariants as answers
+use Rattle.tva_port.specs.declared.hand.Next.{Next}
+use Rattle.tva_port.specs.declared.hand.Next.TheVariants as nexts
+use Rattle.tva_port.specs.Hand.{AreOneAnswer, AreOneDecision, answer_by, decision_by}
+use Rattle.tva_port.specs.Levels.{none_under}
+use Rattle.tva_port.specs.Legal.{IsLegal}
+use Rattle.tva_port.specs.Log.{Entry}
+use Rattle.tva_port.specs.Waiting.{Waiting, waiting_after, queue_answer, queued_by}
+use Rattle.tva_port.specs.Decide.{decision, started_by, credit_after}
+use Rattle.tva_port.specs.Stands.{PortData, StandsFor}
+use Rattle.tva_port.specs.Stocked.{IsStocked}
+use Rattle.tva_port.specs.Counts.{request_count, waiting_count, queued_count, started_count, hand_count, places_in, StockData}
+use Rattle.tva_port.proofs.Legality.{few_started}
+use Rattle.tva_port.proofs.Limits.{stays_within}
+use Rattle.tva_port.proofs.Waits.{puts_or, waits-queued, waits-started}
 use Rattle.tva_port.proofs.Counts.{count-put, count-started, count-few}
 
--- ## the parts
-
-pub sound-later : (l : LinkLimits) (last c free now d done : ℕ) (rs ss : RequestQueues) (gs hs : Fair PacketData) (w v : LegacyData)
-    → IsSound l last c free rs gs w → d ≤ cap l → done ≤ now + 2048000000 → limits_in ss ≡ limits_in rs → hs.limits ≡ gs.limits
-    → (v.places ≡ w.places) × (v.most ≡ w.most) → IsSound l now d done ss hs v
-sound-later l last c free now d done rs ss gs hs w v s e f g h k = record {
-  limits = s.limits;
-  credit = e;
-  soon = f;
-  requests = g ∙ s.requests;
-  regulars = h ∙ s.regulars;
-  places = k.0 ∙ s.places;
-  most = k.1 ∙ s.most;
-}
-
-pub paid_less : (l : LinkLimits) (credit : ℕ) (d : Decision) → paid l credit d ≤ credit
-paid_less l credit (Start Request p) = omega arith
-paid_less l credit (Start Regular p) = omega arith
-paid_less l credit (Start Legacy p) = omega arith
-paid_less l credit (WaitUntil time) = omega arith
-paid_less l credit Idle = omega arith
-
--- ## the stock
+-- ## what waits after a log
 
 no_count : (d : DrrLimits) (inner : Option ℕ) → request_count (none_under d inner) ≡ 0
 no_count d None = refl
 no_count d (Some n) = refl
 
-pub stocked-empty : (l : LinkLimits) (rs : RequestQueues) (gs : Fair PacketData) (xs : List PacketData) (stock : StockData)
-    → AreLinkLimits l → rs ≡ no_requests l → gs ≡ fair l.regular [] → xs ≡ [] → stock.count ≡ places_in l + 1
-    → places_in l + 1 < stock.room → IsStocked l (waiting rs gs xs) stock
-stocked-empty l rs gs xs stock ok e f g h r =
-    let kept : IsStocked l (waiting_after l []) stock = record {
-      within = (begins l ok).0;
-      count = omega (arith, h, no_count l.request l.request_inner);
-      room = r;
-    } in
-    let same : waiting_after l [] ≡ waiting rs gs xs = cc in
-    subst (λ (x : Waiting). IsStocked l x stock) same kept
+-- nothing before the first entry
+pub waits_none : (l : LinkLimits) → waiting_count (waiting_after l []) ≡ 0
+waits_none l = omega (arith, no_count l.request l.request_inner)
 
--- the stock is never empty
-pub has_hand : (l : LinkLimits) (w : Waiting) (stock : StockData) → IsStocked l w stock → 1 ≤ stock.count
-has_hand l w stock s = omega (arith, s.count, count-few l w s.within)
+-- a packet more where it is queued
+pub waits_more : (l : LinkLimits) (log : List Entry) (now : ℕ) (class : Class) (key : ℕ) (p : PacketData) → IsLegal l log
+    → waiting_count (waiting_after l (log ++ queued_by (queue_answer l (waiting_after l log) class key p) now class key p))
+    ≡ waiting_count (waiting_after l log) + queued_count (queue_answer l (waiting_after l log) class key p)
+waits_more l log now class key p legal = elim (puts_or l (waiting_after l log) class key p) [
+  | inl e ↦ ap (λ (a : Offered PacketData). waiting_count (waiting_after l (log ++ queued_by a now class key p))) e
+      ∙ (ap (λ (w : Waiting). waiting_count w) (sym (waits-queued l log now class key p (few_started l log legal) e))
+      ∙ count-put l (waiting_after l log) class key p)
+  | inr h ↦ ap (λ (es : List Entry). waiting_count (waiting_after l (log ++ es))) (h.1 now)
+      ∙ (ap (λ (es : List Entry). waiting_count (waiting_after l es)) (append-nil log)
+      ∙ (ap (λ (w : Waiting). waiting_count w) (sym h.0) ∙ count-put l (waiting_after l log) class key p))
+]
 
--- and never full
-pub has_room : (l : LinkLimits) (w : Waiting) (stock : StockData) → IsStocked l w stock → stock.count < stock.room
-has_room l w stock s = omega (arith, s.count, s.room)
+-- one less where it starts
+pub waits_less : (l : LinkLimits) (log : List Entry) (now : ℕ) (d : Decision) → d ≡ decision l log now
+    → waiting_count (waiting_after l (log ++ started_by d now)) + started_count d ≡ waiting_count (waiting_after l log)
+unfolding decision
+waits_less l log now (Start class p) e =
+    omega (arith, count-started l (waiting_after l log) (credit_after l log now) now (Start class p) e, ap (λ (w : Waiting). waiting_count w) (waits-started l log now class p))
+waits_less l log now (WaitUntil time) e = omega (arith, ap (λ (es : List Entry). waiting_count (waiting_after l es)) (append-nil log))
+waits_less l log now Idle e = omega (arith, ap (λ (es : List Entry). waiting_count (waiting_after l es)) (append-nil log))
 
--- a hand is kept with a packet that is queued
-pub stocked-queued : (l : LinkLimits) (w v : Waiting) (class : Class) (key : ℕ) (p : PacketData) (a : Offered PacketData)
-    (stock left : StockData) → AreLinkLimits l → (20 ≤ packet_length p) × (packet_length p ≤ 2048)
-    → IsStocked l w stock → a ≡ queue_answer l w class key p → v ≡ put_leaves l w class key p
-    → left.count + queued_count a ≡ stock.count → left.room ≡ stock.room → IsStocked l v left
-stocked-queued l w v class key p a stock left ok z s f g h m =
-    let kept : IsStocked l (put_leaves l w class key p) left = record {
-      within = within-queued l w class key p ok z s.within;
-      count = omega (arith, s.count, h, count-put l w class key p, ap queued_count f);
-      room = omega (arith, s.room, m);
-    } in
-    subst (λ (x : Waiting). IsStocked l x left) (sym g) kept
+-- and never more than there are places
+pub waits_few : (l : LinkLimits) (log : List Entry) → AreLinkLimits l → IsLegal l log → waiting_count (waiting_after l log) ≤ places_in l
+waits_few l log ok legal = count-few l (waiting_after l log) (stays_within l log ok legal log [] (sym (append-nil log)))
 
-within-decided : (l : LinkLimits) (w : Waiting) (d : Decision) → IsWithinLimits l w → IsWithinLimits l (decision_leaves d w)
-within-decided l w (Start class p) h = within-started l w class h
-within-decided l w (WaitUntil time) h = h
-within-decided l w Idle h = h
+-- ## what a hand holds
+
+pub hand_offered : (answer : Answer) (hand : Option PacketData) → AreOneAnswer answer hand → hand_count hand + queued_count (answer_by answer hand) ≡ 1
+hand_offered answers.Queued None h = refl
+hand_offered answers.Queued (Some p) h = absurd (cc)
+hand_offered answers.NoQueue None h = absurd (cc)
+hand_offered answers.NoQueue (Some p) h = refl
+hand_offered answers.QueueFull None h = absurd (cc)
+hand_offered answers.QueueFull (Some p) h = refl
+
+pub hand_decided : (next : Next) (hand : Option PacketData) → AreOneDecision next hand → hand_count hand ≡ started_count (decision_by next hand)
+hand_decided (nexts.Start class) None h = absurd (cc)
+hand_decided (nexts.Start class) (Some p) h = refl
+hand_decided (nexts.WaitUntil time) None h = refl
+hand_decided (nexts.WaitUntil time) (Some p) h = absurd (cc)
+hand_decided nexts.Idle None h = refl
+hand_decided nexts.Idle (Some p) h = absurd (cc)
+
+-- ## the stock
+
+count_is : (v : PortData) (log : List Entry) → StandsFor v log → waiting_count v.waiting ≡ waiting_count (waiting_after v.limits log)
+count_is v log s = ap (λ (w : Waiting). waiting_count w) s.waiting
+
+-- it is never empty
+pub has_hand : (v : PortData) (stock : StockData) → IsStocked v stock → 1 ≤ stock.count
+has_hand v stock s = omega (arith, s.count, count_is v s.log s.stands, waits_few v.limits s.log s.limits s.stands.legal)
+
+-- memory is kept with a packet that is queued
+pub stocked_queued : (v z : PortData) (now : ℕ) (class : Class) (key : ℕ) (p : PacketData) (a : Offered PacketData) (stock left : StockData)
+    → IsStocked v stock → z.limits ≡ v.limits
+    → ((log : List Entry) → StandsFor v log → a ≡ queue_answer v.limits (waiting_after v.limits log) class key p)
+    → ((log : List Entry) → StandsFor v log → StandsFor z (log ++ queued_by a now class key p))
+    → left.count + queued_count a ≡ stock.count → left.room ≡ stock.room → IsStocked z left
+stocked_queued v z now class key p a stock left s e answer stands g h =
+    let l = v.limits in
+    let a-is = answer s.log s.stands in
+    let new = stands s.log s.stands in
+    let more : waiting_count z.waiting ≡ waiting_count v.waiting + queued_count a =
+    count_is z (s.log ++ queued_by a now class key p) new
+    ∙ (ap (λ (m : LinkLimits). waiting_count (waiting_after m (s.log ++ queued_by a now class key p))) e
+    ∙ (subst (λ (x : Offered PacketData). waiting_count (waiting_after l (s.log ++ queued_by x now class key p)) ≡ waiting_count (waiting_after l s.log) + queued_count x) (sym a-is)
+    (waits_more l s.log now class key p s.stands.legal)
+    ∙ ap (λ (n : ℕ). n + queued_count a) (sym (count_is v s.log s.stands)))) in
+    record {
+      log = s.log ++ queued_by a now class key p;
+      stands = new;
+      limits = subst AreLinkLimits (sym e) s.limits;
+      count = omega (arith, s.count, g, more, ap places_in e);
+      room = omega (arith, s.room, h, ap places_in e);
+    }
 
 -- and comes back when it starts
-pub stocked-decided : (l : LinkLimits) (w v : Waiting) (credit now : ℕ) (d : Decision) (stock left : StockData)
-    → IsStocked l w stock → d ≡ decide_on l w credit now → v ≡ decision_leaves d w
-    → left.count ≡ stock.count + started_count d → left.room ≡ stock.room → IsStocked l v left
-stocked-decided l w v credit now d stock left s e g h m =
-    let kept : IsStocked l (decision_leaves d w) left = record {
-      within = within-decided l w d s.within;
-      count = omega (arith, s.count, h, count-started l w credit now d e);
-      room = omega (arith, s.room, m);
-    } in
-    subst (λ (x : Waiting). IsStocked l x left) (sym g) kept
+pub stocked_decided : (v z : PortData) (now : ℕ) (d : Decision) (stock left : StockData)
+    → IsStocked v stock → z.limits ≡ v.limits
+    → ((log : List Entry) → StandsFor v log → d ≡ decision v.limits log now)
+    → ((log : List Entry) → StandsFor v log → StandsFor z (log ++ started_by d now))
+    → left.count ≡ stock.count + started_count d → left.room ≡ stock.room → IsStocked z left
+stocked_decided v z now d stock left s e decides stands g h =
+    let new = stands s.log s.stands in
+    let less : waiting_count z.waiting + started_count d ≡ waiting_count v.waiting =
+    omega (
+      arith,
+      count_is z (s.log ++ started_by d now) new,
+      ap (λ (m : LinkLimits). waiting_count (waiting_after m (s.log ++ started_by d now))) e,
+      waits_less v.limits s.log now d (decides s.log s.stands),
+      count_is v s.log s.stands,
+    ) in
+    record {
+      log = s.log ++ started_by d now;
+      stands = new;
+      limits = subst AreLinkLimits (sym e) s.limits;
+      count = omega (arith, s.count, g, less, ap places_in e);
+      room = omega (arith, s.room, h, ap places_in e);
+    }
+
+-- there is room for what starts
+pub has_room : (v : PortData) (now : ℕ) (d : Decision) (stock : StockData) → IsStocked v stock
+    → ((log : List Entry) → StandsFor v log → d ≡ decision v.limits log now) → stock.count + started_count d ≤ stock.room
+has_room v now d stock s decides =
+    omega (arith, s.count, s.room, waits_less v.limits s.log now d (decides s.log s.stands), count_is v s.log s.stands)

@@ -1,5 +1,5 @@
--- Kit: how many packets wait at a port, how many places there are, and the empty hands that it has for them.
-use Rattle.std.specs.Prelude.{◌≡◌, ℕ, ◌+◌, ◌*◌, ◌<◌, length, Option, Some, None}
+-- Kit: how many packets wait at a port, how many places there are, and the memory for packets by value.
+use Rattle.std.specs.Prelude.{ℕ, ◌+◌, ◌*◌, length, Option, Some, None}
 use Rattle.tva_base.specs.declared.limits.DrrLimits.{DrrLimits}
 use Rattle.tva_base.specs.declared.limits.LinkLimits.{LinkLimits}
 use Rattle.tva_shim.specs.Packets.{PacketData}
@@ -12,7 +12,6 @@ use Rattle.tva_port.specs.declared.requests.RequestQueues.TheVariants.{OneLevel,
 use Rattle.tva_port.specs.declared.decision.Decision.{Decision}
 use Rattle.tva_port.specs.declared.decision.Decision.TheVariants.{Start}
 use Rattle.tva_port.specs.Waiting.{Waiting}
-use Rattle.tva_port.specs.Keeps.{IsWithinLimits}
 
 -- a measure by which a sum counts
 abbrev pub one : PacketData → ℕ
@@ -51,7 +50,7 @@ request_places l = places_under l.request l.request_inner
 abbrev pub places_in : LinkLimits → ℕ
 places_in l = request_places l + l.regular.queues * l.regular.ring + l.legacy_ring
 
--- how many empty hands there are, and for how many there is room
+-- for how many packets there is memory, and for how many there is room
 pub record StockData : Type 0 where
   pub count : ℕ
   pub room : ℕ
@@ -59,9 +58,7 @@ pub record StockData : Type 0 where
 abbrev pub stock_data : ℕ → ℕ → StockData
 stock_data count room = record { count = count; room = room }
 
--- what waits is within the limits, with it there is a hand for each place and one more, and there is room for these
--- and another
-pub record IsStocked (l : LinkLimits) (w : Waiting) (stock : StockData) : Type 0 where
-  pub within : IsWithinLimits l w
-  pub count : stock.count + waiting_count w ≡ places_in l + 1
-  pub room : places_in l + 1 < stock.room
+-- how many packets a hand holds
+abbrev pub hand_count : Option PacketData → ℕ
+hand_count None = 0
+hand_count (Some packet) = 1

@@ -21,6 +21,11 @@ abbrev pub AreOneAnswer : Answer → Option PacketData → Type 0
 AreOneAnswer answers.Queued hand = hand ≡ None
 AreOneAnswer answer hand = IsSome hand
 
+-- what a hand holds that held a packet, after such an answer
+abbrev pub kept_by : Answer → PacketData → Option PacketData
+kept_by answers.Queued p = None
+kept_by answer p = Some p
+
 -- a decision, with the packet in the hand where it starts
 abbrev pub decision_by : Next → Option PacketData → Decision
 decision_by (nexts.Start class) (Some p) = decisions.Start class p

@@ -1,13 +1,8 @@
 -- Kit: the packet that a hand holds.
-use Rattle.std.specs.Prelude.{Option, Some, None}
-use Rattle.tva_shim.specs.declared.packets.Carried.TheVariants as carries
-use Rattle.tva_shim.specs.Packets.{PacketData, packet_data}
+use Rattle.std.specs.Prelude.{Option, Some, None, Box}
+use Rattle.tva_shim.specs.Packets.{PacketData}
 
--- a packet that nobody made
-abbrev pub nobodys : PacketData
-nobodys = packet_data (record { node = 0; ordinal = 0 }) (record { src = record { 0 = 0 }; dst = record { 0 = 0 } }) 0 0 carries.Nothing
-
--- the packet in a hand
-abbrev pub packet_in : Option PacketData → PacketData
-packet_in (Some packet) = packet
-packet_in None = nobodys
+-- the packet in a piece of memory, if there is one
+abbrev pub packet_in : {A : Type 0} → Option (Box PacketData A) → Option PacketData
+packet_in None = None
+packet_in (Some packet) = Some packet.value

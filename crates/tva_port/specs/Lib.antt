@@ -13,3 +13,4 @@ pub mod Worked
 pub mod Steps
 pub mod Lists
 pub mod Counts
+pub mod Stocked

@@ -46,7 +46,7 @@ pub(crate) fn pay(limits: &LinkLimits, credit: u64, next: Next, hand: &Hand) -> 
     requires covered { IsPaid limits.now credit (decision_by next hand.now) }
     ensures { result ≡ paid limits.now credit (decision_by next hand.now) }
 {
-    match (next, &*hand.packet) {
+    match (next, &hand.packet) {
         (Next::Start(Class::Request), Some(packet)) => credit - cost_of(limits, length(packet)),
         (_, _) => credit,
     }
@@ -60,7 +60,7 @@ pub(crate) fn occupy(limits: &LinkLimits, free_at: u64, now: u64, next: Next, ha
     ensures value { result ≡ freed limits.now free_at now (decision_by next hand.now) }
     ensures soon { result ≤ now + 2048000000 }
 {
-    match (next, &*hand.packet) {
+    match (next, &hand.packet) {
         (Next::Start(_), Some(packet)) => now + u64::from(length(packet)) * limits.ns_per_byte,
         (_, _) => free_at,
     }

@@ -11,56 +11,50 @@ use tva_base::{Address, Class, PacketId, Time};
 use tva_drr::Offered;
 use tva_shim::{Packet, length, queue_key};
 
-/// A piece of memory for a packet: it goes from hand to hand with the packet in it, which isn't moved. Contracts
-/// see the packet, if it holds one.
+/// A packet in the caller's hand, or none. The packet stands in memory of its own, which goes from hand to hand, so
+/// it isn't moved. An empty hand has no memory. Contracts see the packet, if it holds one.
 #[derive(Drop)]
 pub struct Hand {
-    pub packet: Box<Option<Packet>>,
+    pub packet: Option<Box<Packet>>,
 }
 
 impl Model for Hand {
     ghost use Rattle.std.specs.Prelude.{Option};
     ghost use Rattle.tva_shim.specs.Packets.{PacketData};
+    ghost use Rattle.tva_port.specs.Held.{packet_in};
 
     ghost Value = { Option PacketData };
 
-    ghost view = { λ h. h.packet.value };
+    ghost view = { λ h. packet_in h.packet };
 }
 
 impl Hand {
-    /// An empty one. The error is want of memory.
-    pub fn new(alloc: Global) -> Result<Hand, AllocError>
-        ensures { IfOk result (λ hand. hand ≡ None) }
+    /// An empty one, which takes no memory.
+    #[inline(always)]
+    pub fn empty() -> Hand
+        ensures { result ≡ None }
+    {
+        Hand { packet: None }
+    }
+
+    /// One that holds a packet. The error is want of memory.
+    #[inline(always)]
+    pub fn of(alloc: Global, packet: Packet) -> Result<Hand, AllocError>
+        ensures { IfOk result (λ hand. hand ≡ Some packet) }
     {
         Ok(Hand {
-            packet: Box::new(alloc, None)?,
+            packet: Some(Box::new(alloc, packet)?),
         })
     }
 
-    /// Puts a packet in.
+    /// The packet, out of its memory, which goes.
     #[inline(always)]
-    pub fn put(&mut self, packet: Packet)
-        ensures { self.new ≡ Some packet }
+    pub fn into_packet(self) -> Option<Packet>
+        ensures { result ≡ self }
     {
-        *self.packet = Some(packet);
-    }
-
-    /// Takes the packet out.
-    #[inline(always)]
-    pub fn take(&mut self) -> Option<Packet>
-        ensures packet { result ≡ self.old }
-        ensures left { self.new ≡ None }
-    {
-        self.packet.take()
-    }
-
-    /// Lets go of the packet, if it holds one.
-    #[inline(always)]
-    pub fn clear(&mut self)
-        ensures { self.new ≡ None }
-    {
-        if self.packet.is_some() {
-            *self.packet = None;
+        match self.packet {
+            Some(packet) => Some(Box::into_inner(packet)),
+            None => None,
         }
     }
 }
@@ -113,7 +107,7 @@ pub fn id_in(hand: &Hand) -> PacketId
     requires { IsSome hand.now }
     ensures { (packet : PacketData) → hand.now ≡ Some packet → result ≡ packet.id }
 {
-    match &*hand.packet {
+    match &hand.packet {
         Some(packet) => packet.id,
         None => unreachable!(),
     }
@@ -125,7 +119,7 @@ pub fn length_in(hand: &Hand) -> u32
     ensures value { (packet : PacketData) → hand.now ≡ Some packet → result ≡ packet_length packet }
     ensures short { result ≤ 2048 }
 {
-    match &*hand.packet {
+    match &hand.packet {
         Some(packet) => length(packet),
         None => unreachable!(),
     }
@@ -136,7 +130,7 @@ pub fn destination_in(hand: &Hand) -> Address
     requires { IsSome hand.now }
     ensures { (packet : PacketData) → hand.now ≡ Some packet → result ≡ packet.flow.dst }
 {
-    match &*hand.packet {
+    match &hand.packet {
         Some(packet) => packet.flow.dst,
         None => unreachable!(),
     }
@@ -147,7 +141,7 @@ pub fn key_in(class: Class, hand: &Hand) -> u32
     requires { IsSome hand.now }
     ensures { (packet : PacketData) → hand.now ≡ Some packet → result ≡ key_of class packet }
 {
-    match &*hand.packet {
+    match &hand.packet {
         Some(packet) => queue_key(class, packet),
         None => unreachable!(),
     }

@@ -3,15 +3,13 @@ ghost use Rattle.std.specs.Prelude.{◌≡◌, ◌==◌, ◌+◌, ◌^◌, ◌�
 ghost use Rattle.tva_drr.specs.Queues.{first};
 ghost use Rattle.tva_shim.specs.Packets.{PacketData, packet_length};
 ghost use Rattle.tva_base.specs.declared.packet.Class.TheVariants.{Legacy};
-ghost use Rattle.tva_port.specs.Counts.{queued_count, started_count};
 ghost use Rattle.tva_port.specs.Decide.{start_or};
 ghost use Rattle.tva_port.specs.declared.decision.Decision.TheVariants.{Idle};
 ghost use Rattle.tva_port.specs.Hand.{AreOneAnswer, AreOneDecision, answer_by, decision_by};
 ghost use Rattle.tva_port.specs.Lists.{LegacyData, legacy_data, lacks_room, legacy_answer, legacy_leaves};
 
 use crate::hand::{Answer, Hand, Next, length_in};
-use crate::held::{HeldPacket, held_in, start_held};
-use crate::stock::Stock;
+use crate::held::{HeldPacket, start_held, take_held};
 use circular_buffer::HeapCircularBuffer;
 use std::alloc::{AllocError, Global};
 use std::marker::Model;
@@ -63,12 +61,10 @@ impl LegacyList {
         })
     }
 
-    /// Puts the packet in hand last, or leaves it there where its place or its bytes are too many. The list keeps
-    /// the hand where it takes it, and gives one of the stock.
+    /// Puts the packet in hand last, or leaves it there where its place or its bytes are too many.
     #[inline(always)]
-    pub fn offer(&mut self, hand: &mut Hand, stock: &mut Stock) -> Answer
+    pub fn offer(&mut self, hand: &mut Hand) -> Answer
         requires held { IsSome hand.old }
-        requires stocked { 1 ≤ stock.old.count }
         ensures answer { (packet : PacketData) → hand.old ≡ Some packet
             → answer_by result hand.new ≡ legacy_answer self.old packet }
         ensures held { AreOneAnswer result hand.new }
@@ -76,8 +72,6 @@ impl LegacyList {
         ensures same { (self.new.places ≡ self.old.places) × (self.new.most ≡ self.old.most) }
         ensures sized { (packet : PacketData) → hand.old ≡ Some packet
             → (20 ≤ packet_length packet) × (packet_length packet ≤ 2048) }
-        ensures count { stock.new.count + queued_count (answer_by result hand.new) ≡ stock.old.count }
-        ensures room { stock.new.room ≡ stock.old.room }
     {
         let bytes = length_in(hand);
         if lacks_place(&self.ring) {
@@ -87,7 +81,7 @@ impl LegacyList {
             return Answer::QueueFull;
         }
         self.bytes += bytes;
-        match self.ring.try_push_back(held_in(hand, stock)) {
+        match self.ring.try_push_back(take_held(hand)) {
             Ok(()) => {}
             Err(_held) => unreachable!(),
         }
@@ -102,19 +96,16 @@ impl LegacyList {
     }
 
     /// Starts the oldest packet.
-    pub fn start(&mut self, hand: &mut Hand, stock: &mut Stock) -> Next
+    pub fn start(&mut self, hand: &mut Hand) -> Next
         requires empty { hand.old ≡ None }
-        requires room { stock.old.count < stock.old.room }
         ensures value { decision_by result hand.new ≡ start_or Legacy (first self.old.packets) Idle }
         ensures held { AreOneDecision result hand.new }
         ensures left { self.new ≡ legacy_data self.old.places self.old.most (drop 1 self.old.packets) }
-        ensures count { stock.new.count ≡ stock.old.count + started_count (decision_by result hand.new) }
-        ensures room { stock.new.room ≡ stock.old.room }
     {
         let taken = self.ring.pop_front();
         if let Some(held) = &taken {
             self.bytes -= held.length();
         }
-        start_held(hand, stock, taken, Class::Legacy)
+        start_held(hand, taken, Class::Legacy)
     }
 }

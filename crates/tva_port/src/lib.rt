@@ -11,6 +11,7 @@ mod credits;
 mod decision;
 mod fair;
 mod hand;
+mod hand_port;
 mod held;
 mod laws;
 mod legacy;
@@ -25,10 +26,12 @@ pub use bounds::{
 };
 pub use decision::Decision;
 pub use hand::{Answer, Hand, Next, decision_by, destination_in, id_in, key_in, length_in};
+pub use hand_port::HandPort;
 pub use laws::{
     links_rest, logs_have_places, queues_keep_limits, requests_keep_their_rate, starts_rise,
 };
-pub use port::Port;
+pub use port::{Port, places_in};
+pub use stock::Stock;
 pub use worked::{
     a_regular_packet_waits_half_its_bound, a_request_waits_half_its_bound_on_two_levels,
     worked_keys_are_served_alike,

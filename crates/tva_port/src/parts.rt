@@ -5,7 +5,6 @@ ghost use Rattle.tva_base.specs.Plan.{AreLinkLimits};
 ghost use Rattle.tva_shim.specs.Packets.{PacketData, packet_length};
 ghost use Rattle.tva_port.specs.Levels.{limits_in, next_in};
 ghost use Rattle.tva_port.specs.Waiting.{waiting, queue_answer};
-ghost use Rattle.tva_port.specs.Counts.{queued_count, started_count};
 ghost use Rattle.tva_port.specs.Decide.{covered, wait_for, decide_on};
 ghost use Rattle.tva_port.specs.Hand.{AreOneAnswer, AreOneDecision, answer_by, decision_by};
 ghost use Rattle.tva_port.specs.Steps.{put_leaves, decision_leaves, IsPaid};
@@ -16,7 +15,6 @@ use crate::hand::{Answer, Hand, Next};
 use crate::held::HeldPacket;
 use crate::legacy::LegacyList;
 use crate::requests::RequestQueues;
-use crate::stock::Stock;
 use tva_base::{Class, LinkLimits, Time};
 use tva_drr::FairQueues;
 
@@ -63,13 +61,11 @@ pub(crate) fn start_next(
     regulars: &mut FairQueues<HeldPacket>,
     legacy: &mut LegacyList,
     hand: &mut Hand,
-    stock: &mut Stock,
 ) -> Next
     requires limits { AreLinkLimits limits.now }
     requires most { (limits_in requests.old).max ≡ 2048 }
     requires time { now ≤ 1000000000000000 }
     requires empty { hand.old ≡ None }
-    requires room { stock.old.count < stock.old.room }
     ensures decision { decision_by result hand.new ≡ decide_on limits.now
         (waiting requests.old regulars.old legacy.old.packets) credit now }
     ensures held { AreOneDecision result hand.new }
@@ -81,22 +77,20 @@ pub(crate) fn start_next(
     ensures requests { limits_in requests.new ≡ limits_in requests.old }
     ensures regulars { regulars.new.limits ≡ regulars.old.limits }
     ensures legacy { (legacy.new.places ≡ legacy.old.places) × (legacy.new.most ≡ legacy.old.most) }
-    ensures count { stock.new.count ≡ stock.old.count + started_count (decision_by result hand.new) }
-    ensures room { stock.new.room ≡ stock.old.room }
 {
     if is_covered(limits, credit, requests) {
-        return requests.start(hand, stock);
+        return requests.start(hand);
     }
     if regulars.head_length().is_some() {
-        return start_from(regulars, Class::Regular, hand, stock);
+        return start_from(regulars, Class::Regular, hand);
     }
     if !legacy.is_empty() {
-        return legacy.start(hand, stock);
+        return legacy.start(hand);
     }
     rest(limits, credit, now, requests)
 }
 
-/// Queues the packet in hand in its class, or leaves it there. A hand that is kept is replaced by one of the stock.
+/// Queues the packet in hand in its class, or leaves it there.
 #[inline(always)]
 pub(crate) fn put(
     requests: &mut RequestQueues,
@@ -105,12 +99,10 @@ pub(crate) fn put(
     class: Class,
     key: u32,
     hand: &mut Hand,
-    stock: &mut Stock,
 ) -> Answer
     requires requests { (limits_in requests.old).max ≡ 2048 }
     requires regulars { regulars.old.limits.max ≡ 2048 }
     requires held { IsSome hand.old }
-    requires stocked { 1 ≤ stock.old.count }
     ensures answer { (packet : PacketData) (l : LinkLimits) → hand.old ≡ Some packet
         → l.legacy_ring ≡ legacy.old.places → l.legacy_bytes ≡ legacy.old.most
         → answer_by result hand.new
@@ -125,12 +117,10 @@ pub(crate) fn put(
     ensures requests { limits_in requests.new ≡ limits_in requests.old }
     ensures regulars { regulars.new.limits ≡ regulars.old.limits }
     ensures legacy { (legacy.new.places ≡ legacy.old.places) × (legacy.new.most ≡ legacy.old.most) }
-    ensures count { stock.new.count + queued_count (answer_by result hand.new) ≡ stock.old.count }
-    ensures room { stock.new.room ≡ stock.old.room }
 {
     match class {
-        Class::Request => requests.offer(key, hand, stock),
-        Class::Regular => offer_to(regulars, key, hand, stock),
-        Class::Legacy => legacy.offer(hand, stock),
+        Class::Request => requests.offer(key, hand),
+        Class::Regular => offer_to(regulars, key, hand),
+        Class::Legacy => legacy.offer(hand),
     }
 }

@@ -1,5 +1,5 @@
-// The port of a link.
-ghost use Rattle.std.specs.Prelude.{◌≡◌, ℕ, ◌+◌, ◌*◌, ◌^◌, ◌≤◌, ◌<◌, ◌↔◌, max, true, false, List, Some, None, IsSome, [], ◌++◌, IfOk};
+// The port of a link, for packets by value.
+ghost use Rattle.std.specs.Prelude.{◌≡◌, ℕ, ◌+◌, ◌*◌, ◌^◌, ◌≤◌, ◌<◌, ◌↔◌, max, true, false, List, [], ◌++◌, IfOk};
 ghost use Rattle.tva_base.specs.declared.packet.Class.TheVariants.{Request, Regular};
 ghost use Rattle.tva_base.specs.Plan.{AreLinkLimits};
 ghost use Rattle.tva_drr.specs.Queues.{fair};
@@ -10,67 +10,38 @@ ghost use Rattle.tva_port.specs.Levels.{no_requests};
 ghost use Rattle.tva_port.specs.Log.{Entry, free_after};
 ghost use Rattle.tva_port.specs.Waiting.{waiting, waiting_after, next_request, queue_answer, queued_by, is_queued, IsEmpty, IsRequestAlone};
 ghost use Rattle.tva_port.specs.Decide.{decision, is_start, started_by, RestsAt, MissesNone, NoneDueBefore, IsFirstCovered};
-ghost use Rattle.tva_port.specs.Hand.{AreOneAnswer, AreOneDecision, answer_by, decision_by};
 ghost use Rattle.tva_port.specs.declared.decision.Decision.TheVariants.{Start, WaitUntil, Idle};
 ghost use Rattle.tva_port.specs.Stands.{port_data, StandsFor};
 ghost use Rattle.tva_port.specs.Bounds.{request_bound, regular_bound, AreServed, ServesAlike};
 ghost use Rattle.tva_port.specs.Keeps.{IsWithinRate, start_times, AreRising, StaysWithinLimits};
 
-use crate::credits::{grow, most_credit, occupy, pay};
 use crate::decision::Decision;
-use crate::hand::{Answer, Hand, Next, answer_by, decision_by};
-use crate::held::HeldPacket;
-use crate::legacy::LegacyList;
-use crate::parts::{put, start_next};
-use crate::requests::RequestQueues;
+use crate::hand::{Hand, answer_by, decision_by};
+use crate::hand_port::HandPort;
 use crate::stock::Stock;
 use std::alloc::{AllocError, Global};
 use std::marker::Model;
 use tva_base::{Class, LinkLimits, Time};
-use tva_drr::{FairQueues, Offered};
+use tva_drr::Offered;
 use tva_shim::Packet;
 
-/// What waits for a link, and what it starts. Contracts see the limits, the last time, the credit of
-/// requests then, when the link is free, and what waits; and they speak of all packets queued and
-/// started so far, for which these stand. All memory is taken when it is built: packets stay where they
-/// are, in hands that are swapped for empty ones of a stock.
-///
-/// Of the starts so far it keeps one number, the credit. The debt after some starts is the greatest
-/// sum of costs from one of them on, less the time since it. As time passes each of these falls alike,
-/// so the greatest falls alike, down to 0; a further start adds its cost to each, and begins a sum of
-/// its own that is no more than these. So the credit grows with time up to its cap, and pays a cost at
-/// each start.
+/// The same as `HandPort` for packets by value, which take no memory: it has some for each packet that may
+/// wait, and for one more. All memory is taken when it is built.
 #[derive(Drop)]
 pub struct Port {
-    limits: LinkLimits,
-    last: u64,
-    credit: u64,
-    free_at: u64,
-    requests: RequestQueues,
-    regulars: FairQueues<HeldPacket>,
-    legacy: LegacyList,
-    // (an empty hand for each place that there is for a packet, and one more)
+    inner: HandPort,
     stock: Stock,
-    // (of the calls in which a packet is given by value)
-    own: Hand,
 }
 
 impl Model for Port {
-    ghost use Rattle.std.specs.Prelude.{◌≡◌, None};
-    ghost use Rattle.tva_port.specs.Waiting.{waiting};
-    ghost use Rattle.tva_port.specs.Stands.{PortData, port_data};
-    ghost use Rattle.tva_port.specs.Lists.{IsSound};
-    ghost use Rattle.tva_port.specs.Counts.{IsStocked};
+    ghost use Rattle.tva_port.specs.Stands.{PortData};
+    ghost use Rattle.tva_port.specs.Stocked.{IsStocked};
 
     ghost Value = { PortData };
 
-    ghost view = { λ w. port_data w.limits w.last w.credit w.free_at
-        (waiting w.requests w.regulars w.legacy.packets) };
+    ghost view = { λ w. w.inner };
 
-    ghost invariant = { λ w. IsSound w.limits w.last w.credit w.free_at w.requests w.regulars w.legacy
-        × IsStocked w.limits (waiting w.requests w.regulars w.legacy.packets)
-        w.stock
-        × (w.own ≡ None) };
+    ghost invariant = { λ w. IsStocked w.inner w.stock };
 }
 
 impl Port {
@@ -84,17 +55,10 @@ impl Port {
         // No start is missed, as long as nothing comes.
         ensures missed { IfOk result (λ port. (until : ℕ) → MissesNone limits until []) }
     {
-        Ok(Port {
-            limits,
-            last: 0,
-            credit: most_credit(&limits),
-            free_at: 0,
-            requests: RequestQueues::with_limits(alloc, &limits)?,
-            regulars: FairQueues::with_limits(alloc, limits.regular)?,
-            legacy: LegacyList::with_limits(alloc, limits.legacy_ring, limits.legacy_bytes)?,
-            stock: Stock::with_hands(alloc, places_in(&limits) + 1)?,
-            own: Hand::new(alloc)?,
-        })
+        let inner = HandPort::build(alloc, limits)?;
+        let mut stock = Stock::empty(alloc);
+        stock.add(alloc, places_in(&limits) + 1)?;
+        Ok(Port { inner, stock })
     }
 
     /// Queues a packet of a class at a time, in nanoseconds, which never falls. A request and a
@@ -122,49 +86,9 @@ impl Port {
         ensures last { self.new.last ≡ now.0 }
         ensures same { (self.new.limits ≡ self.old.limits) × (self.new.free_at ≡ self.old.free_at) }
     {
-        self.credit = grow(&self.limits, self.credit, now.0 - self.last);
-        self.last = now.0;
-        self.own.put(packet);
-        let answer = put(
-            &mut self.requests,
-            &mut self.regulars,
-            &mut self.legacy,
-            class,
-            key,
-            &mut self.own,
-            &mut self.stock,
-        );
-        answer_by(answer, self.own.take())
-    }
-
-    /// The same of a packet that is in the caller's hand: it leaves the hand where it is queued, and stays
-    /// there where it is refused. So a packet isn't moved from call to call.
-    #[inline(always)]
-    pub fn queue_from(&mut self, now: Time, class: Class, key: u32, hand: &mut Hand) -> Answer
-        requires time { self.old.last ≤ now.0 }
-        requires horizon { now.0 ≤ 1000000000000000 }
-        requires held { IsSome hand.old }
-        ensures answer { (log : List Entry) (packet : PacketData) → StandsFor self.old log → hand.old ≡ Some packet
-            → answer_by result hand.new
-            ≡ queue_answer self.old.limits (waiting_after self.old.limits log) class key packet }
-        ensures held { AreOneAnswer result hand.new }
-        ensures stands { (log : List Entry) (packet : PacketData) → StandsFor self.old log → hand.old ≡ Some packet
-            → StandsFor self.new (log ++ queued_by (answer_by result hand.new) now.0 class key packet) }
-        ensures refused { is_queued (answer_by result hand.new) ≡ false → self.new.waiting ≡ self.old.waiting }
-        ensures last { self.new.last ≡ now.0 }
-        ensures same { (self.new.limits ≡ self.old.limits) × (self.new.free_at ≡ self.old.free_at) }
-    {
-        self.credit = grow(&self.limits, self.credit, now.0 - self.last);
-        self.last = now.0;
-        put(
-            &mut self.requests,
-            &mut self.regulars,
-            &mut self.legacy,
-            class,
-            key,
-            hand,
-            &mut self.stock,
-        )
+        let mut hand = self.stock.hand_of(packet);
+        let answer = self.inner.queue_from(now, class, key, &mut hand);
+        answer_by(answer, self.stock.packet_of(hand))
     }
 
     /// Decides what the link, which is free, does at a time, in nanoseconds, which never falls: a
@@ -221,60 +145,9 @@ impl Port {
         ensures last { self.new.last ≡ now.0 }
         ensures same { self.new.limits ≡ self.old.limits }
     {
-        self.credit = grow(&self.limits, self.credit, now.0 - self.last);
-        self.last = now.0;
-        let next = start_next(
-            &self.limits,
-            self.credit,
-            now.0,
-            &mut self.requests,
-            &mut self.regulars,
-            &mut self.legacy,
-            &mut self.own,
-            &mut self.stock,
-        );
-        self.credit = pay(&self.limits, self.credit, next, &self.own);
-        self.free_at = occupy(&self.limits, self.free_at, now.0, next, &self.own);
-        decision_by(next, self.own.take())
-    }
-
-    /// The same where a packet that starts is put into the caller's hand, which is empty.
-    #[inline(always)]
-    pub fn decide_into(&mut self, now: Time, hand: &mut Hand) -> Next
-        requires time { self.old.last ≤ now.0 }
-        requires horizon { now.0 ≤ 1000000000000000 }
-        requires free { self.old.free_at ≤ now.0 }
-        requires empty { hand.old ≡ None }
-        ensures decision { (log : List Entry) → StandsFor self.old log
-            → decision_by result hand.new ≡ decision self.old.limits log now.0 }
-        ensures held { AreOneDecision result hand.new }
-        ensures stands { (log : List Entry) → StandsFor self.old log
-            → StandsFor self.new (log ++ started_by (decision_by result hand.new) now.0) }
-        ensures valid { AreLinkLimits self.old.limits }
-        ensures busy { is_start (decision_by result hand.new) ≡ true → now.0 < self.new.free_at }
-        ensures occupied { (class : Class) (packet : PacketData) → decision_by result hand.new ≡ Start class packet
-            → self.new.free_at ≡ now.0 + packet_length packet * self.old.limits.ns_per_byte }
-        ensures soon { self.new.free_at ≤ now.0 + 2048000000 }
-        ensures rested { is_start (decision_by result hand.new) ≡ false → (self.new.waiting ≡ self.old.waiting)
-            × (self.new.free_at ≡ self.old.free_at) }
-        ensures last { self.new.last ≡ now.0 }
-        ensures same { self.new.limits ≡ self.old.limits }
-    {
-        self.credit = grow(&self.limits, self.credit, now.0 - self.last);
-        self.last = now.0;
-        let next = start_next(
-            &self.limits,
-            self.credit,
-            now.0,
-            &mut self.requests,
-            &mut self.regulars,
-            &mut self.legacy,
-            hand,
-            &mut self.stock,
-        );
-        self.credit = pay(&self.limits, self.credit, next, hand);
-        self.free_at = occupy(&self.limits, self.free_at, now.0, next, hand);
-        next
+        let mut hand = Hand::empty();
+        let next = self.inner.decide_into(now, &mut hand);
+        decision_by(next, self.stock.packet_of(hand))
     }
 
     /// When the link is free: the end of the last start, in nanoseconds, or 0 where nothing started.
@@ -284,7 +157,7 @@ impl Port {
             → result.0 ≡ free_after self.now.limits log }
         ensures soon { result.0 ≤ self.now.last + 2048000000 }
     {
-        Time(self.free_at)
+        self.inner.free_at()
     }
 
     /// The limits of the link. Under them, whatever packets came: the requests that started from one
@@ -298,12 +171,12 @@ impl Port {
         ensures room { (log : List Entry) → StandsFor self.now log
             → StaysWithinLimits self.now.limits log }
     {
-        self.limits
+        self.inner.limits()
     }
 }
 
-// How many packets may wait.
-fn places_in(limits: &LinkLimits) -> usize
+/// How many packets may wait.
+pub fn places_in(limits: &LinkLimits) -> usize
     requires { AreLinkLimits limits.now }
     ensures value { result ≡ places_in limits.now }
     ensures few { result ≤ 2 ^ 49 }

@@ -8,7 +8,6 @@ ghost use Rattle.tva_hier.specs.Groups.{next};
 ghost use Rattle.tva_hier.specs.Offer.{answer_to_offer, left_by_offer};
 ghost use Rattle.tva_hier.specs.Take.{left_by_take};
 ghost use Rattle.tva_base.specs.declared.packet.Class.TheVariants.{Request};
-ghost use Rattle.tva_port.specs.Counts.{queued_count, started_count};
 ghost use Rattle.tva_port.specs.Decide.{start_or};
 ghost use Rattle.tva_port.specs.Hand.{AreOneAnswer, AreOneDecision, answer_by, decision_by};
 ghost use Rattle.tva_port.specs.declared.decision.Decision.TheVariants.{Idle};
@@ -16,8 +15,7 @@ ghost use Rattle.tva_port.specs.Levels.{no_requests, limits_in, next_in, request
 
 use crate::fair::{offer_to, start_from};
 use crate::hand::{Answer, Hand, Next};
-use crate::held::{HeldPacket, back_into, held_in, start_held};
-use crate::stock::Stock;
+use crate::held::{HeldPacket, back_into, start_held, take_held};
 use std::alloc::{AllocError, Global};
 use tva_base::{Class, LinkLimits};
 use tva_drr::FairQueues;
@@ -64,12 +62,11 @@ impl RequestQueues {
     }
 
     /// Offers the request in hand under a key, and within it under its own inner key where there are two
-    /// levels. The queues keep the hand where they take it, and give one of the stock.
+    /// levels. It stays in hand where it is refused.
     #[inline(always)]
-    pub fn offer(&mut self, key: u32, hand: &mut Hand, stock: &mut Stock) -> Answer
+    pub fn offer(&mut self, key: u32, hand: &mut Hand) -> Answer
         requires limits { (limits_in self.old).max ≡ 2048 }
         requires held { IsSome hand.old }
-        requires stocked { 1 ≤ stock.old.count }
         ensures answer { (packet : PacketData) → hand.old ≡ Some packet
             → answer_by result hand.new ≡ request_answer self.old key packet }
         ensures held { AreOneAnswer result hand.new }
@@ -78,42 +75,31 @@ impl RequestQueues {
         ensures limits { limits_in self.new ≡ limits_in self.old }
         ensures sized { (packet : PacketData) → hand.old ≡ Some packet
             → (20 ≤ packet_length packet) × (packet_length packet ≤ 2048) }
-        ensures count { stock.new.count + queued_count (answer_by result hand.new) ≡ stock.old.count }
-        ensures room { stock.new.room ≡ stock.old.room }
     {
         match self {
-            RequestQueues::OneLevel(queues) => offer_to(queues, key, hand, stock),
-            RequestQueues::TwoLevels(queues) => offer_within(queues, key, hand, stock),
+            RequestQueues::OneLevel(queues) => offer_to(queues, key, hand),
+            RequestQueues::TwoLevels(queues) => offer_within(queues, key, hand),
         }
     }
 
     /// Starts the next request.
-    pub fn start(&mut self, hand: &mut Hand, stock: &mut Stock) -> Next
+    pub fn start(&mut self, hand: &mut Hand) -> Next
         requires empty { hand.old ≡ None }
-        requires room { stock.old.count < stock.old.room }
         ensures value { decision_by result hand.new ≡ start_or Request (next_in self.old) Idle }
         ensures held { AreOneDecision result hand.new }
         ensures left { self.new ≡ request_taken self.old }
-        ensures count { stock.new.count ≡ stock.old.count + started_count (decision_by result hand.new) }
-        ensures room { stock.new.room ≡ stock.old.room }
     {
         match self {
-            RequestQueues::OneLevel(queues) => start_from(queues, Class::Request, hand, stock),
-            RequestQueues::TwoLevels(queues) => start_within(queues, hand, stock),
+            RequestQueues::OneLevel(queues) => start_from(queues, Class::Request, hand),
+            RequestQueues::TwoLevels(queues) => start_within(queues, hand),
         }
     }
 }
 
 /// Offers the request in hand to two-level queues under a key and its inner key.
-fn offer_within(
-    queues: &mut HierQueues<HeldPacket>,
-    key: u32,
-    hand: &mut Hand,
-    stock: &mut Stock,
-) -> Answer
+fn offer_within(queues: &mut HierQueues<HeldPacket>, key: u32, hand: &mut Hand) -> Answer
     requires limits { queues.old.limits.max ≡ 2048 }
     requires held { IsSome hand.old }
-    requires stocked { 1 ≤ stock.old.count }
     ensures answer { (packet : PacketData) → hand.old ≡ Some packet
         → answer_by result hand.new ≡ answer_to_offer packet_length queues.old key (inner_key_of packet) packet }
     ensures held { AreOneAnswer result hand.new }
@@ -122,25 +108,20 @@ fn offer_within(
     ensures limits { queues.new.limits ≡ queues.old.limits }
     ensures sized { (packet : PacketData) → hand.old ≡ Some packet
         → (20 ≤ packet_length packet) × (packet_length packet ≤ 2048) }
-    ensures count { stock.new.count + queued_count (answer_by result hand.new) ≡ stock.old.count }
-    ensures room { stock.new.room ≡ stock.old.room }
 {
     let inner = inner_key_in(hand);
-    let held = held_in(hand, stock);
-    back_into(hand, stock, queues.offer(key, inner, held))
+    let held = take_held(hand);
+    back_into(hand, queues.offer(key, inner, held))
 }
 
 /// Starts the next packet of two-level queues.
-fn start_within(queues: &mut HierQueues<HeldPacket>, hand: &mut Hand, stock: &mut Stock) -> Next
+fn start_within(queues: &mut HierQueues<HeldPacket>, hand: &mut Hand) -> Next
     requires empty { hand.old ≡ None }
-    requires room { stock.old.count < stock.old.room }
     ensures value { decision_by result hand.new ≡ start_or Request (next queues.old.groups) Idle }
     ensures held { AreOneDecision result hand.new }
     ensures left { queues.new ≡ left_by_take packet_length queues.old }
-    ensures count { stock.new.count ≡ stock.old.count + started_count (decision_by result hand.new) }
-    ensures room { stock.new.room ≡ stock.old.room }
 {
-    start_held(hand, stock, queues.take(), Class::Request)
+    start_held(hand, queues.take(), Class::Request)
 }
 
 // The inner key of the request in hand.
@@ -148,7 +129,7 @@ fn inner_key_in(hand: &Hand) -> u32
     requires { IsSome hand.now }
     ensures { (packet : PacketData) → hand.now ≡ Some packet → result ≡ inner_key_of packet }
 {
-    match &*hand.packet {
+    match &hand.packet {
         Some(packet) => inner_queue_key(packet),
         None => unreachable!(),
     }

@@ -1,65 +1,93 @@
-// The empty hands of a port.
-ghost use Rattle.std.specs.Prelude.{◌≡◌, ◌≤◌, ◌<◌, ◌+◌, ◌^◌, None, IfOk};
-ghost use Rattle.tva_port.specs.Counts.{stock_data};
+// Memory for packets by value.
+ghost use Rattle.std.specs.Prelude.{◌≡◌, ◌≤◌, ◌+◌, Some, OnOk};
+ghost use Rattle.tva_port.specs.Counts.{hand_count};
 
 use crate::hand::Hand;
 use std::alloc::{AllocError, Global};
 use std::marker::Model;
+use tva_base::{Address, Flow, PacketId};
+use tva_shim::{Carried, Packet};
 
-/// Empty hands, and room for further ones. Contracts see how many there are, and how many there is room for.
+/// Memory for packets, and room for further memory. Contracts see for how many packets it is, and for how many
+/// there is room.
 #[derive(Drop)]
-pub(crate) struct Stock {
-    hands: Vec<Hand>,
+pub struct Stock {
+    places: Vec<Box<Packet>>,
 }
 
 impl Model for Stock {
-    ghost use Rattle.std.specs.Prelude.{◌≡◌, All, None, length, vec_capacity};
+    ghost use Rattle.std.specs.Prelude.{length, vec_capacity};
     ghost use Rattle.tva_port.specs.Counts.{StockData, stock_data};
 
     ghost Value = { StockData };
 
-    ghost view = { λ w. stock_data (length w.hands.items) (vec_capacity w.hands) };
-
-    ghost invariant = { λ w. All (λ hand. hand ≡ None) w.hands.items };
+    ghost view = { λ w. stock_data (length w.places.items) (vec_capacity w.places) };
 }
 
 impl Stock {
-    /// So many hands, with room for one more. The error is want of memory.
-    pub fn with_hands(alloc: Global, count: usize) -> Result<Stock, AllocError>
-        requires { count ≤ 2 ^ 50 }
-        ensures count { IfOk result (λ stock. stock.count ≡ count) }
-        ensures room { IfOk result (λ stock. count < stock.room) }
+    /// Memory for none.
+    pub fn empty(alloc: Global) -> Stock
+        ensures { result.count ≡ 0 }
     {
-        // One place more, so that there is room before it is known whether a packet starts.
-        let mut hands = Vec::with_capacity(alloc, count + 1)?;
-        for _ in 0..count {
-            hands.push_reserved(Hand::new(alloc)?);
+        Stock {
+            places: Vec::new(alloc),
         }
-        Ok(Stock { hands })
     }
 
-    /// Takes one.
-    #[inline(always)]
-    pub fn take(&mut self) -> Hand
+    /// Takes memory for so many packets more. The error is want of memory.
+    pub fn add(&mut self, alloc: Global, count: usize) -> Result<(), AllocError>
+        ensures count { OnOk result (self.new.count ≡ self.old.count + count) }
+        ensures room { self.new.count ≤ self.new.room }
+    {
+        for _ in 0..count {
+            self.places.push(Box::new(alloc, nobodys())?)?;
+        }
+        Ok(())
+    }
+
+    /// Puts a packet into a hand.
+    pub fn hand_of(&mut self, packet: Packet) -> Hand
         requires { 1 ≤ self.old.count }
-        ensures empty { result ≡ None }
+        ensures packet { result ≡ Some packet }
         ensures count { self.new.count + 1 ≡ self.old.count }
         ensures room { self.new.room ≡ self.old.room }
-        ensures free { self.new.count < self.new.room }
     {
-        let Some(hand) = self.hands.pop() else {
+        let Some(mut place) = self.places.pop() else {
             unreachable!()
         };
-        hand
+        *place = packet;
+        Hand {
+            packet: Some(place),
+        }
     }
 
-    /// Gives one back.
-    #[inline(always)]
-    pub fn give(&mut self, hand: Hand)
-        requires empty { hand ≡ None }
-        requires room { self.old.count < self.old.room }
-        ensures { self.new ≡ stock_data (self.old.count + 1) self.old.room }
+    /// The packet in a hand, whose memory comes back.
+    pub fn packet_of(&mut self, hand: Hand) -> Option<Packet>
+        requires { self.old.count + hand_count hand ≤ self.old.room }
+        ensures packet { result ≡ hand }
+        ensures count { self.new.count ≡ self.old.count + hand_count hand }
+        ensures room { self.new.room ≡ self.old.room }
     {
-        self.hands.push_reserved(hand);
+        match hand.packet {
+            Some(place) => {
+                let packet = place.copied();
+                self.places.push_reserved(place);
+                Some(packet)
+            }
+            None => None,
+        }
     }
+}
+
+// A packet that nobody made.
+fn nobodys() -> Packet {
+    let id = PacketId {
+        node: 0,
+        ordinal: 0,
+    };
+    let flow = Flow {
+        src: Address(0),
+        dst: Address(0),
+    };
+    Packet::made(id, flow, 0, Carried::Nothing)
 }

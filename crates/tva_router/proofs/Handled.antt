@@ -97,6 +97,13 @@ fate-forwarded plan h logs now from p j o few judged went =
     ∙ ap (λ (z : Judged). (forwarded plan logs now p z).fate) judged
     ∙ sym (ap (λ (z : Handled). z.fate) (handle-forwarded plan h logs now from p few))
 
+-- and how its packet goes on
+pub onward-forwarded : (plan : RouterPlan) (h : List Charge) (logs : PortLogs) (now : ℕ) (from : Option ℕ) (p : PacketData) (j : Judged) → leb 32 p.hops ≡ false
+    → j ≡ judge plan h (arrival now from p) p.carried → goes_on p j.carried ≡ (handle plan h logs now from p).onward
+onward-forwarded plan h logs now from p j few judged =
+    ap (λ (z : Judged). (forwarded plan logs now p z).onward) judged
+    ∙ sym (ap (λ (z : Handled). z.onward) (handle-forwarded plan h logs now from p few))
+
 pub stands-forwarded : (built plan : RouterPlan) (last now : ℕ) (m n : MinterState) (c d : flows.Cache) (ps qs : List port.PortData) (h : List Charge) (logs : PortLogs) (from : Option ℕ) (p : PacketData) (j : Judged) → leb 32 p.hops ≡ false
     → j ≡ judge plan h (arrival now from p) p.carried → StandsFor (router_data built plan last m c ps) h logs
     → Keeps plan (arrival now from p) j.charge (nonce_in p.carried) c d

@@ -7,6 +7,7 @@ pub mod Changed
 pub mod Copies
 pub mod InForce
 pub mod Known
+pub mod Stocked
 pub mod Ways
 pub mod Tables
 pub mod Fates

@@ -65,7 +65,7 @@ AreOthers (o ∷ os) link = (eqb o.0 link ≡ false) × AreOthers os link
 same_or_not : (a b : ℕ) → (a ≡ b → ⊥) → eqb a b ≡ false
 same_or_not a b apart = grind (arith, nat_tests, apart)
 
-others : (os : List (ℕ × LinkLimits)) (link : ℕ) → (Contains (links_of os) link → ⊥) → AreOthers os link
+pub others : (os : List (ℕ × LinkLimits)) (link : ℕ) → (Contains (links_of os) link → ⊥) → AreOthers os link
 others [] link absent = tt
 others (o ∷ os) link absent = (same_or_not o.0 link (λ e. absent (0, omega arith, e)), others os link (λ there. absent (suc there.0, omega (arith, there.1), there.2)))
 

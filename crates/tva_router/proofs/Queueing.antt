@@ -1,5 +1,5 @@
 -- A packet that is queued at the port of its link.
-use Rattle.std.proofs.Common.{◌≡◌, ℕ, List, [], ◌++◌, get_or, set, Option, Some, eqb, cond, sym, ap, ◌∙◌, subst}
+use Rattle.std.proofs.Common.{◌≡◌, ℕ, List, [], ◌++◌, get_or, set, Option, Some, eqb, cond, refl, sym, ap, ◌∙◌, subst}
 use Rattle.std.specs.List.{find, position}
 use Rattle.tva_base.specs.Plan.{AreDistinct, links_of}
 use Rattle.tva_base.specs.declared.limits.LinkLimits.{LinkLimits}
@@ -10,7 +10,10 @@ use Rattle.tva_port.specs.Log.{Entry}
 use Rattle.tva_port.specs.Waiting.{waiting_after, queue_answer, queued_by}
 use Rattle.tva_port.specs.Stands.{PortData, StandsFor}
 use Rattle.tva_shim.specs.Shows.{key_of}
-use Rattle.tva_router.specs.Handling.{PortLogs, offered, outcome_of, sent, queued}
+use Rattle.tva_port.specs.declared.hand.Answer.{Answer}
+use Rattle.tva_port.specs.declared.hand.Answer.TheVariants as answers
+use Rattle.tva_port.specs.Hand.{AreOneAnswer, answer_by, kept_by}
+use Rattle.tva_router.specs.Handling.{PortLogs, offered, outcome_of, sent, queued, kept_after}
 use Rattle.tva_router.specs.Stands.{StandForLogs, ◌with◌}
 use Rattle.tva_router.specs.Steps.{ArePorts}
 use Rattle.tva_router.proofs.Links.{is_at, at_within, at_link, find_there}
@@ -59,3 +62,15 @@ stands-queued os last ps logs i link d p new now class key packet r apart h a s 
     (stands-set os ps logs i link new (queued_by r now class key packet) d apart at s
     (l ∙ (port-get os last ps i p d a (at_within os i link at) here).0)
     (stands (logs link) (stands-get os ps logs i link p s at (ports-length os last ps a) here)))
+
+-- ## what the hand holds then
+
+pub kept_agrees : (answer : Answer) (p : PacketData) → AreOneAnswer answer (kept_by answer p)
+kept_agrees answers.Queued p = refl
+kept_agrees answers.NoQueue p = refl
+kept_agrees answers.QueueFull p = refl
+
+pub kept_by_outcome : (link : ℕ) (answer : Answer) (p : PacketData) → kept_by answer p ≡ kept_after (outcome_of link (answer_by answer (kept_by answer p))) p
+kept_by_outcome link answers.Queued p = refl
+kept_by_outcome link answers.NoQueue p = refl
+kept_by_outcome link answers.QueueFull p = refl

@@ -89,6 +89,11 @@ abbrev pub entered_by : Outcome → ℕ → Class → PacketData → PortLogs
 entered_by (outcome.Queued link) now class p k = if k == link then Queued now class (key_of class p) p ∷ [] else []
 entered_by (outcome.Dropped cause) now class p k = []
 
+-- what a hand holds in which a packet came: nothing where it was queued, else the packet as it would go on
+abbrev pub kept_after : Outcome → PacketData → Option PacketData
+kept_after (outcome.Queued link) p = None
+kept_after (outcome.Dropped cause) p = Some p
+
 -- the fate of a packet that was judged, by where it ends up
 abbrev pub fate_of : Judged → Outcome → Fate
 fate_of j outcome = record { class = j.class; cause = j.cause; charge = j.charge; outcome = outcome }

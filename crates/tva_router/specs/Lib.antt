@@ -7,3 +7,4 @@ pub mod Marks
 pub mod Stands
 pub mod Tables
 pub mod Steps
+pub mod Stocked

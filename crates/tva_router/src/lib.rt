@@ -5,6 +5,7 @@
 
 mod finding;
 mod guard;
+mod hand_router;
 mod judged;
 mod key;
 mod laws;
@@ -13,6 +14,7 @@ mod router;
 mod routes;
 mod sending;
 
+pub use hand_router::HandRouter;
 pub use judged::{Arrival, Judged};
 pub use key::flow_key;
 pub use laws::{

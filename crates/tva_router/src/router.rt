@@ -1,5 +1,5 @@
-// A router.
-ghost use Rattle.std.specs.Prelude.{◌≡◌, ◌≢◌, ◌≤◌, ◌<◌, ◌↔◌, ℕ, ◌+◌, ◌*◌, max, nat_le, true, false, List, [], ◌++◌, Some, None, IsSome, IfOk, All, Contains, map};
+// A router, for packets by value.
+ghost use Rattle.std.specs.Prelude.{◌≡◌, ◌≢◌, ◌≤◌, ◌<◌, ◌↔◌, ℕ, ◌+◌, ◌*◌, max, nat_le, true, false, List, [], ◌++◌, Some, None, IsSome, IfOk, OnOk, All, Contains, map};
 ghost use Rattle.tva_base.specs.declared.plan.RouterPlan.{RouterPlan};
 ghost use Rattle.tva_base.specs.Changes.{changed_plan};
 ghost use Rattle.tva_base.specs.Plan.{AreRising, IsRouterPlan, AreLinkLimits, links_of};
@@ -9,50 +9,36 @@ ghost use Rattle.tva_flow.specs.Budget.{AreTimely, IsWithinBudget};
 ghost use Rattle.tva_port.specs.Log.{free_after};
 ghost use Rattle.tva_port.specs.Waiting.{waiting_after, next_request, IsEmpty, IsRequestAlone};
 ghost use Rattle.tva_port.specs.Decide.{decision, is_start, started_by, RestsAt, MissesNone, NoneDueBefore, IsFirstCovered};
-ghost use Rattle.tva_port.specs.Hand.{AreOneDecision, decision_by};
 ghost use Rattle.tva_port.specs.declared.decision.Decision.TheVariants.{Start, WaitUntil, Idle};
-ghost use Rattle.tva_router.specs.Handling.{PortLogs, outgoing_link, arrival, stopped, handle};
+ghost use Rattle.tva_router.specs.Handling.{PortLogs, outgoing_link, handle};
 ghost use Rattle.tva_router.specs.Routes.{rerouted};
-ghost use Rattle.tva_router.specs.Stands.{StandsFor, StandForLogs, free_of, router_data, started_on, ◌with◌};
-ghost use Rattle.tva_router.specs.Steps.{ArePorts, IsSound};
+ghost use Rattle.tva_router.specs.Stands.{StandsFor, free_of, started_on, ◌with◌};
+ghost use Rattle.tva_router.specs.Stocked.{places_on};
 
-use crate::finding::{Ways, ways_of};
-use crate::guard::Guard;
-use crate::judged::{Arrival, Judgement};
-use crate::routes::reroute;
-use crate::sending::{decide_on, free_on, send};
+use crate::hand_router::HandRouter;
 use std::alloc::{AllocError, Global};
 use std::marker::Model;
-use tva_base::{
-    Class, DropCause, Fate, LinkLimits, Listed, Name, Outcome, Prefix, RouterPlan, Time,
-};
-use tva_port::{Decision, Hand, Next, Port, decision_by};
-use tva_shim::{HOPS_MAX, Packet, class_of, length};
+use tva_base::{Class, Fate, LinkLimits, Prefix, RouterPlan, Time};
+use tva_port::{Decision, Hand, Stock, decision_by, places_in};
+use tva_shim::Packet;
 
-/// What a router keeps: the plan by which it was built and the plan in force, its last time, what it
-/// judges packets with, the tables by which it finds links, and a port for each outgoing link. Contracts
-/// speak of all its charges since it last started, and of the logs of its links' ports, for which these
-/// stand. All memory is taken when it is built.
+/// The same as `HandRouter` for packets by value, which take no memory: it has some for each packet that may
+/// wait, and for one more. All memory is taken when it is built.
 #[derive(Drop)]
 pub struct Router {
-    built: RouterPlan,
-    plan: RouterPlan,
-    last: u64,
-    guard: Guard,
-    ways: Ways,
-    ports: Vec<Port>,
-    blank: Hand,
+    inner: HandRouter,
+    stock: Stock,
 }
 
 impl Model for Router {
-    ghost use Rattle.tva_router.specs.Stands.{RouterData, router_data};
-    ghost use Rattle.tva_router.specs.Steps.{IsSound};
+    ghost use Rattle.tva_router.specs.Stands.{RouterData};
+    ghost use Rattle.tva_router.specs.Stocked.{IsStocked};
 
     ghost Value = { RouterData };
 
-    ghost view = { λ r. router_data r.built r.plan r.last r.guard.minter r.guard.cache r.ports.items };
+    ghost view = { λ r. r.inner };
 
-    ghost invariant = { λ r. IsSound r.built r.plan r.last r.guard r.ways r.ports.items };
+    ghost invariant = { λ r. IsStocked r.inner r.stock };
 }
 
 impl Router {
@@ -68,15 +54,10 @@ impl Router {
         ensures missed { IfOk result (λ router. (link until : ℕ) (limits : LinkLimits)
             → outgoing_link plan.now link ≡ Some (link, limits) → MissesNone limits until []) }
     {
-        Ok(Router {
-            built: copied(alloc, plan)?,
-            plan: copied(alloc, plan)?,
-            last: 0,
-            guard: Guard::build(alloc, plan)?,
-            ways: ways_of(alloc, plan)?,
-            ports: ports_of(alloc, plan.outgoing.as_slice())?,
-            blank: Hand::new(alloc)?,
-        })
+        let inner = HandRouter::build(alloc, plan)?;
+        let mut stock = Stock::empty(alloc);
+        add_for(alloc, &mut stock, plan.outgoing.as_slice())?;
+        Ok(Router { inner, stock })
     }
 
     /// The restarts of the plan by which it was built, each with its time, in nanoseconds: times rise.
@@ -84,7 +65,7 @@ impl Router {
         ensures restarts { result.now ≡ self.now.built.restarts }
         ensures rising { AreRising (map (λ c. c.0.0) result.now) }
     {
-        self.built.restarts.as_slice()
+        self.inner.restarts()
     }
 
     /// What becomes of a packet that comes in on a link, or from the trace. Times are in nanoseconds
@@ -113,45 +94,10 @@ impl Router {
         ensures built { self.new.built ≡ self.old.built }
         ensures same { self.new.plan ≡ self.old.plan }
     {
-        self.last = now.0;
-        self.blank.put(packet);
-        arrive_in(
-            &self.plan,
-            &self.ways,
-            &mut self.guard,
-            &mut self.ports,
-            now,
-            from,
-            &mut self.blank,
-        )
-    }
-
-    /// The same of a packet in the caller's hand, so that it isn't moved from call to call. No clause says what the
-    /// hand holds then: whoever uses it again clears it.
-    #[inline(always)]
-    pub fn arrive_from(&mut self, now: Time, from: Option<u16>, hand: &mut Hand) -> Fate
-        requires time { self.old.last ≤ now.0 }
-        requires horizon { now.0 ≤ 1000000000000000 }
-        requires held { IsSome hand.old }
-        ensures fate { (h : List Charge) (logs : PortLogs) (packet : PacketData) → StandsFor self.old h logs
-            → hand.old ≡ Some packet → result ≡ (handle self.old.plan h logs now.0 from packet).fate }
-        ensures stands { (h : List Charge) (logs : PortLogs) (packet : PacketData) → StandsFor self.old h logs
-            → hand.old ≡ Some packet → StandsFor self.new (h ++ (handle self.old.plan h logs now.0 from packet).charges)
-            (logs with (handle self.old.plan h logs now.0 from packet).queued) }
-        ensures last { self.new.last ≡ now.0 }
-        ensures built { self.new.built ≡ self.old.built }
-        ensures same { self.new.plan ≡ self.old.plan }
-    {
-        self.last = now.0;
-        arrive_in(
-            &self.plan,
-            &self.ways,
-            &mut self.guard,
-            &mut self.ports,
-            now,
-            from,
-            hand,
-        )
+        let mut hand = self.stock.hand_of(packet);
+        let fate = self.inner.arrive_from(now, from, &mut hand);
+        let _ = self.stock.packet_of(hand);
+        fate
     }
 
     /// What an outgoing link does that is free. Times are in nanoseconds and never fall. The decision
@@ -208,42 +154,9 @@ impl Router {
         ensures built { self.new.built ≡ self.old.built }
         ensures same { self.new.plan ≡ self.old.plan }
     {
-        self.last = now.0;
-        self.blank.clear();
-        let next = decide_on(
-            &self.plan,
-            &self.ways,
-            &mut self.ports,
-            now,
-            link,
-            &mut self.blank,
-        );
-        decision_by(next, self.blank.take())
-    }
-
-    /// The same where a packet that starts is put into the caller's hand, which is empty. So it isn't moved
-    /// from call to call.
-    #[inline(always)]
-    pub fn decide_into(&mut self, now: Time, link: u16, hand: &mut Hand) -> Next
-        requires time { self.old.last ≤ now.0 }
-        requires horizon { now.0 ≤ 1000000000000000 }
-        requires outgoing { outgoing_link self.old.plan link ≢ None }
-        requires free { free_of self.old link ≤ now.0 }
-        requires empty { hand.old ≡ None }
-        ensures decision { (h : List Charge) (logs : PortLogs) (limits : LinkLimits) → StandsFor self.old h logs
-            → outgoing_link self.old.plan link ≡ Some (link, limits)
-            → decision_by result hand.new ≡ decision limits (logs link) now.0 }
-        ensures held { AreOneDecision result hand.new }
-        ensures stands { (h : List Charge) (logs : PortLogs) → StandsFor self.old h logs
-            → StandsFor self.new h (logs with started_on link (decision_by result hand.new) now.0) }
-        ensures busy { is_start (decision_by result hand.new) ≡ true → now.0 < free_of self.new link }
-        ensures soon { free_of self.new link ≤ now.0 + 2048000000 }
-        ensures last { self.new.last ≡ now.0 }
-        ensures built { self.new.built ≡ self.old.built }
-        ensures same { self.new.plan ≡ self.old.plan }
-    {
-        self.last = now.0;
-        decide_on(&self.plan, &self.ways, &mut self.ports, now, link, hand)
+        let mut hand = Hand::empty();
+        let next = self.inner.decide_into(now, link, &mut hand);
+        decision_by(next, self.stock.packet_of(hand))
     }
 
     /// When an outgoing link is free, in nanoseconds: the end of its last start, or 0.
@@ -255,7 +168,7 @@ impl Router {
             → result.0 ≡ free_after limits (logs link) }
         ensures soon { result.0 ≤ self.now.last + 2048000000 }
     {
-        free_on(&self.plan, &self.ways, &self.ports, link)
+        self.inner.free_at(link)
     }
 
     /// Starts again with another master. From then on the router stands for no charges, and mints and
@@ -269,9 +182,7 @@ impl Router {
         ensures built { self.new.built ≡ self.old.built }
         ensures last { self.new.last ≡ now.0 }
     {
-        self.last = now.0;
-        self.guard.restart(&self.plan, master);
-        self.plan.master = master;
+        self.inner.restart(now, master);
     }
 
     /// Gives the route of a prefix another of the outgoing links, which packets take from then on that
@@ -287,8 +198,7 @@ impl Router {
         ensures built { self.new.built ≡ self.old.built }
         ensures last { self.new.last ≡ now.0 }
     {
-        self.last = now.0;
-        reroute(&mut self.plan.routes, &self.ways.routes, prefix, link);
+        self.inner.reroute(now, prefix, link);
     }
 
     /// How many flows may live at once. Whatever packets came, each was charged in one of its grant's
@@ -302,119 +212,24 @@ impl Router {
         ensures living { (h : List Charge) (logs : PortLogs) → StandsFor self.now h logs
             → (now : ℕ) → self.now.last ≤ now → living_count h now ≤ self.now.plan.slots }
     {
-        self.guard.cache.slots()
+        self.inner.slots()
     }
 }
 
-// What becomes of the packet in hand, on the parts of a router.
-#[inline(always)]
-fn arrive_in(
-    plan: &RouterPlan,
-    ways: &Ways,
-    guard: &mut Guard,
-    ports: &mut Vec<Port>,
-    now: Time,
-    from: Option<u16>,
-    hand: &mut Hand,
-) -> Fate
-    requires sound { (built : RouterPlan) × (last : ℕ) × (last ≤ now.0) × IsSound built plan.now last guard.old ways.now ports.old.items }
-    requires horizon { now.0 ≤ 1000000000000000 }
-    requires held { IsSome hand.old }
-    ensures sound { (built : RouterPlan) (last : ℕ) → last ≤ now.0
-        → IsSound built plan.now last guard.old ways.now ports.old.items
-        → IsSound built plan.now now.0 guard.new ways.now ports.new.items }
-    ensures fate { (built : RouterPlan) (last : ℕ) (h : List Charge) (logs : PortLogs) (packet : PacketData) → last ≤ now.0
-        → IsSound built plan.now last guard.old ways.now ports.old.items
-        → StandsFor (router_data built plan.now last guard.old.minter guard.old.cache ports.old.items) h logs
-        → hand.old ≡ Some packet → result ≡ (handle plan.now h logs now.0 from packet).fate }
-    ensures stands { (built : RouterPlan) (last : ℕ) (h : List Charge) (logs : PortLogs) (packet : PacketData) → last ≤ now.0
-        → IsSound built plan.now last guard.old ways.now ports.old.items
-        → StandsFor (router_data built plan.now last guard.old.minter guard.old.cache ports.old.items) h logs
-        → hand.old ≡ Some packet
-        → StandsFor (router_data built plan.now now.0 guard.new.minter guard.new.cache ports.new.items)
-        (h ++ (handle plan.now h logs now.0 from packet).charges)
-        (logs with (handle plan.now h logs now.0 from packet).queued) }
+// Takes memory for a packet in each place of these links, and for one more.
+fn add_for(
+    alloc: Global,
+    stock: &mut Stock,
+    outgoing: &[(u16, LinkLimits)],
+) -> Result<(), AllocError>
+    requires limits { All (λ o. AreLinkLimits o.1) outgoing.now }
+    requires empty { stock.old.count ≡ 0 }
+    ensures count { OnOk result (stock.new.count ≡ places_on outgoing.now + 1) }
+    ensures room { stock.new.count ≤ stock.new.room }
 {
-    let Some(packet) = &mut *hand.packet else {
-        unreachable!()
-    };
-    if at_hop_limit(packet) {
-        return stopped(packet);
-    }
-    let arrival = arrival_of(now, from, packet);
-    let Judgement {
-        class,
-        cause,
-        charge,
-    } = guard.judge(plan, &arrival, &mut packet.carried);
-    packet.hops += 1;
-    let outcome = send(plan, ways, ports, now, class, hand);
-    Fate {
-        class,
-        cause,
-        charge,
-        outcome,
-    }
-}
-
-// A port for each link.
-fn ports_of(alloc: Global, outgoing: &[(u16, LinkLimits)]) -> Result<Vec<Port>, AllocError>
-    requires { All (λ o. AreLinkLimits o.1) outgoing.now }
-    ensures ports { IfOk result (λ ports. ArePorts outgoing.now 0 ports.items) }
-    ensures stands { IfOk result (λ ports. StandForLogs outgoing.now ports.items (λ link. [])) }
-{
-    let mut ports = Vec::with_capacity(alloc, outgoing.len())?;
+    stock.add(alloc, 1)?;
     for (_link, limits) in outgoing {
-        ports.push(Port::build(alloc, *limits)?)?;
+        stock.add(alloc, places_in(limits))?;
     }
-    Ok(ports)
-}
-
-// The same plan once more.
-fn copied(alloc: Global, plan: &RouterPlan) -> Result<RouterPlan, AllocError>
-    ensures { IfOk result (λ copy. copy ≡ plan.now) }
-{
-    Ok(RouterPlan {
-        name: Name::new(plan.name.as_str()),
-        master: plan.master,
-        clock_offset: plan.clock_offset,
-        slots: plan.slots,
-        edge_tag: plan.edge_tag,
-        incoming: Listed::new(plan.incoming.as_slice().to_vec(alloc)?),
-        outgoing: Listed::new(plan.outgoing.as_slice().to_vec(alloc)?),
-        routes: Listed::new(plan.routes.as_slice().to_vec(alloc)?),
-        restarts: Listed::new(plan.restarts.as_slice().to_vec(alloc)?),
-        reroutes: Listed::new(plan.reroutes.as_slice().to_vec(alloc)?),
-    })
-}
-
-fn arrival_of(now: Time, from: Option<u16>, packet: &Packet) -> Arrival
-    ensures value { result ≡ arrival now.0 from packet.now }
-    ensures sized { (20 ≤ result.bytes) × (result.bytes ≤ 2048) }
-{
-    Arrival {
-        time: now,
-        from,
-        flow: packet.flow,
-        bytes: length(packet),
-    }
-}
-
-// Whether a packet passed as many routers as it may.
-fn at_hop_limit(packet: &Packet) -> bool
-    ensures { result ≡ nat_le 32 packet.now.hops }
-{
-    packet.hops >= HOPS_MAX
-}
-
-// What becomes of a packet at the hop limit.
-fn stopped(packet: &Packet) -> Fate
-    ensures { result ≡ (stopped packet.now).fate }
-{
-    Fate {
-        class: class_of(packet),
-        cause: None,
-        charge: None,
-        outcome: Outcome::Dropped(DropCause::HopLimit),
-    }
+    Ok(())
 }

@@ -3,7 +3,7 @@ ghost use Rattle.std.specs.Prelude.{◌≡◌, ◌≢◌, ◌≤◌, ◌<◌, �
 ghost use Rattle.tva_base.specs.declared.limits.LinkLimits.{LinkLimits};
 ghost use Rattle.tva_base.specs.Plan.{IsRouterPlan};
 ghost use Rattle.tva_shim.specs.Packets.{PacketData};
-ghost use Rattle.tva_router.specs.Handling.{PortLogs, outcome_of, outgoing_link, sent, queued, way_to};
+ghost use Rattle.tva_router.specs.Handling.{PortLogs, outcome_of, outgoing_link, sent, queued, way_to, kept_after};
 ghost use Rattle.tva_port.specs.Decide.{decision, is_start};
 ghost use Rattle.tva_port.specs.Hand.{AreOneAnswer, AreOneDecision, answer_by, decision_by};
 ghost use Rattle.tva_router.specs.Stands.{StandForLogs, free_in, started_on, ◌with◌};
@@ -14,14 +14,14 @@ use crate::finding::Ways;
 use crate::places::place_of;
 use crate::routes::link_to;
 use tva_base::{Class, DropCause, Outcome, RouterPlan, Time};
-use tva_port::{Answer, Hand, Next, Port, destination_in, key_in};
+use tva_port::{Answer, Hand, HandPort, Next, destination_in, key_in};
 
 /// Queues the packet in hand at the port of the link that leads to its destination.
 #[inline(always)]
 pub(crate) fn send(
     plan: &RouterPlan,
     ways: &Ways,
-    ports: &mut Vec<Port>,
+    ports: &mut Vec<HandPort>,
     now: Time,
     class: Class,
     hand: &mut Hand,
@@ -37,6 +37,7 @@ pub(crate) fn send(
     ensures stands { (logs : PortLogs) (packet : PacketData) → StandForLogs plan.now.outgoing ports.old.items logs
         → hand.old ≡ Some packet → StandForLogs plan.now.outgoing ports.new.items
         (logs with queued logs now.0 class packet (way_to plan.now packet.flow.dst)) }
+    ensures left { (packet : PacketData) → hand.old ≡ Some packet → hand.new ≡ kept_after result packet }
 {
     let Some(link) = link_to(plan.routes.as_slice(), &ways.routes, destination_in(hand)) else {
         return Outcome::Dropped(DropCause::NoRoute);
@@ -51,7 +52,7 @@ pub(crate) fn send(
 pub(crate) fn decide_on(
     plan: &RouterPlan,
     ways: &Ways,
-    ports: &mut Vec<Port>,
+    ports: &mut Vec<HandPort>,
     now: Time,
     link: u16,
     hand: &mut Hand,
@@ -82,7 +83,7 @@ pub(crate) fn decide_on(
 }
 
 /// When the outgoing link is free.
-pub(crate) fn free_on(plan: &RouterPlan, ways: &Ways, ports: &Vec<Port>, link: u16) -> Time
+pub(crate) fn free_on(plan: &RouterPlan, ways: &Ways, ports: &Vec<HandPort>, link: u16) -> Time
     requires ways { AreWays plan.now ways.now }
     requires ports { (last : ℕ) × ArePorts plan.now.outgoing last ports.now.items }
     requires outgoing { outgoing_link plan.now link ≢ None }
@@ -99,7 +100,7 @@ pub(crate) fn free_on(plan: &RouterPlan, ways: &Ways, ports: &Vec<Port>, link: u
 #[inline(always)]
 fn queue_at(
     plan: &RouterPlan,
-    ports: &mut Vec<Port>,
+    ports: &mut Vec<HandPort>,
     place: usize,
     link: u16,
     now: Time,
@@ -118,6 +119,7 @@ fn queue_at(
     ensures stands { (logs : PortLogs) (packet : PacketData) → StandForLogs plan.now.outgoing ports.old.items logs
         → hand.old ≡ Some packet → StandForLogs plan.now.outgoing ports.new.items
         (logs with queued logs now.0 class packet (outgoing_link plan.now link)) }
+    ensures left { (packet : PacketData) → hand.old ≡ Some packet → hand.new ≡ kept_after result packet }
 {
     let key = key_in(class, hand);
     outcome_of(link, ports[place].queue_from(now, class, key, hand))

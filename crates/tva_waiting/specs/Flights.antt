@@ -1,8 +1,8 @@
--- Kit: how packets on their way are held: one without a shim by what it says, another in a hand.
-use Rattle.std.specs.Prelude.{ℕ, Option, Some, None, IsSome}
+-- Kit: how packets on their way are held: one without a shim by what it says, another in memory of its own.
+use Rattle.std.specs.Prelude.{ℕ, Option, Some, None}
 use Rattle.tva_shim.specs.declared.packets.Carried.{Carried}
 use Rattle.tva_shim.specs.declared.packets.Carried.TheVariants as carried
-use Rattle.tva_shim.specs.Packets.{IsPacket, PacketData, packet_data, packet_with}
+use Rattle.tva_shim.specs.Packets.{IsPacket, PacketData, packet_with}
 use Rattle.tva_waiting.specs.declared.flights.Bare as bares
 use Rattle.tva_waiting.specs.declared.flights.Form as forms
 use Rattle.tva_waiting.specs.declared.flights.Form.TheVariants as form
@@ -16,21 +16,11 @@ carried_by (Some bytes) = carried.Malformed bytes
 abbrev pub packet_of : bares.Bare → PacketData
 packet_of bare = packet_with bare.id bare.flow bare.hops bare.payload (carried_by bare.malformed) bare.upper
 
--- what stands for the packet of an empty hand, which no form has
-abbrev pub no_packet : PacketData
-no_packet =
-    packet_data (record { node = 0; ordinal = 0 }) (record { src = record { 0 = 0 }; dst = record { 0 = 0 } }) 0 0
-    carried.Nothing
-
-abbrev pub in_hand : Option PacketData → PacketData
-in_hand (Some packet) = packet
-in_hand None = no_packet
-
 abbrev pub packet_in : forms.Form → PacketData
 packet_in (form.Bare bare) = packet_of bare
-packet_in (form.Boxed hand) = in_hand hand
+packet_in (form.Boxed packet) = packet.value
 
--- a packet within the sizes of a network, or a hand that holds one
+-- what is within the sizes of a network where it is said so
 abbrev pub IsForm : forms.Form → Type 0
 IsForm (form.Bare bare) = IsPacket (packet_of bare)
-IsForm (form.Boxed hand) = IsSome hand
+IsForm (form.Boxed packet) = Unit {0}

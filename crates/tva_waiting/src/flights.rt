@@ -10,46 +10,6 @@ use tva_log::Sending;
 use tva_port::Hand;
 use tva_shim::{Carried, Packet};
 
-// So many hands are kept for packets to come.
-const FREE_MOST: usize = 1_024;
-
-/// Empty hands that are kept for packets to come.
-#[derive(Drop)]
-pub struct Hands {
-    free: Vec<Hand>,
-}
-
-impl Hands {
-    /// None is kept.
-    pub fn new(alloc: Global) -> Hands {
-        Hands {
-            free: Vec::new(alloc),
-        }
-    }
-
-    /// An empty hand: one that was kept, or a new one. The error is want of memory.
-    #[inline(always)]
-    pub fn take(&mut self, alloc: Global) -> Result<Hand, AllocError>
-        ensures { IfOk result (λ hand. hand ≡ None) }
-    {
-        match self.free.pop() {
-            Some(mut hand) => {
-                hand.clear();
-                Ok(hand)
-            }
-            None => Hand::new(alloc),
-        }
-    }
-
-    /// Keeps a hand, or lets go of it where there are enough, or memory wants.
-    #[inline(always)]
-    pub fn put(&mut self, hand: Hand) {
-        if self.free.len() < FREE_MOST {
-            let _ = self.free.push(hand);
-        }
-    }
-}
-
 /// All that a packet without a shim says.
 #[derive(Clone, Copy)]
 pub(crate) struct Bare {
@@ -61,11 +21,11 @@ pub(crate) struct Bare {
     pub malformed: Option<u16>,
 }
 
-/// How a packet is on its way: by what it says, or in a hand.
+/// How a packet is on its way: by what it says, or in memory of its own.
 #[derive(Drop)]
 pub(crate) enum Form {
     Bare(Bare),
-    Boxed(Hand),
+    Boxed(Box<Packet>),
 }
 
 /// A packet on its way, in little memory that moves. Contracts see the packet.
@@ -87,37 +47,46 @@ impl Model for Flown {
 }
 
 impl Flown {
-    // The packet in that hand. One without a shim leaves the hand.
+    // The packet in that hand. One without a shim lets go of its memory.
     #[inline(always)]
-    fn of(hand: Hand, hands: &mut Hands) -> Flown
+    fn of(hand: Hand) -> Flown
         requires { IsSome hand }
         ensures { (packet : PacketData) → hand ≡ Some packet → result ≡ packet }
     {
-        match bare_in(&hand) {
-            Some(bare) => {
-                hands.put(hand);
-                Flown {
+        match hand.packet {
+            Some(packet) => match bare_of(&packet) {
+                Some(bare) => Flown {
                     form: Form::Bare(bare),
-                }
-            }
-            None => Flown {
-                form: Form::Boxed(hand),
+                },
+                None => Flown {
+                    form: Form::Boxed(packet),
+                },
             },
+            None => unreachable!(),
         }
     }
 
     // The packet in a hand. The error is want of memory.
     #[inline(always)]
-    fn into_hand(self, alloc: Global, hands: &mut Hands) -> Result<Hand, AllocError>
+    fn into_hand(self, alloc: Global) -> Result<Hand, AllocError>
         ensures { IfOk result (λ hand. hand ≡ Some self) }
     {
         match self.form {
-            Form::Bare(bare) => {
-                let mut hand = hands.take(alloc)?;
-                hand.put(packet_of(bare));
-                Ok(hand)
-            }
-            Form::Boxed(hand) => Ok(hand),
+            Form::Bare(bare) => Hand::of(alloc, packet_of(bare)),
+            Form::Boxed(packet) => Ok(Hand {
+                packet: Some(packet),
+            }),
+        }
+    }
+
+    // The packet.
+    #[inline(always)]
+    fn into_packet(self) -> Packet
+        ensures { result ≡ self }
+    {
+        match self.form {
+            Form::Bare(bare) => packet_of(bare),
+            Form::Boxed(packet) => Box::into_inner(packet),
         }
     }
 
@@ -127,7 +96,7 @@ impl Flown {
     {
         match &self.form {
             Form::Bare(bare) => packet_of(*bare),
-            Form::Boxed(hand) => copied_in(hand),
+            Form::Boxed(packet) => packet.copied(),
         }
     }
 }
@@ -151,9 +120,9 @@ impl Model for Flight {
 
 impl Flight {
     /// The packet in hand, which the link of that number started, and which arrives at a time, in nanoseconds. A
-    /// packet without a shim leaves its hand to the others.
+    /// packet without a shim lets go of its memory.
     #[inline(always)]
-    pub fn of(link: u16, arrive: Time, hand: Hand, hands: &mut Hands) -> Flight
+    pub fn of(link: u16, arrive: Time, hand: Hand) -> Flight
         requires { IsSome hand }
         ensures { (packet : PacketData) → hand ≡ Some packet
             → result ≡ record { link = link; arrive = arrive; packet = packet } }
@@ -161,7 +130,7 @@ impl Flight {
         Flight {
             link,
             arrive,
-            packet: Flown::of(hand, hands),
+            packet: Flown::of(hand),
         }
     }
 
@@ -174,13 +143,11 @@ impl Flight {
     ) -> Result<Flight, AllocError>
         ensures { IfOk result (λ flight. flight ≡ record { link = link; arrive = arrive; packet = packet }) }
     {
-        let mut hand = Hand::new(alloc)?;
-        hand.put(packet);
         Ok(Flight {
             link,
             arrive,
             packet: Flown {
-                form: Form::Boxed(hand),
+                form: Form::Boxed(Box::new(alloc, packet)?),
             },
         })
     }
@@ -219,23 +186,20 @@ impl Flight {
         self.arrive
     }
 
-    /// The packet in a hand: its own, or one of those that are kept, or a new one. The error is want of memory.
+    /// The packet in a hand. The error is want of memory.
     #[inline(always)]
-    pub fn into_hand(self, alloc: Global, hands: &mut Hands) -> Result<Hand, AllocError>
+    pub fn into_hand(self, alloc: Global) -> Result<Hand, AllocError>
         ensures { IfOk result (λ hand. hand ≡ Some self.packet) }
     {
-        self.packet.into_hand(alloc, hands)
+        self.packet.into_hand(alloc)
     }
-}
 
-// What the packet in hand says, where it has no shim.
-fn bare_in(hand: &Hand) -> Option<Bare>
-    ensures same { IfSome result (λ bare. hand.now ≡ Some (packet_of bare)) }
-    ensures sized { IfSome result (λ bare. IsPacket (packet_of bare)) }
-{
-    match &*hand.packet {
-        Some(packet) => bare_of(packet),
-        None => None,
+    /// The packet.
+    #[inline(always)]
+    pub fn into_packet(self) -> Packet
+        ensures { result ≡ self.packet }
+    {
+        self.packet.into_packet()
     }
 }
 
@@ -274,16 +238,5 @@ fn packet_of(bare: Bare) -> Packet
             None => Carried::Nothing,
             Some(bytes) => Carried::Malformed(bytes),
         },
-    }
-}
-
-// The packet in hand once more.
-fn copied_in(hand: &Hand) -> Packet
-    requires { IsSome hand.now }
-    ensures { hand.now ≡ Some result }
-{
-    match &*hand.packet {
-        Some(packet) => packet.copied(),
-        None => unreachable!(),
     }
 }

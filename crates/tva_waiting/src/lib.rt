@@ -10,7 +10,7 @@ mod inbox;
 mod memory;
 mod waiting;
 
-pub use flights::{Flight, Hands};
+pub use flights::Flight;
 pub use inbox::Inbox;
 pub use memory::Memory;
 pub use waiting::Waiting;

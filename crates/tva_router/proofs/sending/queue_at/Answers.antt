@@ -1,7 +1,9 @@
-use Rattle.std.proofs.Common.{◌∙◌, arith}
-use Rattle.tva_port.specs.Hand.{answer_by}
+use Rattle.std.proofs.Common.{sym, ap, ◌∙◌, arith}
+use Rattle.tva_base.specs.declared.packet.Outcome.{Outcome}
+use Rattle.tva_port.specs.Hand.{answer_by, kept_by}
+use Rattle.tva_router.specs.Handling.{kept_after}
 use Rattle.tva_router.proofs.Ports.{ports-length, port-get, ports-set}
-use Rattle.tva_router.proofs.Queueing.{found, answered, sent-at, stands-queued}
+use Rattle.tva_router.proofs.Queueing.{found, answered, sent-at, stands-queued, kept_agrees, kept_by_outcome}
 use Rattle.tva_router.proofs.sending.queue_at.Goals as goal
 
 pub index_mut-requires : goal.index_mut-requires
@@ -32,3 +34,9 @@ returns-clause-stands c logs packet s held =
     stands-queued c.args.plan.now.outgoing c.args.now.0 c.args.ports.now.items logs c.args.place c.args.link (c.args.link, c.index_mut.result.now.limits) c.index_mut.result.now c.queue_from.new.self c.args.now.0 c.args.class c.key_in-key.result packet (answer_by c.queue_from.result c.queue_from.new.hand)
     c.requires.plan.outgoing c.requires.place c.requires.ports s c.index_mut.ensures.value (c.key_in-key.ensures packet held)
     (λ log t. c.queue_from.ensures.answer log packet t held) (λ log t. c.queue_from.ensures.stands log packet t held) c.queue_from.ensures.same.0
+
+pub returns-clause-left : goal.returns-clause-left
+returns-clause-left c packet held =
+    c.queue_from.ensures.left packet held
+    ∙ (kept_by_outcome c.args.link c.queue_from.result packet
+    ∙ ap (λ (o : Outcome). kept_after o packet) (sym (c.outcome_of.ensures (kept_by c.queue_from.result packet) (kept_agrees c.queue_from.result packet))))

@@ -1,11 +1,10 @@
 use Rattle.std.proofs.Common.{◌≡◌, ℕ, List, Option, Some, None, eqb, sym, ap, ◌∙◌, subst}
-use Rattle.std.specs.List.{find, position}
+use Rattle.std.specs.List.{position}
 use Rattle.std.specs.Option.{option_and_then}
 use Rattle.tva_base.specs.declared.addresses.Address.{Address}
 use Rattle.tva_base.specs.declared.limits.LinkLimits.{LinkLimits}
 use Rattle.tva_base.specs.declared.plan.Route.{Route}
 use Rattle.tva_base.specs.declared.plan.RouterPlan.{RouterPlan}
-use Rattle.tva_shim.specs.Packets.{PacketData}
 use Rattle.tva_router.specs.Routes.{link_to}
 use Rattle.tva_router.specs.Handling.{sent, queued, way_to, outgoing_link}
 use Rattle.tva_router.specs.Stands.{StandForLogs, ◌with◌}

@@ -115,21 +115,21 @@ returns-in-WaitUntil-clause-stands c =
     let a = c.at-number.result in
     let out = read_out p c.args.now c.args.place a c.at-number.ensures c.requires.within c.requires.stands in
     let free = c.free_at-free.ensures.free (site_at p) c.requires.stands.1 a.plan.limits st.site st.plan out st.role in
-    put_there p c.args.now c.args.place a c.at-number.ensures c.requires.within c.requires.stands c.put-in-WaitUntil-2.new.self (Some c.in-WaitUntil.time.0) c.decide.new.self (c.put-in-WaitUntil-2.ensures a)
+    put_there p c.args.now c.args.place a c.at-number.ensures c.requires.within c.requires.stands c.put-in-WaitUntil.new.self (Some c.in-WaitUntil.time.0) c.decide.new.self (c.put-in-WaitUntil.ensures a)
     (read_rest p c.args.now c.args.place a c.at-number.ensures c.requires.within c.requires.stands (WaitUntil c.in-WaitUntil.time) (Some c.in-WaitUntil.time.0) c.decide.new.self (get_or p.links c.args.place a)
     (here_is p c.args.now c.args.place a c.at-number.ensures c.requires.within c.requires.stands) refl
     (omega (arith, free, c.if-free-now.false))
     (c.in-WaitUntil.ensures.decides (site_at p) c.requires.stands.1 a.plan.limits st.site st.plan out st.role) refl c.in-WaitUntil.ensures.plan c.in-WaitUntil.ensures.last)
 
 pub returns-in-WaitUntil-clause-count : goal.returns-in-WaitUntil-clause-count
-returns-in-WaitUntil-clause-count c = count_put c.args.self.now.links c.put-in-WaitUntil-2.new.self c.args.place c.at-number.result (Some c.in-WaitUntil.time.0) (c.put-in-WaitUntil-2.ensures c.at-number.result)
+returns-in-WaitUntil-clause-count c = count_put c.args.self.now.links c.put-in-WaitUntil.new.self c.args.place c.at-number.result (Some c.in-WaitUntil.time.0) (c.put-in-WaitUntil.ensures c.at-number.result)
 
 pub returns-in-WaitUntil-clause-keeps : goal.returns-in-WaitUntil-clause-keeps
 returns-in-WaitUntil-clause-keeps c =
     let p = c.args.self.now in
     let a = c.at-number.result in
     record {
-      site = λ i. record { number = p.number; plan = c.in-WaitUntil.ensures.plan i; links = pairs_put p.links c.put-in-WaitUntil-2.new.self c.args.place a (Some c.in-WaitUntil.time.0) c.at-number.ensures c.requires.within (c.put-in-WaitUntil-2.ensures a) i };
+      site = λ i. record { number = p.number; plan = c.in-WaitUntil.ensures.plan i; links = pairs_put p.links c.put-in-WaitUntil.new.self c.args.place a (Some c.in-WaitUntil.time.0) c.at-number.ensures c.requires.within (c.put-in-WaitUntil.ensures a) i };
       horizon = refl;
       inbox = refl;
       events = ([], sym (append-nil p.log.all));
@@ -145,21 +145,21 @@ returns-in-Idle-clause-stands c =
     let a = c.at-number.result in
     let out = read_out p c.args.now c.args.place a c.at-number.ensures c.requires.within c.requires.stands in
     let free = c.free_at-free.ensures.free (site_at p) c.requires.stands.1 a.plan.limits st.site st.plan out st.role in
-    put_there p c.args.now c.args.place a c.at-number.ensures c.requires.within c.requires.stands c.put-in-Idle-2.new.self None c.decide.new.self (c.put-in-Idle-2.ensures a)
+    put_there p c.args.now c.args.place a c.at-number.ensures c.requires.within c.requires.stands c.put-in-Idle.new.self None c.decide.new.self (c.put-in-Idle.ensures a)
     (read_rest p c.args.now c.args.place a c.at-number.ensures c.requires.within c.requires.stands Idle None c.decide.new.self (get_or p.links c.args.place a)
     (here_is p c.args.now c.args.place a c.at-number.ensures c.requires.within c.requires.stands) refl
     (omega (arith, free, c.if-free-now.false))
     (c.in-Idle.ensures.decides (site_at p) c.requires.stands.1 a.plan.limits st.site st.plan out st.role) refl c.in-Idle.ensures.plan c.in-Idle.ensures.last)
 
 pub returns-in-Idle-clause-count : goal.returns-in-Idle-clause-count
-returns-in-Idle-clause-count c = count_put c.args.self.now.links c.put-in-Idle-2.new.self c.args.place c.at-number.result None (c.put-in-Idle-2.ensures c.at-number.result)
+returns-in-Idle-clause-count c = count_put c.args.self.now.links c.put-in-Idle.new.self c.args.place c.at-number.result None (c.put-in-Idle.ensures c.at-number.result)
 
 pub returns-in-Idle-clause-keeps : goal.returns-in-Idle-clause-keeps
 returns-in-Idle-clause-keeps c =
     let p = c.args.self.now in
     let a = c.at-number.result in
     record {
-      site = λ i. record { number = p.number; plan = c.in-Idle.ensures.plan i; links = pairs_put p.links c.put-in-Idle-2.new.self c.args.place a None c.at-number.ensures c.requires.within (c.put-in-Idle-2.ensures a) i };
+      site = λ i. record { number = p.number; plan = c.in-Idle.ensures.plan i; links = pairs_put p.links c.put-in-Idle.new.self c.args.place a None c.at-number.ensures c.requires.within (c.put-in-Idle.ensures a) i };
       horizon = refl;
       inbox = refl;
       events = ([], sym (append-nil p.log.all));

@@ -34,23 +34,23 @@ pub returns-clause-took : goal.returns-clause-took
 returns-clause-took c = λ site log st.
     let h = c.args.self.now in
     let row = c.args.row in
-    let new = c.queue-outcome.new.self in
+    let new = c.queue.new.self in
     let made = c.in-Some.field-0 in
     let make = c.in_ok-packet.ensures in
     let rest = make.rest in
-    let same = c.queue-outcome.ensures.same in
+    let same = c.queue.ensures.same in
     let logs = port_logs log h.uplink in
     let stands : StandsFor c.make.new.self.port logs = subst (λ (p : PortData). StandsFor p logs) (sym rest.1) st.port in
     let limits : c.make.new.self.port.limits ≡ h.port.limits = ap (λ (p : PortData). p.limits) rest.1 in
-    host_row site h new log row made c.packet.inside.id c.length-length.result c.queue-outcome.result st
+    host_row site h new log row made c.packet.inside.id c.length-length.result c.in_ok-outcome.outcome st
     (sym c.in-Some.is ∙ make.made (calls log) (acts log) st.courier)
     (ap (λ (p : PacketData). p.id) c.packet.view_is)
     c.length-length.ensures.layout
-    (c.queue-outcome.ensures.outcome logs stands ∙ (ap (λ k. went_out k c.make.new.self.port.limits logs made.packet) rest.0 ∙ ap (λ (l : LinkLimits). went_out h.uplink l logs made.packet) limits))
+    (c.in_ok-outcome.ensures.outcome logs stands ∙ (ap (λ k. went_out k c.make.new.self.port.limits logs made.packet) rest.0 ∙ ap (λ (l : LinkLimits). went_out h.uplink l logs made.packet) limits))
     (subst (λ (x : CourierData). courier.StandsFor x (calls log ++ call_of_row row.time.0 row.what made.packet ∷ []) (acts log ++ cons_option (act_of_row row.what) [])) (sym same.0)
     (subst (λ (o : Option Made). courier.StandsFor c.make.new.self.courier (calls log ++ cons_option (option_map (λ (m : Made). call_of_row row.time.0 row.what m.packet) o) []) (acts log ++ cons_option (act_of_row row.what) [])) c.in-Some.is
     (make.stands (calls log) (acts log) st.courier)))
-    (subst (λ k. StandsFor new.port (logs ++ entered_by c.queue-outcome.result row.time.0 (class_by_shim made.packet.carried) made.packet k)) rest.0 (c.queue-outcome.ensures.stands logs stands))
+    (subst (λ k. StandsFor new.port (logs ++ entered_by c.in_ok-outcome.outcome row.time.0 (class_by_shim made.packet.carried) made.packet k)) rest.0 (c.in_ok-outcome.ensures.stands logs stands))
     (ap (λ (x : CourierData). x.host.node) same.0 ∙ make.same.0)
     (ap (λ (x : CourierData). x.host.plan) same.0 ∙ make.same.1)
     (same.1 ∙ rest.0)

@@ -22,12 +22,12 @@ returns-clause-took c = λ log st.
     let goes = c.change.ensures.goes in
     let h = goes.stands log st in
     let g = charges_of_boot r.router.built r.changes.boot (charges log) in
-    let new = c.arrive-happened.new.self in
-    let told = c.arrive-happened.result in
+    let new = c.arrive.new.self in
+    let told = c.arrive.result in
     subst (λ (t : Time). RouterTook c.args.number plan log (Arrival t c.args.flight.link packet) told new) c.arrive-time.ensures
     (subst (λ k. RouterTook c.args.number plan log (Arrival time k packet) told new) c.link-link.ensures
     (router_takes r r new c.args.number plan log (Arrival time link packet) (Some link) packet told c.change.ensures.done h goes.same.0 refl refl refl
-    (c.arrive-happened.ensures.told g (port_logs log) packet h.router c.in_ok-hand.ensures)
-    (c.arrive-happened.ensures.stands g (port_logs log) packet h.router c.in_ok-hand.ensures)
-    c.arrive-happened.ensures.plan.1 c.arrive-happened.ensures.same.1
-    (c.arrive-happened.ensures.same.0 ∙ ordinal_arrival log time link packet (arrived plan log time.0 (Some link) packet) r.next h.next)))
+    (c.arrive.ensures.told g (port_logs log) packet h.router c.in_ok-hand.ensures)
+    (c.arrive.ensures.stands g (port_logs log) packet h.router c.in_ok-hand.ensures)
+    c.arrive.ensures.plan.1 c.arrive.ensures.same.1
+    (c.arrive.ensures.same.0 ∙ ordinal_arrival log time link packet (arrived plan log time.0 (Some link) packet) r.next h.next)))

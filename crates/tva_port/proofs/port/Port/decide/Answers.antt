@@ -1,136 +1,66 @@
-use Rattle.std.proofs.Common.{◌≡◌, ◌↔◌, ℕ, ◌+◌, ◌*◌, ◌++◌, Option, false, ap, sym, ◌∙◌, subst, arith}
+use Rattle.std.proofs.Common.{◌≡◌, ◌<◌, ◌+◌, ◌*◌, ◌++◌, Some, sym, ap, ◌∙◌, subst, arith}
+use Rattle.tva_base.specs.declared.packet.Class.TheVariants.{Request, Regular}
 use Rattle.tva_shim.specs.Packets.{PacketData, packet_length}
-use Rattle.tva_base.specs.declared.limits.LinkLimits.{LinkLimits}
-use Rattle.tva_base.specs.Plan.{AreLinkLimits}
-use Rattle.tva_port.specs.Legal.{IsLegal}
-use Rattle.tva_port.specs.Waiting.{Waiting, waiting, IsEmpty, IsRequestAlone, next_request}
-use Rattle.tva_port.specs.Decide.{NoneDueBefore, is_start, started_by}
-use Rattle.tva_port.specs.Stands.{PortData, port_data, StandsFor}
-use Rattle.tva_port.specs.Steps.{freed}
-use Rattle.tva_port.specs.Hand.{decision_by}
-use Rattle.tva_port.proofs.Hands.{rested_leaves, rested_free}
-use Rattle.tva_port.proofs.Standing.{decided, stands_by_decide}
-use Rattle.tva_port.proofs.Stocked.{has_room, paid_less, sound-later, stocked-decided}
-use Rattle.tva_port.proofs.Served.{all_served, alike}
-use Rattle.tva_port.proofs.Logs.{later-weaker}
-use Rattle.tva_port.proofs.Resting.{rests, misses, first_covered}
-use Rattle.tva_port.proofs.Idling.{idles, waits_alone}
 use Rattle.tva_port.specs.declared.decision.Decision.{Decision}
-use Rattle.tva_port.specs.declared.decision.Decision.TheVariants.{Idle}
-use Rattle.tva_port.proofs.Steady.{next_sized, steady, ends_later}
+use Rattle.tva_port.specs.Bounds.{request_bound, regular_bound, AreServed}
+use Rattle.tva_port.specs.Decide.{started_by, MissesNone, NoneDueBefore, IsFirstCovered}
+use Rattle.tva_port.specs.Hand.{decision_by}
+use Rattle.tva_port.specs.Stands.{PortData, StandsFor}
+use Rattle.tva_port.specs.Waiting.{next_request, IsRequestAlone}
+use Rattle.tva_port.proofs.Stocked.{hand_decided, has_room, stocked_decided}
 use Rattle.tva_port.proofs.port.Port.decide.Goals as goal
 
-pub start_next-next-requires-clause-room : goal.start_next-next-requires-clause-room
-start_next-next-requires-clause-room c = has_room _ _ _ c.self.invariant.1
-
-valid : (c : goal.After-decision_by) → AreLinkLimits c.args.self.now.limits
-valid c = subst (λ (z : PortData). AreLinkLimits z.limits) c.self.view_is c.self.invariant.0.limits
-
 -- the decision with the packet that was put into the hand
-in_hand : (c : goal.After-decision_by) → c.decision_by.result ≡ decision_by c.start_next-next.result c.start_next-next.new.hand
-in_hand c = c.decision_by.ensures ∙ ap (λ (hand : Option PacketData). decision_by c.start_next-next.result hand) c.take.ensures.packet
+told : (c : goal.After-decision_by) → c.decision_by.result ≡ decision_by c.decide_into-next.result c.decide_into-next.new.hand
+told c = c.decision_by.ensures ∙ ap (decision_by c.decide_into-next.result) c.packet_of.ensures.packet
 
-pub returns-clause-decision : goal.returns-clause-decision
-returns-clause-decision c log s =
-    in_hand c ∙ decided _ c.args.self.now log c.args.now.0 c.grow-self-inside.result (decision_by c.start_next-next.result c.start_next-next.new.hand) c.self.view_is s c.requires.time
-    c.grow-self-inside.ensures c.start_next-next.ensures.decision
+pub packet_of-requires : goal.packet_of-requires
+packet_of-requires c = omega (
+  arith,
+  hand_decided c.decide_into-next.result c.decide_into-next.new.hand c.decide_into-next.ensures.held,
+  has_room c.self.inside.inner c.args.now.0 (decision_by c.decide_into-next.result c.decide_into-next.new.hand) c.self.inside.stock c.self.invariant c.decide_into-next.ensures.decision,
+)
 
-pub returns-clause-stands : goal.returns-clause-stands
-returns-clause-stands c log s =
-    subst (λ (d : Decision). StandsFor (port_data c.self.inside.limits c.args.now.0 c.pay-self-inside.result c.occupy-self-inside.result (waiting c.start_next-next.new.requests c.start_next-next.new.regulars c.start_next-next.new.legacy.packets)) (log ++ started_by d c.args.now.0)) (sym (in_hand c))
-    (stands_by_decide _ c.args.self.now log c.args.now.0 c.grow-self-inside.result c.pay-self-inside.result c.occupy-self-inside.result _ (decision_by c.start_next-next.result c.start_next-next.new.hand) c.self.view_is s c.requires.time c.requires.free
-    c.grow-self-inside.ensures c.start_next-next.ensures.decision c.pay-self-inside.ensures c.occupy-self-inside.ensures.value c.start_next-next.ensures.left)
-
-pub returns-clause-wait : goal.returns-clause-wait
-returns-clause-wait c log u p s e h =
-    first_covered c.args.self.now.limits log c.args.now.0 u p (valid c) s.legal
-    (later-weaker c.args.self.now.last c.args.now.0 log c.requires.time s.past)
-    (next_sized c.args.self.now.limits log p (valid c) s.legal (ap (λ (w : Waiting). next_request w) (sym s.waiting) ∙ h))
-    (sym e ∙ returns-clause-decision c log s)
-    (ap (λ (w : Waiting). next_request w) (sym s.waiting) ∙ h)
-
-pub returns-clause-idle : goal.returns-clause-idle
-returns-clause-idle c log s =
-    subst (λ (w : Waiting). (c.decision_by.result ≡ Idle) ↔ IsEmpty w) (sym s.waiting)
-    (idles c.args.self.now.limits log c.args.now.0 c.decision_by.result (valid c) s.legal (returns-clause-decision c log s))
+pub invariant_of-self : goal.invariant_of-self
+invariant_of-self c =
+    stocked_decided c.self.inside.inner c.decide_into-next.new.self c.args.now.0 (decision_by c.decide_into-next.result c.decide_into-next.new.hand)
+    c.self.inside.stock c.packet_of.new.self c.self.invariant c.decide_into-next.ensures.same c.decide_into-next.ensures.decision c.decide_into-next.ensures.stands
+    (omega (arith, c.packet_of.ensures.count, hand_decided c.decide_into-next.result c.decide_into-next.new.hand c.decide_into-next.ensures.held))
+    c.packet_of.ensures.room
 
 pub returns-clause-alone : goal.returns-clause-alone
 returns-clause-alone c log u s e =
-    subst (λ (w : Waiting). (p : PacketData) × IsRequestAlone w p) (sym s.waiting)
-    (waits_alone c.args.self.now.limits log c.args.now.0 u (valid c) s.legal (sym e ∙ returns-clause-decision c log s))
+    subst (λ (v : PortData). StandsFor v log → (packet : PacketData) × IsRequestAlone v.waiting packet) c.self.view_is
+    (λ t. c.decide_into-next.ensures.alone log u t (sym (told c) ∙ e)) s
+
+pub returns-clause-wait : goal.returns-clause-wait
+returns-clause-wait c log u packet s e n =
+    subst (λ (v : PortData). StandsFor v log → next_request v.waiting ≡ Some packet → IsFirstCovered v.limits log packet c.args.now.0 u.0) c.self.view_is
+    (λ t m. c.decide_into-next.ensures.wait log u packet t (sym (told c) ∙ e) m) s n
 
 pub returns-clause-later : goal.returns-clause-later
 returns-clause-later c log u s e =
-    ends_later c.args.self.now.limits log c.args.now.0 u (valid c) s.legal
-    (later-weaker c.args.self.now.last c.args.now.0 log c.requires.time s.past)
-    (sym e ∙ returns-clause-decision c log s)
-
-pub returns-clause-steady : goal.returns-clause-steady
-returns-clause-steady c log until s n i time h k =
-    steady c.args.self.now.limits log c.args.now.0 c.occupy-self-inside.result c.decision_by.result until time
-    (valid c) s.legal
-    (later-weaker c.args.self.now.last c.args.now.0 log c.requires.time s.past)
-    (returns-clause-decision c log s) n i h k
-
-pub returns-clause-occupied : goal.returns-clause-occupied
-returns-clause-occupied c class packet e =
-    c.occupy-self-inside.ensures.value
-    ∙ (ap (λ (d : Decision). freed c.self.inside.limits c.self.inside.free_at c.args.now.0 d) (sym (in_hand c) ∙ e)
-    ∙ ap (λ (v : PortData). c.args.now.0 + packet_length packet * v.limits.ns_per_byte) c.self.view_is)
-
-pub returns-clause-rested : goal.returns-clause-rested
-returns-clause-rested c n =
-    let d = decision_by c.start_next-next.result c.start_next-next.new.hand in
-    let e = subst (λ (x : Decision). is_start x ≡ false) (in_hand c) n in (
-      c.start_next-next.ensures.left ∙ (rested_leaves d _ e ∙ ap (λ (v : PortData). v.waiting) c.self.view_is),
-      c.occupy-self-inside.ensures.value ∙ (rested_free c.self.inside.limits c.self.inside.free_at c.args.now.0 d e ∙ ap (λ (v : PortData). v.free_at) c.self.view_is),
-    )
-
-freed_is : (c : goal.After-decision_by) → c.occupy-self-inside.result ≡ freed c.args.self.now.limits c.args.self.now.free_at c.args.now.0 c.decision_by.result
-freed_is c =
-    c.occupy-self-inside.ensures.value
-    ∙ (ap (λ (v : PortData). freed v.limits v.free_at c.args.now.0 (decision_by c.start_next-next.result c.start_next-next.new.hand)) c.self.view_is
-    ∙ ap (λ (d : Decision). freed c.args.self.now.limits c.args.self.now.free_at c.args.now.0 d) (sym (in_hand c)))
-
-pub returns-clause-rests : goal.returns-clause-rests
-returns-clause-rests c log until s i time h k =
-    rests c.args.self.now.limits log c.args.now.0 c.args.self.now.free_at c.decision_by.result until time
-    s.legal
-    (later-weaker c.args.self.now.last c.args.now.0 log c.requires.time s.past)
-    (returns-clause-decision c log s)
-    (subst (λ (x : ℕ). NoneDueBefore c.decision_by.result x until) (freed_is c) i)
-    h k
+    subst (λ (v : PortData). StandsFor v log → c.args.now.0 < u.0) c.self.view_is
+    (λ t. c.decide_into-next.ensures.later log u t (sym (told c) ∙ e)) s
 
 pub returns-clause-missed : goal.returns-clause-missed
 returns-clause-missed c log until s m i =
-    misses c.args.self.now.limits log c.args.now.0 c.args.self.now.free_at c.decision_by.result until
-    s.legal
-    (later-weaker c.args.self.now.last c.args.now.0 log c.requires.time s.past)
-    (returns-clause-decision c log s)
-    m
-    (subst (λ (x : ℕ). NoneDueBefore c.decision_by.result x until) (freed_is c) i)
+    subst (λ (d : Decision). NoneDueBefore d c.decide_into-next.new.self.free_at until → MissesNone c.args.self.now.limits until (log ++ started_by d c.args.now.0)) (sym (told c))
+    (subst (λ (v : PortData). StandsFor v log → MissesNone v.limits c.args.now.0 log
+    → NoneDueBefore (decision_by c.decide_into-next.result c.decide_into-next.new.hand) c.decide_into-next.new.self.free_at until
+    → MissesNone v.limits until (log ++ started_by (decision_by c.decide_into-next.result c.decide_into-next.new.hand) c.args.now.0)) c.self.view_is
+    (c.decide_into-next.ensures.missed log until) s m) i
 
 pub returns-clause-served : goal.returns-clause-served
 returns-clause-served c log s m =
-    all_served c.args.self.now.limits log c.args.now.0 c.decision_by.result
-    (valid c)
-    (subst (λ (l : LinkLimits). IsLegal l (log ++ started_by c.decision_by.result c.args.now.0)) (ap (λ (v : PortData). v.limits) c.self.view_is) (returns-clause-stands c log s).legal)
-    (later-weaker c.args.self.now.last c.args.now.0 log c.requires.time s.past)
-    (returns-clause-decision c log s)
-    m
+    subst (λ (d : Decision). AreServed c.args.self.now.limits Request (request_bound c.args.self.now.limits) c.args.now.0 (log ++ started_by d c.args.now.0)
+    × AreServed c.args.self.now.limits Regular (regular_bound c.args.self.now.limits) c.args.now.0 (log ++ started_by d c.args.now.0)) (sym (told c))
+    (subst (λ (v : PortData). StandsFor v log → MissesNone v.limits c.args.now.0 log
+    → AreServed v.limits Request (request_bound v.limits) c.args.now.0 (log ++ started_by (decision_by c.decide_into-next.result c.decide_into-next.new.hand) c.args.now.0)
+    × AreServed v.limits Regular (regular_bound v.limits) c.args.now.0 (log ++ started_by (decision_by c.decide_into-next.result c.decide_into-next.new.hand) c.args.now.0)) c.self.view_is
+    (c.decide_into-next.ensures.served log) s m)
 
-pub returns-clause-alike : goal.returns-clause-alike
-returns-clause-alike c log s =
-    alike c.args.self.now.limits (log ++ started_by c.decision_by.result c.args.now.0)
-    (valid c)
-    (subst (λ (l : LinkLimits). IsLegal l (log ++ started_by c.decision_by.result c.args.now.0)) (ap (λ (v : PortData). v.limits) c.self.view_is) (returns-clause-stands c log s).legal)
-
-pub invariant_of-self : goal.invariant_of-self
-invariant_of-self c = (
-  sound-later c.self.inside.limits _ _ _ c.args.now.0 _ _ _ _ _ _ _ _ c.self.invariant.0
-      (omega (arith, c.grow-self-inside.ensures, c.pay-self-inside.ensures, paid_less c.self.inside.limits c.grow-self-inside.result (decision_by c.start_next-next.result c.start_next-next.new.hand)))
-      c.occupy-self-inside.ensures.soon c.start_next-next.ensures.requests c.start_next-next.ensures.regulars c.start_next-next.ensures.legacy,
-  stocked-decided c.self.inside.limits _ _ c.grow-self-inside.result c.args.now.0 (decision_by c.start_next-next.result c.start_next-next.new.hand) _ _ c.self.invariant.1
-      c.start_next-next.ensures.decision c.start_next-next.ensures.left c.start_next-next.ensures.count c.start_next-next.ensures.room,
-  c.take.ensures.left,
-)
+pub returns-clause-occupied : goal.returns-clause-occupied
+returns-clause-occupied c class packet e =
+    subst (λ (v : PortData). c.decide_into-next.new.self.free_at ≡ c.args.now.0 + packet_length packet * v.limits.ns_per_byte) c.self.view_is
+    (c.decide_into-next.ensures.occupied class packet (sym (told c) ∙ e))

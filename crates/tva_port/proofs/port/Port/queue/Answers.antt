@@ -1,58 +1,32 @@
-use Rattle.std.proofs.Common.{◌≡◌, ◌≤◌, ℕ, max, false, sym, ap, ◌∙◌, subst, arith}
+use Rattle.std.proofs.Common.{◌≡◌, ◌≤◌, max, ◌++◌, sym, ap, ◌∙◌, subst, arith}
 use Rattle.tva_drr.specs.declared.offered.Offered.{Offered}
 use Rattle.tva_shim.specs.Packets.{PacketData}
-use Rattle.tva_port.specs.Waiting.{waiting, is_queued, queue_answer}
+use Rattle.tva_port.specs.Decide.{MissesNone}
 use Rattle.tva_port.specs.Hand.{answer_by}
-use Rattle.tva_port.specs.Stands.{PortData}
-use Rattle.tva_port.specs.Steps.{put_leaves}
-use Rattle.tva_port.proofs.Logs.{later-weaker}
-use Rattle.tva_port.proofs.Standing.{answered, stands_by_queue, refused_leaves}
-use Rattle.tva_port.proofs.Steady.{misses_offered}
-use Rattle.tva_port.proofs.Stocked.{has_hand, sound-later, stocked-queued}
+use Rattle.tva_port.specs.Stands.{PortData, StandsFor}
+use Rattle.tva_port.specs.Waiting.{queued_by}
+use Rattle.tva_port.proofs.Stocked.{hand_offered, has_hand, stocked_queued}
 use Rattle.tva_port.proofs.port.Port.queue.Goals as goal
 
-pub put-answer-requires-clause-stocked : goal.put-answer-requires-clause-stocked
-put-answer-requires-clause-stocked c = has_hand _ _ _ c.self.invariant.1
+-- the answer with the packet that the hand holds
+told : (c : goal.After-answer_by) → c.answer_by.result ≡ answer_by c.queue_from-answer.result c.queue_from-answer.new.hand
+told c = c.answer_by.ensures ∙ ap (answer_by c.queue_from-answer.result) c.packet_of.ensures.packet
 
--- the answer with the packet that was put into the hand
-told : (c : goal.After-answer_by) → c.answer_by.result ≡ queue_answer c.self.inside.limits (waiting c.self.inside.requests c.self.inside.regulars c.self.inside.legacy.packets) c.args.class c.args.key c.args.packet
-told c =
-    c.answer_by.ensures
-    ∙ (ap (λ hand. answer_by c.put-answer.result hand) c.take.ensures.packet
-    ∙ c.put-answer.ensures.answer c.args.packet c.self.inside.limits c.put.ensures (sym c.self.invariant.0.places) (sym c.self.invariant.0.most))
+pub hand_of-hand-requires : goal.hand_of-hand-requires
+hand_of-hand-requires c = has_hand c.self.inside.inner c.self.inside.stock c.self.invariant
 
-left : (c : goal.After-answer_by) → waiting c.put-answer.new.requests c.put-answer.new.regulars c.put-answer.new.legacy.packets ≡ put_leaves c.self.inside.limits (waiting c.self.inside.requests c.self.inside.regulars c.self.inside.legacy.packets) c.args.class c.args.key c.args.packet
-left c = c.put-answer.ensures.left c.args.packet c.self.inside.limits c.put.ensures (sym c.self.invariant.0.places) (sym c.self.invariant.0.most)
-
-pub returns-clause-answer : goal.returns-clause-answer
-returns-clause-answer c log s = answered _ c.args.self.now log _ c.args.class c.args.key c.args.packet c.self.view_is s (told c)
-
-pub returns-clause-stands : goal.returns-clause-stands
-returns-clause-stands c log s =
-    stands_by_queue _ c.args.self.now log c.args.now.0 c.grow-self-inside.result _ c.answer_by.result c.args.class c.args.key c.args.packet c.self.view_is s c.requires.time
-    c.grow-self-inside.ensures (c.put-answer.ensures.sized c.args.packet c.put.ensures) (told c) (left c)
-
-pub returns-clause-refused : goal.returns-clause-refused
-returns-clause-refused c e =
-    left c
-    ∙ (refused_leaves c.self.inside.limits _ c.args.class c.args.key c.args.packet (subst (λ (a : Offered PacketData). is_queued a ≡ false) (told c) e)
-    ∙ ap (λ (z : PortData). z.waiting) c.self.view_is)
+pub invariant_of-self : goal.invariant_of-self
+invariant_of-self c =
+    stocked_queued c.self.inside.inner c.queue_from-answer.new.self c.args.now.0 c.args.class c.args.key c.args.packet
+    (answer_by c.queue_from-answer.result c.queue_from-answer.new.hand) c.self.inside.stock c.packet_of.new.self c.self.invariant c.queue_from-answer.ensures.same.0
+    (λ log s. c.queue_from-answer.ensures.answer log c.args.packet s c.hand_of-hand.ensures.packet)
+    (λ log s. c.queue_from-answer.ensures.stands log c.args.packet s c.hand_of-hand.ensures.packet)
+    (omega (arith, c.hand_of-hand.ensures.count, c.packet_of.ensures.count, hand_offered c.queue_from-answer.result c.queue_from-answer.new.hand c.queue_from-answer.ensures.held))
+    (c.packet_of.ensures.room ∙ c.hand_of-hand.ensures.room)
 
 pub returns-clause-missed : goal.returns-clause-missed
 returns-clause-missed c log until s i m =
-    misses_offered c.args.self.now.limits log c.args.now.0 until c.answer_by.result c.args.class c.args.key c.args.packet
-    (later-weaker c.args.self.now.last c.args.now.0 log c.requires.time s.past)
-    (subst (λ (n : ℕ). until ≤ max c.args.now.0 n) s.free i)
-    m
-
-pub invariant_of-self : goal.invariant_of-self
-invariant_of-self c = (
-  sound-later c.self.inside.limits _ _ _ c.args.now.0 _ _ _ _ _ _ _ _ c.self.invariant.0
-      (omega (arith, c.grow-self-inside.ensures)) (omega (arith, c.self.invariant.0.soon, c.requires.time, ap (λ (z : PortData). z.last) c.self.view_is))
-      c.put-answer.ensures.requests c.put-answer.ensures.regulars c.put-answer.ensures.legacy,
-  stocked-queued c.self.inside.limits _ _ c.args.class c.args.key c.args.packet _ _ _ c.self.invariant.0.limits
-      (c.put-answer.ensures.sized c.args.packet c.put.ensures) c.self.invariant.1
-      (c.put-answer.ensures.answer c.args.packet c.self.inside.limits c.put.ensures (sym c.self.invariant.0.places) (sym c.self.invariant.0.most))
-      (left c) c.put-answer.ensures.count c.put-answer.ensures.room,
-  c.take.ensures.left,
-)
+    subst (λ (a : Offered PacketData). MissesNone c.args.self.now.limits until (log ++ queued_by a c.args.now.0 c.args.class c.args.key c.args.packet)) (sym (told c))
+    (subst (λ (v : PortData). StandsFor v log → until ≤ max c.args.now.0 v.free_at → MissesNone v.limits until log
+    → MissesNone v.limits until (log ++ queued_by (answer_by c.queue_from-answer.result c.queue_from-answer.new.hand) c.args.now.0 c.args.class c.args.key c.args.packet)) c.self.view_is
+    (λ t. c.queue_from-answer.ensures.missed log until c.args.packet t c.hand_of-hand.ensures.packet) s i m)

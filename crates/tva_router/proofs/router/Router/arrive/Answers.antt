@@ -1,36 +1,27 @@
-use Rattle.std.proofs.Common.{◌≡◌, ◌≤◌, ◌++◌, sym, subst}
-use Rattle.tva_router.specs.Handling.{handle}
-use Rattle.tva_router.specs.Stands.{RouterData, router_data, StandsFor, ◌with◌}
-use Rattle.tva_router.proofs.Handled.{stands-uncharged}
-use Rattle.tva_router.proofs.Known.{known, missed_handled}
+use Rattle.std.proofs.Common.{◌≡◌, ◌≤◌, Some, sym, ap, ◌∙◌, subst, arith}
+use Rattle.tva_base.specs.declared.packet.Fate.{Fate}
+use Rattle.tva_port.specs.Decide.{MissesNone}
+use Rattle.tva_router.specs.Handling.{outgoing_link, handle, kept_after}
+use Rattle.tva_router.specs.Stands.{RouterData, StandsFor, ◌with◌}
+use Rattle.tva_router.proofs.Stocked.{has_hand, stocked_arrived}
 use Rattle.tva_router.proofs.router.Router.arrive.Goals as goal
 
-pub arrive_in-requires-clause-sound : goal.arrive_in-requires-clause-sound
-arrive_in-requires-clause-sound c =
-    (c.self.inside.built, c.self.inside.last, subst (λ (z : RouterData). z.last ≤ c.args.now.0) (sym c.self.view_is) c.requires.time, c.self.invariant)
+pub hand_of-hand-requires : goal.hand_of-hand-requires
+hand_of-hand-requires c = has_hand c.self.inside.inner c.self.inside.stock c.self.invariant
 
 pub invariant_of-self : goal.invariant_of-self
 invariant_of-self c =
-    c.arrive_in.ensures.sound c.self.inside.built c.self.inside.last (subst (λ (z : RouterData). z.last ≤ c.args.now.0) (sym c.self.view_is) c.requires.time) c.self.invariant
-
-pub returns-clause-fate : goal.returns-clause-fate
-returns-clause-fate c h logs s =
-    subst (λ (z : RouterData). c.arrive_in.result ≡ (handle z.plan h logs c.args.now.0 c.args.from c.args.packet).fate) c.self.view_is
-    (c.arrive_in.ensures.fate c.self.inside.built c.self.inside.last h logs c.args.packet (subst (λ (z : RouterData). z.last ≤ c.args.now.0) (sym c.self.view_is) c.requires.time) c.self.invariant
-    (subst (λ (z : RouterData). StandsFor z h logs) (sym c.self.view_is) s) c.put.ensures)
-
-pub returns-clause-stands : goal.returns-clause-stands
-returns-clause-stands c h logs s =
-    subst (λ (z : RouterData). StandsFor (router_data c.self.inside.built c.self.inside.plan c.args.now.0 c.arrive_in.new.guard.minter c.arrive_in.new.guard.cache c.arrive_in.new.ports.items)
-    (h ++ (handle z.plan h logs c.args.now.0 c.args.from c.args.packet).charges) (logs with (handle z.plan h logs c.args.now.0 c.args.from c.args.packet).queued)) c.self.view_is
-    (c.arrive_in.ensures.stands c.self.inside.built c.self.inside.last h logs c.args.packet (subst (λ (z : RouterData). z.last ≤ c.args.now.0) (sym c.self.view_is) c.requires.time) c.self.invariant
-    (subst (λ (z : RouterData). StandsFor z h logs) (sym c.self.view_is) s) c.put.ensures)
-
-pub returns-clause-uncharged : goal.returns-clause-uncharged
-returns-clause-uncharged c h logs s none =
-    stands-uncharged _ c.args.self.now.plan h logs _ c.args.now.0 c.args.from c.args.packet _
-    (returns-clause-fate c h logs s) (returns-clause-stands c h logs s) none
+    let le = subst (λ (v : RouterData). v.last ≤ c.args.now.0) (sym c.self.view_is) c.requires.time in
+    stocked_arrived c.self.inside.inner c.arrive_from-fate.new.self c.args.now.0 c.args.from c.args.packet c.arrive_from-fate.new.hand c.self.inside.stock c.packet_of.new.self c.self.invariant
+    le c.arrive_from-fate.ensures.same
+    (λ h logs s. c.arrive_from-fate.ensures.stands h logs c.args.packet s c.hand_of-hand.ensures.packet)
+    (λ h logs s. c.arrive_from-fate.ensures.left h logs c.args.packet s c.hand_of-hand.ensures.packet
+    ∙ ap (λ (f : Fate). kept_after f.outcome (handle c.self.inside.inner.plan h logs c.args.now.0 c.args.from c.args.packet).onward) (c.arrive_from-fate.ensures.fate h logs c.args.packet s c.hand_of-hand.ensures.packet))
+    (omega (arith, c.hand_of-hand.ensures.count, c.packet_of.ensures.count))
+    (c.packet_of.ensures.room ∙ c.hand_of-hand.ensures.room)
 
 pub returns-clause-missed : goal.returns-clause-missed
 returns-clause-missed c h logs link until limits s f i m =
-    missed_handled c.args.self.now.plan h logs c.args.now.0 c.args.from c.args.packet link until limits (known c.args.self.now h logs link limits c.args.now.0 s f c.requires.time).later i m
+    subst (λ (v : RouterData). StandsFor v h logs → outgoing_link v.plan link ≡ Some (link, limits)
+    → MissesNone limits until ((logs with (handle v.plan h logs c.args.now.0 c.args.from c.args.packet).queued) link)) c.self.view_is
+    (λ t g. c.arrive_from-fate.ensures.missed h logs link until limits c.args.packet t c.hand_of-hand.ensures.packet g i m) s f

@@ -1,36 +1,19 @@
-use Rattle.std.proofs.Common.{◌≡◌, ℕ, List, [], sym, ap, ◌∙◌, subst}
-use Rattle.std.proofs.lemmas.List.Elements.{All-nil}
-use Rattle.tva_base.specs.Plan.{IsRouterPlan}
+use Rattle.std.proofs.Common.{◌≡◌, ℕ, List, [], sym, ap, ◌∙◌, arith}
 use Rattle.tva_base.specs.declared.limits.LinkLimits.{LinkLimits}
 use Rattle.tva_base.specs.declared.plan.RouterPlan.{RouterPlan}
-use Rattle.tva_flow.specs.Charges.{Charge}
-use Rattle.tva_flow.specs.Budget.{IsWithinSeconds}
-use Rattle.tva_port.proofs.Steady.{misses_empty}
-use Rattle.tva_router.specs.Stands.{StandForLogs}
-use Rattle.tva_router.specs.Steps.{ArePorts, IsGuard}
-use Rattle.tva_router.specs.Tables.{AreWays}
-use Rattle.tva_router.proofs.Handled.{by-plan}
-use Rattle.tva_router.proofs.Changed.{force_same}
+use Rattle.tva_router.specs.Stocked.{places_on}
+use Rattle.tva_router.proofs.Stocked.{waits_nothing}
 use Rattle.tva_router.proofs.router.Router.build.Goals as goal
 
-pub returns-clause-stands : goal.returns-clause-stands
-returns-clause-stands c =
-    let built = c.in_ok-copied.field-0 in
-    let plan = c.in_ok-copied-2.field-0 in
-    let same : plan ≡ c.args.plan.now = c.in_ok-copied-2.ensures in
-    let outgoing : c.as_slice.result.now ≡ plan.outgoing = c.as_slice.ensures ∙ ap (λ (z : RouterPlan). z.outgoing) (sym same) in
+pub invariant_of-result : goal.invariant_of-result
+invariant_of-result c =
+    let out : c.in_ok-inner.inner.plan.outgoing ≡ c.args.plan.now.outgoing = ap (λ (p : RouterPlan). p.outgoing) c.in_ok-inner.ensures.plan in
+    let places : places_on c.in_ok-inner.inner.plan.outgoing ≡ places_on c.as_slice.result.now =
+    ap (λ (os : List (ℕ × LinkLimits)). places_on os) (out ∙ sym c.as_slice.ensures) in
     record {
-      plan = by-plan built plan 0 c.in_ok-build.field-0 c.in_ok-ways_of.field-0 c.in_ok-ports_of.field-0.items (record {
-        valid = subst (λ (z : RouterPlan). IsRouterPlan z) (sym same) c.requires;
-        in_force = force_same plan built (same ∙ sym c.in_ok-copied.ensures);
-        guard = subst (λ (z : RouterPlan). IsGuard z 0 c.in_ok-build.field-0) (sym same) c.in_ok-build.ensures.guard;
-        ways = subst (λ (z : RouterPlan). AreWays z c.in_ok-ways_of.field-0) (sym same) c.in_ok-ways_of.ensures;
-        ports = subst (λ (z : List (ℕ × LinkLimits)). ArePorts z 0 c.in_ok-ports_of.field-0.items) outgoing c.in_ok-ports_of.ensures.ports;
-      });
-      charges = c.in_ok-build.ensures.stands;
-      timely = All-nil (λ (x : Charge). IsWithinSeconds plan.clock_offset x.time x.grant);
-      links = subst (λ (z : List (ℕ × LinkLimits)). StandForLogs z c.in_ok-ports_of.field-0.items (λ link. [])) outgoing c.in_ok-ports_of.ensures.stands;
+      charges = [];
+      logs = λ link. [];
+      stands = c.in_ok-inner.ensures.stands;
+      count = omega (arith, c.in_ok-add_for.ensures.count, places, waits_nothing c.in_ok-inner.inner.plan.outgoing);
+      room = omega (arith, c.in_ok-add_for.ensures.count, c.in_ok-add_for.ensures.room, places);
     }
-
-pub returns-clause-missed : goal.returns-clause-missed
-returns-clause-missed c link until limits f = misses_empty limits until

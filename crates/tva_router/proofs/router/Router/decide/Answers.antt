@@ -1,102 +1,71 @@
-use Rattle.std.proofs.Common.{◌≡◌, ◌≤◌, ◌++◌, Some, sym, ap, ◌∙◌, subst}
-use Rattle.tva_base.specs.declared.plan.RouterPlan.{RouterPlan}
+use Rattle.std.proofs.Common.{◌≡◌, ◌≢◌, ◌+◌, ◌*◌, ◌++◌, ◌↔◌, Some, None, sym, ap, ◌∙◌, subst, arith}
+use Rattle.tva_shim.specs.Packets.{PacketData, packet_length}
 use Rattle.tva_port.specs.declared.decision.Decision.{Decision}
-use Rattle.tva_port.specs.Log.{free_after}
-use Rattle.tva_port.specs.Decide.{started_by}
-use Rattle.tva_port.proofs.Logs.{free-started}
-use Rattle.tva_port.proofs.Resting.{first_covered}
-use Rattle.tva_port.proofs.Idling.{idles, waits_alone}
-use Rattle.tva_port.proofs.Steady.{next_sized, ends_later, steady, rests_after, misses_after}
-use Rattle.tva_router.specs.Handling.{outgoing_link}
-use Rattle.tva_router.specs.Stands.{RouterData, router_data, StandsFor, StandForLogs, started_on, ◌with◌}
+use Rattle.tva_port.specs.declared.decision.Decision.TheVariants.{Idle}
+use Rattle.tva_port.specs.Decide.{started_by, NoneDueBefore, RestsAt, IsFirstCovered}
 use Rattle.tva_port.specs.Hand.{decision_by}
-use Rattle.tva_router.proofs.Ports.{ports-later}
-use Rattle.tva_router.proofs.Answers.{guard-later}
-use Rattle.tva_router.proofs.Handled.{by-plan}
-use Rattle.tva_router.proofs.Known.{known, free_then, due_then}
+use Rattle.tva_port.specs.Waiting.{waiting_after, IsEmpty, IsRequestAlone}
+use Rattle.tva_port.proofs.Stocked.{hand_decided}
+use Rattle.tva_router.specs.Handling.{outgoing_link}
+use Rattle.tva_router.specs.Stands.{RouterData, StandsFor, free_of, started_on, ◌with◌}
+use Rattle.tva_router.proofs.Stocked.{has_room, stocked_decided}
 use Rattle.tva_router.proofs.router.Router.decide.Goals as goal
 
-pub decide_on-next-requires-clause-ports : goal.decide_on-next-requires-clause-ports
-decide_on-next-requires-clause-ports c =
-    ports-later c.self.inside.plan.outgoing c.self.inside.last c.args.now.0 c.self.inside.ports.items
-    (subst (λ (z : RouterData). z.last ≤ c.args.now.0) (sym c.self.view_is) c.requires.time) c.self.invariant.ports
+-- the decision with the packet that was put into the hand
+told : (c : goal.After-decision_by) → c.decision_by.result ≡ decision_by c.decide_into-next.result c.decide_into-next.new.hand
+told c = c.decision_by.ensures ∙ ap (decision_by c.decide_into-next.result) c.packet_of.ensures.packet
 
-pub returns-clause-decision : goal.returns-clause-decision
-returns-clause-decision c h logs limits s f =
-    c.decision_by.ensures
-    ∙ (ap (decision_by c.decide_on-next.result) c.take.ensures.packet
-    ∙ c.decide_on-next.ensures.decision logs limits (subst (λ (z : RouterData). StandForLogs z.plan.outgoing z.ports logs) (sym c.self.view_is) s.links)
-    (subst (λ (z : RouterData). outgoing_link z.plan c.args.link ≡ Some (c.args.link, limits)) (sym c.self.view_is) f))
+pub packet_of-requires : goal.packet_of-requires
+packet_of-requires c = omega (
+  arith,
+  hand_decided c.decide_into-next.result c.decide_into-next.new.hand c.decide_into-next.ensures.held,
+  has_room c.self.inside.inner c.args.now.0 c.args.link (decision_by c.decide_into-next.result c.decide_into-next.new.hand) c.self.inside.stock c.self.invariant
+      (subst (λ (v : RouterData). outgoing_link v.plan c.args.link ≢ None) (sym c.self.view_is) c.requires.outgoing) c.decide_into-next.ensures.decision,
+)
+
+pub invariant_of-self : goal.invariant_of-self
+invariant_of-self c =
+    stocked_decided c.self.inside.inner c.decide_into-next.new.self c.args.now.0 c.args.link (decision_by c.decide_into-next.result c.decide_into-next.new.hand)
+    c.self.inside.stock c.packet_of.new.self c.self.invariant c.decide_into-next.ensures.same
+    (subst (λ (v : RouterData). outgoing_link v.plan c.args.link ≢ None) (sym c.self.view_is) c.requires.outgoing) c.decide_into-next.ensures.decision c.decide_into-next.ensures.stands
+    (omega (arith, c.packet_of.ensures.count, hand_decided c.decide_into-next.result c.decide_into-next.new.hand c.decide_into-next.ensures.held))
+    c.packet_of.ensures.room
 
 pub returns-clause-stands : goal.returns-clause-stands
 returns-clause-stands c h logs s =
-    let stood : StandsFor (router_data c.self.inside.built c.self.inside.plan c.self.inside.last c.self.inside.guard.minter c.self.inside.guard.cache c.self.inside.ports.items) h logs =
-    subst (λ (z : RouterData). StandsFor z h logs) (sym c.self.view_is) s in
-    let le : c.self.inside.last ≤ c.args.now.0 = subst (λ (z : RouterData). z.last ≤ c.args.now.0) (sym c.self.view_is) c.requires.time in
-    record {
-      plan = by-plan c.self.inside.built c.self.inside.plan c.args.now.0 c.self.inside.guard c.self.inside.ways c.decide_on-next.new.ports.items
-          (record {
-            valid = c.self.invariant.valid;
-            in_force = c.self.invariant.in_force;
-            guard = guard-later c.self.inside.plan c.self.inside.last c.args.now.0 c.self.inside.guard le c.self.invariant.guard;
-            ways = c.self.invariant.ways;
-            ports = c.decide_on-next.ensures.ports;
-          });
-      charges = stood.charges;
-      timely = stood.timely;
-      links = subst (λ (d : Decision). StandForLogs c.self.inside.plan.outgoing c.decide_on-next.new.ports.items (logs with started_on c.args.link d c.args.now.0))
-          (sym (c.decision_by.ensures ∙ ap (decision_by c.decide_on-next.result) c.take.ensures.packet)) (c.decide_on-next.ensures.stands logs stood.links);
-    }
+    subst (λ (d : Decision). StandsFor c.decide_into-next.new.self h (logs with started_on c.args.link d c.args.now.0)) (sym (told c))
+    (subst (λ (v : RouterData). StandsFor v h logs
+    → StandsFor c.decide_into-next.new.self h (logs with started_on c.args.link (decision_by c.decide_into-next.result c.decide_into-next.new.hand) c.args.now.0)) c.self.view_is
+    (c.decide_into-next.ensures.stands h logs) s)
 
 pub returns-clause-idle : goal.returns-clause-idle
 returns-clause-idle c h logs limits s f =
-    let k = known c.args.self.now h logs c.args.link limits c.args.now.0 s f c.requires.time in
-    let e = returns-clause-decision c h logs limits s f in
-    idles limits (logs c.args.link) c.args.now.0 c.decision_by.result k.valid k.legal e
+    subst (λ (d : Decision). (d ≡ Idle) ↔ IsEmpty (waiting_after limits (logs c.args.link))) (sym (told c))
+    (subst (λ (v : RouterData). StandsFor v h logs → outgoing_link v.plan c.args.link ≡ Some (c.args.link, limits)
+    → (decision_by c.decide_into-next.result c.decide_into-next.new.hand ≡ Idle) ↔ IsEmpty (waiting_after limits (logs c.args.link))) c.self.view_is
+    (c.decide_into-next.ensures.idle h logs limits) s f)
 
 pub returns-clause-alone : goal.returns-clause-alone
-returns-clause-alone c h logs limits u s f w =
-    let k = known c.args.self.now h logs c.args.link limits c.args.now.0 s f c.requires.time in
-    let e = returns-clause-decision c h logs limits s f in
-    waits_alone limits (logs c.args.link) c.args.now.0 u k.valid k.legal (sym w ∙ e)
+returns-clause-alone c h logs limits u s f e =
+    subst (λ (v : RouterData). StandsFor v h logs → outgoing_link v.plan c.args.link ≡ Some (c.args.link, limits)
+    → (packet : PacketData) × IsRequestAlone (waiting_after limits (logs c.args.link)) packet) c.self.view_is
+    (λ t g. c.decide_into-next.ensures.alone h logs limits u t g (sym (told c) ∙ e)) s f
 
 pub returns-clause-wait : goal.returns-clause-wait
-returns-clause-wait c h logs limits u packet s f w n =
-    let k = known c.args.self.now h logs c.args.link limits c.args.now.0 s f c.requires.time in
-    let e = returns-clause-decision c h logs limits s f in
-    first_covered limits (logs c.args.link) c.args.now.0 u packet k.valid k.legal k.later (next_sized limits (logs c.args.link) packet k.valid k.legal n) (sym w ∙ e) n
-
-pub returns-clause-later : goal.returns-clause-later
-returns-clause-later c h logs limits u s f w =
-    let k = known c.args.self.now h logs c.args.link limits c.args.now.0 s f c.requires.time in
-    let e = returns-clause-decision c h logs limits s f in
-    ends_later limits (logs c.args.link) c.args.now.0 u k.valid k.legal k.later (sym w ∙ e)
-
-pub returns-clause-steady : goal.returns-clause-steady
-returns-clause-steady c h logs limits until time s f n i low high =
-    let k = known c.args.self.now h logs c.args.link limits c.args.now.0 s f c.requires.time in
-    let e = returns-clause-decision c h logs limits s f in
-    steady limits (logs c.args.link) c.args.now.0 _ c.decision_by.result until time k.valid k.legal k.later e n i low high
+returns-clause-wait c h logs limits u packet s f e n =
+    subst (λ (v : RouterData). StandsFor v h logs → outgoing_link v.plan c.args.link ≡ Some (c.args.link, limits)
+    → IsFirstCovered limits (logs c.args.link) packet c.args.now.0 u.0) c.self.view_is
+    (λ t g. c.decide_into-next.ensures.wait h logs limits u packet t g (sym (told c) ∙ e) n) s f
 
 pub returns-clause-rests : goal.returns-clause-rests
 returns-clause-rests c h logs limits until time s f i low high =
-    let k = known c.args.self.now h logs c.args.link limits c.args.now.0 s f c.requires.time in
-    let e = returns-clause-decision c h logs limits s f in
-    let due = due_then (router_data c.self.inside.built c.self.inside.plan c.args.now.0 c.self.inside.guard.minter c.self.inside.guard.cache c.decide_on-next.new.ports.items) h logs c.args.link limits c.decision_by.result c.args.now.0 until
-    (returns-clause-stands c h logs s) (subst (λ (p : RouterPlan). outgoing_link p c.args.link ≡ Some (c.args.link, limits)) (sym (ap (λ (z : RouterData). z.plan) c.self.view_is)) f) i in
-    rests_after limits (logs c.args.link) c.args.now.0 c.decision_by.result until time k.legal k.later e due low high
-
-pub returns-clause-missed : goal.returns-clause-missed
-returns-clause-missed c h logs limits until s f m i =
-    let k = known c.args.self.now h logs c.args.link limits c.args.now.0 s f c.requires.time in
-    let e = returns-clause-decision c h logs limits s f in
-    let due = due_then (router_data c.self.inside.built c.self.inside.plan c.args.now.0 c.self.inside.guard.minter c.self.inside.guard.cache c.decide_on-next.new.ports.items) h logs c.args.link limits c.decision_by.result c.args.now.0 until
-    (returns-clause-stands c h logs s) (subst (λ (p : RouterPlan). outgoing_link p c.args.link ≡ Some (c.args.link, limits)) (sym (ap (λ (z : RouterData). z.plan) c.self.view_is)) f) i in
-    misses_after limits (logs c.args.link) c.args.now.0 c.decision_by.result until k.legal k.later e m due
+    subst (λ (d : Decision). NoneDueBefore d (free_of c.decide_into-next.new.self c.args.link) until → RestsAt limits (logs c.args.link ++ started_by d c.args.now.0) time) (sym (told c))
+    (λ n. subst (λ (v : RouterData). StandsFor v h logs → outgoing_link v.plan c.args.link ≡ Some (c.args.link, limits)
+    → RestsAt limits (logs c.args.link ++ started_by (decision_by c.decide_into-next.result c.decide_into-next.new.hand) c.args.now.0) time) c.self.view_is
+    (λ t g. c.decide_into-next.ensures.rests h logs limits until time t g n low high) s f) i
 
 pub returns-clause-occupied : goal.returns-clause-occupied
 returns-clause-occupied c h logs limits class packet s f e =
-    free_then (router_data c.self.inside.built c.self.inside.plan c.args.now.0 c.self.inside.guard.minter c.self.inside.guard.cache c.decide_on-next.new.ports.items) h logs c.args.link limits c.decision_by.result c.args.now.0
-    (returns-clause-stands c h logs s) (subst (λ (p : RouterPlan). outgoing_link p c.args.link ≡ Some (c.args.link, limits)) (sym (ap (λ (z : RouterData). z.plan) c.self.view_is)) f)
-    ∙ ap (λ (d : Decision). free_after limits (logs c.args.link ++ started_by d c.args.now.0)) e
-    ∙ free-started limits 0 (logs c.args.link) c.args.now.0 class packet
+    subst (λ (v : RouterData). StandsFor v h logs → outgoing_link v.plan c.args.link ≡ Some (c.args.link, limits)
+    → free_of c.decide_into-next.new.self c.args.link ≡ c.args.now.0 + packet_length packet * limits.ns_per_byte) c.self.view_is
+    (λ t g. c.decide_into-next.ensures.occupied h logs limits class packet t g (sym (told c) ∙ e)) s f

@@ -1,21 +1,14 @@
-use Rattle.std.proofs.Common.{◌≤◌, List, sym, subst}
-use Rattle.std.specs.Prelude.{Contains}
-use Rattle.tva_base.specs.Changes.{changed_plan}
-use Rattle.tva_base.specs.Plan.{links_of}
-use Rattle.tva_base.specs.declared.plan.Route.{Route}
+use Rattle.std.proofs.Common.{ap, subst}
+use Rattle.tva_base.specs.declared.plan.RouterPlan.{RouterPlan}
 use Rattle.tva_router.specs.Stands.{RouterData, StandsFor}
-use Rattle.tva_router.specs.Steps.{IsSound}
-use Rattle.tva_router.proofs.Changed.{rerouted_sound, rerouted_stands}
+use Rattle.tva_router.proofs.Stocked.{stocked_same}
 use Rattle.tva_router.proofs.router.Router.reroute.Goals as goal
 
 pub invariant_of-self : goal.invariant_of-self
 invariant_of-self c =
-    subst (λ (z : List Route). IsSound c.self.inside.built (changed_plan c.self.inside.plan.master z c.self.inside.plan) c.args.now.0 c.self.inside.guard c.self.inside.ways c.self.inside.ports.items) (sym c.reroute.ensures)
-    (rerouted_sound c.self.inside.built c.self.inside.plan c.self.inside.last c.args.now.0 c.self.inside.guard c.self.inside.ways c.self.inside.ports.items c.args.prefix c.args.link
-    (subst (λ (z : RouterData). z.last ≤ c.args.now.0) (sym c.self.view_is) c.requires.time)
-    (subst (λ (z : RouterData). Contains (links_of z.plan.outgoing) c.args.link) (sym c.self.view_is) c.requires.link) c.self.invariant)
+    stocked_same c.self.inside.inner c.reroute.new.self (λ h. h) c.self.inside.stock c.self.invariant
+    (ap (λ (p : RouterPlan). p.outgoing) c.reroute.ensures.plan) c.reroute.ensures.stands
 
 pub returns-clause-stands : goal.returns-clause-stands
 returns-clause-stands c h logs s =
-    rerouted_stands c.self.inside.built c.self.inside.plan c.self.inside.last c.args.now.0 c.self.inside.guard c.self.inside.ways c.self.inside.ports.items c.reroute.new.routes h logs
-    (subst (λ (z : RouterData). StandsFor z h logs) (sym c.self.view_is) s) (invariant_of-self c)
+    subst (λ (v : RouterData). StandsFor v h logs → StandsFor c.reroute.new.self h logs) c.self.view_is (c.reroute.ensures.stands h logs) s

@@ -1,14 +1,14 @@
-use Rattle.std.proofs.Common.{◌≤◌, sym, subst}
+use Rattle.std.proofs.Common.{[], ap, subst}
+use Rattle.tva_base.specs.declared.plan.RouterPlan.{RouterPlan}
 use Rattle.tva_router.specs.Stands.{RouterData, StandsFor}
-use Rattle.tva_router.proofs.Changed.{restarted_sound, restarted_stands}
+use Rattle.tva_router.proofs.Stocked.{stocked_same}
 use Rattle.tva_router.proofs.router.Router.restart.Goals as goal
 
 pub invariant_of-self : goal.invariant_of-self
 invariant_of-self c =
-    restarted_sound c.self.inside.built c.self.inside.plan c.self.inside.last c.args.now.0 c.self.inside.guard c.restart.new.self c.self.inside.ways c.self.inside.ports.items c.args.master
-    (subst (λ (z : RouterData). z.last ≤ c.args.now.0) (sym c.self.view_is) c.requires) c.self.invariant (c.restart.ensures.guard c.self.inside.last c.self.invariant.guard)
+    stocked_same c.self.inside.inner c.restart.new.self (λ h. []) c.self.inside.stock c.self.invariant
+    (ap (λ (p : RouterPlan). p.outgoing) c.restart.ensures.plan) c.restart.ensures.stands
 
 pub returns-clause-stands : goal.returns-clause-stands
 returns-clause-stands c h logs s =
-    restarted_stands c.self.inside.built c.self.inside.plan c.self.inside.last c.args.now.0 c.self.inside.guard c.restart.new.self c.self.inside.ways c.self.inside.ports.items c.args.master h logs
-    (subst (λ (z : RouterData). StandsFor z h logs) (sym c.self.view_is) s) (invariant_of-self c) c.restart.ensures.stands
+    subst (λ (v : RouterData). StandsFor v h logs → StandsFor c.restart.new.self [] logs) c.self.view_is (c.restart.ensures.stands h logs) s
