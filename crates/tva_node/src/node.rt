@@ -100,7 +100,7 @@ impl Node {
                 role,
                 links: Links::of(alloc, links)?,
                 inbox: Inbox::new(alloc),
-                waiting: Waiting::new(alloc),
+                waiting: Waiting::new(alloc)?,
                 log: Kept::new(alloc),
                 outbox: Outbox::new(alloc, keeps),
                 worked_to: 0,
@@ -267,31 +267,16 @@ impl Node {
             × (self.new.gone.events ≡ self.old.gone.events) × (self.new.gone.sendings ≡ self.old.gone.sendings) }
     {
         match input {
-            Input::FromTrace(row) => self.post_row(&row),
+            Input::FromTrace(row) => {
+                let mut rows = PackedRows::new(self.parts.alloc);
+                rows.push(row)?;
+                self.post_packed(&rows, 0)
+            }
             Input::Arrival { time, link, packet } => {
                 let flight = Flight::of_packet(self.parts.alloc, link, time, packet)?;
                 self.post_flight(flight)
             }
         }
-    }
-
-    // The same of a row.
-    fn post_row(&mut self, row: &Row) -> Result<(), AllocError>
-        requires late { self.old.worked_to ≤ row.now.time.0 }
-        requires horizon { row.now.time.0 ≤ self.old.horizon }
-        requires fits { FitsRow self.old.site.plan row.now.what }
-        ensures inbox { OnOk result (self.new.inbox ≡ self.old.inbox ++ FromTrace row.now ∷ []) }
-        ensures stands { Stands self.old → OnOk result (Stands self.new) }
-        ensures err { OnErr result (self.new ≡ self.old) }
-        ensures same { (self.new.site ≡ self.old.site) × (self.new.horizon ≡ self.old.horizon)
-            × (self.new.events ≡ self.old.events) × (self.new.sendings ≡ self.old.sendings)
-            × (self.new.worked_to ≡ self.old.worked_to) × (self.new.keeps ≡ self.old.keeps)
-            × (self.new.gone.events ≡ self.old.gone.events) × (self.new.gone.sendings ≡ self.old.gone.sendings) }
-    {
-        let parts = &mut self.parts;
-        parts
-            .waiting
-            .put_row(row, &mut parts.inbox, parts.outbox.keeps())
     }
 
     /// The same of the row at a place among rows in little memory.

@@ -1,2 +1,3 @@
-pub mod Slots
-pub mod Last
+pub mod Queues
+pub mod Finding
+pub mod Held

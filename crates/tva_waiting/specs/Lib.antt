@@ -1,4 +1,5 @@
 pub mod Inputs
 pub mod Flights
 pub mod Noted
-pub mod Waiting
+pub mod Queues
+pub mod Lanes

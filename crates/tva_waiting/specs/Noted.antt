@@ -13,6 +13,5 @@ abbrev pub no_row : Row
 no_row = record { time = record { 0 = 0 }; node = 0; what = what.Tick (record { 0 = 0 }) }
 
 abbrev pub noted_of : sources.Source → Input
-noted_of (source.Row row) = FromTrace row.value
 noted_of (source.Packed rows place) = FromTrace (slice_index_or rows.value place.value no_row)
 noted_of (source.Flight flight) = arrived flight.value

@@ -12,12 +12,11 @@ use std::marker::Model;
 use std::snapshot::Snapshot;
 use tva_log::{Input, Sending};
 use tva_past::Kept;
-use tva_trace::{PackedRows, Row, RowWhat};
+use tva_trace::PackedRows;
 
 /// Of what an input is noted.
 #[derive(Drop)]
 pub(crate) enum Source {
-    Row(Snapshot<Row>),
     Packed(Snapshot<PackedRows>, Snapshot<usize>),
     Flight(Snapshot<Flight>),
 }
@@ -76,22 +75,8 @@ impl Inbox {
         self.whole.as_slice()
     }
 
-    /// Notes a row behind all that were given: where memory keeps all, with a copy of it. The error is want of
-    /// memory, and changes nothing.
-    #[inline(always)]
-    pub fn note_row(&mut self, keeps: Memory, row: &Row) -> Result<(), AllocError>
-        requires { HoldsInputs keeps self.old }
-        ensures noted { OnOk result (self.new.all ≡ self.old.all ++ FromTrace row.now ∷ []) }
-        ensures held { HoldsInputs keeps self.new }
-        ensures err { OnErr result (self.new ≡ self.old) }
-    {
-        match keeps {
-            Memory::All => self.keep(Input::FromTrace(copied_row(row))),
-            Memory::Events | Memory::Nothing => self.note(&noted_row(row)),
-        }
-    }
-
-    /// The same of the row at a place among rows in little memory.
+    /// Notes the row at a place among rows in little memory behind all that were given: where memory keeps all, with
+    /// a copy of it. The error is want of memory, and changes nothing.
     #[inline(always)]
     pub fn note_packed(
         &mut self,
@@ -111,8 +96,7 @@ impl Inbox {
         }
     }
 
-    /// Notes a packet that arrives behind all that were given: where memory keeps all, with a copy of it. The
-    /// error is want of memory, and changes nothing.
+    /// The same of a packet that arrives.
     #[inline(always)]
     pub fn note_flight(&mut self, keeps: Memory, flight: &Flight) -> Result<(), AllocError>
         requires { HoldsInputs keeps self.old }
@@ -147,14 +131,6 @@ impl Inbox {
     }
 }
 
-fn noted_row(row: &Row) -> Noted
-    ensures { result ≡ FromTrace row.now }
-{
-    Noted {
-        source: Source::Row(Snapshot::of(row)),
-    }
-}
-
 fn noted_packed(rows: &PackedRows, place: usize) -> Noted
     requires { place < length rows.now }
     ensures { (row : Row) → result ≡ FromTrace (slice_index_or rows.now place row) }
@@ -185,41 +161,5 @@ fn arrived(flight: &Flight) -> Input
         time: arrive,
         link,
         packet,
-    }
-}
-
-fn copied_row(row: &Row) -> Row
-    ensures { result ≡ row.now }
-{
-    Row {
-        time: row.time,
-        node: row.node,
-        what: copied_what(&row.what),
-    }
-}
-
-fn copied_what(what: &RowWhat) -> RowWhat
-    ensures { result ≡ what.now }
-{
-    match what {
-        RowWhat::Send { dst, payload } => RowWhat::Send {
-            dst: *dst,
-            payload: *payload,
-        },
-        RowWhat::Inject {
-            flow,
-            payload,
-            carried,
-        } => RowWhat::Inject {
-            flow: *flow,
-            payload: *payload,
-            carried: carried.copied(),
-        },
-        RowWhat::File { dst, size, segment } => RowWhat::File {
-            dst: *dst,
-            size: *size,
-            segment: *segment,
-        },
-        RowWhat::Tick { dst } => RowWhat::Tick { dst: *dst },
     }
 }

@@ -7,6 +7,7 @@
 
 mod flights;
 mod inbox;
+mod lanes;
 mod memory;
 mod waiting;
 

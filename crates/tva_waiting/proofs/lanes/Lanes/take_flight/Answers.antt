@@ -1,0 +1,56 @@
+use Rattle.std.proofs.Common.{rules, ◌≡◌, ◌-◌, length, map, get_or, set, refl, sym, ◌∙◌, ap, arith}
+use Rattle.std.proofs.lemmas.List.{get_or-set_same}
+use Rattle.tva_waiting.specs.Inputs.{arrived}
+use Rattle.tva_waiting.specs.Queues.{head_of}
+use Rattle.tva_waiting.specs.declared.lanes.Lanes.{Lanes}
+use Rattle.std.specs.Vec.{with_item}
+use Rattle.tva_waiting.proofs.Finding.{any_default}
+use Rattle.tva_waiting.proofs.Held.{flight_taken, lane_next}
+use Rattle.tva_waiting.proofs.lanes.Lanes.take_flight.Goals as goal
+
+pub overflow_sub-place : goal.overflow_sub-place
+overflow_sub-place c = let k = lane_next c.args.self.now c.next-place.result c.requires.waiting c.next-place.ensures.some c.next-place.ensures.none c.requires.waits c.requires.flight in omega (arith, k.0)
+
+pub index_mut-requires : goal.index_mut-requires
+index_mut-requires c =
+    let k = lane_next c.args.self.now c.next-place.result c.requires.waiting c.next-place.ensures.some c.next-place.ensures.none c.requires.waits c.requires.flight in
+    let many : length c.args.self.now.list.items ≡ c.args.self.now.list.len = search rules in
+    omega (arith, k.1, many)
+
+pub take_first-flight-requires : goal.take_first-flight-requires
+take_first-flight-requires c = λ e.
+    let k = lane_next c.args.self.now c.next-place.result c.requires.waiting c.next-place.ensures.some c.next-place.ensures.none c.requires.waits c.requires.flight in
+    k.2 c.index_mut.result.now (ap (λ l. l.flights.items) (sym c.index_mut.ensures.value) ∙ e)
+
+pub overflow_sub-place-2 : goal.overflow_sub-place-2
+overflow_sub-place-2 c = let k = lane_next c.args.self.now c.next-place.result c.requires.waiting c.next-place.ensures.some c.next-place.ensures.none c.requires.waits c.requires.flight in omega (arith, k.0)
+
+pub index-requires : goal.index-requires
+index-requires c =
+    let k = lane_next c.args.self.now c.next-place.result c.requires.waiting c.next-place.ensures.some c.next-place.ensures.none c.requires.waits c.requires.flight in
+    let many : length c.args.self.now.list.items ≡ c.args.self.now.list.len = search rules in
+    omega (arith, k.1, many)
+
+pub returns-clause-waiting : goal.returns-clause-waiting
+returns-clause-waiting c =
+    let w = c.args.self.now in
+    let p = c.next-place.result in
+    let lane = c.take_first-flight.new.lane in
+    let k = lane_next w p c.requires.waiting c.next-place.ensures.some c.next-place.ensures.none c.requires.waits c.requires.flight in
+    let v : Lanes = record { rows = w.rows; layouts = w.layouts; list = with_item w.list (p - 1) lane; sources = w.sources; heads = c.put.new.self; places = w.places; alloc = w.alloc } in
+    let is : c.index_mut.result.now ≡ get_or w.list.items (p - 1) lane = c.index_mut.ensures.value ∙ any_default w.list.items (p - 1) c.index_mut.result.now lane k.1 in
+    let there : c.index.result.now ≡ lane = c.index.ensures ∙ get_or-set_same w.list.items (p - 1) lane c.index.result.now k.1 in
+    (flight_taken w v p c.take_first-flight.result lane c.requires.waiting c.next-place.ensures.some k.0 k.1 (sym (ap (λ l. l.flights.items) is) ∙ c.take_first-flight.ensures.taken) (c.take_first-flight.ensures.same ∙ ap (λ l. l.link) is)
+    refl refl refl refl refl (c.put.ensures ∙ ap (λ n. set w.heads p n) (c.flights_head-head.ensures ∙ ap (λ l. head_of (map arrived l.flights.items)) there))).0
+
+pub returns-clause-taken : goal.returns-clause-taken
+returns-clause-taken c =
+    let w = c.args.self.now in
+    let p = c.next-place.result in
+    let lane = c.take_first-flight.new.lane in
+    let k = lane_next w p c.requires.waiting c.next-place.ensures.some c.next-place.ensures.none c.requires.waits c.requires.flight in
+    let v : Lanes = record { rows = w.rows; layouts = w.layouts; list = with_item w.list (p - 1) lane; sources = w.sources; heads = c.put.new.self; places = w.places; alloc = w.alloc } in
+    let is : c.index_mut.result.now ≡ get_or w.list.items (p - 1) lane = c.index_mut.ensures.value ∙ any_default w.list.items (p - 1) c.index_mut.result.now lane k.1 in
+    let there : c.index.result.now ≡ lane = c.index.ensures ∙ get_or-set_same w.list.items (p - 1) lane c.index.result.now k.1 in
+    (flight_taken w v p c.take_first-flight.result lane c.requires.waiting c.next-place.ensures.some k.0 k.1 (sym (ap (λ l. l.flights.items) is) ∙ c.take_first-flight.ensures.taken) (c.take_first-flight.ensures.same ∙ ap (λ l. l.link) is)
+    refl refl refl refl refl (c.put.ensures ∙ ap (λ n. set w.heads p n) (c.flights_head-head.ensures ∙ ap (λ l. head_of (map arrived l.flights.items)) there))).1

@@ -1,0 +1,7 @@
+use Rattle.std.proofs.Common.{◌≡◌, ◌+◌, ◌∷◌, map, take}
+use Rattle.tva_index.specs.KeyRing.{ring}
+use Rattle.tva_waiting.specs.declared.lanes.Lane.{Lane}
+use Rattle.tva_waiting.proofs.lanes.sources_of.Given as goal
+
+abbrev pub invariant-loop-place : goal.invariant-loop-place
+invariant-loop-place l = l.sources ≡ ring l.places (0 ∷ take l.place (map (λ (lane : Lane). lane.link + 1) l.list.items))
