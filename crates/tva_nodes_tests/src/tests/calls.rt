@@ -2,16 +2,17 @@
 ghost use Rattle.std.specs.Prelude.{◌≡◌, ◌≤◌, IfOk, OnOk};
 ghost use Rattle.tva_node.specs.States.{Stands};
 
-use super::config;
+use super::keeping::Starts;
+use super::{STEPS, WALK, config};
 use std::alloc::{AllocError, Global};
 use std::process::Abort;
+use std::sync::atomic::{AtomicU64, Ordering};
 use std::test::Fail;
 use std::thread::Threads;
 use tva_audit::{AuditError, Audited, RouterSum, audit, sums};
 use tva_base::{Address, Flow, Happened, Listed, Name, PacketId, RouterPlan, Time};
 use tva_log::Input;
 use tva_node::Node;
-use tva_outside::OpenGate;
 use tva_plan::NodePlan;
 use tva_shim::{Carried, Packet};
 use tva_trace::{Row, RowWhat, read_trace};
@@ -181,29 +182,43 @@ fn put_answer(alloc: Global, answer: &Result<Audited, AuditError>) -> Result<Str
     }
 }
 
-// What an audit says of a report of those two lists.
-fn said<R: Threads + Sync>(rt: &R, alloc: Global, report: &str) -> Result<String, Fail> {
-    let config = config(alloc, EDGE)?;
-    let rows = read_trace(alloc, LISTS.as_bytes(), &config)?;
-    let answer = audit(rt, alloc, &config, rows, report.as_bytes(), &OpenGate);
+// What an audit says of a report, and how often it told the gate of a node.
+fn said<R: Threads + Sync>(
+    rt: &R,
+    alloc: Global,
+    (plan, trace): (&str, &str),
+    report: &str,
+) -> Result<(String, u64), Fail> {
+    let config = config(alloc, plan)?;
+    let rows = read_trace(alloc, trace.as_bytes(), &config)?;
+    let gate = Starts {
+        all: AtomicU64::new(0),
+    };
+    let answer = audit(rt, alloc, &config, rows, report.as_bytes(), &gate);
     let text = put_answer(alloc, &answer)?;
-    Ok(text)
+    Ok((text, gate.all.load(Ordering::SeqCst)))
 }
 
-// A report, and what an audit says of it: the run's, and what its one router let through; or another first line.
-const SAID: [(&str, &str); 2] = [
-    (REPORT, "0 1 1 512,"),
+// A configuration and a trace, a report, and what an audit says of it: the run's, and what its one router let through;
+// another first line; or that there are too many events. And how often it tells the gate of a node: of each in each
+// window, as a replay does.
+const SAID: [((&str, &str), &str, &str, u64); 3] = [
+    ((EDGE, LISTS), REPORT, "0 1 1 512,", 1),
     (
+        (EDGE, LISTS),
         "x\n",
         "line 1: 5000000000 R1 in R1#1 512 trace regular - dropped:no-route; x",
+        1,
     ),
+    ((WALK, STEPS), "x\n", "an error", 30),
 ];
 
 #[test]
 fn audits_of_rows(rt: HostRuntime) -> Result<(), Fail> {
-    for (report, wanted) in &SAID {
-        let text = said(&rt, rt.alloc(), *report)?;
+    for (files, report, wanted, starts) in &SAID {
+        let (text, told) = said(&rt, rt.alloc(), *files, *report)?;
         assert_eq!(rt; text.as_str(), *wanted);
+        assert_eq!(rt; told, *starts);
     }
     Ok(())
 }

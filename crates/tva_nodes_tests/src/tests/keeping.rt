@@ -14,8 +14,8 @@ const FILES: &str =
 
 // How often nodes were told.
 #[derive(Drop)]
-struct Starts {
-    all: AtomicU64,
+pub struct Starts {
+    pub all: AtomicU64,
 }
 
 impl Gate for Starts {
