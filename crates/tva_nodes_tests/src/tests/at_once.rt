@@ -106,7 +106,8 @@ fn four_trace(alloc: Global) -> Result<String, AllocError> {
     Ok(text)
 }
 
-// Holds each node until so many have started.
+// Holds each node until so many have started, or one was held too long. That is longer than above, since these
+// are more.
 #[derive(Drop)]
 struct Crowd {
     wanted: u64,
@@ -117,8 +118,9 @@ struct Crowd {
 impl Gate for Crowd {
     fn at_start(&self, _node: u16) {
         self.started.fetch_add(1, Ordering::SeqCst);
-        for _ in 0..LIMIT {
-            if self.started.load(Ordering::SeqCst) >= self.wanted {
+        for _ in 0..5 * LIMIT {
+            let started = self.started.load(Ordering::SeqCst);
+            if started >= self.wanted || self.late.load(Ordering::SeqCst) != 0 {
                 return;
             }
         }
