@@ -186,7 +186,8 @@ fn put_answer(alloc: Global, answer: &Result<Audited, AuditError>) -> Result<Str
 fn said<R: Threads + Sync>(
     rt: &R,
     alloc: Global,
-    (plan, trace): (&str, &str),
+    plan: &str,
+    trace: &str,
     report: &str,
 ) -> Result<(String, u64), Fail> {
     let config = config(alloc, plan)?;
@@ -202,21 +203,22 @@ fn said<R: Threads + Sync>(
 // A configuration and a trace, a report, and what an audit says of it: the run's, and what its one router let through;
 // another first line; or that there are too many events. And how often it tells the gate of a node: of each in each
 // window, as a replay does.
-const SAID: [((&str, &str), &str, &str, u64); 3] = [
-    ((EDGE, LISTS), REPORT, "0 1 1 512,", 1),
+const SAID: [(&str, &str, &str, &str, u64); 3] = [
+    (EDGE, LISTS, REPORT, "0 1 1 512,", 1),
     (
-        (EDGE, LISTS),
+        EDGE,
+        LISTS,
         "x\n",
         "line 1: 5000000000 R1 in R1#1 512 trace regular - dropped:no-route; x",
         1,
     ),
-    ((WALK, STEPS), "x\n", "an error", 30),
+    (WALK, STEPS, "x\n", "an error", 30),
 ];
 
 #[test]
 fn audits_of_rows(rt: HostRuntime) -> Result<(), Fail> {
-    for (files, report, wanted, starts) in &SAID {
-        let (text, told) = said(&rt, rt.alloc(), *files, *report)?;
+    for (plan, trace, report, wanted, starts) in &SAID {
+        let (text, told) = said(&rt, rt.alloc(), *plan, *trace, *report)?;
         assert_eq!(rt; text.as_str(), *wanted);
         assert_eq!(rt; told, *starts);
     }
