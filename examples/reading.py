@@ -4,7 +4,9 @@ import array
 import bisect
 import collections
 import csv
+import functools
 import heapq
+import io
 import itertools
 import marshal
 import os
@@ -14,9 +16,22 @@ import tempfile
 
 from words import refuse
 
-PART = 1 << 16  # bytes of a report that are read at once
+PART = 1 << 16  # bytes that are read at once
 LINE_MOST = 255
 KEYS_MOST = 10_000  # keys of a table that are held at once
+
+
+class Known(dict):
+    """What a function says of keys. It is asked once for each, as long as they are few."""
+
+    def __init__(self, say):
+        self.say = say
+
+    def __missing__(self, key):
+        if len(self) == KEYS_MOST:
+            self.clear()
+        said = self[key] = self.say(key)
+        return said
 
 
 # ## reports
@@ -88,7 +103,7 @@ class Report:
 
 def number_of(address):
     """The number of an address that is written as four numbers."""
-    one, two, three, four = map(int, address.split("."))
+    one, two, three, four = bytes(map(int, address.split(".")))
     return one << 24 | two << 16 | three << 8 | four
 
 
@@ -96,39 +111,61 @@ def address_of(number):
     return f"{number >> 24}.{number >> 16 & 255}.{number >> 8 & 255}.{number & 255}"
 
 
-def rows(trace):
-    """The records of a trace behind its header, as lists of fields."""
+HEADER = "time,node,kind,src,dst,payload,shim"
+
+
+def each_row(trace, note):
+    """Calls for each row of a trace what `note` gives for its fields behind the time. Most rows are like others but for
+    that, and `note` is asked once for them."""
+
+    def of_line(rest):
+        fields = rest.split(",")
+        return note(*fields) if len(fields) == 6 else functools.partial(refuse_row, len(fields) + 1)
+
+    def refuse_row(count):
+        refuse(f"{trace}: record {number} has {count} fields")
+
+    calls, number = Known(of_line), 1
     try:
         with open(trace, newline="", encoding="utf-8-sig") as file:
-            records = (fields for fields in csv.reader(file) if fields)
-            if next(records, None) != ["time", "node", "kind", "src", "dst", "payload", "shim"]:
+            text = file.readline()
+            begun = text == HEADER + "\n"
+            if begun:
+                # a record is a line, as long as nothing is quoted
+                while (text := file.read(PART) + file.readline()) and '"' not in text and "\r" not in text:
+                    for number, line in enumerate(filter(None, text.split("\n")), number + 1):
+                        calls[line.partition(",")[2]]()
+            records = (fields for fields in csv.reader(itertools.chain(io.StringIO(text, newline=""), file)) if fields)
+            if not begun and next(records, None) != HEADER.split(","):
                 refuse(f"{trace} is no trace: it has another header")
-            for number, fields in enumerate(records, 2):
+            for number, fields in enumerate(records, number + 1):
                 if len(fields) != 7:
-                    refuse(f"{trace}: record {number} has {len(fields)} fields")
-                yield fields
+                    refuse_row(len(fields))
+                note(*fields[1:])()
     except FileNotFoundError:
         refuse(f"there is no file {trace}")
     except (OSError, ValueError, csv.Error):
         refuse(f"{trace} is no trace")
 
 
+FAR = 1 << 32  # what is added to the number of an address, where it stands for a node of which no name is known
+
+
 def flows_of(trace):
-    """For each node the flows of its rows, in their order, as two arrays: the numbers of the sources, one higher each,
-    or 0 where the row has none, and those of the destinations."""
-    found, numbers = collections.defaultdict(lambda: (array.array("Q"), array.array("I"))), {"": -1}
-    for _, node, _, source, destination, _, _ in rows(trace):
-        sources, destinations = found[node]
+    """For each node the source and the destination of each of its rows, in their order: FAR and the number of an address,
+    or 0 where the row has none. And whether there are ticks."""
+    found, kinds = collections.defaultdict(lambda: array.array("Q")), set()
+
+    def note(node, kind, source, destination, _payload, _shim):
+        kinds.add(kind)
         try:
-            for address in (source, destination):
-                if address not in numbers:
-                    numbers = {"": -1} if len(numbers) == KEYS_MOST else numbers
-                    numbers[address] = number_of(address)
-            sources.append(numbers.get(source, -1) + 1 if source else 0)
-            destinations.append(numbers.get(destination) or number_of(destination))
-        except (ValueError, OverflowError):
+            codes = FAR + number_of(source) if source else 0, FAR + number_of(destination)
+        except ValueError:
             refuse(f"{trace} is no trace: {source or destination} is no address")
-    return found
+        return functools.partial(found[node].extend, array.array("Q", codes))
+
+    each_row(trace, note)
+    return found, "tick" in kinds
 
 
 # ## sums by keys, in their order

@@ -12,11 +12,12 @@ times of the first sending and of the last event in nanoseconds, and the mean de
 
 REPORT may be a pipe, or - for standard input. A report that lacks its last line is refused, or with --partial summed
 as far as it goes. It takes some 50 MB of memory at most, whatever the report is: what is known of a packet is kept until
-it is received or dropped, in 24 bytes. It ends with 2 where its words are wrong, or what it reads is no report or no
+it is received or dropped, in 24 bytes where they are many. It ends with 2 where its words are wrong, or what it reads is no report or no
 trace.
 """
 import array
 import collections
+import itertools
 import os
 import sys
 
@@ -30,19 +31,20 @@ HEADER += ["malformed" if cause == "malformed" else "demoted_" + cause for cause
 HEADER += ["dropped_" + cause for cause in DROPS]
 HEADER += ["first_ns", "last_ns", "mean_delay_ns"]
 
-# a packet under way: when it was sent, the time of its last event, and a number of the fields below
-BLOCK, FIELDS = 256, 3
-ENDED = (1 << 64) - 1  # in the place of the time at which it was sent: it was received or dropped
-LENGTH, KIND, CAUSE, ROW, FAR, TARGET = 0, 16, 18, 22, 23, 24  # the lowest bits
-FAR_BIT, ROW_BIT = 1 << FAR, 1 << ROW
-KINDS = {kind: place << KIND for place, kind in enumerate(["-", *CLASSES])}
-SHAPES = {shape: KINDS[kind] for shape, kind in CLASS_OF_SHAPE.items()} | {"trace": 0}
-MARKS = {cause: place << CAUSE for place, cause in enumerate(["-", *CAUSES])}
-OTHER = ~(3 << KIND)  # all but the class
-UNMARKED = ~(15 << CAUSE)
-
-FIRST, LAST, DELAY = 4 + len(CAUSES) + len(DROPS), 5 + len(CAUSES) + len(DROPS), 6 + len(CAUSES) + len(DROPS)
+COLUMNS = len(HEADER) - 4  # numbers of a flow and class, without the mean
+SENT, RECEIVED, BYTES_SENT, BYTES_RECEIVED = range(4)
+FIRST, LAST, DELAY = COLUMNS - 2, COLUMNS - 1, COLUMNS
+ALL_KINDS = ["-", *CLASSES]
+KINDS = {kind: kind for kind in CLASSES}
+SHAPES = {**CLASS_OF_SHAPE, "trace": "-"}
+MARKS = {cause: 4 + place for place, cause in enumerate(CAUSES)}
+DROPPED = {"dropped:" + cause: 4 + len(CAUSES) + place for place, cause in enumerate(DROPS)}
 LATEST = 1 << 64
+
+NEAR_MOST = 20_000  # packets under way that are kept as such
+BLOCK, FIELDS = 256, 3  # others are numbers: when it was sent, its last event, and its fields one behind the other
+GONE = (1 << 64) - 1  # in the place of the first
+LENGTH, KIND, MARK, TARGET = 0, 16, 18, 24  # the lowest bits of fields
 
 
 def joined(those):
@@ -52,133 +54,164 @@ def joined(those):
     return sums
 
 
+class Packet:
+    """A packet under way. Its target is FAR and the number of an address, or the place of a name, or 0."""
+
+    __slots__ = ("sender", "sent", "last", "length", "kind", "mark", "target")
+
+    def __init__(self, sender, sent, last, length, kind, mark, target):
+        self.sender, self.sent, self.last, self.length, self.kind, self.mark, self.target = sender, sent, last, length, kind, mark, target
+
+
+class Far:
+    """Packets under way, as numbers in blocks of some packets of one node. A block is let go when all of it is gone."""
+
+    def __init__(self):
+        self.blocks = collections.defaultdict(dict)  # for each sender and place how many there are, and the numbers
+
+    def put(self, name, packet):
+        sender, _, number = name.partition("#")
+        blocks, (block, place) = self.blocks[sender], divmod(int(number), BLOCK)
+        if block not in blocks:
+            blocks[block] = [0, array.array("Q", [GONE]) * (BLOCK * FIELDS)]
+        place *= FIELDS
+        fields = packet.length << LENGTH | ALL_KINDS.index(packet.kind) << KIND | packet.mark << MARK | packet.target << TARGET
+        blocks[block][0] += 1
+        blocks[block][1][place : place + FIELDS] = array.array("Q", (packet.sent, int(packet.last), fields))
+
+    def take(self, name):
+        """A packet, which is no longer here. KeyError where it isn't."""
+        sender, _, number = name.partition("#")
+        blocks, (block, place) = self.blocks[sender], divmod(int(number), BLOCK)
+        there, place = blocks[block], place * FIELDS
+        packet = self.packet(sender, *there[1][place : place + FIELDS])
+        there[0] -= 1
+        there[1][place] = GONE
+        if not there[0]:
+            del blocks[block]
+        return packet
+
+    def packet(self, sender, sent, last, fields):
+        if sent == GONE:
+            raise KeyError
+        return Packet(sender, sent, last, fields & 0xFFFF, ALL_KINDS[fields >> KIND & 3], fields >> MARK & 63, fields >> TARGET)
+
+    def packets(self):
+        for sender, blocks in self.blocks.items():
+            for _, numbers in blocks.values():
+                for place in range(0, len(numbers), FIELDS):
+                    if numbers[place] != GONE:
+                        yield self.packet(sender, *numbers[place : place + FIELDS])
+
+
 class Summary:
-    """The sums of flows and classes, and the packets under way: blocks of some packets by their numbers at each node, of
-    which one is let go when all of it has ended."""
+    """The sums of flows and classes, and the packets under way."""
 
     def __init__(self, config, trace):
         self.table = reading.Table(lambda: [0] * FIRST + [LATEST, 0, 0], joined)
-        self.blocks, self.counts, self.left = collections.defaultdict(list), collections.Counter(), collections.defaultdict(list)
-        self.names, self.places, self.hosts, self.flows, self.rows = ["-"], {"-": 0}, {}, None, collections.Counter()
+        self.near, self.far, self.counts = {}, Far(), collections.Counter()
+        self.names, self.places, self.texts = ["", "-"], reading.Known(self.place), reading.Known(self.text)
+        self.hosts, self.flows, self.rows = {}, None, collections.Counter()
         if trace:
-            self.hosts, self.flows = hosts_of(config), reading.flows_of(trace)
+            self.hosts, (self.flows, _) = hosts_of(config), reading.flows_of(trace)
+        self.sees = {"start": self.start, "in": self.arrive, "send": self.send, "recv": self.receive, "tick": self.tick}
 
     def place(self, name):
-        if name not in self.places:
-            self.places[name] = len(self.names)
-            self.names.append(name)
-        return self.places[name]
+        self.names.append(name)
+        return len(self.names) - 1
 
-    def begin(self, time, name, length, fields):
-        """A packet that a node makes: their numbers rise one by one."""
-        sender, _, number = name.rpartition("#")
-        at = int(number) - 1
-        if at != self.counts[sender]:
+    def text(self, target):
+        """The name of a target."""
+        return self.names[target] if target < reading.FAR else self.hosts.get(target - reading.FAR) or reading.address_of(target - reading.FAR)
+
+    def begin(self, time, name, length, kind, target=None):
+        """A packet that a node makes: their numbers rise one by one. One without a target is of a row."""
+        sender, _, number = name.partition("#")
+        count = self.counts[sender] = self.counts[sender] + 1
+        if int(number) != count:
             raise ValueError
-        blocks, left = self.blocks[sender], self.left[sender]
-        self.counts[sender] += 1
-        if at % BLOCK == 0:
-            blocks.append(array.array("Q"))
-            left.append(0)
-        blocks[-1].extend((time, time, length | fields))
-        left[-1] += 1
+        if target is None:
+            target = 0
+            if self.flows is not None:
+                at = self.rows[sender] = self.rows[sender] + 1
+                flow = self.flows.get(sender, ())
+                target = flow[2 * at - 1] if 2 * at <= len(flow) else 1
+        if len(self.near) == NEAR_MOST:
+            for other, packet in self.near.items():
+                self.far.put(other, packet)
+            self.near.clear()
+        packet = self.near[name] = Packet(sender, int(time), time, int(length), kind, 0, target)
+        return packet
 
-    def target(self, sender):
-        """The fields of a row's packet."""
-        if self.flows is None:
-            return ROW_BIT
-        at = self.rows[sender]
-        self.rows[sender] += 1
-        targets = self.flows[sender][1] if sender in self.flows else ()
-        return ROW_BIT | FAR_BIT | targets[at] << TARGET if at < len(targets) else ROW_BIT
+    def fetch(self, name):
+        packet = self.near[name] = self.far.take(name)
+        return packet
 
-    def end(self, sender, at, dropped=None, receiver=None):
-        """A packet was received, dropped, or is under way at the end."""
-        block, place = self.blocks[sender][at // BLOCK], at % BLOCK * FIELDS
-        sent, last, fields = block[place : place + FIELDS]
-        if sent == ENDED:
-            raise ValueError
-        target = fields >> TARGET
-        if fields & FAR_BIT:
-            to = self.hosts.get(target) or reading.address_of(target)
-        else:
-            to = self.names[target] if target else (receiver or "-") if self.flows is None or not fields & ROW_BIT else "-"
-        kind = fields >> KIND & 3
-        sums = self.table.of((sender, to, ("-", *CLASSES)[kind]))
-        length = fields & 0xFFFF
-        sums[0] += 1
-        sums[2] += length
-        if receiver:
-            sums[1] += 1
-            sums[3] += length
-            sums[DELAY] += last - sent
-        cause = fields >> CAUSE & 15
-        if cause:
-            sums[3 + cause] += 1
-        if dropped:
-            sums[4 + len(CAUSES) + DROPS.index(dropped)] += 1
-        if sent < sums[FIRST]:
-            sums[FIRST] = sent
+    def end(self, packet, last, receiver="-"):
+        """The sums of a packet that was received, dropped, or is under way at the end."""
+        to = self.texts[packet.target] if packet.target else receiver
+        sums = self.table.of((packet.sender, to, packet.kind))
+        sums[SENT] += 1
+        sums[BYTES_SENT] += packet.length
+        if packet.mark:
+            sums[packet.mark] += 1
+        if packet.sent < sums[FIRST]:
+            sums[FIRST] = packet.sent
         if last > sums[LAST]:
             sums[LAST] = last
-        block[place] = ENDED
-        left = self.left[sender]
-        left[at // BLOCK] -= 1
-        if not left[at // BLOCK] and len(block) == BLOCK * FIELDS:
-            self.blocks[sender][at // BLOCK] = None
+        return sums
 
-    def see(self, line):
-        words = line.split(" ")
-        what, time = words[2], int(words[0])
-        if what == "start":
-            _, _, _, name, _, _, kind, _ = words
-            sender, _, number = name.rpartition("#")
-            at = int(number) - 1
-            block, place = self.blocks[sender][at // BLOCK], at % BLOCK * FIELDS
-            block[place + 1] = time
-            block[place + 2] = block[place + 2] & OTHER | KINDS[kind]
-        elif what == "in":
-            _, _, _, name, length, came, kind, cause, outcome = words
-            sender, _, number = name.rpartition("#")
-            at = int(number) - 1
-            if came == "trace":
-                self.begin(time, name, int(length), self.target(sender))
-            block, place = self.blocks[sender][at // BLOCK], at % BLOCK * FIELDS
-            block[place + 1] = time
-            fields = block[place + 2] & OTHER | KINDS[kind]
-            block[place + 2] = fields & UNMARKED | MARKS[cause] if cause != "-" else fields
-            self.dropped(sender, at, outcome)
-        elif what == "recv":
-            node, name, reply = words[1], words[3], words[8]
-            sender, _, number = name.rpartition("#")
-            at = int(number) - 1
-            self.blocks[sender][at // BLOCK][at % BLOCK * FIELDS + 1] = time
-            self.end(sender, at, receiver=node)
-            if reply != "-":
-                name, length, shape, _, outcome = reply.split("/")
-                self.begin(time, name, int(length), SHAPES[shape] | self.place(sender) << TARGET)
-                self.dropped(node, int(name.rpartition("#")[2]) - 1, outcome)
-        elif what == "send":
-            _, node, _, name, length, shape, outcome = words
-            sender, _, number = name.rpartition("#")
-            self.begin(time, name, int(length), SHAPES[shape] | self.target(sender))
-            self.dropped(sender, int(number) - 1, outcome)
-        elif what == "tick":
-            self.rows[words[1]] += 1  # a row that sends nothing
+    # for each kind of event what it says
+
+    def start(self, words):
+        time, _, _, name, _, _, kind, _ = words
+        packet = self.near.get(name) or self.fetch(name)
+        packet.last, packet.kind = time, KINDS[kind]
+
+    def arrive(self, words):
+        time, _, _, name, length, origin, kind, cause, outcome = words
+        if origin == "trace":
+            packet = self.begin(time, name, length, "-")
         else:
-            raise ValueError
-
-    def dropped(self, sender, at, outcome):
+            packet = self.near.get(name) or self.fetch(name)
+        packet.last, packet.kind = time, KINDS[kind]
+        if cause != "-":
+            packet.mark = MARKS[cause]
         if outcome.startswith("dropped:"):
-            self.end(sender, at, dropped=outcome[8:])
+            self.drop(name, packet, time, outcome)
+
+    def drop(self, name, packet, time, outcome):
+        self.end(packet, int(time))[DROPPED[outcome]] += 1
+        del self.near[name]
+
+    def receive(self, words):
+        time, node, _, name, _, _, _, _, reply = words[:9]
+        packet = self.near.get(name) or self.fetch(name)
+        last = int(time)
+        sums = self.end(packet, last, node)
+        sums[RECEIVED] += 1
+        sums[BYTES_RECEIVED] += packet.length
+        sums[DELAY] += last - packet.sent
+        del self.near[name]
+        if reply != "-":
+            name, length, shape, _, outcome = reply.split("/")
+            reply = self.begin(time, name, length, SHAPES[shape], self.places[packet.sender])
+            if outcome.startswith("dropped:"):
+                self.drop(name, reply, time, outcome)
+
+    def send(self, words):
+        time, _, _, name, length, shape, outcome = words
+        packet = self.begin(time, name, length, SHAPES[shape])
+        if outcome.startswith("dropped:"):
+            self.drop(name, packet, time, outcome)
+
+    def tick(self, words):
+        self.rows[words[1]] += 1  # a row that sends nothing
 
     def close(self):
         """What is under way."""
-        for sender, blocks in self.blocks.items():
-            for number, block in enumerate(blocks):
-                for place in range(0, len(block or ()), FIELDS):
-                    if block[place] != ENDED:
-                        self.end(sender, number * BLOCK + place // FIELDS)
+        for packet in itertools.chain(self.near.values(), self.far.packets()):
+            self.end(packet, int(packet.last))
 
 
 def hosts_of(config):
@@ -207,8 +240,9 @@ def main():
     for part in report.parts():
         try:
             for line in part:
-                summary.see(line)
-        except (ValueError, LookupError, TypeError):
+                event = line.split(" ")
+                summary.sees[event[2]](event)
+        except (ValueError, LookupError, TypeError, OverflowError):
             report.wrong(line)
     summary.close()
     print(",".join(HEADER))

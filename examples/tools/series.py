@@ -1,5 +1,6 @@
-"""Sums over time of what a report tells. A view sees the words of events; at the end of a step it gives its lines, and
-says whether the next step has any without further events."""
+"""Sums over time of what a report tells. A view has for each kind of event that it wants a function, which sees the time
+and the words of one; at the end of a step it gives its lines, and says whether the next step has any without further
+events."""
 import collections
 
 import reading
@@ -8,15 +9,23 @@ KNOWN = ("in", "start", "recv", "send", "tick")
 CLASSES = ["request", "regular", "legacy"]
 
 
-def each(report, see):
-    """Shows the words of each event to `see`, which raises ValueError or LookupError for what is none."""
+def sees_of(view):
+    """For each kind of event the function of a view, or None."""
+    return {kind: view.sees.get(kind) for kind in KNOWN}
+
+
+def each(report, view):
+    """Shows each event to a view, which raises ValueError or LookupError for what is none."""
+    sees = sees_of(view)
     for part in report.parts():
         try:
             for line in part:
                 words = line.split(" ")
-                if words[2] not in KNOWN or not words[0].isdigit():
+                see = sees[words[2]]
+                if not words[0].isdigit():
                     raise ValueError
-                see(words)
+                if see:
+                    see(int(words[0]), words)
         except (ValueError, LookupError):
             report.wrong(line)
 
@@ -27,26 +36,30 @@ class Untold(Exception):
 
 def lines(report, step, view):
     """The lines of a view, step by step."""
-    at = None
+    sees, begin, over = sees_of(view), None, 0
     for part in report.parts():
         try:
             for line in part:
                 words = line.split(" ")
-                if words[2] not in KNOWN or not words[0].isdigit():
+                see = sees[words[2]]
+                if not words[0].isdigit():
                     raise ValueError
-                now = int(words[0]) // step
-                at = now if at is None else at
-                while at < now:
-                    yield from view.lines(at * step)
-                    at = at + 1 if view.goes_on() else now
-                if now < at:
+                time = int(words[0])
+                if time >= over:
+                    now = time - time % step
+                    while begin is not None and begin < now:
+                        yield from view.lines(begin)
+                        begin = begin + step if view.goes_on() else now
+                    begin, over = now, now + step
+                elif time < begin:
                     raise ValueError
-                view.see(words)
+                if see:
+                    see(time, words)
         except (ValueError, LookupError):
             report.wrong(line)
-    while at is not None:
-        yield from view.lines(at * step)
-        at = at + 1 if view.goes_on() and view.outlasts else None
+    while begin is not None:
+        yield from view.lines(begin)
+        begin = begin + step if view.goes_on() and view.outlasts else None
 
 
 class Links:
@@ -56,17 +69,17 @@ class Links:
 
     def __init__(self, step):
         self.step, self.found, self.late = step, collections.defaultdict(lambda: [0, 0, 0]), []
+        self.sees = {"start": self.start}
 
-    def see(self, words):
-        if words[2] == "start":
-            time, node, _, _, length, to, kind, end = words
-            key, time, end = (node, to, kind), int(time), int(end)
-            counted, over = self.found[key], time - time % self.step + self.step
-            counted[0] += 1
-            counted[1] += int(length)
-            counted[2] += min(end, over) - time
-            if end > over:
-                self.late.append((end, key))
+    def start(self, time, words):
+        _, node, _, _, length, to, kind, end = words
+        key, end = (node, to, kind), int(end)
+        counted, over = self.found[key], time - time % self.step + self.step
+        counted[0] += 1
+        counted[1] += int(length)
+        counted[2] += min(end, over) - time
+        if end > over:
+            self.late.append((end, key))
 
     def lines(self, begin):
         for key, (packets, size, busy) in sorted(self.found.items()):
@@ -89,13 +102,13 @@ class Flows:
     def __init__(self, step, ends):
         self.step, self.ends = step, ends
         self.table = reading.Table(lambda: [0, 0], lambda those: [sum(numbers) for numbers in zip(*those)])
+        self.sees = {"recv": self.receive}
 
-    def see(self, words):
-        if words[2] == "recv":
-            _, source, target = self.ends.of(words[3])
-            sums = self.table.of((source, target, words[6]))
-            sums[0] += 1
-            sums[1] += int(words[4])
+    def receive(self, _time, words):
+        _, source, target = self.ends.of(words[3])
+        sums = self.table.of((source, target, words[6]))
+        sums[0] += 1
+        sums[1] += int(words[4])
 
     def lines(self, begin):
         for key, (packets, size) in self.table.items():
@@ -112,51 +125,62 @@ class Queues:
     classes = {"request": "request", "list": "regular", "nonce": "regular", "renewal": "regular", "legacy": "legacy"}
 
     def __init__(self, report):
-        self.waiting, self.touched, self.now = {}, set(), "0"  # for each link and class how much, and the most
+        self.waiting, self.touched, self.now = {}, set(), 0  # for each link and class how much, and the most
         self.kinds = collections.defaultdict(bytearray)  # of packets by their own nodes: the classes in which they start
+        self.sees = {"in": self.arrive, "send": self.send, "recv": self.receive, "start": self.start}
         for part in report.parts():
             try:
                 for line in part:
                     if " start " in line:
-                        self.first(*line.split(" ", 7)[1:7])
+                        _, node, _, name, _, _, kind, _ = line.split(" ", 7)
+                        sender, _, number = name.partition("#")
+                        if sender == node:
+                            self.first(node, int(number), 1 + CLASSES.index(kind))
             except (ValueError, LookupError, TypeError):
                 report.wrong(line)
 
-    def first(self, node, _, name, _length, _to, kind):
-        sender, _, number = name.rpartition("#")
-        if sender == node:
-            kinds, number = self.kinds[node], int(number)
+    def first(self, node, number, kind):
+        """Notes in which class a packet starts at its own node."""
+        kinds = self.kinds[node]
+        if number == len(kinds) + 1:
+            kinds.append(kind)
+        else:
             if number > len(kinds):
                 if number > len(kinds) + 1_000_000:
                     raise ValueError
                 kinds.extend(bytes(number - len(kinds)))
-            kinds[number - 1] = 1 + CLASSES.index(kind)
+            kinds[number - 1] = kind
 
     def kind_of(self, name):
-        node, _, number = name.rpartition("#")
+        node, _, number = name.partition("#")
         kinds, number = self.kinds[node], int(number)
         return (["-"] + CLASSES)[kinds[number - 1]] if 0 < number <= len(kinds) else "-"
 
-    def see(self, words):
-        what = words[2]
-        if words[0] != self.now:
-            self.settle(words[0])
-        if what == "in" and words[8].startswith("queued:"):
+    def arrive(self, time, words):
+        if words[8].startswith("queued:"):
             more = 10 if words[6] == "request" else 0  # the entry that the router adds
-            self.change(words[1], words[8][7:], words[6], 1, int(words[4]) + more)
-        elif what == "send" and words[6].startswith("queued:"):
+            self.change(time, (words[1], words[8][7:], words[6]), 1, int(words[4]) + more)
+
+    def send(self, time, words):
+        if words[6].startswith("queued:"):
             kind = self.kind_of(words[3]) if words[5] == "trace" else self.classes[words[5]]
-            self.change(words[1], words[6][7:], kind, 1, int(words[4]))
-        elif what == "recv" and words[8] != "-":
+            self.change(time, (words[1], words[6][7:], kind), 1, int(words[4]))
+
+    def receive(self, time, words):
+        if words[8] != "-":
             _, length, shape, _, outcome = words[8].split("/")
             if outcome.startswith("queued:"):
-                self.change(words[1], outcome[7:], self.classes[shape], 1, int(length))
-        elif what == "start":
-            self.change(words[1], words[5], words[6], -1, -int(words[4]))
+                self.change(time, (words[1], outcome[7:], self.classes[shape]), 1, int(length))
 
-    def change(self, node, to, kind, packets, size):
-        key = node, to, kind
-        there = self.waiting.setdefault(key, [0, 0, 0, 0])
+    def start(self, time, words):
+        self.change(time, (words[1], words[5], words[6]), -1, -int(words[4]))
+
+    def change(self, time, key, packets, size):
+        if time != self.now:
+            self.settle(time)
+        there = self.waiting.get(key)
+        if there is None:
+            there = self.waiting[key] = [0, 0, 0, 0]
         there[0] += packets
         there[1] += size
         if there[0] < 0 or there[1] < 0:
@@ -168,7 +192,7 @@ class Queues:
         self.now = now
         for key in self.touched:
             there = self.waiting[key]
-            there[2:] = [max(there[2], there[0]), max(there[3], there[1])]
+            there[2], there[3] = max(there[2], there[0]), max(there[3], there[1])
         self.touched.clear()
 
     def lines(self, begin):

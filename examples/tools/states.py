@@ -2,6 +2,7 @@
 flows that live at routers."""
 import array
 import collections
+import functools
 import heapq
 
 import plans
@@ -19,10 +20,11 @@ class Credit:
     def __init__(self, step, plan):
         self.step, self.debts = step, {}  # for each link its debt, since when, the requests of the step, the most debt
         self.links = {(link.source, link.to): (link.share * link.ns_per_byte, link.burst * link.share * link.ns_per_byte) for link in plan.links}
+        self.sees = {"start": self.start}
 
-    def see(self, words):
-        if words[2] == "start" and words[6] == "request":
-            time, key = int(words[0]), (words[1], words[5])
+    def start(self, time, words):
+        if words[6] == "request":
+            key = words[1], words[5]
             if key not in self.links:
                 raise Untold(f"it has no link from {key[0]} to {key[1]}")
             cost, full = self.links[key]
@@ -50,35 +52,29 @@ class Slots:
     columns, outlasts = ["time", "router", "flows", "most", "slots"], False
 
     def __init__(self, step, ends, plan, trace):
-        self.step, self.ends, self.last = step, ends, 0
+        self.step, self.ends = step, ends
         self.routers = {router.name: Living(router, plan) for router in plan.routers}
         self.hosts = {host.name: (host.n, host.t) for host in plan.hosts}
         self.shown = rights_of(trace)  # of each node's rows the rights that they show themselves
-        self.rows, self.numbers = collections.Counter(), {}
         ends.known.update((host.address, host.name) for host in plan.hosts)
+        self.sees = {"in": self.arrive}
 
-    def see(self, words):
-        what, self.last = words[2], int(words[0])
-        if what == "tick":
-            self.rows[words[1]] += 1
-        elif what == "send" or what == "in" and words[5] == "trace":
-            sender, _, number = words[3].rpartition("#")
-            shown = self.shown[sender]
-            at = self.rows[sender]
-            self.rows[sender] += 1
-            if at < len(shown) and shown[at]:
-                self.numbers.setdefault(sender, {})[int(number)] = shown[at]
-        if what == "in":
-            if words[1] not in self.routers:
-                raise Untold(f"it has no router {words[1]}")
-            if words[6] == "regular" and words[7] == "-" and words[8] != "dropped:hop-limit":
-                self.charge(self.routers[words[1]], self.last, words[3], int(words[4]))
+    def arrive(self, time, words):
+        _, node, _, name, length, _, kind, cause, outcome = words
+        router = self.routers.get(node)
+        if router is None:
+            raise Untold(f"it has no router {node}")
+        if kind == "regular" and cause == "-" and outcome != "dropped:hop-limit":
+            _, source, target = self.ends.of(name)
+            shown = self.rights_shown(name)
+            own = self.hosts.get(target) if not shown else None if shown == NONCE else (shown >> 8, shown & 255)
+            router.charge(time, (source, target), int(length), own)
 
-    def charge(self, router, now, name, length):
-        sender, source, target = self.ends.of(name)
-        shown = self.numbers.get(sender, {}).get(int(name.rpartition("#")[2]))
-        own = self.hosts.get(target) if shown is None else None if shown == NONCE else (shown >> 8, shown & 255)
-        router.charge(now, (source, target), length, own)
+    def rights_shown(self, name):
+        """What the row that made a packet shows, or 0."""
+        sender, row = self.ends.row_of(name)
+        shown = self.shown.get(sender, ())
+        return shown[row - 1] if 0 < row <= len(shown) else 0
 
     def lines(self, begin):
         for name, router in self.routers.items():
@@ -95,8 +91,7 @@ def rights_of(trace):
     """For each node what its rows show, in their order, as numbers: 0 is for what a host makes, and for what shows nothing
     that can be charged; N * 256 + T are the rights of a list or a renewal; a nonce shows none of its own."""
     found = collections.defaultdict(lambda: array.array("I"))
-    for _, node, kind, _, _, _, shim in reading.rows(trace):
-        found[node].append(rights_of_row(kind, shim))
+    reading.each_row(trace, lambda node, kind, _s, _d, _p, shim: functools.partial(found[node].append, rights_of_row(kind, shim)))
     return found
 
 
