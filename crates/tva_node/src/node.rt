@@ -198,8 +198,8 @@ impl Node {
     }
 
     /// Puts into `sent`, in place of what that has, what its links sent behind the first so many packets:
-    /// where memory keeps all, copies, and else the packets themselves, and then all that was sent is gone,
-    /// and the memory that `sent` had is the node's. The error is want of memory.
+    /// where memory keeps all, copies, and else the packets themselves, and then all that was sent is gone.
+    /// The error is want of memory.
     pub fn hand_over(&mut self, place: usize, sent: &mut Vec<Flight>) -> Result<(), AllocError>
         requires gone { self.old.gone.sendings ≤ place }
         requires within { place ≤ length self.old.sendings }

@@ -5,7 +5,6 @@ ghost use Rattle.tva_node.specs.Outbox.{gone_sendings, with_sent};
 
 use std::alloc::{AllocError, Global};
 use std::marker::Model;
-use std::mem;
 use tva_log::Sending;
 use tva_past::Kept;
 use tva_waiting::{Flight, Memory};
@@ -82,8 +81,8 @@ impl Outbox {
     }
 
     /// Puts into `sent`, in place of what that has, what was sent behind the first so many: copies, where memory
-    /// keeps all, and else the packets themselves. Then the list goes on in the memory that `sent` had, so that
-    /// it need not grow anew. The error is want of memory.
+    /// keeps all, and else the packets themselves. The memory in which they stood stays with the outbox. The error is
+    /// want of memory.
     pub fn hand_over(
         &mut self,
         alloc: Global,
@@ -102,13 +101,10 @@ impl Outbox {
             Memory::All => copy_each(alloc, self.whole.behind(place), sent),
             Memory::Events | Memory::Nothing => {
                 let first = place - self.flights.gone();
-                let room = mem::replace(sent, Vec::new(alloc));
-                let mut list = self.flights.take(room);
-                *sent = if first == 0 {
-                    list
-                } else {
-                    list.split_off(first)?
-                };
+                self.flights.pour(sent)?;
+                if first > 0 {
+                    *sent = sent.split_off(first)?;
+                }
                 Ok(())
             }
         }

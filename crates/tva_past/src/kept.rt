@@ -112,6 +112,22 @@ impl<T> Kept<T> {
         self.held.clear();
     }
 
+    /// Moves all that memory holds into an empty list, and forgets it. The memory in which it stood stays with this
+    /// list, so that putting in takes none until it is full. The error is want of memory, and changes nothing.
+    pub fn pour(&mut self, into: &mut Vec<T>) -> Result<(), AllocError>
+        requires { into.old.items ≡ [] }
+        ensures poured { OnOk result (into.new.items ≡ held self.old) }
+        ensures left { OnOk result (self.new ≡ forgotten self.old) }
+        ensures err { OnErr result (self.new ≡ self.old) }
+    {
+        let past = with_all(&self.past, &self.held);
+        let count = self.held.len();
+        into.append(&mut self.held)?;
+        self.past = past;
+        self.gone += count;
+        Ok(())
+    }
+
     /// Hands out all that memory holds, and forgets it. The list goes on in `room`, which is empty, so that
     /// putting in takes no memory until that is full.
     pub fn take(&mut self, room: Vec<T>) -> Vec<T>
