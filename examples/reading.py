@@ -11,6 +11,7 @@ import itertools
 import marshal
 import os
 import shutil
+import socket
 import sys
 import tempfile
 
@@ -103,8 +104,10 @@ class Report:
 
 def number_of(address):
     """The number of an address that is written as four numbers."""
-    one, two, three, four = bytes(map(int, address.split(".")))
-    return one << 24 | two << 16 | three << 8 | four
+    try:
+        return int.from_bytes(socket.inet_pton(socket.AF_INET, address), "big")
+    except OSError:
+        raise ValueError from None
 
 
 def address_of(number):
@@ -154,12 +157,12 @@ FAR = 1 << 32  # what is added to the number of an address, where it stands for 
 def flows_of(trace):
     """For each node the source and the destination of each of its rows, in their order: FAR and the number of an address,
     or 0 where the row has none. And whether there are ticks."""
-    found, kinds = collections.defaultdict(lambda: array.array("Q")), set()
+    found, kinds, targets = collections.defaultdict(lambda: array.array("Q")), set(), Known(number_of)
 
     def note(node, kind, source, destination, _payload, _shim):
         kinds.add(kind)
         try:
-            codes = FAR + number_of(source) if source else 0, FAR + number_of(destination)
+            codes = FAR + number_of(source) if source else 0, FAR + targets[destination]
         except ValueError:
             refuse(f"{trace} is no trace: {source or destination} is no address")
         return functools.partial(found[node].extend, array.array("Q", codes))
