@@ -12,6 +12,7 @@ import marshal
 import os
 import shutil
 import socket
+import struct
 import sys
 import tempfile
 
@@ -111,7 +112,7 @@ def number_of(address):
 
 
 def address_of(number):
-    return f"{number >> 24}.{number >> 16 & 255}.{number >> 8 & 255}.{number & 255}"
+    return socket.inet_ntoa(number.to_bytes(4, "big"))
 
 
 HEADER = "time,node,kind,src,dst,payload,shim"
@@ -158,6 +159,7 @@ def flows_of(trace):
     """For each node the source and the destination of each of its rows, in their order: FAR and the number of an address,
     or 0 where the row has none. And whether there are ticks."""
     found, kinds, targets = collections.defaultdict(lambda: array.array("Q")), set(), Known(number_of)
+    pack = struct.Struct("=QQ").pack
 
     def note(node, kind, source, destination, _payload, _shim):
         kinds.add(kind)
@@ -165,7 +167,7 @@ def flows_of(trace):
             codes = FAR + number_of(source) if source else 0, FAR + targets[destination]
         except ValueError:
             refuse(f"{trace} is no trace: {source or destination} is no address")
-        return functools.partial(found[node].extend, array.array("Q", codes))
+        return functools.partial(found[node].frombytes, pack(*codes))
 
     each_row(trace, note)
     return found, "tick" in kinds
