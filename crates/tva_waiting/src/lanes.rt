@@ -14,6 +14,7 @@ ghost use Rattle.tva_waiting.specs.Lanes.{AreWaiting, HasRoomAt, IsLaneOf, fligh
 
 use crate::flights::Flight;
 use std::alloc::{AllocError, Global};
+use std::cmp;
 use std::collections::VecDeque;
 use std::mem::size_of;
 use tva_index::{KeyRing, Lowest};
@@ -31,11 +32,13 @@ pub(crate) struct Turn {
 // A million turns take 32 MB.
 const _: () = prove!(size_of::<Turn>() <= 32);
 
-/// The packets on their way that a link brings, the first in front.
+/// The packets on their way that a link brings, the first in front, and the most that waited since the lane ran
+/// empty.
 #[derive(Drop)]
 pub(crate) struct Lane {
     pub link: u16,
     pub flights: VecDeque<Flight>,
+    pub most: usize,
 }
 
 /// The inputs of a node that are not taken yet: rows, with the layouts of their shims one behind another, and a lane
@@ -97,6 +100,7 @@ impl Lanes {
         self.list.push(Lane {
             link,
             flights: VecDeque::new(self.alloc),
+            most: 0,
         })?;
         self.sources.push(source);
         Ok(self.list.len() - 1)
@@ -147,7 +151,7 @@ impl Lanes {
     {
         let time = flight.arrive().0;
         let link = flight.link();
-        let at = put_flight_in(&mut self.list[place].flights, flight);
+        let at = put_in_lane(&mut self.list[place], flight);
         if at == 0 {
             self.heads
                 .put(place as u32 + 1, key_of(time, u32::from(link) + 1));
@@ -370,7 +374,8 @@ fn heads_of(
     Ok(heads)
 }
 
-// Takes the first packet of a lane, and gives back the memory of many where that was the last.
+// Takes the first packet of a lane.
+#[inline(always)]
 fn take_first(lane: &mut Lane) -> Flight
     requires { lane.old.flights.items ≢ [] }
     ensures taken { lane.old.flights.items ≡ result ∷ lane.new.flights.items }
@@ -379,10 +384,37 @@ fn take_first(lane: &mut Lane) -> Flight
     let Some(flight) = lane.flights.pop_front() else {
         unreachable!()
     };
-    if lane.flights.is_empty() && lane.flights.capacity() > MANY {
-        lane.flights.shrink_to_fit();
+    if lane.flights.is_empty() {
+        give_back(lane);
     }
     flight
+}
+
+// Gives back the memory of many places in a lane that ran empty, where few of them were used since it ran empty last:
+// one that is filled again and again keeps its memory.
+fn give_back(lane: &mut Lane)
+    ensures { (lane.new.flights.items ≡ lane.old.flights.items) × (lane.new.link ≡ lane.old.link) }
+{
+    let places = lane.flights.capacity();
+    if places > MANY && lane.most < places / 4 {
+        lane.flights.shrink_to_fit();
+    }
+    lane.most = 0;
+}
+
+// Puts a packet at its place in a lane, where there is room, and says which that is.
+#[inline(always)]
+fn put_in_lane(lane: &mut Lane, flight: Flight) -> usize
+    requires order { IsInOrder flight_time flight_source lane.old.flights.items }
+    requires room { deque_len lane.old.flights + 1 ≤ deque_capacity lane.old.flights }
+    ensures put { lane.new.flights.items ≡ put_in flight_time flight_source flight lane.old.flights.items }
+    ensures at { lane.new.flights.items ≡ insert lane.old.flights.items result flight }
+    ensures within { result ≤ length lane.old.flights.items }
+    ensures same { lane.new.link ≡ lane.old.link }
+{
+    let at = put_flight_in(&mut lane.flights, flight);
+    lane.most = cmp::max(lane.most, lane.flights.len());
+    at
 }
 
 // Puts a row at its place, behind all that it need not stand before, and says which that is.

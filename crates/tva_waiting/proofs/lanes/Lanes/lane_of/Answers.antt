@@ -20,7 +20,7 @@ returns-in-Some-clause-there c =
 pub returns-clause-waiting : goal.returns-clause-waiting
 returns-clause-waiting c =
     let w = c.make_room.new.self in
-    let lane : Lane = record { link = c.args.link; flights = c.new.result } in
+    let lane : Lane = record { link = c.args.link; flights = c.new.result; most = 0 } in
     let v : Lanes = record { rows = w.rows; layouts = w.layouts; list = c.push.new.self; sources = c.push-2.new.self; heads = w.heads; places = w.places; alloc = w.alloc } in
     let key : c.from-source.result + 1 ≡ c.args.link + 1 = ap (λ n. n + 1) c.from-source.ensures in
     let new : place_in (c.args.link + 1) (sources_of w.list.items) ≡ None =
@@ -31,7 +31,7 @@ returns-clause-waiting c =
 pub returns-clause-same : goal.returns-clause-same
 returns-clause-same c =
     let w = c.make_room.new.self in
-    let lane : Lane = record { link = c.args.link; flights = c.new.result } in
+    let lane : Lane = record { link = c.args.link; flights = c.new.result; most = 0 } in
     let v : Lanes = record { rows = w.rows; layouts = w.layouts; list = c.push.new.self; sources = c.push-2.new.self; heads = w.heads; places = w.places; alloc = w.alloc } in
     let key : c.from-source.result + 1 ≡ c.args.link + 1 = ap (λ n. n + 1) c.from-source.ensures in
     let new : place_in (c.args.link + 1) (sources_of w.list.items) ≡ None =

@@ -10,7 +10,7 @@ pub returns-in_err-reserve-clause-waiting : goal.returns-in_err-reserve-clause-w
 returns-in_err-reserve-clause-waiting c =
     let w = c.lane_of.new.self in
     let place = c.in_ok-place.place in
-    let lane : Lane = record { link = c.index_mut.result.now.link; flights = c.reserve.new.self } in
+    let lane : Lane = record { link = c.index_mut.result.now.link; flights = c.reserve.new.self; most = c.index_mut.result.now.most } in
     let v : Lanes = record { rows = w.rows; layouts = w.layouts; list = with_item w.list place lane; sources = w.sources; heads = w.heads; places = w.places; alloc = w.alloc } in
     let is : c.index_mut.result.now ≡ get_or w.list.items place lane = c.index_mut.ensures.value ∙ any_default w.list.items place c.index_mut.result.now lane c.in_ok-place.ensures.there.within in
     (same_flights w v place lane c.lane_of.ensures.waiting (ap (λ l. l.link) is) (c.in_err-reserve.ensures.items ∙ ap (λ l. l.flights.items) is) refl refl refl refl refl refl).0
@@ -19,7 +19,7 @@ pub returns-in_err-reserve-clause-same : goal.returns-in_err-reserve-clause-same
 returns-in_err-reserve-clause-same c =
     let w = c.lane_of.new.self in
     let place = c.in_ok-place.place in
-    let lane : Lane = record { link = c.index_mut.result.now.link; flights = c.reserve.new.self } in
+    let lane : Lane = record { link = c.index_mut.result.now.link; flights = c.reserve.new.self; most = c.index_mut.result.now.most } in
     let v : Lanes = record { rows = w.rows; layouts = w.layouts; list = with_item w.list place lane; sources = w.sources; heads = w.heads; places = w.places; alloc = w.alloc } in
     let is : c.index_mut.result.now ≡ get_or w.list.items place lane = c.index_mut.ensures.value ∙ any_default w.list.items place c.index_mut.result.now lane c.in_ok-place.ensures.there.within in
     (same_flights w v place lane c.lane_of.ensures.waiting (ap (λ l. l.link) is) (c.in_err-reserve.ensures.items ∙ ap (λ l. l.flights.items) is) refl refl refl refl refl refl).1 ∙ c.lane_of.ensures.same
@@ -28,7 +28,7 @@ pub returns-clause-waiting : goal.returns-clause-waiting
 returns-clause-waiting c =
     let w = c.lane_of.new.self in
     let place = c.in_ok-place.place in
-    let lane : Lane = record { link = c.index_mut.result.now.link; flights = c.reserve.new.self } in
+    let lane : Lane = record { link = c.index_mut.result.now.link; flights = c.reserve.new.self; most = c.index_mut.result.now.most } in
     let v : Lanes = record { rows = w.rows; layouts = w.layouts; list = with_item w.list place lane; sources = w.sources; heads = w.heads; places = w.places; alloc = w.alloc } in
     let is : c.index_mut.result.now ≡ get_or w.list.items place lane = c.index_mut.ensures.value ∙ any_default w.list.items place c.index_mut.result.now lane c.in_ok-place.ensures.there.within in
     (same_flights w v place lane c.lane_of.ensures.waiting (ap (λ l. l.link) is) (c.in_ok-reserve.ensures.items ∙ ap (λ l. l.flights.items) is) refl refl refl refl refl refl).0
@@ -37,7 +37,7 @@ pub returns-clause-same : goal.returns-clause-same
 returns-clause-same c =
     let w = c.lane_of.new.self in
     let place = c.in_ok-place.place in
-    let lane : Lane = record { link = c.index_mut.result.now.link; flights = c.reserve.new.self } in
+    let lane : Lane = record { link = c.index_mut.result.now.link; flights = c.reserve.new.self; most = c.index_mut.result.now.most } in
     let v : Lanes = record { rows = w.rows; layouts = w.layouts; list = with_item w.list place lane; sources = w.sources; heads = w.heads; places = w.places; alloc = w.alloc } in
     let is : c.index_mut.result.now ≡ get_or w.list.items place lane = c.index_mut.ensures.value ∙ any_default w.list.items place c.index_mut.result.now lane c.in_ok-place.ensures.there.within in
     (same_flights w v place lane c.lane_of.ensures.waiting (ap (λ l. l.link) is) (c.in_ok-reserve.ensures.items ∙ ap (λ l. l.flights.items) is) refl refl refl refl refl refl).1 ∙ c.lane_of.ensures.same
