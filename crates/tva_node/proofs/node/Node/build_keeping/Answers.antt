@@ -31,5 +31,5 @@ returns-clause-stands c =
       gone = record { inputs = (sym c.new.ensures i).gone; events = (sym c.new-3.ensures i).gone; sendings = (sym c.new-4.ensures.empty.1 i) };
       role = role;
       links = ls;
-      waiting = sym c.new-2.ensures i;
+      waiting = sym c.in_ok-new.ensures i;
     }) first
