@@ -5,6 +5,7 @@ import bisect
 import collections
 import csv
 import functools
+import gc
 import heapq
 import io
 import itertools
@@ -17,6 +18,8 @@ import sys
 import tempfile
 
 from words import refuse
+
+gc.disable()  # of what is read lists of words are made in great numbers, none of which holds itself
 
 PART = 1 << 16  # bytes that are read at once
 LINE_MOST = 255
@@ -111,16 +114,31 @@ def number_of(address):
         raise ValueError from None
 
 
+packed = struct.Struct(">I").pack
+
+
 def address_of(number):
-    return socket.inet_ntoa(number.to_bytes(4, "big"))
+    return socket.inet_ntoa(packed(number))
+
+
+def numbers_of(addresses):
+    """The numbers of many addresses."""
+    try:
+        told = array.array("I", b"".join(map(socket.inet_pton, itertools.repeat(socket.AF_INET), addresses)))
+    except OSError:
+        raise ValueError from None
+    if sys.byteorder == "little":
+        told.byteswap()
+    return told
 
 
 HEADER = "time,node,kind,src,dst,payload,shim"
 
 
-def each_row(trace, note):
+def each_row(trace, note, note_all=None):
     """Calls for each row of a trace what `note` gives for its fields behind the time. Most rows are like others but for
-    that, and `note` is asked once for them."""
+    that, and `note` is asked once for them. Where `note_all` is given, it is asked first for many lines at once: it says
+    whether it took them."""
 
     def of_line(rest):
         fields = rest.split(",")
@@ -137,7 +155,11 @@ def each_row(trace, note):
             if begun:
                 # a record is a line, as long as nothing is quoted
                 while (text := file.read(PART) + file.readline()) and '"' not in text and "\r" not in text:
-                    for number, line in enumerate(filter(None, text.split("\n")), number + 1):
+                    lines = list(filter(None, text.split("\n")))
+                    if note_all and note_all(lines):
+                        number += len(lines)
+                        continue
+                    for number, line in enumerate(lines, number + 1):
                         calls[line.partition(",")[2]]()
             records = (fields for fields in csv.reader(itertools.chain(io.StringIO(text, newline=""), file)) if fields)
             if not begun and next(records, None) != HEADER.split(","):
@@ -169,7 +191,24 @@ def flows_of(trace):
             refuse(f"{trace} is no trace: {source or destination} is no address")
         return functools.partial(found[node].frombytes, pack(*codes))
 
-    each_row(trace, note)
+    def note_all(lines):
+        """The same of many rows, where there is nothing to refuse."""
+        rows = [line.split(",") for line in lines]
+        if any(len(fields) != 7 for fields in rows):
+            return False
+        _, nodes, its, sources, destinations, _, _ = zip(*rows)
+        try:
+            ends = zip(nodes, sources, numbers_of([it or "0.0.0.0" for it in sources]), numbers_of(destinations))
+        except ValueError:
+            return False
+        kinds.update(its)
+        for node, source, begin, end in ends:
+            told = found[node]
+            told.append(FAR + begin if source else 0)
+            told.append(FAR + end)
+        return True
+
+    each_row(trace, note, note_all)
     return found, "tick" in kinds
 
 

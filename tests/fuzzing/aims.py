@@ -190,6 +190,14 @@ def turns(rng):
     return network, traces.merged(rows, [traces.turning(sources) for _ in range(4)] if sources.charged else [])
 
 
+def again(rng):
+    """A grant that is shown once more at the end of its flow, where its budget counts anew."""
+    network, seconds = one_router(rng), rng.choice([2, 10, 30])
+    shown = listed(network, "R", 0, FLOWS[0], (1, seconds), NONCES[0])
+    end = seconds * SECOND // 2
+    return network, [(now, "R", "list", *FLOWS[0], 472, shown) for now in (0, end, end + rng.choice([0, 1, 10**6]))]
+
+
 def slots(rng):
     network, rows = grants(rng)
     with Measured(router, "is_cache_full", lambda plan, charges, now: router.living(charges, now)) as told:
@@ -467,4 +475,35 @@ def pointers(rng):
     return ["shim", shims.layout(told._replace(capabilities=items)).hex()], {}
 
 
+def bare_hosts(rng):
+    """The configuration of two hosts with a link each."""
+    hosts = [{"name": name, "address": address} for name, address in PEERS.items()]
+    ends = [{"from": one, "to": other, "ns_per_byte": 1, "delay_ns": 1} for one, other in ("AB", "BA")]
+    return networks.text_of(rng, network_of(host=hosts, link=ends)).encode()
+
+
+def trace_of(rows):
+    return traces.HEADER.encode() + b"\n" + b"".join(rows)
+
+
+def many_rows(rng):
+    """A million rows and a record more, which is a row or none."""
+    row = b"0,A,tick,,1.1.1.1,0,\n"
+    rows = [row * 1_000_000, rng.choice([row, row * 2, b"x\n"])]
+    return ["replay", "config", "trace"], {"config": bare_hosts(rng), "trace": trace_of(rows)}
+
+
+def many_files(rng):
+    """As many files as a host may have, or one less, and a file more; and a record behind them that is no row."""
+    files = [b"0,A,file,,1.1.1.1,1,1\n"] * (65_536 - rng.choice([0, 0, 1]))
+    others = [[b"0,B,file,,1.1.1.1,1,1\n"], [b"0,A,tick,,1.1.1.1,0,\n"], []]
+    rows = files + rng.choice(others) + files[:1] + [b"x\n"]
+    return ["replay", "config", "trace"], {"config": bare_hosts(rng), "trace": trace_of(rows)}
+
+
 TEXTS = {"pointer": pointers, "counts": counts, "times": two_changes, "file-size": full_file, "characters": long_words}
+LARGE = {"rows": many_rows, "files": many_files}
+TEXTS |= LARGE
+
+# what is made for readings that no limit's aim shows
+READINGS = {"again": again}

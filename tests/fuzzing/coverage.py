@@ -53,14 +53,6 @@ EXPECTED = {
     "word of shim": "v1 request, v1 list, v1 nonce, v1 renewal, v2 request, v2 list, v2 nonce, v2 renewal, malformed",
 }
 
-# what is seldom whatever a fuzz aims at, and why: this is to come in long runs alone
-LATER = {
-    **{f"fault of a configuration count {it}": "the model takes half a second for 65,537 entries" for it in ("route", "restart", "reroute")},
-    "fault of a trace rows": "it takes seconds for a trace of a million rows",
-    "limit rows": "the same",
-    "limit files": "a host has 65,536 files then",
-}
-
 AUDITS = {0: "report ok", 1: "found", 8: "event limit", 10: "bad report"}
 
 

@@ -306,19 +306,23 @@ def _(right, before, node):
     return before.files[node] < trace.FILES_MOST - 1
 
 
+NAMES = [it.name for it in LIMITS]
+
 # ## which limits are met
 
 
 class Watch:
-    """Counts, for each limit, how often its reading says otherwise than the model. `with Watch(see):` calls `see` with the
-    name of the limit each time."""
+    """Counts, for each limit of these names, how often its reading says otherwise than the model. `with Watch(see, names):`
+    calls `see` with the name of the limit each time."""
 
-    def __init__(self, see):
-        self.see, self.right = see, []
+    def __init__(self, see, names):
+        self.see, self.names, self.right = see, names, []
 
     def __enter__(self):
         told = {}
         for it in LIMITS:
+            if it.name not in self.names:
+                continue
             of, name, wrong = it.replaced[0]
             told.setdefault((of, name), []).append((it.name, wrong))
         for (of, name), readings in told.items():

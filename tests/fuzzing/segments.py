@@ -185,7 +185,7 @@ def _(self, now, node, reaching):
     return [it for it in happened if not isinstance(it, run.Ticked)]
 
 
-@reading("files-most", "a host has 65,535 files", trace, "is_kind")
+@reading("files-most", "a host has 65,535 files", trace, "is_kind", aim="files")
 def _(config, kind, node, before):
     return right_is_kind(config, kind, node, before) and (kind != b"file" or before.files[node] < trace.FILES_MOST - 1)
 
