@@ -347,28 +347,41 @@ def transfers(folder, floods):
 
 # ## tables
 
+# what a table has beside flood, rate and defence: a head, the form of a number, and the number of each seed
+PACKETS = [
+    ("Arrive", "{:.1f} %", lambda it, rate: it.percent(rate, "arrived")),
+    ("In their own right", "{:.1f} %", lambda it, rate: it.percent(rate, *reports.RIGHTFUL)),
+    ("Sent as legacy", "{:.1f} %", lambda it, rate: it.percent(rate, "own_legacy")),
+    ("Marked", "{:.1f} %", lambda it, rate: it.percent(rate, "marked")),
+    ("Median delay", "{:.1f} ms", lambda it, rate: it.milliseconds(rate, "delay")),
+    ("95 of 100", "{:.1f} ms", lambda it, rate: it.milliseconds(rate, "late")),
+]
+TRANSFERS = [
+    ("Finish", "{:.1f} %", lambda it, rate: it.finished(rate)),
+    ("Mean time", "{:.2f} s", lambda it, rate: it.seconds(rate, mean)),
+    ("95 of 100 within", "{:.2f} s", lambda it, rate: it.seconds(rate, lambda those: reports.quantile(those, 95))),
+]
 
-def table_of_transfers(folder, floods):
-    every = found_in(folder, floods, transfers=True)
-    print("| Flood | Attackers | Defence | Finish | Mean time | 95 of 100 within |")
-    print("|---|---|---|---|---|---|")
-    for series in every:
+
+def head_of(transfers):
+    return ["Flood", "Attackers" if transfers else "Rate", "Defence", *(head for head, _, _ in (TRANSFERS if transfers else PACKETS))]
+
+
+def cells_of(folder, floods, transfers=False):
+    """The rows of a folder's table: how many seeds each has, and its cells."""
+    for series in found_in(folder, floods, transfers):
         for rate in sorted(series.rates):
-            times = [series.seconds(rate, of) for of in (mean, lambda those: reports.quantile(those, 95))]
-            fields = [series.said, said_rate(rate), "with" if series.defence else "without", over(series.finished(rate), "{:.1f} %")]
-            print("| " + " | ".join(fields + [over(those, "{:.2f} s") for those in times]) + " |")
+            cells = [series.said, said_rate(rate), "with" if series.defence else "without"]
+            cells += [over(of(series, rate), form) for _, form, of in (TRANSFERS if transfers else PACKETS)]
+            yield len(series.rates[rate]), cells
 
 
-def table(folder, floods):
-    every = found_in(folder, floods)
-    print("| Flood | Rate | Defence | Arrive | In their own right | Sent as legacy | Marked | Median delay | 95 of 100 |")
-    print("|---|---|---|---|---|---|---|---|---|")
-    for series in every:
-        for rate in sorted(series.rates):
-            fields = [series.said, said_rate(rate), "with" if series.defence else "without"]
-            fields += [over(series.percent(rate, *names), "{:.1f} %") for names in (["arrived"], reports.RIGHTFUL, ["own_legacy"], ["marked"])]
-            fields += [over(series.milliseconds(rate, name), "{:.1f} ms") for name in ("delay", "late")]
-            print("| " + " | ".join(fields) + " |")
+def table(folder, floods, transfers=False):
+    head, rows = head_of(transfers), list(cells_of(folder, floods, transfers))
+    print("| " + " | ".join(head) + " |")
+    print("|---" * len(head) + "|")
+    for _, cells in rows:
+        print("| " + " | ".join(cells) + " |")
 
 
 def over(numbers, form):
@@ -518,7 +531,7 @@ def main():
         columns, words = int(words[2]), words[:1] + words[3:]
     what, words = (words[0], words[1:]) if words else ("", [])
     if what in ("table", "table-of-transfers") and words and not data:
-        (table if what == "table" else table_of_transfers)(words[0], words[1:])
+        table(words[0], words[1:], transfers=what == "table-of-transfers")
         try:
             return runs.write_tables(words[0])
         except OSError as fault:
