@@ -1,5 +1,5 @@
 -- A configuration that all steps accept is valid.
-use Rattle.std.proofs.Common.{◌≡◌, ◌<◌, ◌≤◌, ◌==◌, ℕ, ◌+◌, ◌^◌, suc, Bool, true, false, cond, nat_lt, List, [], ◌∷◌, ◌++◌, length, map, sum_by, Ok, Some, None, All, refl, ap, sym, ◌∙◌, subst, arith, length-append}
+use Rattle.std.proofs.Common.{◌≡◌, ◌<◌, ◌≤◌, ◌==◌, ℕ, ◌+◌, ◌^◌, suc, Bool, true, false, cond, nat_lt, List, [], ◌∷◌, ◌++◌, length, map, sum_by, Ok, Option, Some, None, All, refl, ap, sym, ◌∙◌, subst, arith, length-append}
 use Rattle.std.specs.List.{cons_option, filter_map}
 use Rattle.std.proofs.lemmas.Bool.{ltb-false}
 use Rattle.std.proofs.lemmas.Bool.Decides.{nat_tests}
@@ -7,7 +7,6 @@ use Rattle.std.proofs.lemmas.List.{map-append, length-map}
 use Rattle.std.proofs.lemmas.List.Elements.{All-append, All-map, All-nil}
 use Rattle.std.proofs.lemmas.List.Sums.{sum_by-cons, sum_by-append}
 use Rattle.tva_base.specs.declared.plan.LinkPlan.{LinkPlan}
-use Rattle.tva_base.specs.declared.plan.Route.{Route}
 use Rattle.tva_base.specs.Plan.{AreDistinct}
 use Rattle.tva_plan.specs.declared.config.NodePlan as nodes
 use Rattle.tva_plan.specs.declared.config.NodePlan.TheVariants as node
@@ -17,15 +16,17 @@ use Rattle.tva_config_entries.specs.declared.entries.RouterEntry.{RouterEntry}
 use Rattle.tva_config_entries.specs.declared.entries.HostEntry.{HostEntry}
 use Rattle.tva_config_entries.specs.declared.entries.LinkEntry.{LinkEntry}
 use Rattle.tva_config.specs.declared.joined.OwnedRoute.{OwnedRoute}
+use Rattle.tva_config.specs.declared.joined.OwnedRestart.{OwnedRestart}
+use Rattle.tva_config.specs.declared.joined.OwnedReroute.{OwnedReroute}
 use Rattle.tva_config_entries.specs.Faults.{at, fault_at}
 use Rattle.tva_config.specs.Nodes.{node_names, node_of, all_slots}
 use Rattle.tva_plan.specs.Wiring.{all_places}
 use Rattle.tva_plan.specs.Names.{name_at, is_host_plan}
-use Rattle.tva_plan.specs.Counts.{routes_in, slots_in}
+use Rattle.tva_plan.specs.Counts.{routes_in, restarts_in, reroutes_in, slots_in}
 use Rattle.tva_config.specs.Read.{Owned, router_plan, host_plan, router_plans}
-use Rattle.tva_config.specs.Stages.{slots_of, links_of, uplinks_of, rings_of, if_owned, routes_at, host_plans, config_of}
+use Rattle.tva_config.specs.Stages.{slots_of, links_of, uplinks_of, rings_of, if_owned, routes_at, if_restart, restarts_at, if_reroute, reroutes_at, host_plans, config_of}
 use Rattle.tva_config_entries.proofs.Ranges.{IsRouterEntry, IsHostEntry, IsLinkEntry}
-use Rattle.tva_plan.specs.Valid.{IsName, IsNodePlan, IsLinkPlan, AreWired, AreRoutersFirst, addresses_at, IsConfig}
+use Rattle.tva_plan.specs.Valid.{IsName, IsNodePlan, HasPolicy, IsLinkPlan, AreWired, AreRoutersFirst, addresses_at, IsConfig}
 use Rattle.tva_config_entries.proofs.Turns.{all_cons, unless_gave}
 use Rattle.tva_config.proofs.StepsLinks.{AreLinks, links_keep, AreUplinks, uplinks_keep}
 use Rattle.tva_config.proofs.PlanValid.{AreOwned, router_valid, host_valid}
@@ -75,44 +76,73 @@ routers_before : (links : List LinkPlan) (owned : Owned) (k : ℕ) (rs : List Ro
 routers_before links owned k [] more last = last
 routers_before links owned k (r ∷ rs) more last = routers_before links owned (k + 1) rs more last
 
--- ---- the routes of the routers are among all routes
+-- ---- what the routers own is among all that is owned
 
--- how many routes are of routers below that number
-abbrev below : ℕ → List OwnedRoute → ℕ
-below k [] = 0
-below k (o ∷ os) = cond (nat_lt o.router k) 1 0 + below k os
+module _ {A B : Type 0} (owner : A → ℕ) (value : A → B) where
+  -- what is of that router
+  abbrev if_of : ℕ → A → Option B
+  if_of k o = cond (owner o == k) (Some (value o)) None
 
-most_at : (b : Bool) (n m : ℕ) → n ≤ m → cond b 1 0 + n ≤ suc m
-most_at true n m more = omega arith
-most_at false n m more = omega arith
+  -- how many are of routers below that number
+  abbrev below : ℕ → List A → ℕ
+  below k [] = 0
+  below k (o ∷ os) = cond (nat_lt (owner o) k) 1 0 + below k os
 
-below_most : (k : ℕ) (os : List OwnedRoute) → below k os ≤ length os
-below_most k [] = omega arith
-below_most k (o ∷ os) = most_at (nat_lt o.router k) (below k os) (length os) (below_most k os)
+  most_at : (b : Bool) (n m : ℕ) → n ≤ m → cond b 1 0 + n ≤ suc m
+  most_at true n m more = omega arith
+  most_at false n m more = omega arith
 
-step_at : (k : ℕ) (o : OwnedRoute) (rest : List Route) (m n : ℕ) (is less up : Bool) → (o.router == k) ≡ is → nat_lt o.router k ≡ less → nat_lt o.router (k + 1) ≡ up → length rest + m ≡ n
-    → length (cons_option (cond is (Some o.route) None) rest) + (cond less 1 0 + m) ≡ cond up 1 0 + n
-step_at k o rest m n true true up is less up_is more = absurd (grind (arith, nat_tests))
-step_at k o rest m n true false true is less up_is more = omega arith
-step_at k o rest m n true false false is less up_is more = absurd (grind (arith, nat_tests))
-step_at k o rest m n false true true is less up_is more = omega arith
-step_at k o rest m n false true false is less up_is more = absurd (grind (arith, nat_tests))
-step_at k o rest m n false false true is less up_is more = absurd (grind (arith, nat_tests))
-step_at k o rest m n false false false is less up_is more = omega arith
+  below_most : (k : ℕ) (os : List A) → below k os ≤ length os
+  below_most k [] = omega arith
+  below_most k (o ∷ os) = most_at (nat_lt (owner o) k) (below k os) (length os) (below_most k os)
 
-below_step : (k : ℕ) (os : List OwnedRoute) → length (filter_map (if_owned k) os) + below k os ≡ below (k + 1) os
-below_step k [] = refl
-below_step k (o ∷ os) = step_at k o (filter_map (if_owned k) os) (below k os) (below (k + 1) os) (o.router == k) (nat_lt o.router k) (nat_lt o.router (k + 1)) refl refl refl (below_step k os)
+  step_at : (k : ℕ) (o : A) (rest : List B) (m n : ℕ) (is less up : Bool) → (owner o == k) ≡ is → nat_lt (owner o) k ≡ less → nat_lt (owner o) (k + 1) ≡ up → length rest + m ≡ n
+      → length (cons_option (cond is (Some (value o)) None) rest) + (cond less 1 0 + m) ≡ cond up 1 0 + n
+  step_at k o rest m n true true up is less up_is more = absurd (grind (arith, nat_tests))
+  step_at k o rest m n true false true is less up_is more = omega arith
+  step_at k o rest m n true false false is less up_is more = absurd (grind (arith, nat_tests))
+  step_at k o rest m n false true true is less up_is more = omega arith
+  step_at k o rest m n false true false is less up_is more = absurd (grind (arith, nat_tests))
+  step_at k o rest m n false false true is less up_is more = absurd (grind (arith, nat_tests))
+  step_at k o rest m n false false false is less up_is more = omega arith
 
-routers_routes : (links : List LinkPlan) (owned : Owned) (k : ℕ) (rs : List RouterEntry) → sum_by routes_in (router_plans links owned k rs) + below k owned.routes ≤ length owned.routes
+  below_step : (k : ℕ) (os : List A) → length (filter_map (if_of k) os) + below k os ≡ below (k + 1) os
+  below_step k [] = refl
+  below_step k (o ∷ os) = step_at k o (filter_map (if_of k) os) (below k os) (below (k + 1) os) (owner o == k) (nat_lt (owner o) k) (nat_lt (owner o) (k + 1)) refl refl refl (below_step k os)
+
+  owned_few : (links : List LinkPlan) (owned : Owned) (os : List A) (many : nodes.NodePlan → ℕ)
+      → ((k : ℕ) (r : RouterEntry) → many (node.Router (router_plan links owned k r)) ≡ length (filter_map (if_of k) os))
+      → (k : ℕ) (rs : List RouterEntry) → sum_by many (router_plans links owned k rs) + below k os ≤ length os
+  owned_few links owned os many is k [] = let most = below_most k os in omega (arith, most)
+  owned_few links owned os many is k (r ∷ rs) =
+      let split : sum_by many (router_plans links owned k (r ∷ rs)) ≡ many (node.Router (router_plan links owned k r)) + sum_by many (router_plans links owned (k + 1) rs) =
+      sum_by-cons many (node.Router (router_plan links owned k r)) (router_plans links owned (k + 1) rs) in
+      let here = is k r in
+      let step = below_step k os in
+      let more = owned_few links owned os many is (k + 1) rs in
+      omega (arith, split, here, step, more)
+
+  -- all plans have at most so many
+  all_few : (links : List LinkPlan) (owned : Owned) (os : List A) (many : nodes.NodePlan → ℕ) (most : ℕ)
+      → ((k : ℕ) (r : RouterEntry) → many (node.Router (router_plan links owned k r)) ≡ length (filter_map (if_of k) os))
+      → (rs : List RouterEntry) (hosted : List nodes.NodePlan) → sum_by many hosted ≡ 0 → length os ≤ most
+      → sum_by many (router_plans links owned 0 rs ++ hosted) ≤ most
+  all_few links owned os many most is rs hosted none few =
+      let both = sum_by-append many (router_plans links owned 0 rs) hosted in
+      let made = owned_few links owned os many is 0 rs in
+      omega (arith, both, made, none, few)
+
+routes_few : (links : List LinkPlan) (owned : Owned) (k : ℕ) (r : RouterEntry) → routes_in (node.Router (router_plan links owned k r)) ≡ length (filter_map (if_owned k) owned.routes)
 unfolding router_plan routes_at
-routers_routes links owned k [] = let most = below_most k owned.routes in omega (arith, most)
-routers_routes links owned k (r ∷ rs) =
-    let split : sum_by routes_in (router_plans links owned k (r ∷ rs)) ≡ length (filter_map (if_owned k) owned.routes) + sum_by routes_in (router_plans links owned (k + 1) rs) =
-    sum_by-cons routes_in (node.Router (router_plan links owned k r)) (router_plans links owned (k + 1) rs) in
-    let step = below_step k owned.routes in
-    let more = routers_routes links owned (k + 1) rs in
-    omega (arith, split, step, more)
+routes_few links owned k r = refl
+
+restarts_few : (links : List LinkPlan) (owned : Owned) (k : ℕ) (r : RouterEntry) → restarts_in (node.Router (router_plan links owned k r)) ≡ length (filter_map (if_restart k) owned.restarts)
+unfolding router_plan restarts_at
+restarts_few links owned k r = refl
+
+reroutes_few : (links : List LinkPlan) (owned : Owned) (k : ℕ) (r : RouterEntry) → reroutes_in (node.Router (router_plan links owned k r)) ≡ length (filter_map (if_reroute k) owned.reroutes)
+unfolding router_plan reroutes_at
+reroutes_few links owned k r = refl
 
 -- ---- the hosts' part
 
@@ -157,15 +187,26 @@ hosts_wired links k [] us known = tt
 hosts_wired links k (h ∷ hs) [] known = tt
 hosts_wired links k (h ∷ hs) (u ∷ us) known = (known.0, hosts_wired links (k + 1) hs us known.1)
 
-hosts_slots : (hs : List HostEntry) (us : List ℕ) → sum_by slots_in (host_plans hs us) ≡ 0
-hosts_slots [] us = refl
-hosts_slots (h ∷ hs) [] = refl
-hosts_slots (h ∷ hs) (u ∷ us) = sum_by-cons slots_in (node.Host (host_plan h u)) (host_plans hs us) ∙ ap (λ n. 0 + n) (hosts_slots hs us)
+-- what no host has
+hosts_none : (many : nodes.NodePlan → ℕ) → ((h : HostEntry) (u : ℕ) → many (node.Host (host_plan h u)) ≡ 0) → (hs : List HostEntry) (us : List ℕ) → sum_by many (host_plans hs us) ≡ 0
+hosts_none many none [] us = refl
+hosts_none many none (h ∷ hs) [] = refl
+hosts_none many none (h ∷ hs) (u ∷ us) =
+    let split = sum_by-cons many (node.Host (host_plan h u)) (host_plans hs us) in
+    let here = none h u in
+    let more = hosts_none many none hs us in
+    omega (arith, split, here, more)
 
-hosts_routes : (hs : List HostEntry) (us : List ℕ) → sum_by routes_in (host_plans hs us) ≡ 0
-hosts_routes [] us = refl
-hosts_routes (h ∷ hs) [] = refl
-hosts_routes (h ∷ hs) (u ∷ us) = sum_by-cons routes_in (node.Host (host_plan h u)) (host_plans hs us) ∙ ap (λ n. 0 + n) (hosts_routes hs us)
+hosts_policies : (hs : List HostEntry) (us : List ℕ) → All IsHostEntry hs → All HasPolicy (host_plans hs us)
+unfolding host_plan
+hosts_policies [] us entries = All-nil HasPolicy
+hosts_policies (h ∷ hs) [] entries = All-nil HasPolicy
+hosts_policies (h ∷ hs) (u ∷ us) entries =
+    all_cons HasPolicy (node.Host (host_plan h u)) (host_plans hs us) (entries 0 h (omega arith)).policy (hosts_policies hs us (λ j d within. entries (suc j) d (omega arith)))
+
+routers_policies : (links : List LinkPlan) (owned : Owned) (k : ℕ) (rs : List RouterEntry) → All HasPolicy (router_plans links owned k rs)
+routers_policies links owned k [] = All-nil HasPolicy
+routers_policies links owned k (r ∷ rs) = all_cons HasPolicy (node.Router (router_plan links owned k r)) (router_plans links owned (k + 1) rs) tt (routers_policies links owned (k + 1) rs)
 
 -- ---- the whole
 
@@ -184,6 +225,8 @@ pub record Passed (horizon max_events : ℕ) (rs : List RouterEntry) (hs : List 
   pub nodes : length rs + length hs ≤ 1024
   pub few_links : length links ≤ 4096
   pub few_routes : length owned.routes ≤ 65536
+  pub few_restarts : length owned.restarts ≤ 65536
+  pub few_reroutes : length owned.reroutes ≤ 65536
   pub routers : All IsRouterEntry rs
   pub hosts : All IsHostEntry hs
   pub link_entries : All IsLinkEntry les
@@ -210,10 +253,8 @@ config_valid horizon max_events rs hs les links us owned passed =
     let hosted_count = hosts_long hs us passed.as_many in
     let both : length (made ++ hosted) ≡ length made + length hosted = length-append made hosted in
     let long : length (made ++ hosted) ≡ length (node_names rs hs) = omega (arith, name_count, made_count, hosted_count, both) in
-    let slots : sum_by slots_in (made ++ hosted) ≡ all_slots rs + 0 = sum_by-append slots_in made hosted ∙ rw (routers_slots links owned 0 rs, hosts_slots hs us) refl in
+    let slots : sum_by slots_in (made ++ hosted) ≡ all_slots rs + 0 = sum_by-append slots_in made hosted ∙ rw (routers_slots links owned 0 rs, hosts_none slots_in (λ h u. refl) hs us) refl in
     let most_slots = few_slots rs passed.slots in
-    let sum_routes : sum_by routes_in (made ++ hosted) ≡ sum_by routes_in made + 0 = sum_by-append routes_in made hosted ∙ ap (λ n. sum_by routes_in made + n) (hosts_routes hs us) in
-    let most_routes = routers_routes links owned 0 rs in
     let uplinks = uplinks_keep (length rs) links hs us passed.uplinks in
     let same_start : length rs ≡ 0 + length rs = omega arith in
     let uplinked : AreUplinks links (0 + length rs) us = subst (λ n. AreUplinks links n us) same_start uplinks in
@@ -222,10 +263,13 @@ config_valid horizon max_events rs hs les links us owned passed =
       max_events = passed.events_most;
       few_nodes = let nodes = passed.nodes in omega (arith, long, name_count, nodes);
       few_links = passed.few_links;
-      few_routes = let most = passed.few_routes in omega (arith, sum_routes, most_routes, most);
+      few_routes = all_few (λ (o : OwnedRoute). o.router) (λ o. o.route) links owned owned.routes routes_in 65536 (routes_few links owned) rs hosted (hosts_none routes_in (λ h u. refl) hs us) passed.few_routes;
+      few_restarts = all_few (λ (o : OwnedRestart). o.router) (λ o. (o.time, o.master)) links owned owned.restarts restarts_in 65536 (restarts_few links owned) rs hosted (hosts_none restarts_in (λ h u. refl) hs us) passed.few_restarts;
+      few_reroutes = all_few (λ (o : OwnedReroute). o.owned.router) (λ o. (o.time, o.owned.route.prefix, o.owned.route.link)) links owned owned.reroutes reroutes_in 65536 (reroutes_few links owned) rs hosted (hosts_none reroutes_in (λ h u. refl) hs us) passed.few_reroutes;
       few_slots = omega (arith, slots, most_slots);
       few_places = few_places links passed.rings;
       nodes = All-append IsNodePlan made hosted (routers_valid (length (node_names rs hs)) links owned 0 rs passed.routers kept.each kept.tags passed.owns) (hosts_valid hs us passed.hosts passed.late);
+      policies = All-append HasPolicy made hosted (routers_policies links owned 0 rs) (hosts_policies hs us passed.hosts);
       routers_first = routers_before links owned 0 rs hosted (hosts_last hs us);
       links = rw long kept.each;
       names = rw (map-append name_at made hosted, routers_named links owned 0 rs, hosts_named hs us passed.as_many) passed.names;

@@ -2,8 +2,6 @@
 use Rattle.std.proofs.Common.{◌≡◌, ℕ, List, [], length, Option, Result, Ok, Err, IfOk, All, ◌∙◌, subst, arith}
 use Rattle.tva_base.specs.declared.plan.LinkPlan.{LinkPlan}
 use Rattle.tva_base.specs.Plan.{AreDistinct}
-use Rattle.tva_config_entries.specs.declared.entries.RouteEntry.{RouteEntry}
-use Rattle.tva_config.specs.declared.joined.OwnedRoute.{OwnedRoute}
 use Rattle.tva_plan.specs.declared.config.Config.{Config}
 use Rattle.tva_config_entries.specs.declared.faults.ConfigError.{ConfigError}
 use Rattle.tva_config_entries.specs.Faults.{Answers}
@@ -12,6 +10,7 @@ use Rattle.tva_config_entries.specs.Reading.{entries_read}
 use Rattle.tva_config.specs.Nodes.{node_names, node_of}
 use Rattle.tva_config.specs.Links.{link_between, link_step, uplink_step}
 use Rattle.tva_config.specs.Routes.{route_step}
+use Rattle.tva_config.specs.Changes.{restart_step, reroute_step}
 use Rattle.tva_config.specs.Read.{Owned, plan_of, read_of}
 use Rattle.tva_config.specs.Stages.{names_of, addresses_of, retries_of, slots_of, links_of, uplinks_of, rings_of, routes_of, restarts_of, reroutes_of, config_of, owned_of, Joined, joined_of, linked_of, planned_of}
 use Rattle.tva_config_entries.proofs.Ranges.{AreEntries, IsRouteEntry}
@@ -28,17 +27,24 @@ use Rattle.tva_config_entries.proofs.Turns.{first_gave, when_gave, gave_one, in_
 abbrev Joins : ConfigEntries → Joined → Type 0
 Joins e j = Passed e.horizon e.max_events e.routers e.hosts e.links j.links j.uplinks j.owned
 
--- each entry gives one route
-routes_long : (routers : ℕ) (node : List ℕ → Option ℕ) (links : List LinkPlan) (entries : List RouteEntry) (routes : List OwnedRoute)
-    → routes_of routers node (link_between links) entries ≡ Ok routes → length routes ≡ length entries
-unfolding routes_of
-routes_long routers node links entries routes gave =
-    let long = in_turn_long (route_step routers node (link_between links)) [] entries routes gave in
-    omega (arith, long)
+-- each entry gives one
+abbrev AreAsMany : ConfigEntries → Owned → Type 0
+AreAsMany e owned = (length owned.routes ≡ length e.routes) × (length owned.restarts ≡ length e.restarts) × (length owned.reroutes ≡ length e.reroutes)
+
+as_many : (routers : ℕ) (node : List ℕ → Option ℕ) (links : List LinkPlan) (e : ConfigEntries) (owned : Owned)
+    → routes_of routers node (link_between links) e.routes ≡ Ok owned.routes
+    → restarts_of routers node e.restarts ≡ Ok owned.restarts
+    → reroutes_of routers node (link_between links) owned.routes e.reroutes ≡ Ok owned.reroutes → AreAsMany e owned
+unfolding routes_of restarts_of reroutes_of
+as_many routers node links e owned k1 k2 k3 =
+    let r_long = in_turn_long (route_step routers node (link_between links)) [] e.routes owned.routes k1 in
+    let s_long = in_turn_long (restart_step routers node) [] e.restarts owned.restarts k2 in
+    let w_long = in_turn_long (reroute_step routers node (link_between links) owned.routes) [] e.reroutes owned.reroutes k3 in
+    (omega (arith, r_long), omega (arith, s_long), omega (arith, w_long))
 
 -- what the steps over routes, restarts and changes of routes give
 owned_keep : (routers : ℕ) (node : List ℕ → Option ℕ) (links : List LinkPlan) (e : ConfigEntries) (owned : Owned) → All IsRouteEntry e.routes
-    → owned_of routers node (link_between links) e ≡ Ok owned → AreOwned links owned × (length owned.routes ≡ length e.routes)
+    → owned_of routers node (link_between links) e ≡ Ok owned → AreOwned links owned × AreAsMany e owned
 unfolding owned_of
 owned_keep routers node links e owned known gave =
     let (routes, k1, g1) = first_gave (routes_of routers node (link_between links) e.routes) _ owned gave in
@@ -50,7 +56,7 @@ owned_keep routers node links e owned known gave =
       restarts = restarts_keep routers node e.restarts restarts k2;
       reroutes = reroutes_keep routers node links routes e.reroutes reroutes k3;
     } in
-    subst (λ o. AreOwned links o × (length o.routes ≡ length e.routes)) (gave_one all owned g3) (kept, routes_long routers node links e.routes routes k1)
+    subst (λ o. AreOwned links o × AreAsMany e o) (gave_one all owned g3) (kept, as_many routers node links e all k1 k2 k3)
 
 joined_passed : (e : ConfigEntries) (j : Joined) → AreEntries e → joined_of e ≡ Ok j → Joins e j
 unfolding joined_of linked_of addresses_of links_of uplinks_of
@@ -70,15 +76,19 @@ joined_passed e j known gave =
     let made : all ≡ j = gave_one all j g8 in
     let u_long = in_turn_long (uplink_step (length rs) links) [] hs us k5 in
     let l_long = in_turn_long (link_step (node_of names)) [] e.links links k4 in
-    let (kept, r_long) = owned_keep (length rs) (node_of names) links e owned known.routes k6 in
+    let (kept, own_long) = owned_keep (length rs) (node_of names) links e owned known.routes k6 in
     let few_links = known.few_links in
     let few_routes = known.few_routes in
+    let few_restarts = known.few_restarts in
+    let few_reroutes = known.few_reroutes in
     let passed : Passed e.horizon e.max_events rs hs e.links links us owned = record {
       horizon_most = known.horizon;
       events_most = known.events;
       nodes = known.nodes;
       few_links = omega (arith, l_long, few_links);
-      few_routes = omega (arith, r_long, few_routes);
+      few_routes = omega (arith, own_long, few_routes);
+      few_restarts = omega (arith, own_long, few_restarts);
+      few_reroutes = omega (arith, own_long, few_reroutes);
       routers = known.routers;
       hosts = known.hosts;
       link_entries = known.links;

@@ -1,8 +1,9 @@
 -- What the entries of the tables keep that were read.
-use Rattle.std.proofs.Common.{◌≡◌, ◌≤◌, ◌<◌, ◌^◌, ◌&&◌, nat_le, Bool, true, false, cond, eqb, ℕ, List, [], Some, None, Ok, All, codes, refl, subst, arith}
+use Rattle.std.proofs.Common.{◌≡◌, ◌≤◌, ◌<◌, ◌^◌, ◌&&◌, nat_le, Bool, true, false, cond, eqb, ℕ, List, [], Some, None, Ok, All, codes, length, refl, subst, arith}
 use Rattle.std.proofs.lemmas.Bool.{and_parts, leb-true}
 use Rattle.std.proofs.lemmas.List.Elements.{All-nil}
 use Rattle.toml.specs.Data.{Members}
+use Rattle.tva_base.specs.declared.addresses.Address.{Address}
 use Rattle.tva_base.specs.declared.limits.LinkLimits.{LinkLimits}
 use Rattle.tva_base.specs.Plan.{AreClassLimits, AreLinkLimits, IsPrefix}
 use Rattle.tva_base.specs.Addresses.{address_of, prefix_of}
@@ -23,8 +24,8 @@ use Rattle.tva_config_entries.specs.Entries.{router_keys, router_of, host_keys, 
 use Rattle.tva_config_entries.specs.Tables.{table_entries}
 use Rattle.tva_config_entries.specs.Stages.{entry_step}
 use Rattle.tva_config_entries.proofs.Ranges.{IsRouterEntry, IsHostEntry, IsLinkEntry, IsRouteEntry}
-use Rattle.tva_plan.specs.Valid.{IsName}
-use Rattle.tva_config_entries.proofs.KindsValid.{IsWithin, required_valid, optional_valid, number_valid, name_valid, prefix_kind_valid, nonce_valid}
+use Rattle.tva_plan.specs.Valid.{IsName, IsPolicyPlan}
+use Rattle.tva_config_entries.proofs.KindsValid.{IsWithin, required_valid, optional_valid, number_valid, name_valid, prefix_kind_valid, nonce_valid, few_valid}
 use Rattle.tva_config_entries.proofs.Turns.{when_gave, gave_one, in_turn_keeps, all_push}
 
 pub number_needed : (low high : ℕ) (p : Place) (ms : Members) (key : List ℕ) (n : ℕ)
@@ -81,22 +82,40 @@ units_usual version = at_least 32 (eqb version 1) 1023 1048575 refl refl
 seconds_usual : (version : ℕ) → (nat_le 0 10 && nat_le 10 (seconds_max version)) ≡ true
 seconds_usual version = at_least 10 (eqb version 1) 63 127 refl refl
 
-rights_valid : (version : ℕ) (p : Place) (ms : Members) (plan : PolicyPlan) → policy_plan_of version p ms ≡ Ok plan → AreRights version plan.rights
+-- an address of which nothing is asked
+abbrev IsAny : Address → Type 0
+IsAny a = Unit {0}
+
+-- what the policy of a host whose shims have that version keeps
+abbrev IsPolicyIn : ℕ → PolicyPlan → Type 0
+IsPolicyIn version q = AreRights version q.rights × IsPolicyPlan q
+
+policy_valid : (version : ℕ) (p : Place) (ms : Members) (plan : PolicyPlan) → policy_plan_of version p ms ≡ Ok plan → IsPolicyIn version plan
 unfolding policy_plan_of
-rights_valid version p ms plan gave =
-    when_gave (λ (q : PolicyPlan). AreRights version q.rights) (optional p ms (codes "policy") (value.written value.policy_of) policy.DenyAll) _ plan gave (λ kind k1 g1.
-    when_gave (λ (q : PolicyPlan). AreRights version q.rights) (optional p ms (codes "n") (value.number 0 (units_max version)) 32) _ plan g1 (λ n k2 g2.
-    when_gave (λ (q : PolicyPlan). AreRights version q.rights) (optional p ms (codes "t") (value.number 0 (seconds_max version)) 10) _ plan g2 (λ t k3 g3.
-    when_gave (λ (q : PolicyPlan). AreRights version q.rights) (optional p ms (codes "grants") (value.number 0 1000000) 1000) _ plan g3 (λ grants k4 g4.
-    when_gave (λ (q : PolicyPlan). AreRights version q.rights) (optional p ms (codes "deny") (value.few_items (value.written address_of)) []) _ plan g4 (λ deny k5 g5.
-    when_gave (λ (q : PolicyPlan). AreRights version q.rights) (optional p ms (codes "deny_tags") (value.few_items (value.number 1 65535)) []) _ plan g5 (λ deny_tags k6 g6.
+policy_valid version p ms plan gave =
+    when_gave (IsPolicyIn version) (optional p ms (codes "policy") (value.written value.policy_of) policy.DenyAll) _ plan gave (λ kind k1 g1.
+    when_gave (IsPolicyIn version) (optional p ms (codes "n") (value.number 0 (units_max version)) 32) _ plan g1 (λ n k2 g2.
+    when_gave (IsPolicyIn version) (optional p ms (codes "t") (value.number 0 (seconds_max version)) 10) _ plan g2 (λ t k3 g3.
+    when_gave (IsPolicyIn version) (optional p ms (codes "grants") (value.number 0 1000000) 1000) _ plan g3 (λ grants k4 g4.
+    when_gave (IsPolicyIn version) (optional p ms (codes "deny") (value.few_items (value.written address_of)) []) _ plan g4 (λ deny k5 g5.
+    when_gave (IsPolicyIn version) (optional p ms (codes "deny_tags") (value.few_items (value.number 1 65535)) []) _ plan g5 (λ deny_tags k6 g6.
     let rights : Rights = record { n = n; t = t } in
     let made : PolicyPlan = record { kind = kind; rights = rights; grants = grants; deny = deny; deny_tags = deny_tags } in
-    let valid : AreRights version rights = record {
+    let in_force : AreRights version rights = record {
       units = (number_or 0 (units_max version) 32 p ms (codes "n") n (units_usual version) k2).1;
       seconds = (number_or 0 (seconds_max version) 10 p ms (codes "t") t (seconds_usual version) k3).1;
     } in
-    subst (λ (q : PolicyPlan). AreRights version q.rights) (gave_one made plan g6) valid))))))
+    let addresses : (length deny ≤ 1024) × All IsAny deny = optional_valid (λ xs. (length xs ≤ 1024) × All IsAny xs) (value.few_items (value.written address_of)) p ms (codes "deny") [] deny
+    (few_valid IsAny (value.written address_of) (λ d x is. tt)) (omega arith, All-nil IsAny) k5 in
+    let tags : (length deny_tags ≤ 1024) × All (IsWithin 1 65535) deny_tags = optional_valid (λ xs. (length xs ≤ 1024) × All (IsWithin 1 65535) xs) (value.few_items (value.number 1 65535)) p ms (codes "deny_tags") [] deny_tags
+    (few_valid (IsWithin 1 65535) (value.number 1 65535) (number_valid 1 65535)) (omega arith, All-nil (IsWithin 1 65535)) k6 in
+    let few : IsPolicyPlan made = record {
+      grants = (number_or 0 1000000 1000 p ms (codes "grants") grants refl k4).1;
+      deny = addresses.0;
+      deny_tags = tags.0;
+      tags = tags.1;
+    } in
+    subst (IsPolicyIn version) (gave_one made plan g6) (in_force, few)))))))
 
 pub host_valid : (version : ℕ) → IsVersion version → (p : Place) (ms : Members) (h : HostEntry) → host_of version p ms ≡ Ok h → IsHostEntry h
 unfolding host_of
@@ -118,13 +137,15 @@ host_valid version is p ms h gave =
       policy = plan;
     } in
     let same : made ≡ h = gave_one made h g7 in
+    let policies = policy_valid version p ms plan k6 in
     let valid : IsHostEntry made = record {
       name = required_valid IsName (value.written value.name_of) p ms (codes "name") name name_valid k1;
       nonce = optional_valid (λ k. k < 2 ^ 48) (value.written value.hex_nonce_of) p ms (codes "nonce") 1 nonce nonce_valid one_below k3;
       margin = (number_or 0 1000000000000 1000000 p ms (codes "margin_ns") margin refl k4).1;
       retry = (number_or 0 10000000000000 2000000000 p ms (codes "retry_ns") retry refl k5).1;
       version = is;
-      rights = rights_valid version p ms plan k6;
+      rights = policies.0;
+      policy = policies.1;
     } in
     subst IsHostEntry same valid)))))))
 

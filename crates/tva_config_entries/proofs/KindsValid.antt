@@ -1,13 +1,14 @@
 -- What a value that was read keeps: its range, its letters.
-use Rattle.std.proofs.Common.{◌≡◌, ◌≤◌, ◌<◌, ◌^◌, ◌*◌, ◌&&◌, nat_le, ℕ, ℤ, pos, negsuc, Bool, true, false, cond, List, [], ◌∷◌, length, Result, Ok, Err, Option, Some, None, IfSome, option_and_then, refl, sym, ◌∙◌, subst, arith}
+use Rattle.std.proofs.Common.{◌≡◌, ◌≤◌, ◌<◌, ◌^◌, ◌*◌, ◌&&◌, nat_le, ℕ, ℤ, pos, negsuc, Bool, true, false, cond, List, [], ◌∷◌, length, Result, Ok, Err, Option, Some, None, IfSome, option_and_then, All, refl, sym, ◌∙◌, subst, arith}
 use Rattle.std.specs.Option.{option_map}
 use Rattle.std.specs.Result.{result_ok}
 use Rattle.std.specs.List.{list_all}
 use Rattle.std.proofs.lemmas.Bool.{and_parts, leb-true}
+use Rattle.std.proofs.lemmas.List.Elements.{All-nil}
 use Rattle.hex.specs.Hex.{IsBytes, decode_sized}
 use Rattle.hex.specs.declared.error.FromHexError.{FromHexError}
 use Rattle.hex.proofs.HexLemmas.{decode_of-ok, decode_sized-ok, decode_sized-twice}
-use Rattle.toml.specs.Data.{Data, Members, as_integer, as_str, get_member}
+use Rattle.toml.specs.Data.{Data, Items, no_items, item, Members, as_integer, as_str, as_array, get_member}
 use Rattle.tva_base.specs.declared.addresses.Prefix.{Prefix}
 use Rattle.tva_base.specs.Addresses.{prefix_of}
 use Rattle.tva_base.specs.Plan.{IsPrefix}
@@ -16,10 +17,11 @@ use Rattle.tva_config_entries.specs.declared.faults.ConfigRule.TheVariants as ru
 use Rattle.tva_config_entries.specs.declared.place.Place.{Place}
 use Rattle.tva_config_entries.specs.Faults.{Read, fault_at, found}
 use Rattle.tva_config_entries.specs.Keys.{keyed, required, optional}
-use Rattle.tva_config_entries.specs.Values.{within, number, written, name_of, number_of_bytes, hex_nonce_of}
+use Rattle.tva_config_entries.specs.Values.{within, number, written, name_of, number_of_bytes, hex_nonce_of, and_first, items, short_array, few_items}
 use Rattle.tva_plan.specs.Names.{is_name_byte}
 use Rattle.tva_plan.specs.Valid.{IsName}
 use Rattle.tva_config_entries.proofs.Prefixes.{prefix_valid}
+use Rattle.tva_config_entries.proofs.Turns.{all_cons}
 
 -- what is known of each value of a kind, and of what is read of a missing key, is known of what a key gives
 gave_at : {A : Type 0} (P : A → Type 0) (o : Option A) (fault : ConfigFault) (x : A)
@@ -58,6 +60,11 @@ then_gave P f (Some x) y known is = known x is
 chosen : {A : Type 0} (b : Bool) (x y : A) → cond b (Some x) None ≡ Some y → (b ≡ true) × (x ≡ y)
 chosen true x y is = (refl, cc)
 chosen false x y is = absurd (cc)
+
+-- the value that a step was over
+then_of : {A B : Type 0} (f : A → Option B) (o : Option A) (y : B) → option_and_then f o ≡ Some y → (x : A) × (o ≡ Some x) × (f x ≡ Some y)
+then_of f None y is = absurd (cc)
+then_of f (Some x) y is = (x, refl, is)
 
 -- a number from low to high
 abbrev pub IsWithin : ℕ → ℕ → ℕ → Type 0
@@ -126,3 +133,23 @@ decoded_from text (Ok bytes) n is gave =
 pub nonce_valid : (d : Data) (n : ℕ) → written hex_nonce_of d ≡ Some n → n < 2 ^ 48
 nonce_valid d n is =
     then_gave (λ m. m < 2 ^ 48) hex_nonce_of (as_str d) n (λ text given. decoded_from text (decode_sized text 6) n refl given) is
+
+-- a short list
+items_both : {A : Type 0} (P : A → Type 0) (o : Option A) (rest : Option (List A)) (xs : List A)
+    → ((x : A) → o ≡ Some x → P x) → ((ys : List A) → rest ≡ Some ys → All P ys) → and_first o rest ≡ Some xs → All P xs
+items_both P None rest xs here more is = absurd (cc)
+items_both P (Some x) None xs here more is = absurd (cc)
+items_both P (Some x) (Some ys) xs here more is = let same : x ∷ ys ≡ xs = cc in subst (All P) same (all_cons P x ys (here x refl) (more ys refl))
+
+items_valid : {A : Type 0} (P : A → Type 0) (kind : Data → Option A) → ((d : Data) (x : A) → kind d ≡ Some x → P x)
+    → (ds : Items) (xs : List A) → items kind ds ≡ Some xs → All P xs
+items_valid P kind known no_items xs is = let same : [] ≡ xs = cc in subst (All P) same (All-nil P)
+items_valid P kind known (item d ds) xs is = items_both P (kind d) (items kind ds) xs (known d) (items_valid P kind known ds) is
+
+pub few_valid : {A : Type 0} (P : A → Type 0) (kind : Data → Option A) → ((d : Data) (x : A) → kind d ≡ Some x → P x)
+    → (d : Data) (xs : List A) → few_items kind d ≡ Some xs → (length xs ≤ 1024) × All P xs
+few_valid P kind known d xs is =
+    let (ys, listed, short) = then_of short_array (option_and_then (items kind) (as_array d)) xs is in
+    let (few, same) = chosen (nat_le (length ys) 1024) ys xs short in
+    let (ds, array, each) = then_of (items kind) (as_array d) ys listed in
+    subst (λ zs. (length zs ≤ 1024) × All P zs) same (leb-true (length ys) 1024 few, items_valid P kind known ds ys each)

@@ -8,7 +8,7 @@ use Rattle.tva_config_entries.specs.declared.entries.HostEntry.{HostEntry}
 use Rattle.tva_config_entries.specs.declared.entries.LinkEntry.{LinkEntry}
 use Rattle.tva_config_entries.specs.declared.entries.RouteEntry.{RouteEntry}
 use Rattle.tva_config_entries.specs.Tables.{ConfigEntries}
-use Rattle.tva_plan.specs.Valid.{IsName}
+use Rattle.tva_plan.specs.Valid.{IsName, IsPolicyPlan}
 
 -- the ranges of an entry's name and numbers
 pub record IsRouterEntry (r : RouterEntry) : Type 0 where
@@ -24,6 +24,7 @@ pub record IsHostEntry (h : HostEntry) : Type 0 where
   pub retry : h.retry ≤ 10000000000000
   pub version : IsVersion h.version
   pub rights : AreRights h.version h.policy.rights
+  pub policy : IsPolicyPlan h.policy
 
 pub record IsLinkEntry (l : LinkEntry) : Type 0 where
   pub delay : (1 ≤ l.delay) × (l.delay ≤ 1000000000000)
@@ -40,6 +41,8 @@ pub record AreEntries (e : ConfigEntries) : Type 0 where
   pub nodes : length e.routers + length e.hosts ≤ 1024
   pub few_links : length e.links ≤ 4096
   pub few_routes : length e.routes ≤ 65536
+  pub few_restarts : length e.restarts ≤ 65536
+  pub few_reroutes : length e.reroutes ≤ 65536
   pub routers : All IsRouterEntry e.routers
   pub hosts : All IsHostEntry e.hosts
   pub links : All IsLinkEntry e.links

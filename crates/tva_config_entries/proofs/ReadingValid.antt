@@ -40,15 +40,18 @@ top_valid ms t gave =
     let known = number_or 1 2 1 top ms (codes "version") version refl kv in
     subst AreTimes same (most.1, some.0, some.1, record { from = known.0; to = known.1 })))))))))))
 
-counts_valid : (nodes links routes restarts reroutes : ℕ) → counts_of nodes links routes restarts reroutes ≡ Ok tt → (nodes ≤ 1024) × (links ≤ 4096) × (routes ≤ 65536)
+counts_valid : (nodes links routes restarts reroutes : ℕ) → counts_of nodes links routes restarts reroutes ≡ Ok tt → (nodes ≤ 1024) × (links ≤ 4096) × (routes ≤ 65536) × (restarts ≤ 65536) × (reroutes ≤ 65536)
 unfolding counts_of
 counts_valid nodes links routes restarts reroutes gave =
     let (a, few_nodes, g1) = first_gave (unless (nat_lt 1024 nodes) (fault_at (at table.Host 0) rule.Count _)) _ tt gave in
     let (b, few_links, g2) = first_gave (unless (nat_lt 4096 links) (fault_at (at table.Link 0) rule.Count _)) _ tt g1 in
-    let (d, few_routes, g3) = first_gave (unless (nat_lt 65536 routes) (fault_at (at table.Route 0) rule.Count _)) _ tt g2 in (
+    let (d, few_routes, g3) = first_gave (unless (nat_lt 65536 routes) (fault_at (at table.Route 0) rule.Count _)) _ tt g2 in
+    let (e, few_restarts, g4) = first_gave (unless (nat_lt 65536 restarts) (fault_at (at table.Restart 0) rule.Count _)) _ tt g3 in (
       ltb-false 1024 nodes (unless_gave _ _ a few_nodes),
       ltb-false 4096 links (unless_gave _ _ b few_links),
       ltb-false 65536 routes (unless_gave _ _ d few_routes),
+      ltb-false 65536 restarts (unless_gave _ _ e few_restarts),
+      ltb-false 65536 reroutes (unless_gave _ _ tt g4),
     )
 
 -- what the entries of all tables keep
@@ -60,6 +63,8 @@ record AreRead (t : Top) (e : ConfigEntries) : Type 0 where
   nodes_long : length e.routers + length e.hosts ≡ length t.routers + length t.hosts
   links_long : length e.links ≡ length t.links
   routes_long : length e.routes ≡ length t.routes
+  restarts_long : length e.restarts ≡ length t.restarts
+  reroutes_long : length e.reroutes ≡ length t.reroutes
   numbers : (e.horizon ≡ t.horizon) × (e.max_events ≡ t.max_events)
 
 all_read : (t : Top) (e : ConfigEntries) → IsVersion t.version → all_entries_of t ≡ Ok e → AreRead t e
@@ -77,6 +82,8 @@ all_read t e known gave =
     let n2 = in_turn_long (entry_step table.Host (host_of t.version)) [] t.hosts hosts k2 in
     let n3 = in_turn_long (entry_step table.Link link_of) [] t.links links k3 in
     let n4 = in_turn_long (entry_step table.Route route_of) [] t.routes routes k4 in
+    let n5 = in_turn_long (entry_step table.Restart restart_of) [] t.restarts restarts k5 in
+    let n6 = in_turn_long (entry_step table.Reroute reroute_of) [] t.reroutes reroutes k6 in
     let valid : AreRead t made = record {
       routers = entries_valid IsRouterEntry table.Router router_of router_valid t.routers routers k1;
       hosts = entries_valid IsHostEntry table.Host (host_of t.version) (host_valid t.version known) t.hosts hosts k2;
@@ -85,6 +92,8 @@ all_read t e known gave =
       nodes_long = omega (arith, n1, n2);
       links_long = omega (arith, n3);
       routes_long = omega (arith, n4);
+      restarts_long = omega (arith, n5);
+      reroutes_long = omega (arith, n6);
       numbers = (refl, refl);
     } in
     subst (AreRead t) same valid))))))
@@ -99,6 +108,8 @@ members_valid ms e gave =
     let n_long = known.nodes_long in
     let m_long = known.links_long in
     let o_long = known.routes_long in
+    let s_long = known.restarts_long in
+    let w_long = known.reroutes_long in
     let numbers = known.numbers in
     record {
       horizon = omega (arith, numbers, times);
@@ -106,6 +117,8 @@ members_valid ms e gave =
       nodes = omega (arith, n_long, counts);
       few_links = omega (arith, m_long, counts);
       few_routes = omega (arith, o_long, counts);
+      few_restarts = omega (arith, s_long, counts);
+      few_reroutes = omega (arith, w_long, counts);
       routers = known.routers;
       hosts = known.hosts;
       links = known.links;

@@ -16,7 +16,7 @@ use Rattle.tva_plan.specs.declared.config.NodePlan.{NodePlan}
 use Rattle.tva_plan.specs.declared.config.NodePlan.TheVariants.{Host}
 use Rattle.tva_plan.specs.Names.{is_host_plan}
 use Rattle.tva_plan.specs.Wiring.{links_from, incoming_of, outgoing_of}
-use Rattle.tva_plan.specs.Valid.{IsName, IsNodePlan, IsLinkPlan, IsConfig}
+use Rattle.tva_plan.specs.Valid.{IsName, IsNodePlan, IsPolicyPlan, HasPolicy, IsLinkPlan, IsConfig}
 use Rattle.tva_trace.specs.declared.rows.Row.{Row}
 use Rattle.tva_trace.specs.Valid.{IsRow, AreTraceRows, begins, files_at}
 use Rattle.tva_honest.specs.Walk.{walk_a, walk_b, walk_class, walk_limits, walk_route, walk_router, walk_host, walk_host_b, walk_link, walk_config, walk_rows}
@@ -104,6 +104,14 @@ host_fine letter address kind uplink = record {
   rights = record { units = omega arith; seconds = omega arith };
 }
 
+policy_fine : (letter : ℕ) (address : Address) (kind : PolicyKind) (uplink : ℕ) → IsPolicyPlan (walk_host letter address kind uplink).policy
+policy_fine letter address kind uplink = record {
+  grants = omega arith;
+  deny = omega arith;
+  deny_tags = omega arith;
+  tags = All-nil (λ (tag : ℕ). (1 ≤ tag) × (tag ≤ 65535));
+}
+
 -- ## the network
 
 link_fine : (from to tag : ℕ) → from < 3 → to < 3 → (from ≡ to → ⊥) → IsLinkPlan 3 (walk_link from to tag)
@@ -117,10 +125,13 @@ valid = record {
   few_nodes = omega arith;
   few_links = omega arith;
   few_routes = omega arith;
+  few_restarts = omega arith;
+  few_reroutes = omega arith;
   few_slots = omega arith;
   few_places = omega arith;
   nodes = All-from_recursion IsNodePlan walk_config.nodes
       (router_fine, (host_fine 65 walk_a Client 0, (host_fine 66 walk_b Server 3, tt)));
+  policies = All-from_recursion HasPolicy walk_config.nodes (tt, (policy_fine 65 walk_a Client 0, (policy_fine 66 walk_b Server 3, tt)));
   routers_first = All-from_recursion (λ (q : NodePlan). is_host_plan q ≡ true) (Host walk_host_b ∷ []) (refl, tt);
   links = All-from_recursion (IsLinkPlan 3) walk_config.links (
     link_fine 1 0 1 (omega arith) (omega arith) (λ e. omega (arith, e)),

@@ -3,11 +3,12 @@ use Rattle.std.specs.Prelude.{◌≡◌, ◌<◌, ◌≤◌, ◌+◌, ℕ, List,
 use Rattle.std.specs.List.{list_all}
 use Rattle.tva_base.specs.declared.addresses.Address.{Address}
 use Rattle.tva_base.specs.declared.plan.LinkPlan.{LinkPlan}
+use Rattle.tva_base.specs.declared.plan.PolicyPlan.{PolicyPlan}
 use Rattle.tva_base.specs.Plan.{AreLinkLimits, AreDistinct, IsRouterPlan, IsHostPlan}
 use Rattle.tva_plan.specs.declared.config.Config.{Config}
 use Rattle.tva_plan.specs.declared.config.NodePlan as nodes
 use Rattle.tva_plan.specs.declared.config.NodePlan.TheVariants as node
-use Rattle.tva_plan.specs.Counts.{node_count, link_count, route_count, slot_count}
+use Rattle.tva_plan.specs.Counts.{node_count, link_count, route_count, restart_count, reroute_count, slot_count}
 use Rattle.tva_plan.specs.Names.{is_name_byte, name_at, is_host_plan}
 use Rattle.tva_plan.specs.Wiring.{links_from, all_places, incoming_of, outgoing_of}
 
@@ -20,6 +21,18 @@ pub record IsName (text : List ℕ) : Type 0 where
 abbrev pub IsNodePlan : nodes.NodePlan → Type 0
 IsNodePlan (node.Router p) = IsRouterPlan p
 IsNodePlan (node.Host p) = IsHostPlan p
+
+-- a policy with few addresses and tags that it denies, and few grants to one source
+pub record IsPolicyPlan (p : PolicyPlan) : Type 0 where
+  pub grants : p.grants ≤ 1000000
+  pub deny : length p.deny ≤ 1024
+  pub deny_tags : length p.deny_tags ≤ 1024
+  pub tags : All (λ tag. (1 ≤ tag) × (tag ≤ 65535)) p.deny_tags
+
+-- the policy of a host is such a one
+abbrev pub HasPolicy : nodes.NodePlan → Type 0
+HasPolicy (node.Router p) = Unit {0}
+HasPolicy (node.Host p) = IsPolicyPlan p.policy
 
 -- a link between two of so many nodes
 pub record IsLinkPlan (count : ℕ) (l : LinkPlan) : Type 0 where
@@ -60,9 +73,12 @@ pub record IsConfig (c : Config) : Type 0 where
   pub few_nodes : node_count c ≤ 1024
   pub few_links : link_count c ≤ 4096
   pub few_routes : route_count c ≤ 65536
+  pub few_restarts : restart_count c ≤ 65536
+  pub few_reroutes : reroute_count c ≤ 65536
   pub few_slots : slot_count c ≤ 1000000
   pub few_places : all_places c.links ≤ 1000000
   pub nodes : All IsNodePlan c.nodes
+  pub policies : All HasPolicy c.nodes
   pub routers_first : AreRoutersFirst c.nodes
   pub links : All (IsLinkPlan (length c.nodes)) c.links
   pub named : All IsName (map name_at c.nodes)
