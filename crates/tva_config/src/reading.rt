@@ -1,10 +1,7 @@
 // The steps of a configuration behind its entries, in their order.
-ghost use Rattle.std.specs.Prelude.{◌≡◌, ◌≤◌, ◌+◌, IfOk, Ok, Err, length};
+ghost use Rattle.std.specs.Prelude.{◌≡◌, ◌≤◌, ◌+◌, IfOk, length};
 ghost use Rattle.std.specs.HashMap.{get_by_text};
-ghost use Rattle.tva_config_entries.specs.declared.faults.ConfigFault.{ConfigFault};
-ghost use Rattle.tva_config_entries.specs.declared.faults.ConfigError.TheVariants.{Fault};
-ghost use Rattle.tva_plan.specs.declared.config.Config.{Config};
-ghost use Rattle.tva_config_entries.specs.Faults.{Answers, AnswersBy, IsOrLacksMemory};
+ghost use Rattle.tva_config_entries.specs.Faults.{Answers, AnswersBy};
 ghost use Rattle.tva_plan.specs.Valid.{IsConfig};
 ghost use Rattle.tva_config_entries.specs.Views.{seen_entries};
 ghost use Rattle.tva_config.specs.Views.{link_at, seen_owned, seen_joined};
@@ -25,10 +22,6 @@ use tva_plan::Config;
 /// a fault of syntax. Want of memory is the one answer that the text doesn't determine.
 pub fn read_config(alloc: Global, text: &[u8]) -> Result<Config, ConfigError>
     ensures answer { Answers (read_of text.now) result }
-    ensures read { IfOk result (λ config. read_of text.now ≡ Ok config) }
-    ensures refused { (fault : ConfigFault) → result ≡ Err (Fault fault) → read_of text.now ≡ Err fault }
-    ensures reads { (config : Config) → read_of text.now ≡ Ok config → IsOrLacksMemory (Ok config) result }
-    ensures refuses { (fault : ConfigFault) → read_of text.now ≡ Err fault → IsOrLacksMemory (Err (Fault fault)) result }
     ensures valid { IfOk result IsConfig }
 {
     read_text(alloc, text)

@@ -1,5 +1,5 @@
 -- Product: steps that give a value, or the first fault in a configuration.
-use Rattle.std.specs.Prelude.{◌≡◌, ◌⊎◌, ℕ, List, [], ◌∷◌, ◌++◌, Bool, if◌then◌else◌, Option, Some, None, Result, Ok}
+use Rattle.std.specs.Prelude.{◌≡◌, ℕ, List, [], ◌∷◌, ◌++◌, Bool, if◌then◌else◌, Option, Some, None, Result, Ok}
 use Rattle.std.specs.Prelude.{Err}
 use Rattle.tva_config_entries.specs.declared.faults.ConfigTable as tables
 use Rattle.tva_config_entries.specs.declared.faults.ConfigTable.TheVariants as table
@@ -52,10 +52,6 @@ abbrev pub AnswersBy : {A B : Type 0} → (B → A) → Read A → Result B Conf
 AnswersBy seen read (Ok x) = read ≡ Ok (seen x)
 AnswersBy seen read (Err (error.Fault fault)) = read ≡ Err fault
 AnswersBy seen read (Err error.OutOfMemory) = Unit {0}
-
--- an answer is the one that is due, or there was no memory for it
-abbrev pub IsOrLacksMemory : {A : Type 0} → Result A ConfigError → Result A ConfigError → Type 0
-IsOrLacksMemory due answer = (answer ≡ due) ⊎ (answer ≡ Err error.OutOfMemory)
 
 -- an answer is what is read, but for want of memory
 abbrev pub Answers : {A : Type 0} → Read A → Result A ConfigError → Type 0
