@@ -2,6 +2,7 @@ pub mod Calls
 pub mod Edge
 pub mod Faults
 pub mod Held
+pub mod Loads
 pub mod HeldFiles
 pub mod MemoryShelf
 pub mod MemorySink
@@ -11,3 +12,4 @@ pub mod Sink
 pub mod SinkState
 pub mod Reading
 pub mod Writing
+pub mod Seen

@@ -1,9 +1,10 @@
 -- Crate: what a shelf in memory answers, exactly.
-use Rattle.std.specs.Prelude.{if◌then◌else◌, ◌≡◌, ◌⊎◌, ℕ, Bool, true, false, List, None}
+use Rattle.std.specs.Prelude.{if◌then◌else◌, ◌≡◌, ◌⊎◌, ℕ, Bool, true, false, List, [], ◌∷◌, ◌++◌, None}
 use Rattle.tva_outside.specs.Calls.{is_due}
 use Rattle.tva_outside.specs.Faults.{one_more}
 use Rattle.tva_outside.specs.Held.{bytes_at}
 use Rattle.tva_outside.specs.HeldFiles.{IsCopy}
+use Rattle.tva_outside.specs.Loads.{load_of}
 use Rattle.tva_outside.specs.ShelfState.{ShelfState}
 use Rattle.tva_outside.specs.declared.shelf.Loaded.{Loaded}
 use Rattle.tva_outside.specs.declared.shelf.Loaded.TheVariants.{Bytes, Failed, TooLarge, OutOfMemory}
@@ -13,15 +14,19 @@ abbrev pub next_load_fails : ShelfState → Bool
 next_load_fails shelf = is_due shelf.failing (one_more shelf.loads)
 
 -- a shelf after its next load: one load more, and one fault more at a load that was to fail; want of
--- memory changes nothing
-abbrev pub after_load : ShelfState → Loaded → ShelfState
-after_load shelf (Bytes bytes) = record shelf { loads = one_more shelf.loads }
-after_load shelf Failed = record shelf {
+-- memory changes no count
+abbrev pub counted : ShelfState → Loaded → ShelfState
+counted shelf (Bytes bytes) = record shelf { loads = one_more shelf.loads }
+counted shelf Failed = record shelf {
   loads = one_more shelf.loads;
   faults = if next_load_fails shelf then one_more shelf.faults else shelf.faults;
 }
-after_load shelf (TooLarge k) = record shelf { loads = one_more shelf.loads }
-after_load shelf OutOfMemory = shelf
+counted shelf (TooLarge k) = record shelf { loads = one_more shelf.loads }
+counted shelf OutOfMemory = shelf
+
+-- and with what was asked for and given
+abbrev pub after_load : ShelfState → List ℕ → Loaded → ShelfState
+after_load shelf name loaded = record (counted shelf loaded) { gave = shelf.gave ++ load_of name loaded ∷ [] }
 
 -- a load of the name fails: it is to, or nothing is held there
 abbrev pub FailsToLoad : ShelfState → List ℕ → Type 0

@@ -1,13 +1,25 @@
 -- Kit: how reading a file ends, for the contracts of the functions that read one.
-use Rattle.std.specs.Prelude.{◌≡◌, ◌≢◌, ℕ, ◌+◌, ◌<◌, ◌≤◌, List, length, IfSome}
+use Rattle.std.specs.Prelude.{◌≡◌, ◌≢◌, ℕ, ◌+◌, ◌<◌, ◌≤◌, List, length, IfSome, Result, Ok, Err}
 use Rattle.std.specs.declared.option.Option.{Option}
 use Rattle.std.specs.declared.io.Error.{Error}
 use Rattle.std.specs.declared.io.ErrorKind.TheVariants as kind
 use Rattle.std.specs.IoError.{error_kind}
+use Rattle.tva_outside.specs.declared.file_shelf.Outcome.{Outcome}
+use Rattle.tva_outside.specs.declared.file_shelf.Outcome.TheVariants as outcome
 use Rattle.tva_outside.specs.declared.file_shelf.Reading.{Reading}
 use Rattle.tva_outside.specs.declared.file_shelf.Reading.TheVariants.{Whole, Longer, Failed, OutOfMemory}
 use Rattle.tva_outside.specs.declared.shelf.Loaded.{Loaded}
 use Rattle.tva_outside.specs.declared.shelf.Loaded.TheVariants as loaded_as
+
+-- how one read ended of which the system answers so: with some bytes, or with none where none is left; an error is a
+-- signal, want of memory, or a failure, by its kind
+abbrev pub IsOutcome : Result ℕ Error → Outcome → Type 0
+IsOutcome read (outcome.Count n) = (read ≡ Ok n) × (n ≢ 0)
+IsOutcome read outcome.End = read ≡ Ok 0
+IsOutcome read outcome.Again = (error : Error) × (read ≡ Err error) × (error_kind error ≡ kind.Interrupted)
+IsOutcome read outcome.OutOfMemory = (error : Error) × (read ≡ Err error) × (error_kind error ≡ kind.OutOfMemory)
+IsOutcome read outcome.Failed =
+    (error : Error) × (read ≡ Err error) × (error_kind error ≢ kind.Interrupted) × (error_kind error ≢ kind.OutOfMemory)
 
 -- reading to the end, within a limit: what is read whole is all that the reader had left, where it tells that, and what is
 -- too long was longer than the limit

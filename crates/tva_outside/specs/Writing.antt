@@ -1,5 +1,6 @@
 -- Kit: what a write to standard output answers, for the contracts of the functions that make one.
-use Rattle.std.specs.Prelude.{◌≡◌, ◌≢◌, ℕ, ◌≤◌, List, [], length, Result, Ok, Err}
+use Rattle.std.specs.Prelude.{◌≡◌, ◌≢◌, ℕ, ◌≤◌, List, [], length, Result, Ok, Err, None, Some}
+use Rattle.std.specs.declared.option.Option.{Option}
 use Rattle.std.specs.declared.io.Error.{Error}
 use Rattle.std.specs.declared.io.ErrorKind.TheVariants as kind
 use Rattle.std.specs.IoError.{error_kind}
@@ -13,11 +14,13 @@ TakesSome piece Failed = Unit {0}
 TakesSome piece OutOfMemory = Unit {0}
 
 -- what a write answers where the system's ended so: its count, but that it fails where nothing is taken of a piece that isn't
--- empty; and the system's want of memory is no failure, and any other error is one
-abbrev pub AnswersTo : List ℕ → Result ℕ Error → Wrote → Type 0
-AnswersTo piece (Ok n) (Count m) = (m ≡ n) × (n ≡ 0 → piece ≡ [])
-AnswersTo piece (Ok n) Failed = (n ≡ 0) × (piece ≢ [])
-AnswersTo piece (Ok n) OutOfMemory = ⊥
-AnswersTo piece (Err error) (Count m) = ⊥
-AnswersTo piece (Err error) Failed = error_kind error ≢ kind.OutOfMemory
-AnswersTo piece (Err error) OutOfMemory = error_kind error ≡ kind.OutOfMemory
+-- empty; an error is a signal, and the write is made again, or want of memory, or a failure, by its kind
+abbrev pub AnswersTo : List ℕ → Result ℕ Error → Option Wrote → Type 0
+AnswersTo piece (Ok n) None = ⊥
+AnswersTo piece (Ok n) (Some (Count m)) = (m ≡ n) × (n ≡ 0 → piece ≡ [])
+AnswersTo piece (Ok n) (Some Failed) = (n ≡ 0) × (piece ≢ [])
+AnswersTo piece (Ok n) (Some OutOfMemory) = ⊥
+AnswersTo piece (Err error) None = error_kind error ≡ kind.Interrupted
+AnswersTo piece (Err error) (Some (Count m)) = ⊥
+AnswersTo piece (Err error) (Some Failed) = (error_kind error ≢ kind.Interrupted) × (error_kind error ≢ kind.OutOfMemory)
+AnswersTo piece (Err error) (Some OutOfMemory) = error_kind error ≡ kind.OutOfMemory

@@ -10,6 +10,7 @@ mod file_shelf;
 mod gate;
 mod memory_shelf;
 mod memory_sink;
+mod seen;
 mod shelf;
 mod sink;
 mod std_sink;

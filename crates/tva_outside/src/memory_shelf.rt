@@ -4,17 +4,19 @@ ghost use Rattle.std.specs.Option.{option_map};
 ghost use Rattle.std.specs.FinMap as map;
 ghost use Rattle.tva_outside.specs.Shelf.{bytes_at, IsLoaded};
 ghost use Rattle.tva_outside.specs.HeldFiles.{held_in, IsCopy};
+ghost use Rattle.tva_outside.specs.Loads.{load_of};
 ghost use Rattle.tva_outside.specs.MemoryShelf.{after_load, FailsToLoad, CopiesUnlessDue};
 
 use crate::calls::is_due;
+use crate::seen::{Seen, SeenLoad, nothing, with_load};
 use crate::{Loaded, Shelf};
 use std::alloc::{AllocError, Global};
 use std::collections::BTreeMap;
 use std::marker::Model;
 
 /// A shelf in memory, which tells what it holds. Contracts see what is held, the numbers of the
-/// loads that are to fail, and how many loads were made and how many of them failed as they were to.
-/// A load that finds no memory changes nothing, and is not counted among the loads.
+/// loads that are to fail, how many loads were made and how many of them failed as they were to, and what
+/// was asked for and given. A load that finds no memory changes nothing else, and is not counted among the loads.
 #[derive(Drop)]
 pub struct MemoryShelf {
     alloc: Global,
@@ -22,23 +24,25 @@ pub struct MemoryShelf {
     failing: Vec<u32>,
     loads: u64,
     faults: u64,
+    seen: Seen<SeenLoad>,
 }
 
 impl Model for MemoryShelf {
     ghost use Rattle.tva_outside.specs.ShelfState.{ShelfState, coded_state};
     ghost use Rattle.tva_outside.specs.HeldFiles.{held_of};
+    ghost use Rattle.tva_outside.specs.Seen.{all_behind};
 
     ghost Value = { ShelfState };
 
     ghost coded = { coded_state };
 
-    ghost view = { λ s. record { files = held_of s.files.entries; failing = s.failing.items; loads = s.loads; faults = s.faults } };
+    ghost view = { λ s. record { files = held_of s.files.entries; failing = s.failing.items; loads = s.loads; faults = s.faults; gave = all_behind s.seen.value } };
 }
 
 impl MemoryShelf {
     /// A shelf that holds nothing, and at which no load is to fail.
     pub fn new(alloc: Global) -> MemoryShelf
-        ensures { result ≡ record { files = map.empty; failing = []; loads = 0; faults = 0 } }
+        ensures { result ≡ record { files = map.empty; failing = []; loads = 0; faults = 0; gave = [] } }
     {
         MemoryShelf {
             alloc,
@@ -46,6 +50,7 @@ impl MemoryShelf {
             failing: Vec::new(alloc),
             loads: 0,
             faults: 0,
+            seen: nothing(),
         }
     }
 
@@ -70,14 +75,17 @@ impl MemoryShelf {
 impl Shelf for MemoryShelf {
     ghost held = { λ s. Some s.files };
 
+    ghost gave = { λ s. s.gave };
+
     ghost faults = { λ s. s.faults };
 
     fn load(&mut self, alloc: Global, name: &str, max: u64) -> Loaded
         requires { max ≤ 2 ^ 40 }
         ensures held { Some self.new.files ≡ Some self.old.files }
+        ensures gave { self.new.gave ≡ self.old.gave ++ load_of name.now result ∷ [] }
         ensures never_falls { self.old.faults ≤ self.new.faults }
         ensures answer { IsLoaded (Some self.old.files) name.now max self.old.faults self.new.faults result }
-        ensures state { self.new ≡ after_load self.old result }
+        ensures state { self.new ≡ after_load self.old name.now result }
         ensures failed { (result ≡ Loaded.Failed) ↔ FailsToLoad self.old name.now }
         ensures copied { CopiesUnlessDue self.old name.now max result }
     {
@@ -85,9 +93,11 @@ impl Shelf for MemoryShelf {
         if is_due(&self.failing, number) {
             self.loads = number;
             self.faults = self.faults.saturating_add(1);
+            self.seen = with_load(&self.seen, name, &Loaded::Failed);
             return Loaded::Failed;
         }
         let loaded = copy(alloc, &self.files, name, max);
+        self.seen = with_load(&self.seen, name, &loaded);
         if let Loaded::OutOfMemory = loaded {
             return Loaded::OutOfMemory;
         }

@@ -68,10 +68,13 @@ impl MemorySink {
 impl Sink for MemorySink {
     ghost written = { λ s. Some s.bytes };
 
+    ghost took = { λ s. s.bytes };
+
     ghost faults = { λ s. s.faults };
 
     fn write(&mut self, piece: &[u8]) -> Wrote
         ensures written { Some self.new.bytes ≡ append_known (Some self.old.bytes) (bytes_taken result piece.now) }
+        ensures took { self.new.bytes ≡ self.old.bytes ++ bytes_taken result piece.now }
         ensures never_falls { self.old.faults ≤ self.new.faults }
         ensures answer { IsWrote piece.now self.old.faults self.new.faults result }
         ensures state { self.new ≡ after_write self.old piece.now result }

@@ -1,6 +1,7 @@
 // Where files come from.
-ghost use Rattle.std.specs.Prelude.{◌≡◌, ◌≤◌, ◌^◌, ℕ};
+ghost use Rattle.std.specs.Prelude.{◌≡◌, ◌≤◌, ◌^◌, ◌++◌, ◌∷◌, [], List, ℕ};
 ghost use Rattle.std.specs.declared.option.Option.{Option};
+ghost use Rattle.tva_outside.specs.Loads.{Load, load_of};
 ghost use Rattle.tva_outside.specs.Shelf.{HeldByName, IsLoaded};
 
 use std::alloc::Global;
@@ -23,6 +24,9 @@ pub trait Shelf {
     /// The bytes that are held under each name, where the shelf tells them.
     ghost held: { Self → Option HeldByName };
 
+    /// What was asked for so far, in order: each name with what its load gave.
+    ghost gave: { Self → List Load };
+
     /// How often a load has failed. The count never falls, and stands still at 2^64-1.
     ghost faults: { Self → ℕ };
 
@@ -31,6 +35,7 @@ pub trait Shelf {
     fn load(&mut self, alloc: Global, name: &str, max: u64) -> Loaded
         requires { max ≤ 2 ^ 40 }
         ensures held { held self.new ≡ held self.old }
+        ensures gave { gave self.new ≡ gave self.old ++ load_of name.now result ∷ [] }
         ensures never_falls { faults self.old ≤ faults self.new }
         ensures answer { IsLoaded (held self.old) name.now max (faults self.old) (faults self.new) result };
 }

@@ -1,5 +1,5 @@
 // Where the output goes.
-ghost use Rattle.std.specs.Prelude.{◌≡◌, ◌≤◌, List, [], ℕ};
+ghost use Rattle.std.specs.Prelude.{◌≡◌, ◌≤◌, ◌++◌, List, [], ℕ};
 ghost use Rattle.std.specs.declared.option.Option.{Option};
 ghost use Rattle.std.specs.Io.KnownBytes.{append_known};
 ghost use Rattle.tva_outside.specs.Sink.{IsWrote, IsSent, bytes_taken, sent};
@@ -31,6 +31,9 @@ pub trait Sink {
     /// The bytes written so far, where the sink tells them.
     ghost written: { Self → Option (List ℕ) };
 
+    /// The bytes that were taken: of each write that answered so many, the first so many of its piece.
+    ghost took: { Self → List ℕ };
+
     /// How often a write has failed. The count rises at a failure alone, never falls, and stands still
     /// at 2^64-1.
     ghost faults: { Self → ℕ };
@@ -38,6 +41,7 @@ pub trait Sink {
     /// Writes as many bytes of the piece as the sink takes at once, at least one where there are any.
     fn write(&mut self, piece: &[u8]) -> Wrote
         ensures written { written self.new ≡ append_known (written self.old) (bytes_taken result piece.now) }
+        ensures took { took self.new ≡ took self.old ++ bytes_taken result piece.now }
         ensures never_falls { faults self.old ≤ faults self.new }
         ensures answer { IsWrote piece.now (faults self.old) (faults self.new) result };
 }
@@ -46,6 +50,7 @@ pub trait Sink {
 /// no write where there are no bytes.
 pub fn write_all<W: Sink>(sink: &mut W, bytes: &[u8]) -> Sent
     ensures written { W.written sink.new ≡ append_known (W.written sink.old) (sent result bytes.now) }
+    ensures took { W.took sink.new ≡ W.took sink.old ++ sent result bytes.now }
     ensures never_falls { W.faults sink.old ≤ W.faults sink.new }
     ensures answer { IsSent bytes.now (W.faults sink.old) (W.faults sink.new) result }
     ensures untouched { bytes.now ≡ [] → sink.new ≡ sink.old }
