@@ -5,7 +5,7 @@ use Rattle.std.specs.Option.{option_map, option_map_or}
 use Rattle.tva_outside.specs.Held.{HeldByName}
 use Rattle.tva_plan.specs.declared.config.Config.{Config}
 use Rattle.tva_report.specs.Lines.{first_bad}
-use Rattle.tva_trace.specs.declared.rows.Row.{Row}
+use Rattle.tva_rows.specs.declared.rows.Row.{Row}
 use Rattle.tva_trace.specs.Meaning.{AreRows}
 use Rattle.tva.specs.Command.{audit}
 use Rattle.tva.specs.Expected.{Expected, Sought, IsText, audits, comes_to, file_at, followed, plan_at, refuses, report_at, told, trace_at, ◌>>=◌}

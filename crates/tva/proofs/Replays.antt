@@ -8,7 +8,7 @@ use Rattle.tva_outside.specs.Held.{HeldByName}
 use Rattle.tva_base.specs.declared.event.Event.{Event}
 use Rattle.tva_plan.specs.declared.config.Config.{Config}
 use Rattle.tva_plan.specs.Valid.{IsConfig}
-use Rattle.tva_trace.specs.declared.rows.Row.{Row}
+use Rattle.tva_rows.specs.declared.rows.Row.{Row}
 use Rattle.tva_lines.specs.Lines.{line_of, summary_of}
 use Rattle.tva_trace.specs.Meaning.{AreRows}
 use Rattle.tva_trace.proofs.OneList.{rows_are_one}

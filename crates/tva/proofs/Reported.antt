@@ -8,7 +8,7 @@ use Rattle.tva_report.specs.Lines.{first_bad, is_feed, pieces, report_lines, tex
 use Rattle.tva_report.specs.Differences.{first_difference}
 use Rattle.tva_report.proofs.Differing.{same_of_none}
 use Rattle.tva_report.proofs.LinesBack.{good_back, text_back}
-use Rattle.tva_trace.specs.declared.rows.Row.{Row}
+use Rattle.tva_rows.specs.declared.rows.Row.{Row}
 use Rattle.tva_lines.specs.Lines.{summary_of, text_of_totals}
 use Rattle.tva_run.specs.Report.{lines_of, report_of, totals_of}
 use Rattle.tva_run.specs.Shown.{HasReport}

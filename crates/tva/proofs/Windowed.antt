@@ -11,7 +11,7 @@ use Rattle.tva_outside.proofs.Written.{append_known-append_known}
 use Rattle.tva_base.specs.declared.event.Event.{Event}
 use Rattle.tva_base.specs.declared.event.Totals.{Totals}
 use Rattle.tva_plan.specs.declared.config.Config.{Config}
-use Rattle.tva_trace.specs.declared.rows.Row.{Row}
+use Rattle.tva_rows.specs.declared.rows.Row.{Row}
 use Rattle.tva_lines.specs.Lines.{HasEvent, line_of, summary_of}
 use Rattle.tva_run.specs.Report.{AreEventsTo, IsReport, lines_of, report_of, totals_of}
 use Rattle.tva_run.specs.Windows.{Window, given}

@@ -2,7 +2,7 @@
 use Rattle.std.specs.Prelude.{◌≡◌, ℕ, List}
 use Rattle.std.specs.declared.option.Option.{Option}
 use Rattle.std.specs.Io.KnownBytes.{append_known}
-use Rattle.tva_trace.specs.declared.rows.Row.{Row}
+use Rattle.tva_rows.specs.declared.rows.Row.{Row}
 use Rattle.tva_trace.specs.Meaning.{AreRows}
 use Rattle.tva_run.specs.Report.{IsReport}
 use Rattle.tva.specs.Expected.{Expected, replays, audits}

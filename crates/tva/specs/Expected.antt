@@ -7,7 +7,7 @@ use Rattle.std.specs.Result.{result_map_both}
 use Rattle.tva_outside.specs.Held.{HeldByName, bytes_at}
 use Rattle.tva_plan.specs.declared.config.Config.{Config}
 use Rattle.tva_config.specs.Read.{read_of}
-use Rattle.tva_trace.specs.declared.rows.Row.{Row}
+use Rattle.tva_rows.specs.declared.rows.Row.{Row}
 use Rattle.tva_trace.specs.Rows.{rows_of}
 use Rattle.tva_trace.specs.Meaning.{AreRows}
 use Rattle.tva_shim_text.specs.ShimText.{IsTextOf}

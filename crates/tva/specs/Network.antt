@@ -1,7 +1,7 @@
 -- Product: what holds of every run that a replay or an audit can have, whatever it answers.
 use Rattle.std.specs.Prelude.{◌≡◌, ℕ, List, All, Some}
 use Rattle.tva_plan.specs.declared.config.Config.{Config}
-use Rattle.tva_trace.specs.declared.rows.Row.{Row}
+use Rattle.tva_rows.specs.declared.rows.Row.{Row}
 use Rattle.tva_trace.specs.Meaning.{AreRows}
 use Rattle.tva_log.specs.Sites.{Site}
 use Rattle.tva_run.specs.Reaching.{Logs, log_at, site_at}

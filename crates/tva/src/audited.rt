@@ -5,7 +5,7 @@ ghost use Rattle.tva_outside.specs.Faults.{Rose};
 ghost use Rattle.tva_plan.specs.Valid.{IsConfig};
 ghost use Rattle.tva_report.specs.Lines.{report_lines};
 ghost use Rattle.tva_lines.specs.Lines.{name_of_node};
-ghost use Rattle.tva_trace.specs.Valid.{AreTraceRows};
+ghost use Rattle.tva_rows.specs.Valid.{AreTraceRows};
 ghost use Rattle.tva.specs.Audit.{audit_text, sum_line, worst_word};
 ghost use Rattle.tva.specs.Parts.{IsAudited, refused_by};
 
@@ -20,7 +20,7 @@ use tva_outside::{Gate, Sink};
 use tva_plan::{Config, name_at};
 use tva_report::Pieces;
 use tva_sums::limit;
-use tva_trace::PackedRows;
+use tva_rows::PackedRows;
 
 /// Audits a report of the rows under the plan. Where it is the report of the run, a line for each router
 /// is written, and how many lines the report has: all at once, and nothing where it isn't.

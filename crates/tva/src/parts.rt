@@ -3,7 +3,7 @@ ghost use Rattle.std.specs.Prelude.{◌≡◌, ◌≤◌, ◌^◌, ◌++◌, IfO
 ghost use Rattle.tva_outside.specs.Faults.{Rose};
 ghost use Rattle.std.specs.Option.{option_map};
 ghost use Rattle.tva_plan.specs.Valid.{IsConfig};
-ghost use Rattle.tva_trace.specs.Valid.{AreTraceRows};
+ghost use Rattle.tva_rows.specs.Valid.{AreTraceRows};
 ghost use Rattle.tva.specs.Expected.{file_at, plan_at, trace_at};
 ghost use Rattle.tva.specs.Parts.{AreRowsOf, IsFound, IsNotFound, IsWritten};
 
@@ -13,7 +13,8 @@ use std::alloc::Global;
 use tva_config::{ConfigError, read_config};
 use tva_outside::{Loaded, Sent, Shelf, Sink, write_all};
 use tva_plan::Config;
-use tva_trace::{PackedRows, TraceError, read_packed};
+use tva_rows::PackedRows;
+use tva_trace::{TraceError, read_packed};
 
 /// The bytes that are held under a name, at most `max` of them.
 pub fn load<S: Shelf>(alloc: Global, shelf: &mut S, name: &str, max: u64) -> Result<Vec<u8>, Status>

@@ -2,7 +2,7 @@
 ghost use Rattle.std.specs.Prelude.{◌≡◌, ◌≤◌};
 ghost use Rattle.tva_outside.specs.Faults.{Rose};
 ghost use Rattle.tva_plan.specs.Valid.{IsConfig};
-ghost use Rattle.tva_trace.specs.Valid.{AreTraceRows};
+ghost use Rattle.tva_rows.specs.Valid.{AreTraceRows};
 ghost use Rattle.tva.specs.Parts.{IsReplayed, ended_by};
 
 use crate::lines::{send_lines, send_total};
@@ -13,7 +13,7 @@ use tva_audit::step_and_put;
 use tva_net::{Memory, Net, NetError, Window};
 use tva_outside::{Gate, Sink};
 use tva_plan::Config;
-use tva_trace::PackedRows;
+use tva_rows::PackedRows;
 
 /// Writes the report of the rows under the plan: the lines of each window while the next is worked,
 /// and the total line. Nothing is written of the window in which there are more events than the plan allows.

@@ -7,7 +7,7 @@ use Rattle.tva_lists.specs.Printable.{IsLine}
 use Rattle.tva_base.specs.declared.event.Event.{Event}
 use Rattle.tva_base.specs.declared.event.Totals.{Totals}
 use Rattle.tva_plan.specs.declared.config.Config.{Config}
-use Rattle.tva_trace.specs.declared.rows.Row.{Row}
+use Rattle.tva_rows.specs.declared.rows.Row.{Row}
 use Rattle.tva_lines.specs.Lines.{HasEvent, summary_of, text_of_event, text_of_totals}
 use Rattle.tva_report.specs.Lines.{first_bad, report_lines, text_of}
 use Rattle.tva_report.specs.Differences.{first_difference}

@@ -1,7 +1,7 @@
 -- Product: what an audit answers: whether a report is the one that a configuration and a trace have.
 use Rattle.std.specs.Prelude.{◌≡◌, ℕ, List, Some, None, Result, Ok, Err}
 use Rattle.tva_plan.specs.declared.config.Config.{Config}
-use Rattle.tva_trace.specs.declared.rows.Row.{Row}
+use Rattle.tva_rows.specs.declared.rows.Row.{Row}
 use Rattle.tva_run.specs.Reaching.{Logs}
 use Rattle.tva_run.specs.Run.{IsRun}
 use Rattle.tva_run.specs.Shown.{HasReport, IsPastLimit}

@@ -3,7 +3,7 @@ ghost use Rattle.std.specs.Prelude.{◌≡◌, ◌≤◌, ◌++◌, [], ◌∷�
 ghost use Rattle.tva_lists.specs.Printable.{IsLine};
 ghost use Rattle.tva_plan.specs.Valid.{IsConfig};
 ghost use Rattle.tva_lines.specs.Lines.{text_of_totals};
-ghost use Rattle.tva_trace.specs.Valid.{AreTraceRows};
+ghost use Rattle.tva_rows.specs.Valid.{AreTraceRows};
 ghost use Rattle.tva_report.specs.Compared as compared;
 ghost use Rattle.tva_node.specs.States.{KeepsEvents};
 ghost use Rattle.tva_audit.specs.Audit.{IsAudit};
@@ -20,7 +20,7 @@ use tva_net::{Memory, Net, NetError, Window};
 use tva_outside::Gate;
 use tva_plan::Config;
 use tva_report::{Comparison, Finding, first_bad};
-use tva_trace::{PackedRows, Row};
+use tva_rows::{PackedRows, Row};
 
 /// What an audit comes to: the report is that of the run, in which the routers let through so much; or
 /// this is the first line that differs.

@@ -5,7 +5,7 @@ ghost use Rattle.tva_lists.specs.Printable.{IsLine};
 ghost use Rattle.tva_base.specs.declared.event.Event.{Event};
 ghost use Rattle.tva_plan.specs.declared.config.Config.{Config};
 ghost use Rattle.tva_plan.specs.Valid.{IsConfig};
-ghost use Rattle.tva_trace.specs.declared.rows.Row.{Row};
+ghost use Rattle.tva_rows.specs.declared.rows.Row.{Row};
 ghost use Rattle.tva_lines.specs.Lines.{HasEvent, text_of_event};
 ghost use Rattle.tva_run.specs.Report.{lines_of};
 ghost use Rattle.tva_run.specs.Windows.{Window as Span};

@@ -32,10 +32,10 @@ use Rattle.tva_transfer.specs.declared.transfers.Transfer.{Transfer}
 use Rattle.tva_transfer.specs.Files.{Files, Act, Came, Filed, Ticked, answered, files_of, first_segment, next_of, number_of, segment_due}
 use Rattle.tva_transfer.specs.Couriers.{sent_by, to_from}
 use Rattle.tva_transfer.proofs.Sent.{IsKept, sent_ack, sent_data, stays}
-use Rattle.tva_trace.specs.declared.rows.Row.{Row}
-use Rattle.tva_trace.specs.declared.rows.RowWhat.{RowWhat}
-use Rattle.tva_trace.specs.declared.rows.RowWhat.TheVariants.{Send, Inject, File, Tick}
-use Rattle.tva_trace.specs.Valid.{files_at}
+use Rattle.tva_rows.specs.declared.rows.Row.{Row}
+use Rattle.tva_rows.specs.declared.rows.RowWhat.{RowWhat}
+use Rattle.tva_rows.specs.declared.rows.RowWhat.TheVariants.{Send, Inject, File, Tick}
+use Rattle.tva_rows.specs.Valid.{files_at}
 use Rattle.tva_log.specs.declared.kinds.Input.{Input}
 use Rattle.tva_log.specs.declared.kinds.Input.TheVariants.{FromTrace, Arrival}
 use Rattle.tva_log.specs.Sites.{Site}

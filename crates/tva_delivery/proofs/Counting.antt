@@ -15,10 +15,10 @@ use Rattle.tva_base.specs.declared.plan.HostPlan.{HostPlan}
 use Rattle.tva_plan.specs.declared.config.Config.{Config}
 use Rattle.tva_transfer.specs.declared.transfers.Transfer.{Transfer}
 use Rattle.tva_transfer.specs.Files.{Files, Act, after_act, after_upper, begun, heard, no_files, range_of, with_acked, with_range}
-use Rattle.tva_trace.specs.declared.rows.Row.{Row}
-use Rattle.tva_trace.specs.declared.rows.RowWhat.{RowWhat}
-use Rattle.tva_trace.specs.declared.rows.RowWhat.TheVariants.{Send, Inject, File, Tick}
-use Rattle.tva_trace.specs.Valid.{begins, files_at}
+use Rattle.tva_rows.specs.declared.rows.Row.{Row}
+use Rattle.tva_rows.specs.declared.rows.RowWhat.{RowWhat}
+use Rattle.tva_rows.specs.declared.rows.RowWhat.TheVariants.{Send, Inject, File, Tick}
+use Rattle.tva_rows.specs.Valid.{begins, files_at}
 use Rattle.tva_log.specs.declared.kinds.Input.{Input}
 use Rattle.tva_log.specs.declared.kinds.Input.TheVariants.{FromTrace, Arrival}
 use Rattle.tva_log.specs.Sites.{Site}

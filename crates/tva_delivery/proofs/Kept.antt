@@ -23,10 +23,10 @@ use Rattle.tva_transfer.specs.Files.{Act, Filed, Ticked, Came, is_addressed_to}
 use Rattle.tva_transfer.specs.Couriers.{Follow, to_from}
 use Rattle.tva_transfer.proofs.History.{HasCome, ranges_came}
 use Rattle.tva_transfer.proofs.Sent.{acked_came, address_is}
-use Rattle.tva_trace.specs.declared.rows.Row.{Row}
-use Rattle.tva_trace.specs.declared.rows.RowWhat.{RowWhat}
-use Rattle.tva_trace.specs.declared.rows.RowWhat.TheVariants.{Send, Inject, File, Tick}
-use Rattle.tva_trace.specs.Valid.{files_at}
+use Rattle.tva_rows.specs.declared.rows.Row.{Row}
+use Rattle.tva_rows.specs.declared.rows.RowWhat.{RowWhat}
+use Rattle.tva_rows.specs.declared.rows.RowWhat.TheVariants.{Send, Inject, File, Tick}
+use Rattle.tva_rows.specs.Valid.{files_at}
 use Rattle.tva_log.specs.declared.kinds.Input.{Input}
 use Rattle.tva_log.specs.declared.kinds.Input.TheVariants.{FromTrace, Arrival}
 use Rattle.tva_log.specs.Sites.{Site, site_of}

@@ -19,8 +19,8 @@ use Rattle.tva_plan.specs.declared.config.NodePlan.TheVariants as plans
 use Rattle.tva_transfer.specs.Files.{Files, Act, Came, after_act, after_upper, delivered, files_of, heard, is_of, next_of, no_files, range_of, with_range}
 use Rattle.tva_transfer.specs.Couriers.{Follow, ranges_of}
 use Rattle.tva_transfer.proofs.History.{ranges_follow}
-use Rattle.tva_trace.specs.declared.rows.RowWhat.{RowWhat}
-use Rattle.tva_trace.specs.declared.rows.RowWhat.TheVariants.{Send, Inject, File, Tick}
+use Rattle.tva_rows.specs.declared.rows.RowWhat.{RowWhat}
+use Rattle.tva_rows.specs.declared.rows.RowWhat.TheVariants.{Send, Inject, File, Tick}
 use Rattle.tva_log.specs.declared.kinds.Input.{Input}
 use Rattle.tva_log.specs.declared.kinds.Input.TheVariants.{FromTrace, Arrival}
 use Rattle.tva_log.specs.Sites.{Site}

@@ -16,8 +16,8 @@ use Rattle.tva_port.proofs.Legality.{occupies}
 use Rattle.tva_port.proofs.Logs.{free-started}
 use Rattle.tva_plan.specs.declared.config.NodePlan.{NodePlan}
 use Rattle.tva_plan.specs.declared.config.NodePlan.TheVariants.{Router, Host}
-use Rattle.tva_trace.specs.declared.rows.RowWhat.{RowWhat}
-use Rattle.tva_trace.specs.declared.rows.RowWhat.TheVariants.{Send, Inject, File, Tick}
+use Rattle.tva_rows.specs.declared.rows.RowWhat.{RowWhat}
+use Rattle.tva_rows.specs.declared.rows.RowWhat.TheVariants.{Send, Inject, File, Tick}
 use Rattle.tva_log.specs.Joins.{IsInOrder}
 use Rattle.tva_log.proofs.Joins.{cut-cut, each-cut, each-filter, in_order-filter}
 use Rattle.tva_log.proofs.Putting.{each-both}

@@ -11,11 +11,11 @@ use Rattle.tva_base.specs.declared.packet.Time.{Time}
 use Rattle.tva_plan.specs.declared.config.Config.{Config}
 use Rattle.tva_plan.specs.declared.config.NodePlan.{NodePlan}
 use Rattle.tva_plan.specs.Names.{is_host, node_named}
-use Rattle.tva_trace.specs.declared.rows.Row.{Row}
+use Rattle.tva_rows.specs.declared.rows.Row.{Row}
 use Rattle.tva_trace.specs.declared.rows.RowKind as kinds
 use Rattle.tva_trace.specs.declared.rows.RowKind.TheVariants as kind
-use Rattle.tva_trace.specs.declared.rows.RowWhat.{RowWhat}
-use Rattle.tva_trace.specs.declared.rows.RowWhat.TheVariants as what
+use Rattle.tva_rows.specs.declared.rows.RowWhat.{RowWhat}
+use Rattle.tva_rows.specs.declared.rows.RowWhat.TheVariants as what
 use Rattle.tva_trace.specs.declared.rows.TraceFault.{TraceFault}
 use Rattle.tva_trace.specs.declared.rows.TraceRule.TheVariants as rule
 use Rattle.tva_trace.specs.declared.said.SaidRow.{SaidRow}
@@ -24,7 +24,8 @@ use Rattle.tva_trace.specs.declared.said.SaidWhat.TheVariants as say
 use Rattle.tva_trace.specs.Items.{row_shim}
 use Rattle.tva_trace.specs.Rows.{Ruled, allowed, behind, demand, field, filed_by, flow_from, has_room, hold, injection_of, is_header, kind_at, row_kind, records_in, row_of, rows_from, rows_under, then_rows, times, what_of}
 use Rattle.tva_trace.specs.Meaning.{AreRows, Means, MeansWhat}
-use Rattle.tva_trace.specs.Valid.{IsAllowed, IsRow, IsRowWhat, NeverFall}
+use Rattle.tva_rows.specs.Valid.{IsRow, IsRowWhat, NeverFall}
+use Rattle.tva_trace.specs.Valid.{IsAllowed}
 use Rattle.tva_promises.proofs.ReadRows.{demanded, headed_by, held, ok_one, ok_rows, when_held}
 use Rattle.tva_existence.proofs.There.{IsPlaced, IsPlacedWhat}
 

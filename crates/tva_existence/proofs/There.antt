@@ -15,10 +15,10 @@ use Rattle.tva_plan.specs.declared.config.NodePlan.{NodePlan}
 use Rattle.tva_plan.specs.declared.config.NodePlan.TheVariants as plans
 use Rattle.tva_plan.specs.Names.{is_host, is_host_plan}
 use Rattle.tva_plan.specs.Valid.{IsConfig}
-use Rattle.tva_trace.specs.declared.rows.Row.{Row}
-use Rattle.tva_trace.specs.declared.rows.RowWhat.{RowWhat}
-use Rattle.tva_trace.specs.declared.rows.RowWhat.TheVariants.{Send, Inject, File, Tick}
-use Rattle.tva_trace.specs.Valid.{NeverFall}
+use Rattle.tva_rows.specs.declared.rows.Row.{Row}
+use Rattle.tva_rows.specs.declared.rows.RowWhat.{RowWhat}
+use Rattle.tva_rows.specs.declared.rows.RowWhat.TheVariants.{Send, Inject, File, Tick}
+use Rattle.tva_rows.specs.Valid.{NeverFall}
 use Rattle.tva_log.specs.Joins.{IsJoin, NeverFalls, IsInOrder}
 use Rattle.tva_log.proofs.Joins.{cut-zero, each-filter, filter-true, filter-false, in_order-filter, join_unique, times_from}
 use Rattle.tva_log.proofs.Putting.{each_from_sources}

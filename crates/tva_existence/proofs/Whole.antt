@@ -3,9 +3,9 @@ use Rattle.std.proofs.Common.{ℕ, ◌+◌, ◌≤◌, List, refl, arith}
 use Rattle.tva_base.specs.declared.event.Event.{Event}
 use Rattle.tva_plan.specs.declared.config.Config.{Config}
 use Rattle.tva_plan.specs.Valid.{IsConfig}
-use Rattle.tva_trace.specs.declared.rows.Row.{Row}
+use Rattle.tva_rows.specs.declared.rows.Row.{Row}
 use Rattle.tva_trace.specs.Meaning.{AreRows}
-use Rattle.tva_trace.specs.Valid.{AreTraceRows}
+use Rattle.tva_rows.specs.Valid.{AreTraceRows}
 use Rattle.tva_run.specs.Reaching.{Logs}
 use Rattle.tva_run.specs.Run.{IsRunTo}
 use Rattle.tva_run.specs.Report.{AreEventsTo, IsReport, report_of}

@@ -29,8 +29,8 @@ use Rattle.tva_host.specs.Sending.{is_legacy, shim_of, carried_by, next_shape, n
 use Rattle.tva_host.specs.Receiving as receiving
 use Rattle.tva_host.specs.Receiving.{taken_or_ignored, became_of, met_by, claim_in, answer_to_claim, reply_of, after_reply, before_reply, stray, receipt_of, after_receipt, brought_by, body_of}
 use Rattle.tva_host.proofs.Lengths.{made-length}
-use Rattle.tva_trace.specs.declared.rows.RowWhat.{RowWhat}
-use Rattle.tva_trace.specs.declared.rows.RowWhat.TheVariants.{Send, Inject, File, Tick}
+use Rattle.tva_rows.specs.declared.rows.RowWhat.{RowWhat}
+use Rattle.tva_rows.specs.declared.rows.RowWhat.TheVariants.{Send, Inject, File, Tick}
 use Rattle.tva_log.specs.Parts.{call_of_row}
 use Rattle.tva_log.specs.Contents.{made_for, sent_with}
 use Rattle.tva_honest.specs.Deals.{Deal, Prepared, Granted, Noticed, sent_for, brought, replied}

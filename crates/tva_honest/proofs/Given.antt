@@ -12,11 +12,11 @@ use Rattle.tva_shim.specs.Shows.{back_in}
 use Rattle.tva_plan.specs.declared.config.Config.{Config}
 use Rattle.tva_plan.specs.Names.{is_host}
 use Rattle.tva_plan.specs.Valid.{IsConfig}
-use Rattle.tva_trace.specs.declared.rows.Row.{Row}
-use Rattle.tva_trace.specs.declared.rows.RowWhat.{RowWhat}
-use Rattle.tva_trace.specs.declared.rows.RowWhat.TheVariants.{Send, Inject, File, Tick}
+use Rattle.tva_rows.specs.declared.rows.Row.{Row}
+use Rattle.tva_rows.specs.declared.rows.RowWhat.{RowWhat}
+use Rattle.tva_rows.specs.declared.rows.RowWhat.TheVariants.{Send, Inject, File, Tick}
 use Rattle.tva_shim.specs.Packets.{IsWithinWidths}
-use Rattle.tva_trace.specs.Valid.{IsRowWhat, IsRow, AreTraceRows}
+use Rattle.tva_rows.specs.Valid.{IsRowWhat, IsRow, AreTraceRows}
 use Rattle.tva_log.specs.Sites.{Site}
 use Rattle.tva_run.specs.Reaching.{Logs, log_at, site_at}
 use Rattle.tva_run.specs.Run.{IsRunTo}

@@ -17,8 +17,8 @@ use Rattle.tva_plan.specs.declared.config.NodePlan.TheVariants.{Host}
 use Rattle.tva_plan.specs.Names.{is_host_plan}
 use Rattle.tva_plan.specs.Wiring.{links_from, incoming_of, outgoing_of}
 use Rattle.tva_plan.specs.Valid.{IsName, IsNodePlan, IsPolicyPlan, HasPolicy, IsLinkPlan, IsConfig}
-use Rattle.tva_trace.specs.declared.rows.Row.{Row}
-use Rattle.tva_trace.specs.Valid.{IsRow, AreTraceRows, begins, files_at}
+use Rattle.tva_rows.specs.declared.rows.Row.{Row}
+use Rattle.tva_rows.specs.Valid.{IsRow, AreTraceRows, begins, files_at}
 use Rattle.tva_honest.specs.Walk.{walk_a, walk_b, walk_class, walk_limits, walk_route, walk_router, walk_host, walk_host_b, walk_link, walk_config, walk_rows}
 
 -- ## lists without doubles

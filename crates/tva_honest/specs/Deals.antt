@@ -16,8 +16,8 @@ use Rattle.tva_shim.specs.Shows.{back_in}
 use Rattle.tva_flow.specs.Charges.{same_flow}
 use Rattle.tva_router.specs.Marks.{is_marked}
 use Rattle.tva_host.specs.declared.made.Made.{Made}
-use Rattle.tva_trace.specs.declared.rows.RowWhat.{RowWhat}
-use Rattle.tva_trace.specs.declared.rows.RowWhat.TheVariants.{Send, Inject, File, Tick}
+use Rattle.tva_rows.specs.declared.rows.RowWhat.{RowWhat}
+use Rattle.tva_rows.specs.declared.rows.RowWhat.TheVariants.{Send, Inject, File, Tick}
 use Rattle.tva_log.specs.declared.kinds.Input.{Input}
 use Rattle.tva_log.specs.declared.kinds.Input.TheVariants.{FromTrace, Arrival}
 use Rattle.tva_log.specs.Entries.{Content, Arrived, Sent, Ticked, Received, Entry, Took, Started, input_time}

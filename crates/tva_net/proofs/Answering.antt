@@ -3,7 +3,7 @@ use Rattle.std.proofs.Common.{Vec, Global, Result, Ok, Err, IfOk, IfErr, ◌≡�
 use Rattle.tva_base.specs.declared.event.Event.{Event}
 use Rattle.tva_base.specs.declared.event.Totals.{Totals}
 use Rattle.tva_plan.specs.declared.config.Config.{Config}
-use Rattle.tva_trace.specs.declared.rows.Row.{Row}
+use Rattle.tva_rows.specs.declared.rows.Row.{Row}
 use Rattle.tva_run.specs.Report.{totals_of}
 use Rattle.tva_run.specs.Windows.{Window, given}
 use Rattle.tva_net.specs.Sums.{AreWithin}

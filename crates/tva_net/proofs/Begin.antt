@@ -10,8 +10,8 @@ use Rattle.tva_base.specs.declared.event.Totals.{Totals}
 use Rattle.tva_base.specs.declared.plan.LinkPlan.{LinkPlan}
 use Rattle.tva_plan.specs.declared.config.Config.{Config}
 use Rattle.tva_plan.specs.Valid.{IsConfig}
-use Rattle.tva_trace.specs.declared.rows.Row.{Row}
-use Rattle.tva_trace.specs.Valid.{AreTraceRows, IsRow}
+use Rattle.tva_rows.specs.declared.rows.Row.{Row}
+use Rattle.tva_rows.specs.Valid.{AreTraceRows, IsRow}
 use Rattle.tva_log.specs.Joins.{from_source}
 use Rattle.tva_log.proofs.Joins.{cut-early, cut-zero, each-filter, each-weaker, filter-all, filter-none}
 use Rattle.tva_log.specs.declared.kinds.Input.{Input}

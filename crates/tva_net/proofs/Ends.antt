@@ -7,7 +7,7 @@ use Rattle.std.proofs.lemmas.List.Elements.{recursion_from_All}
 use Rattle.tva_base.specs.declared.event.Event.{Event}
 use Rattle.tva_base.specs.declared.packet.Time.{Time}
 use Rattle.tva_plan.specs.declared.config.Config.{Config}
-use Rattle.tva_trace.specs.declared.rows.Row.{Row}
+use Rattle.tva_rows.specs.declared.rows.Row.{Row}
 use Rattle.tva_node.specs.States.{Keeps, NodeState, Stands}
 use Rattle.tva_node.proofs.Zips.{begins_more, begins_same}
 use Rattle.tva_run.specs.Reaching.{log_at}

@@ -11,7 +11,7 @@ use Rattle.tva_plan.specs.declared.config.Config.{Config}
 use Rattle.tva_plan.specs.declared.config.NodePlan.{NodePlan}
 use Rattle.tva_plan.specs.Valid.{IsLinkPlan}
 use Rattle.tva_plan.proofs.Wired.{all_here}
-use Rattle.tva_trace.specs.declared.rows.Row.{Row}
+use Rattle.tva_rows.specs.declared.rows.Row.{Row}
 use Rattle.tva_log.specs.Sites.{Site, site_of}
 use Rattle.tva_log.specs.NodeLog.{in_turn}
 use Rattle.tva_log.specs.Next.{IsWorkAt}

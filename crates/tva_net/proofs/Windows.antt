@@ -14,7 +14,7 @@ use Rattle.tva_plan.specs.declared.config.Config.{Config}
 use Rattle.tva_plan.specs.declared.config.NodePlan.{NodePlan}
 use Rattle.tva_plan.specs.Valid.{IsLinkPlan}
 use Rattle.tva_plan.proofs.Wired.{all_here}
-use Rattle.tva_trace.specs.declared.rows.Row.{Row}
+use Rattle.tva_rows.specs.declared.rows.Row.{Row}
 use Rattle.tva_log.specs.Joins.{IsJoin, cut, from_source}
 use Rattle.tva_log.proofs.Joins.{each-filter, each-weaker}
 use Rattle.tva_log.proofs.Putting.{cut-put_all, each_from_sources, put_all-append}

@@ -1,7 +1,7 @@
 -- Kit: what nodes are built with.
 use Rattle.std.specs.Prelude.{◌≡◌, ℕ, ◌<◌, List, [], length, Some, slice_index, slice_index_or}
 use Rattle.tva_plan.specs.declared.config.Config.{Config}
-use Rattle.tva_trace.specs.declared.rows.Row.{Row}
+use Rattle.tva_rows.specs.declared.rows.Row.{Row}
 use Rattle.tva_node.specs.States.{NodeState, Stands}
 use Rattle.tva_run.specs.Reaching.{rows_at, site_at}
 use Rattle.tva_mail.specs.Mail.{HadGone}

@@ -7,8 +7,8 @@ use Rattle.tva_base.specs.declared.event.Totals.{Totals}
 use Rattle.tva_base.specs.declared.plan.LinkPlan.{LinkPlan}
 use Rattle.tva_plan.specs.declared.config.Config.{Config}
 use Rattle.tva_plan.specs.Valid.{IsConfig}
-use Rattle.tva_trace.specs.declared.rows.Row.{Row}
-use Rattle.tva_trace.specs.Valid.{AreTraceRows}
+use Rattle.tva_rows.specs.declared.rows.Row.{Row}
+use Rattle.tva_rows.specs.Valid.{AreTraceRows}
 use Rattle.tva_run.specs.Reaching.{Logs, site_at}
 use Rattle.tva_run.specs.Report.{AreEvents, events_at, totals_of}
 use Rattle.tva_run.specs.Run.{IsRun, IsRunTo}

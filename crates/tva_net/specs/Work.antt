@@ -6,7 +6,7 @@ use Rattle.tva_base.specs.declared.event.Event.{Event}
 use Rattle.tva_base.specs.declared.packet.Time.{Time}
 use Rattle.tva_base.specs.declared.plan.LinkPlan.{LinkPlan}
 use Rattle.tva_plan.specs.declared.config.Config.{Config}
-use Rattle.tva_trace.specs.declared.rows.Row.{Row}
+use Rattle.tva_rows.specs.declared.rows.Row.{Row}
 use Rattle.tva_log.specs.Joins.{IsJoin}
 use Rattle.tva_run.specs.Report.{event_time, event_node}
 use Rattle.tva_run.specs.Windows.{Window, given}

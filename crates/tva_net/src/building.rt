@@ -2,8 +2,8 @@
 ghost use Rattle.std.specs.Prelude.{◌≡◌, ◌<◌, ◌≤◌, [], ◌∷◌, All, IfOk, OnOk, length, slice_index_or};
 ghost use Rattle.std.specs.List.{AllZip};
 ghost use Rattle.tva_plan.specs.Valid.{IsConfig};
-ghost use Rattle.tva_trace.specs.Valid.{AreTraceRows};
-ghost use Rattle.tva_trace.specs.declared.rows.Row.{Row};
+ghost use Rattle.tva_rows.specs.Valid.{AreTraceRows};
+ghost use Rattle.tva_rows.specs.declared.rows.Row.{Row};
 ghost use Rattle.tva_log.specs.declared.kinds.Input.TheVariants.{FromTrace};
 ghost use Rattle.tva_run.specs.Reaching.{links_out, rows_at};
 ghost use Rattle.tva_mail.specs.Mail.{CanDeliver, GotMails, KeepsWork, mail_at};
@@ -13,7 +13,7 @@ use std::alloc::{AllocError, Global};
 use tva_base::LinkPlan;
 use tva_node::{Memory, Node};
 use tva_plan::Config;
-use tva_trace::PackedRows;
+use tva_rows::PackedRows;
 
 /// The nodes of a configuration in their order, each with its rows of the trace, to which nothing
 /// happened yet, and of which memory keeps so much. The error is want of memory.

@@ -4,8 +4,8 @@ ghost use Rattle.std.specs.List.{AllZip};
 ghost use Rattle.tva_base.specs.declared.event.Event.{Event};
 ghost use Rattle.tva_plan.specs.declared.config.Config.{Config};
 ghost use Rattle.tva_plan.specs.Valid.{IsConfig};
-ghost use Rattle.tva_trace.specs.declared.rows.Row.{Row};
-ghost use Rattle.tva_trace.specs.Valid.{AreTraceRows};
+ghost use Rattle.tva_rows.specs.declared.rows.Row.{Row};
+ghost use Rattle.tva_rows.specs.Valid.{AreTraceRows};
 ghost use Rattle.tva_run.specs.Windows.{Window as Span};
 ghost use Rattle.tva_net.specs.Nets.{GrowsFrom};
 ghost use Rattle.tva_net.specs.Steps.{Gives, Refuses, StandsFor};
@@ -19,7 +19,7 @@ use tva_base::Totals;
 use tva_node::{Memory, Node};
 use tva_outside::Gate;
 use tva_plan::Config;
-use tva_trace::{PackedRows, Row};
+use tva_rows::{PackedRows, Row};
 
 /// A network: its nodes, worked up to a time. Contracts see what it keeps, and speak of the run of a
 /// configuration and a trace for which it stands.

@@ -4,8 +4,8 @@ ghost use Rattle.std.specs.List.{AllZip};
 ghost use Rattle.tva_base.specs.declared.event.Event.{Event};
 ghost use Rattle.tva_plan.specs.declared.config.Config.{Config};
 ghost use Rattle.tva_plan.specs.Valid.{IsConfig};
-ghost use Rattle.tva_trace.specs.declared.rows.Row.{Row};
-ghost use Rattle.tva_trace.specs.Valid.{AreTraceRows};
+ghost use Rattle.tva_rows.specs.declared.rows.Row.{Row};
+ghost use Rattle.tva_rows.specs.Valid.{AreTraceRows};
 ghost use Rattle.tva_run.specs.Report.{totals_of};
 ghost use Rattle.tva_run.specs.Windows.{Window as Span};
 ghost use Rattle.tva_net.specs.Kept.{KnowsTimes, state_of};
@@ -22,7 +22,7 @@ use tva_base::{Event, Totals};
 use tva_node::Memory;
 use tva_outside::Gate;
 use tva_plan::Config;
-use tva_trace::PackedRows;
+use tva_rows::PackedRows;
 
 /// The nodes at work, the greatest number of events, the sums of what was given, and the error that
 /// it has come to.

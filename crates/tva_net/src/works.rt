@@ -3,7 +3,7 @@ ghost use Rattle.std.specs.Prelude.{◌≡◌, ◌+◌, List, [], All, IfOk, OnO
 ghost use Rattle.std.specs.Option.{option_map};
 ghost use Rattle.std.specs.List.{AllZip};
 ghost use Rattle.tva_plan.specs.Valid.{IsConfig};
-ghost use Rattle.tva_trace.specs.Valid.{AreTraceRows};
+ghost use Rattle.tva_rows.specs.Valid.{AreTraceRows};
 ghost use Rattle.tva_net.specs.Kept.{WorksFor, work_of};
 ghost use Rattle.tva_net.specs.Nets.{GrowsFrom};
 ghost use Rattle.tva_mail.specs.Times.{AreNoted};
@@ -21,7 +21,7 @@ use tva_mail::{first_time, gather, post_beside, times_of};
 use tva_node::{Flight, Memory, Node, processors};
 use tva_outside::Gate;
 use tva_plan::Config;
-use tva_trace::PackedRows;
+use tva_rows::PackedRows;
 
 /// The horizon, the links, the length of a window in nanoseconds, the nodes, when each of them has
 /// work next, how much of what each one's links sent was posted and how much of what each told was

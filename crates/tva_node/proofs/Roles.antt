@@ -47,7 +47,7 @@ use Rattle.tva_host.proofs.Shown.{answer_is_shown, nothing_is_shown}
 use Rattle.tva_transfer.specs.Files.{Files, Act, Came, answer_to, answered, delivered, is_addressed_to}
 use Rattle.tva_transfer.specs.Stands as courier
 use Rattle.tva_transfer.specs.Stands.{CourierData}
-use Rattle.tva_trace.specs.declared.rows.Row.{Row}
+use Rattle.tva_rows.specs.declared.rows.Row.{Row}
 use Rattle.tva_router.specs.Boots.{charges_at, charges_of_boot}
 use Rattle.tva_router.specs.Handling.{PortLogs, charged_by, entered_by, handle, outcome_of, outgoing_link, sent}
 use Rattle.tva_router.specs.Stands as router

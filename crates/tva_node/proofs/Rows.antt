@@ -9,7 +9,7 @@ use Rattle.tva_host.specs.Calls.{Call, Intended}
 use Rattle.tva_host.specs.Sending.{intended}
 use Rattle.tva_host.specs.Stands.{HostData}
 use Rattle.tva_transfer.specs.Stands.{call_with, sent_with}
-use Rattle.tva_trace.specs.declared.rows.RowWhat.TheVariants as rows
+use Rattle.tva_rows.specs.declared.rows.RowWhat.TheVariants as rows
 use Rattle.tva_log.specs.Parts.{call_of_row}
 
 shown : (h : HostData) (calls : List Call) (now : ℕ) (dst : Address) (above : Upper) → (let made = sent_with h calls now dst above in Intended now dst made.packet.payload made.packet.upper ≡ call_with now dst above)

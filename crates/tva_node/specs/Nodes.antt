@@ -5,9 +5,9 @@ use Rattle.tva_base.specs.declared.packet.Time.{Time}
 use Rattle.tva_shim.specs.Packets.{IsCarried}
 use Rattle.tva_plan.specs.declared.config.NodePlan.{NodePlan}
 use Rattle.tva_plan.specs.declared.config.NodePlan.TheVariants as plans
-use Rattle.tva_trace.specs.Valid.{IsFile}
-use Rattle.tva_trace.specs.declared.rows.RowWhat.{RowWhat}
-use Rattle.tva_trace.specs.declared.rows.RowWhat.TheVariants as rows
+use Rattle.tva_rows.specs.Valid.{IsFile}
+use Rattle.tva_rows.specs.declared.rows.RowWhat.{RowWhat}
+use Rattle.tva_rows.specs.declared.rows.RowWhat.TheVariants as rows
 use Rattle.tva_log.specs.declared.kinds.Input.{Input}
 use Rattle.tva_log.specs.declared.kinds.Input.TheVariants.{FromTrace, Arrival}
 use Rattle.tva_log.specs.declared.kinds.Sending.{Sending}

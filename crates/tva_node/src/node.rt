@@ -1,7 +1,7 @@
 // A node of a network.
 ghost use Rattle.std.specs.Prelude.{◌≡◌, ◌≤◌, ◌<◌, ◌+◌, ◌∷◌, [], ◌++◌, None, drop, length, slice_index_or, map, min, max, List, IfOk, IfSome, OnErr, OnOk};
 ghost use Rattle.tva_base.specs.Plan.{AreRising};
-ghost use Rattle.tva_trace.specs.declared.rows.Row.{Row};
+ghost use Rattle.tva_rows.specs.declared.rows.Row.{Row};
 ghost use Rattle.tva_log.specs.Entries.{Entry, input_time};
 ghost use Rattle.tva_log.specs.declared.kinds.Input.TheVariants.{FromTrace};
 ghost use Rattle.tva_waiting.specs.Inputs.{arrived};
@@ -24,7 +24,7 @@ use tva_past::Kept;
 use tva_plan::NodePlan;
 use tva_port::HandPort;
 use tva_router::HandRouter;
-use tva_trace::{PackedRows, Row};
+use tva_rows::{PackedRows, Row};
 use tva_transfer::Courier;
 use tva_waiting::{Flight, Inbox, Memory, Waiting};
 

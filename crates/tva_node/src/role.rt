@@ -34,7 +34,7 @@ use tva_host::{Made, Receipt};
 use tva_port::{Hand, HandPort, Next, id_in, length_in};
 use tva_router::{HandRouter, outcome_of};
 use tva_shim::{Carried, Packet, ReturnInfo, class_of, length, queue_key};
-use tva_trace::{Row, RowWhat};
+use tva_rows::{Row, RowWhat};
 use tva_transfer::{Courier, Landed};
 use tva_waiting::Flight;
 

@@ -29,9 +29,9 @@ use Rattle.tva_plan.specs.declared.config.Config.{Config}
 use Rattle.tva_plan.specs.declared.config.NodePlan.{NodePlan}
 use Rattle.tva_plan.specs.declared.config.NodePlan.TheVariants as plans
 use Rattle.tva_plan.specs.Valid.{IsConfig}
-use Rattle.tva_trace.specs.declared.rows.Row.{Row}
-use Rattle.tva_trace.specs.declared.rows.RowWhat.{RowWhat}
-use Rattle.tva_trace.specs.declared.rows.RowWhat.TheVariants.{Send, Inject, File, Tick}
+use Rattle.tva_rows.specs.declared.rows.Row.{Row}
+use Rattle.tva_rows.specs.declared.rows.RowWhat.{RowWhat}
+use Rattle.tva_rows.specs.declared.rows.RowWhat.TheVariants.{Send, Inject, File, Tick}
 use Rattle.tva_log.specs.Joins.{IsInOrder, cut}
 use Rattle.tva_log.proofs.Joins.{filter-true, cut-late, each-append, each-filter, each_later, cut-zero}
 use Rattle.tva_log.proofs.Putting.{each_from_sources}

@@ -3,7 +3,7 @@ ghost use Rattle.std.specs.Prelude.{◌≡◌, ℕ, List, ◌∷◌, ◌++◌, S
 ghost use Rattle.tva_shim.specs.Packets.{PacketData};
 ghost use Rattle.tva_plan.specs.declared.config.Config.{Config};
 ghost use Rattle.tva_plan.specs.Valid.{IsConfig};
-ghost use Rattle.tva_trace.specs.declared.rows.Row.{Row};
+ghost use Rattle.tva_rows.specs.declared.rows.Row.{Row};
 ghost use Rattle.tva_log.specs.declared.kinds.Input.{Input};
 ghost use Rattle.tva_log.specs.Sites.{Site};
 ghost use Rattle.tva_log.specs.Entries.{Content, Entry, Took};

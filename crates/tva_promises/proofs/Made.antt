@@ -44,8 +44,8 @@ use Rattle.tva_host.specs.Receiving.{met_by, ClaimData, claim_of, claim_in, show
 use Rattle.tva_host.specs.Calls.{Call, Intended, Injected, Received, after_call}
 use Rattle.tva_host.proofs.Standing.{back-some, showable-push, showable-granted}
 use Rattle.tva_transfer.specs.Files.{Files, first_segment, segment_due}
-use Rattle.tva_trace.specs.declared.rows.RowWhat.{RowWhat}
-use Rattle.tva_trace.specs.declared.rows.RowWhat.TheVariants.{Send, Inject, File, Tick}
+use Rattle.tva_rows.specs.declared.rows.RowWhat.{RowWhat}
+use Rattle.tva_rows.specs.declared.rows.RowWhat.TheVariants.{Send, Inject, File, Tick}
 use Rattle.tva_log.specs.Contents.{made_for, sent_with}
 use Rattle.tva_log.proofs.Joins.{each-append}
 use Rattle.tva_promises.specs.Sizes.{IsSizedWhat}

@@ -15,11 +15,11 @@ use Rattle.tva_plan.specs.declared.config.Config.{Config}
 use Rattle.tva_plan.specs.declared.config.NodePlan.{NodePlan}
 use Rattle.tva_plan.specs.Names.{is_host}
 use Rattle.tva_plan.specs.Valid.{IsConfig}
-use Rattle.tva_trace.specs.declared.rows.Row.{Row}
-use Rattle.tva_trace.specs.declared.rows.RowWhat.{RowWhat}
-use Rattle.tva_trace.specs.declared.rows.RowWhat.TheVariants.{Send, Inject, File, Tick}
+use Rattle.tva_rows.specs.declared.rows.Row.{Row}
+use Rattle.tva_rows.specs.declared.rows.RowWhat.{RowWhat}
+use Rattle.tva_rows.specs.declared.rows.RowWhat.TheVariants.{Send, Inject, File, Tick}
 use Rattle.tva_trace.specs.Meaning.{AreRows}
-use Rattle.tva_trace.specs.Valid.{IsRowWhat, IsRow, AreTraceRows}
+use Rattle.tva_rows.specs.Valid.{IsRowWhat, IsRow, AreTraceRows}
 use Rattle.tva_log.specs.Joins.{from_source, cut}
 use Rattle.tva_log.proofs.Joins.{each-filter, filter-true, cut-zero, cut-cut}
 use Rattle.tva_log.specs.declared.kinds.Input.{Input}

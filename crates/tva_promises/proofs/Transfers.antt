@@ -17,8 +17,8 @@ use Rattle.tva_plan.proofs.Wired.{all_here}
 use Rattle.tva_transfer.specs.declared.transfers.Transfer.{Transfer}
 use Rattle.tva_transfer.specs.Files.{Files, Act, Filed, Ticked, Came, after_act, after_upper, answer_to, answered, begun, first_segment, heard, is_due, is_more, is_open, no_files, range_of, segment_behind, segment_due, segment_of, with_acked, with_range}
 use Rattle.tva_transfer.specs.Sound.{IsSized}
-use Rattle.tva_trace.specs.declared.rows.RowWhat.{RowWhat}
-use Rattle.tva_trace.specs.declared.rows.RowWhat.TheVariants.{Send, Inject, File, Tick}
+use Rattle.tva_rows.specs.declared.rows.RowWhat.{RowWhat}
+use Rattle.tva_rows.specs.declared.rows.RowWhat.TheVariants.{Send, Inject, File, Tick}
 use Rattle.tva_log.specs.declared.kinds.Input.{Input}
 use Rattle.tva_log.specs.declared.kinds.Input.TheVariants.{FromTrace, Arrival}
 use Rattle.tva_log.specs.Sites.{Site}

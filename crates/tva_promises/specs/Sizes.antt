@@ -1,8 +1,8 @@
 -- Crate: what is within the sizes of a network: payloads, shims, files, and what reaches a node.
 use Rattle.std.specs.Prelude.{◌≤◌}
 use Rattle.tva_shim.specs.Packets.{IsWithinWidths, IsSizedPacket}
-use Rattle.tva_trace.specs.declared.rows.RowWhat.{RowWhat}
-use Rattle.tva_trace.specs.declared.rows.RowWhat.TheVariants.{Send, Inject, File, Tick}
+use Rattle.tva_rows.specs.declared.rows.RowWhat.{RowWhat}
+use Rattle.tva_rows.specs.declared.rows.RowWhat.TheVariants.{Send, Inject, File, Tick}
 use Rattle.tva_log.specs.declared.kinds.Input.{Input}
 use Rattle.tva_log.specs.declared.kinds.Input.TheVariants.{FromTrace, Arrival}
 use Rattle.tva_log.specs.Entries.{Entry, Took, Started}

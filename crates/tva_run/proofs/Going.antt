@@ -11,7 +11,7 @@ use Rattle.tva_base.specs.declared.event.Event.{Event}
 use Rattle.tva_base.specs.declared.plan.LinkPlan.{LinkPlan}
 use Rattle.tva_plan.specs.declared.config.Config.{Config}
 use Rattle.tva_plan.specs.declared.config.NodePlan.{NodePlan}
-use Rattle.tva_trace.specs.declared.rows.Row.{Row}
+use Rattle.tva_rows.specs.declared.rows.Row.{Row}
 use Rattle.tva_log.specs.Joins.{IsJoin, cut}
 use Rattle.tva_log.proofs.Joins.{filter-true, filter-false, in_order-filter, in_order-append, join_unique, cut-cut, each-cut}
 use Rattle.tva_log.proofs.Putting.{each_from_sources}

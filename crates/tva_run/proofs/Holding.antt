@@ -17,7 +17,7 @@ use Rattle.tva_port.specs.Decide.{decision}
 use Rattle.tva_port.specs.declared.decision.Decision as decided
 use Rattle.tva_port.specs.declared.decision.Decision.TheVariants.{Start, WaitUntil, Idle}
 use Rattle.tva_plan.specs.declared.config.Config.{Config}
-use Rattle.tva_trace.specs.declared.rows.Row.{Row}
+use Rattle.tva_rows.specs.declared.rows.Row.{Row}
 use Rattle.tva_log.specs.Joins.{IsInOrder, cut}
 use Rattle.tva_log.proofs.Joins.{filter-true, filter-false, filter-all, filter-none, each-filter, each-append, each-weaker, cut-early, cut-late, times_from}
 use Rattle.tva_log.proofs.Putting.{each_from_sources, each-both}

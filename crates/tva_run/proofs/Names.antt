@@ -46,9 +46,9 @@ use Rattle.tva_plan.specs.declared.config.NodePlan.{NodePlan}
 use Rattle.tva_plan.specs.declared.config.NodePlan.TheVariants as plans
 use Rattle.tva_plan.specs.Wiring.{picked}
 use Rattle.tva_plan.specs.Valid.{IsConfig}
-use Rattle.tva_trace.specs.declared.rows.Row.{Row}
-use Rattle.tva_trace.specs.declared.rows.RowWhat.{RowWhat}
-use Rattle.tva_trace.specs.declared.rows.RowWhat.TheVariants.{Send, Inject, File, Tick}
+use Rattle.tva_rows.specs.declared.rows.Row.{Row}
+use Rattle.tva_rows.specs.declared.rows.RowWhat.{RowWhat}
+use Rattle.tva_rows.specs.declared.rows.RowWhat.TheVariants.{Send, Inject, File, Tick}
 use Rattle.tva_lines.specs.Lines.{HasEvent, HasHappened, HasLink, HasNode, HasOutcome, HasReply, HasSource}
 use Rattle.tva_log.specs.Joins.{cut}
 use Rattle.tva_log.proofs.Joins.{each-append, each-filter, cut-zero}

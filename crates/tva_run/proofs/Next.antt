@@ -10,7 +10,7 @@ use Rattle.tva_base.specs.declared.plan.LinkPlan.{LinkPlan}
 use Rattle.tva_base.specs.Plan.{AreLinkLimits}
 use Rattle.tva_plan.specs.declared.config.Config.{Config}
 use Rattle.tva_plan.specs.Valid.{IsConfig}
-use Rattle.tva_trace.specs.declared.rows.Row.{Row}
+use Rattle.tva_rows.specs.declared.rows.Row.{Row}
 use Rattle.tva_log.specs.Joins.{cut}
 use Rattle.tva_log.proofs.Joins.{filter-true, filter-false, cut-cut, in_order-filter}
 use Rattle.tva_log.specs.declared.kinds.Input.{Input}

@@ -7,8 +7,8 @@ use Rattle.std.proofs.lemmas.Bool.{cases_Bool}
 use Rattle.tva_base.specs.declared.plan.LinkPlan.{LinkPlan}
 use Rattle.tva_plan.specs.declared.config.Config.{Config}
 use Rattle.tva_plan.specs.Valid.{IsConfig}
-use Rattle.tva_trace.specs.declared.rows.Row.{Row}
-use Rattle.tva_trace.specs.Valid.{NeverFall}
+use Rattle.tva_rows.specs.declared.rows.Row.{Row}
+use Rattle.tva_rows.specs.Valid.{NeverFall}
 use Rattle.tva_log.specs.Joins.{NeverFalls}
 use Rattle.tva_log.proofs.Joins.{filter-true, filter-false, each-weaker}
 use Rattle.tva_log.specs.declared.kinds.Input.{Input}

@@ -6,7 +6,7 @@ use Rattle.std.proofs.lemmas.Bool.{lt-ltb, cases_Bool, cases_lt}
 use Rattle.tva_base.specs.declared.event.Event.{Event}
 use Rattle.tva_base.specs.declared.plan.LinkPlan.{LinkPlan}
 use Rattle.tva_plan.specs.declared.config.Config.{Config}
-use Rattle.tva_trace.specs.declared.rows.Row.{Row}
+use Rattle.tva_rows.specs.declared.rows.Row.{Row}
 use Rattle.tva_log.specs.Joins.{IsInOrder, cut}
 use Rattle.tva_log.proofs.Joins.{filter-true, filter-false, cut-late, each_later}
 use Rattle.tva_log.proofs.Joined.{one_join, join-cut}

@@ -31,7 +31,7 @@ use Rattle.tva_plan.specs.declared.config.Config.{Config}
 use Rattle.tva_plan.specs.declared.config.NodePlan.{NodePlan}
 use Rattle.tva_plan.specs.Valid.{IsConfig, IsLinkPlan}
 use Rattle.tva_plan.proofs.Wired.{all_here}
-use Rattle.tva_trace.specs.declared.rows.Row.{Row}
+use Rattle.tva_rows.specs.declared.rows.Row.{Row}
 use Rattle.std.proofs.lemmas.Option.{slice_get_cases}
 use Rattle.tva_run.specs.Reaching.{Logs, log_at, links_out, site_at, arrival_of, arrivals}
 use Rattle.tva_run.specs.Run.{IsRunTo}

@@ -13,7 +13,7 @@ use Rattle.tva_plan.specs.declared.config.Config.{Config}
 use Rattle.tva_plan.specs.declared.config.NodePlan.{NodePlan}
 use Rattle.tva_plan.specs.Valid.{IsConfig, IsLinkPlan}
 use Rattle.tva_plan.proofs.Wired.{all_here}
-use Rattle.tva_trace.specs.declared.rows.Row.{Row}
+use Rattle.tva_rows.specs.declared.rows.Row.{Row}
 use Rattle.tva_log.specs.Joins.{from_source, IsJoin, cut}
 use Rattle.tva_log.proofs.Joins.{filter-true, filter-false, filter_swap, in_order-filter, join_unique, cut-zero, cut-cut}
 use Rattle.tva_log.specs.declared.kinds.Input.{Input}

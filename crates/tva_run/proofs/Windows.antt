@@ -3,7 +3,7 @@ use Rattle.std.proofs.Common.{◌≡◌, ℕ, ◌+◌, List, [], ◌∷◌, refl
 use Rattle.std.specs.Prelude.{min}
 use Rattle.std.proofs.lemmas.Bool.{cases_lt}
 use Rattle.tva_plan.specs.declared.config.Config.{Config}
-use Rattle.tva_trace.specs.declared.rows.Row.{Row}
+use Rattle.tva_rows.specs.declared.rows.Row.{Row}
 use Rattle.tva_run.specs.Reaching.{Logs}
 use Rattle.tva_run.specs.Windows.{Window, IsNextWindow, AreWindows, window_length}
 

@@ -7,7 +7,7 @@ use Rattle.tva_base.specs.declared.plan.LinkPlan.{LinkPlan}
 use Rattle.tva_shim.specs.Packets.{packet_length}
 use Rattle.tva_plan.specs.declared.config.Config.{Config}
 use Rattle.tva_plan.specs.Wiring.{picked}
-use Rattle.tva_trace.specs.declared.rows.Row.{Row}
+use Rattle.tva_rows.specs.declared.rows.Row.{Row}
 use Rattle.tva_log.specs.declared.kinds.Input.{Input}
 use Rattle.tva_log.specs.declared.kinds.Input.TheVariants.{FromTrace, Arrival}
 use Rattle.tva_log.specs.declared.kinds.Sending.{Sending}

@@ -11,7 +11,7 @@ use Rattle.tva_base.specs.declared.event.WhatKind.TheVariants as what
 use Rattle.tva_base.specs.declared.event.Totals.{Totals}
 use Rattle.tva_router.specs.Marks.{calls_for_mark}
 use Rattle.tva_plan.specs.declared.config.Config.{Config}
-use Rattle.tva_trace.specs.declared.rows.Row.{Row}
+use Rattle.tva_rows.specs.declared.rows.Row.{Row}
 use Rattle.tva_lines.specs.Lines.{line_of, summary_of}
 use Rattle.tva_log.specs.Joins.{IsJoin}
 use Rattle.tva_log.specs.Told.{events}

@@ -5,7 +5,7 @@ ghost use Rattle.tva_base.specs.declared.event.Event.{Event};
 ghost use Rattle.tva_base.specs.declared.plan.LinkPlan.{LinkPlan};
 ghost use Rattle.tva_plan.specs.declared.config.Config.{Config};
 ghost use Rattle.tva_plan.specs.Valid.{IsConfig};
-ghost use Rattle.tva_trace.specs.declared.rows.Row.{Row};
+ghost use Rattle.tva_rows.specs.declared.rows.Row.{Row};
 ghost use Rattle.tva_lines.specs.Lines.{HasEvent};
 ghost use Rattle.tva_log.specs.Joins.{IsJoin, NeverFalls};
 ghost use Rattle.tva_log.specs.Sites.{IsSite, Site};

@@ -8,7 +8,7 @@ use Rattle.tva_base.specs.Decimal.{decimal_of}
 use Rattle.tva_plan.specs.declared.config.Config.{Config}
 use Rattle.tva_plan.specs.declared.config.NodePlan.{NodePlan}
 use Rattle.tva_plan.specs.Names.{is_host, node_named}
-use Rattle.tva_trace.specs.declared.rows.Row.{Row}
+use Rattle.tva_rows.specs.declared.rows.Row.{Row}
 use Rattle.tva_trace.specs.declared.rows.RowKind as kinds
 use Rattle.tva_trace.specs.declared.rows.RowKind.TheVariants as kind
 use Rattle.tva_trace.specs.declared.rows.TraceFault.{TraceFault}
@@ -21,7 +21,7 @@ use Rattle.tva_trace.specs.Files.{FindsRoom}
 use Rattle.tva_trace.specs.Items.{row_shim}
 use Rattle.tva_trace.specs.Meaning.{AreRows, Means}
 use Rattle.tva_trace.specs.Rows.{Ruled, ◌>>=◌, allowed, behind, demand, row_fault, field, filed_by, filing_of, flow_from, has_room, hold, injection_of, is_empty, is_header, kind_at, row_kind, positive, records_in, row_of, rows_from, rows_under, sending_of, then_rows, ticking_of, times, what_of}
-use Rattle.tva_trace.specs.Valid.{files_at}
+use Rattle.tva_rows.specs.Valid.{files_at}
 use Rattle.tva_trace.proofs.FileCounts.{files_more, room_left}
 
 -- ## steps that gave something

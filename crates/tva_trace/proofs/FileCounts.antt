@@ -10,15 +10,16 @@ use Rattle.std.specs.HashMap.{HashMap}
 use Rattle.std.specs.Map.{lookup}
 use Rattle.tva_plan.specs.declared.config.Config.{Config}
 use Rattle.tva_plan.specs.Names.{is_host}
-use Rattle.tva_trace.specs.declared.rows.Row.{Row}
-use Rattle.tva_trace.specs.declared.rows.RowWhat.{RowWhat}
+use Rattle.tva_rows.specs.declared.rows.Row.{Row}
+use Rattle.tva_rows.specs.declared.rows.RowWhat.{RowWhat}
 use Rattle.tva_trace.specs.declared.said.SaidRow.{SaidRow}
 use Rattle.tva_trace.specs.declared.said.SaidWhat.{SaidWhat}
 use Rattle.tva_trace.specs.declared.said.SaidWhat.TheVariants as say
 use Rattle.tva_trace.specs.Files.{Counts, FindsRoom, counted}
 use Rattle.tva_trace.specs.Meaning.{Means, MeansWhat}
 use Rattle.tva_trace.specs.Rows.{filed_by, has_room, times}
-use Rattle.tva_trace.specs.Valid.{IsSaid, IsSaidWhat, begins, files_at}
+use Rattle.tva_rows.specs.Valid.{begins, files_at}
+use Rattle.tva_trace.specs.Valid.{IsSaid, IsSaidWhat}
 
 times-append : (a b : List ℕ) (node : ℕ) → times (a ++ b) node ≡ times a node + times b node
 times-append a b node = sum_by-append (λ n. cond (n == node) 1 0) a b

@@ -3,7 +3,6 @@ pub mod FewFiles
 pub mod FileCounts
 pub mod ItemLists
 pub mod OneList
-pub mod Packing
 pub mod Reading
 pub mod RecordsLeft
 pub mod RowsThere

@@ -6,9 +6,9 @@ use Rattle.tva_shim.specs.declared.packets.Carried.{Carried}
 use Rattle.tva_shim.specs.declared.packets.Carried.TheVariants as carried
 use Rattle.tva_shim.proofs.Readable.{one_shim, some_bytes}
 use Rattle.tva_plan.specs.declared.config.Config.{Config}
-use Rattle.tva_trace.specs.declared.rows.Row.{Row}
-use Rattle.tva_trace.specs.declared.rows.RowWhat.{RowWhat}
-use Rattle.tva_trace.specs.declared.rows.RowWhat.TheVariants as what
+use Rattle.tva_rows.specs.declared.rows.Row.{Row}
+use Rattle.tva_rows.specs.declared.rows.RowWhat.{RowWhat}
+use Rattle.tva_rows.specs.declared.rows.RowWhat.TheVariants as what
 use Rattle.tva_trace.specs.declared.rows.TraceError.{TraceError}
 use Rattle.tva_trace.specs.declared.rows.TraceFault.{TraceFault}
 use Rattle.tva_trace.specs.declared.said.SaidRow.{SaidRow}
@@ -17,7 +17,8 @@ use Rattle.tva_trace.specs.declared.said.SaidShim.TheVariants.{Bytes, Built}
 use Rattle.tva_trace.specs.declared.said.SaidWhat.{SaidWhat}
 use Rattle.tva_trace.specs.declared.said.SaidWhat.TheVariants as say
 use Rattle.tva_trace.specs.Packed.{AnswersPacked}
-use Rattle.tva_trace.specs.Meaning.{AreRows, CarriedBy, CarriedByBytes, Means, MeansWhat}
+use Rattle.tva_rows.specs.Raw.{CarriedByBytes}
+use Rattle.tva_trace.specs.Meaning.{AreRows, CarriedBy, Means, MeansWhat}
 
 bytes_mean_one : (bytes : List ℕ) (a b : Carried) → CarriedByBytes bytes a → CarriedByBytes bytes b → a ≡ b
 bytes_mean_one bytes carried.Nothing carried.Nothing p q = refl

@@ -15,7 +15,7 @@ use Rattle.csv.specs.declared.reader.Reader.{Reader}
 use Rattle.csv.specs.declared.reader.Trim.TheVariants as trim
 use Rattle.tva_plan.specs.declared.config.Config.{Config}
 use Rattle.std.proofs.lemmas.List.Elements.{All-push}
-use Rattle.tva_trace.specs.declared.rows.Row.{Row}
+use Rattle.tva_rows.specs.declared.rows.Row.{Row}
 use Rattle.tva_trace.specs.declared.rows.TraceRule.{TraceRule}
 use Rattle.tva_trace.specs.declared.rows.TraceRule.TheVariants as rule
 use Rattle.tva_trace.specs.declared.rows.TraceFault.{TraceFault}
@@ -27,14 +27,15 @@ use Rattle.std.proofs.Common.{IfSome, subst}
 use Rattle.std.specs.Prelude.{All}
 use Rattle.tva_shim.specs.declared.packets.Carried.{Carried}
 use Rattle.tva_shim.specs.declared.packets.Carried.TheVariants as carried
-use Rattle.tva_trace.specs.declared.rows.RowWhat.{RowWhat}
+use Rattle.tva_rows.specs.declared.rows.RowWhat.{RowWhat}
 use Rattle.tva_trace.specs.declared.said.SaidShim.{SaidShim}
 use Rattle.tva_trace.specs.declared.said.SaidShim.TheVariants.{Bytes, Built}
 use Rattle.tva_trace.specs.declared.said.SaidWhat.{SaidWhat}
 use Rattle.tva_trace.specs.declared.said.SaidWhat.TheVariants as say
 use Rattle.tva_plan.specs.Names.{is_host}
 use Rattle.tva_shim.specs.Packets.{IsWithinWidths}
-use Rattle.tva_trace.specs.Valid.{AreTraceRows, IsRow, IsRowWhat, IsSaid, IsSaidShim, IsSaidWhat, NeverFall, files_at}
+use Rattle.tva_rows.specs.Valid.{AreTraceRows, IsRow, IsRowWhat, NeverFall, files_at}
+use Rattle.tva_trace.specs.Valid.{IsSaid, IsSaidShim, IsSaidWhat}
 use Rattle.tva_trace.proofs.FileCounts.{counts_more, counts_same, files_more, finds_room, room_left}
 use Rattle.tva_trace.proofs.RecordsLeft.{left_of, left-none, left-read}
 

@@ -7,16 +7,17 @@ use Rattle.tva_shim.specs.Shims.{ShimData, IsShim}
 use Rattle.tva_shim.specs.Layout.{HaveNoShim, layout}
 use Rattle.tva_shim.proofs.Readable.{shim_or_none}
 use Rattle.tva_plan.specs.declared.config.Config.{Config}
-use Rattle.tva_trace.specs.declared.rows.Row.{Row}
-use Rattle.tva_trace.specs.declared.rows.RowWhat.{RowWhat}
-use Rattle.tva_trace.specs.declared.rows.RowWhat.TheVariants as what
+use Rattle.tva_rows.specs.declared.rows.Row.{Row}
+use Rattle.tva_rows.specs.declared.rows.RowWhat.{RowWhat}
+use Rattle.tva_rows.specs.declared.rows.RowWhat.TheVariants as what
 use Rattle.tva_trace.specs.declared.said.SaidRow.{SaidRow}
 use Rattle.tva_trace.specs.declared.said.SaidShim.{SaidShim}
 use Rattle.tva_trace.specs.declared.said.SaidShim.TheVariants.{Bytes, Built}
 use Rattle.tva_trace.specs.declared.said.SaidWhat.{SaidWhat}
 use Rattle.tva_trace.specs.declared.said.SaidWhat.TheVariants as say
 use Rattle.tva_trace.specs.Rows.{rows_of}
-use Rattle.tva_trace.specs.Meaning.{AreRows, CarriedBy, CarriedByBytes, Means, MeansWhat}
+use Rattle.tva_rows.specs.Raw.{CarriedByBytes}
+use Rattle.tva_trace.specs.Meaning.{AreRows, CarriedBy, Means, MeansWhat}
 
 carried_if : (b : ℕ) (bs : List ℕ) → ((s : ShimData) × IsShim s × (layout s ≡ b ∷ bs)) ⊎ HaveNoShim (b ∷ bs)
     → (c : Carried) × CarriedByBytes (b ∷ bs) c

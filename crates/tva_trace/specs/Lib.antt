@@ -2,10 +2,9 @@ pub mod Items
 pub mod Meaning
 pub mod Names
 pub mod Rows
-pub mod Valid
 pub mod Words
 pub mod Packed
 pub mod Shortage
 pub mod Files
-pub mod Brief
+pub mod Valid
 pub mod Left

@@ -1,15 +1,14 @@
 -- Product: which rows stand for what a trace says.
-use Rattle.std.specs.Prelude.{◌≡◌, ◌≢◌, ℕ, List, [], ◌∷◌, ◌++◌, length, Option, Some, None, Result, Ok, Err, Vec}
+use Rattle.std.specs.Prelude.{◌≡◌, ℕ, List, [], ◌∷◌, ◌++◌, Option, Some, None, Result, Ok, Err, Vec}
 use Rattle.std.specs.List.{AllZip}
 use Rattle.std.specs.declared.alloc.Global.{Global}
 use Rattle.tva_shim.specs.declared.packets.Carried as carries
 use Rattle.tva_shim.specs.declared.packets.Carried.TheVariants as carried
-use Rattle.tva_shim.specs.Shims.{IsShim}
-use Rattle.tva_shim.specs.Layout.{HaveNoShim, layout}
 use Rattle.tva_plan.specs.declared.config.Config.{Config}
-use Rattle.tva_trace.specs.declared.rows.Row.{Row}
-use Rattle.tva_trace.specs.declared.rows.RowWhat as whats
-use Rattle.tva_trace.specs.declared.rows.RowWhat.TheVariants as what
+use Rattle.tva_rows.specs.declared.rows.Row.{Row}
+use Rattle.tva_rows.specs.declared.rows.RowWhat as whats
+use Rattle.tva_rows.specs.declared.rows.RowWhat.TheVariants as what
+use Rattle.tva_rows.specs.Raw.{CarriedByBytes}
 use Rattle.tva_trace.specs.declared.rows.TraceError.{TraceError}
 use Rattle.tva_trace.specs.declared.rows.TraceError.TheVariants as error
 use Rattle.tva_trace.specs.declared.said.SaidShim as says
@@ -18,13 +17,6 @@ use Rattle.tva_trace.specs.declared.said.SaidWhat as saids
 use Rattle.tva_trace.specs.declared.said.SaidWhat.TheVariants as say
 use Rattle.tva_trace.specs.declared.said.SaidRow.{SaidRow}
 use Rattle.tva_trace.specs.Rows.{rows_of}
-
--- what bytes carry: no bytes nothing, the layout of a shim that shim, all others so many bytes that are
--- none
-abbrev pub CarriedByBytes : List ℕ → carries.Carried → Type 0
-CarriedByBytes bytes carried.Nothing = bytes ≡ []
-CarriedByBytes bytes (carried.Shim shim) = IsShim shim × (layout shim ≡ bytes)
-CarriedByBytes bytes (carried.Malformed count) = (bytes ≢ []) × HaveNoShim bytes × (count ≡ length bytes)
 
 abbrev pub CarriedBy : says.SaidShim → carries.Carried → Type 0
 CarriedBy (Bytes bytes) c = CarriedByBytes bytes c

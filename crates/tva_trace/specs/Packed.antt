@@ -1,7 +1,7 @@
 -- Crate: rows in little memory, and which rows those are.
 use Rattle.std.specs.Prelude.{◌≡◌, ℕ, List, Result, Ok, Err}
 use Rattle.tva_plan.specs.declared.config.Config.{Config}
-use Rattle.tva_trace.specs.declared.rows.Row.{Row}
+use Rattle.tva_rows.specs.declared.rows.Row.{Row}
 use Rattle.tva_trace.specs.declared.rows.TraceError.{TraceError}
 use Rattle.tva_trace.specs.declared.rows.TraceError.TheVariants as error
 use Rattle.tva_trace.specs.Rows.{rows_of}

@@ -1,7 +1,7 @@
 // Reads a trace.
 ghost use Rattle.std.specs.Prelude.{◌≡◌, ◌≤◌, ◌==◌, List, IfOk, IfSome, OnOk, length};
 ghost use Rattle.csv.specs.Records.{fields_of};
-ghost use Rattle.tva_trace.specs.declared.rows.Row.{Row};
+ghost use Rattle.tva_rows.specs.declared.rows.Row.{Row};
 ghost use Rattle.tva_trace.specs.declared.rows.TraceError.TheVariants as error;
 ghost use Rattle.tva_trace.specs.Files.{Counts, FindsRoom, counted, filed_in};
 ghost use Rattle.tva_trace.specs.Meaning.{Answers, AreRows, IsPut};
@@ -10,13 +10,14 @@ ghost use Rattle.tva_plan.specs.Numbers.{Numbers};
 ghost use Rattle.tva_trace.specs.Left.{row_where, told_by};
 ghost use Rattle.tva_trace.specs.Rows.{said_by};
 ghost use Rattle.tva_trace.specs.Shortage.{IsShortage};
-ghost use Rattle.tva_trace.specs.Valid.{AreTraceRows, IsSaid};
+ghost use Rattle.tva_rows.specs.Valid.{AreTraceRows};
+ghost use Rattle.tva_trace.specs.Valid.{IsSaid};
 
 use crate::fields::is_header;
 use crate::files::{FileCounts, count_file};
 use crate::judge::row_into;
-use crate::packed::PackedRows;
-use crate::rows::{Row, TraceError, TraceFault, TraceRule};
+use crate::pushed::push_said;
+use crate::rows::{TraceError, TraceFault, TraceRule};
 use crate::said::{SaidRow, SaidWhat};
 use crate::secrets::KeptSecrets;
 use csv::{ByteRecord, ErrorKind, ReaderBuilder};
@@ -24,6 +25,7 @@ use std::alloc::{AllocError, Global};
 use std::collections::HashMap;
 use tva_base::{Address, Time};
 use tva_plan::{Config, node_numbers};
+use tva_rows::{PackedRows, Row};
 
 // The bytes of the shortest row, `0,A,send,,0.0.0.0,0,`.
 const SHORTEST_ROW: usize = 20;
@@ -164,7 +166,7 @@ fn put_row(
         return Ok(last);
     }
     count_file(files, said.node, &said.what)?;
-    rows.push_said(said)?;
+    push_said(rows, said)?;
     Ok(said.time.0)
 }
 

@@ -6,9 +6,9 @@ use Rattle.std.proofs.lemmas.Bool.{eq-eqb, ne_eqb, cases_eq}
 use Rattle.std.proofs.lemmas.List.{get_or-map, get_or-set_other, get_or-set_same, length-append, length-map, length-set, map-append, map-set}
 use Rattle.std.proofs.Math.Seq.{map-set_same}
 use Rattle.tva_index.specs.KeyRing.{place_in, ring}
-use Rattle.tva_trace.specs.declared.rows.RowWhat.{RowWhat}
-use Rattle.tva_trace.specs.Brief.{Grows, IsWhatHeld, what_in}
-use Rattle.tva_trace.proofs.Packing.{held-grown, what-grown}
+use Rattle.tva_rows.specs.declared.rows.RowWhat.{RowWhat}
+use Rattle.tva_rows.specs.Brief.{Grows, IsWhatHeld, what_in}
+use Rattle.tva_rows.proofs.Packing.{held-grown, what-grown}
 use Rattle.tva_log.specs.Joins.{IsInOrder, put_in, sorted}
 use Rattle.tva_log.specs.declared.kinds.Input.{Input}
 use Rattle.tva_log.specs.declared.kinds.Input.TheVariants.{Arrival, FromTrace}

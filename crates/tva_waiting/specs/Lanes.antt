@@ -3,7 +3,7 @@ use Rattle.std.specs.Prelude.{◌≡◌, ◌≤◌, ◌<◌, ◌+◌, ◌^◌, �
 use Rattle.std.specs.List.{AllByRecursion}
 use Rattle.std.specs.VecDeque.{deque_capacity, deque_len}
 use Rattle.tva_index.specs.KeyRing.{ring}
-use Rattle.tva_trace.specs.Brief.{IsWhatHeld, what_in}
+use Rattle.tva_rows.specs.Brief.{IsWhatHeld, what_in}
 use Rattle.tva_log.specs.Joins.{sorted}
 use Rattle.tva_log.specs.declared.kinds.Input.{Input}
 use Rattle.tva_log.specs.declared.kinds.Input.TheVariants.{FromTrace}

@@ -2,8 +2,8 @@
 use Rattle.tva_log.specs.declared.kinds.Input.{Input}
 use Rattle.tva_log.specs.declared.kinds.Input.TheVariants.{FromTrace}
 use Rattle.std.specs.Prelude.{slice_index_or}
-use Rattle.tva_trace.specs.declared.rows.Row.{Row}
-use Rattle.tva_trace.specs.declared.rows.RowWhat.TheVariants as what
+use Rattle.tva_rows.specs.declared.rows.Row.{Row}
+use Rattle.tva_rows.specs.declared.rows.RowWhat.TheVariants as what
 use Rattle.tva_waiting.specs.declared.inbox.Source as sources
 use Rattle.tva_waiting.specs.declared.inbox.Source.TheVariants as source
 use Rattle.tva_waiting.specs.Inputs.{arrived}

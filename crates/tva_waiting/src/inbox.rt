@@ -1,6 +1,6 @@
 // The inputs that a node was given.
 ghost use Rattle.std.specs.Prelude.{◌≡◌, ◌<◌, ◌++◌, ◌∷◌, [], length, slice_index_or, OnErr, OnOk};
-ghost use Rattle.tva_trace.specs.declared.rows.Row.{Row};
+ghost use Rattle.tva_rows.specs.declared.rows.Row.{Row};
 ghost use Rattle.tva_log.specs.declared.kinds.Input.TheVariants.{FromTrace};
 ghost use Rattle.tva_past.specs.Kept.{forgotten, held, nothing, with_more};
 ghost use Rattle.tva_waiting.specs.Inputs.{HoldsInputs, arrived};
@@ -12,7 +12,7 @@ use std::marker::Model;
 use std::snapshot::Snapshot;
 use tva_log::{Input, Sending};
 use tva_past::Kept;
-use tva_trace::PackedRows;
+use tva_rows::PackedRows;
 
 /// Of what an input is noted.
 #[derive(Drop)]

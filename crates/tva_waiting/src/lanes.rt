@@ -2,8 +2,8 @@
 ghost use Rattle.std.specs.Prelude.{◌≡◌, ◌≢◌, ◌≤◌, ◌<◌, ◌+◌, ◌*◌, ◌^◌, ◌∷◌, ℕ, List, [], None, false, true, get_or, insert, length, map, slice_index_or, IfOk, OnOk};
 ghost use Rattle.std.specs.VecDeque.{deque_capacity, deque_len};
 ghost use Rattle.tva_index.specs.KeyRing.{place_in, ring};
-ghost use Rattle.tva_trace.specs.Brief.{IsWhatHeld};
-ghost use Rattle.tva_trace.specs.declared.rows.Row.{Row};
+ghost use Rattle.tva_rows.specs.Brief.{IsWhatHeld};
+ghost use Rattle.tva_rows.specs.declared.rows.Row.{Row};
 ghost use Rattle.tva_log.specs.declared.kinds.Input.{Input};
 ghost use Rattle.tva_log.specs.declared.kinds.Input.TheVariants.{FromTrace};
 ghost use Rattle.tva_log.specs.Joins.{IsInOrder, precedes, put_in};
@@ -18,7 +18,7 @@ use std::cmp;
 use std::collections::VecDeque;
 use std::mem::size_of;
 use tva_index::{KeyRing, Lowest};
-use tva_trace::{BriefWhat, PackedRows};
+use tva_rows::{BriefWhat, PackedRows};
 
 /// When a row comes, in nanoseconds, its node, and what it asks, in brief. Rows are the most that wait, and are
 /// short.

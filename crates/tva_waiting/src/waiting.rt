@@ -3,7 +3,7 @@ ghost use Rattle.std.specs.Prelude.{◌≡◌, ◌≢◌, ◌<◌, ◌∷◌, �
 ghost use Rattle.tva_log.specs.Joins.{put_in};
 ghost use Rattle.tva_log.specs.Entries.{input_source, input_time};
 ghost use Rattle.tva_log.specs.declared.kinds.Input.TheVariants.{FromTrace};
-ghost use Rattle.tva_trace.specs.declared.rows.Row.{Row};
+ghost use Rattle.tva_rows.specs.declared.rows.Row.{Row};
 ghost use Rattle.tva_waiting.specs.Inputs.{HoldsInputs, arrived, first_time, is_row_first};
 
 use crate::flights::Flight;
@@ -13,7 +13,7 @@ use crate::memory::Memory;
 use std::alloc::{AllocError, Global};
 use std::marker::Model;
 use tva_base::Time;
-use tva_trace::{PackedRows, Row, what_from};
+use tva_rows::{PackedRows, Row, what_from};
 
 /// Inputs by time, and at one time by source.
 #[derive(Drop)]

@@ -15,7 +15,8 @@ use tva_log::Input;
 use tva_node::Node;
 use tva_plan::NodePlan;
 use tva_shim::{Carried, Packet};
-use tva_trace::{Row, RowWhat, read_trace};
+use tva_rows::{Row, RowWhat};
+use tva_trace::read_trace;
 
 const EDGE: &str =
     "horizon_ns = 1000000000000\nmax_events = 1000\n[[router]]\nname = \"R1\"\nmaster = \"000102030405060708090a0b0c0d0e0f101112131415161718191a1b1c1d1e1f\"\nslots = 8\n";

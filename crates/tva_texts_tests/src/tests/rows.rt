@@ -9,7 +9,8 @@ use std::process::Abort;
 use std::test::Fail;
 use tva_plan::Config;
 use tva_shim::{Carried, encode};
-use tva_trace::{PackedRows, Row, RowWhat, read_trace};
+use tva_rows::{PackedRows, Row, RowWhat};
+use tva_trace::read_trace;
 
 // A router between two hosts.
 const WALK: &str = r#"horizon_ns = 1000000000000

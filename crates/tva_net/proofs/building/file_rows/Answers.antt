@@ -1,6 +1,6 @@
 use Rattle.std.proofs.Common.{◌≡◌, ◌+◌, ◌∷◌, [], List, drop, get_or, ◌∙◌, ap, arith}
 use Rattle.std.proofs.lemmas.List.{get_or_default}
-use Rattle.tva_trace.specs.declared.rows.Row.{Row}
+use Rattle.tva_rows.specs.declared.rows.Row.{Row}
 use Rattle.tva_log.specs.declared.kinds.Input.TheVariants.{FromTrace}
 use Rattle.tva_run.specs.Reaching.{rows_at}
 use Rattle.tva_mail.specs.Mail.{KeepsWork, mail_at}

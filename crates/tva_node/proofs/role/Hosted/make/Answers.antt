@@ -6,8 +6,8 @@ use Rattle.tva_host.specs.declared.made.Made.{Made}
 use Rattle.tva_host.specs.Calls.{Call, history_of}
 use Rattle.tva_transfer.specs.Files.{Filed, Ticked, first_segment, segment_due}
 use Rattle.tva_transfer.specs.Stands.{StandsFor, call_with, known, sent_with}
-use Rattle.tva_trace.specs.declared.rows.RowWhat.{RowWhat}
-use Rattle.tva_trace.specs.declared.rows.RowWhat.TheVariants as rows
+use Rattle.tva_rows.specs.declared.rows.RowWhat.{RowWhat}
+use Rattle.tva_rows.specs.declared.rows.RowWhat.TheVariants as rows
 use Rattle.tva_log.specs.Parts.{act_of_row, call_of_row}
 use Rattle.tva_log.specs.Contents.{made_for}
 use Rattle.tva_node.proofs.Rows.{if_both, segment_call, tick_call}

@@ -1,14 +1,11 @@
 // What a row asks, in little memory: a shim is its layout, among those of all others.
-ghost use Rattle.std.specs.Prelude.{◌≡◌, IfOk, OnErr};
+ghost use Rattle.std.specs.Prelude.{◌≡◌, ◌≤◌, ◌++◌, IfOk, OnErr, length};
 ghost use Rattle.tva_shim.specs.declared.packets.Carried.TheVariants as carried;
-ghost use Rattle.tva_trace.specs.declared.rows.RowWhat.TheVariants as says;
-ghost use Rattle.tva_trace.specs.declared.said.SaidWhat.TheVariants as say;
-ghost use Rattle.tva_trace.specs.Meaning.{MeansWhat};
-ghost use Rattle.tva_trace.specs.Brief.{Grows, IsLayoutAt, IsWhatHeld, part, shim_in, what_in};
+ghost use Rattle.tva_rows.specs.declared.rows.RowWhat.TheVariants as says;
+ghost use Rattle.tva_rows.specs.Raw.{IsRaw};
+ghost use Rattle.tva_rows.specs.Brief.{Grows, IsLayoutAt, IsWhatHeld, part, shim_in, what_in};
 
-use crate::carried::carried_by_bytes;
 use crate::rows::RowWhat;
-use crate::said::{SaidShim, SaidWhat};
 use arrayvec::ArrayVec;
 use std::alloc::AllocError;
 use std::mem::size_of;
@@ -87,60 +84,59 @@ pub fn brief_of(layouts: &mut Vec<u8>, what: &RowWhat) -> Result<BriefWhat, Allo
     }
 }
 
-/// The brief form of what is said, as it is meant: a shim that is given by its parts is put behind the others as
-/// it stands. An error leaves the layouts as they were.
-pub fn brief_said(layouts: &mut Vec<u8>, said: &SaidWhat) -> Result<BriefWhat, AllocError>
-    ensures grows { IfOk result (λ brief. Grows layouts.old.items layouts.new.items) }
-    ensures held { IfOk result (λ brief. IsWhatHeld layouts.new.items brief) }
-    ensures means { IfOk result (λ brief. MeansWhat said.now (what_in layouts.new.items brief)) }
-    ensures err { OnErr result (layouts.new.items ≡ layouts.old.items) }
-{
-    match said {
-        SaidWhat::Send { dst, payload } => Ok(BriefWhat::Send {
-            payload: *payload,
-            dst: *dst,
-        }),
-        SaidWhat::File { dst, size, segment } => Ok(BriefWhat::File {
-            segment: *segment,
-            dst: *dst,
-            size: *size,
-        }),
-        SaidWhat::Tick { dst } => Ok(BriefWhat::Tick { dst: *dst }),
-        SaidWhat::Inject {
-            flow,
-            payload,
-            shim,
-        } => brief_shim(layouts, *flow, *payload, shim),
-    }
-}
-
-// The brief form of a row that is said to inject a packet.
-fn brief_shim(
+/// The brief form of a row that injects a packet with these bytes in place of a shim: where they are the layout of
+/// one, they are put behind the others as they stand. An error leaves the layouts as they were.
+pub(crate) fn brief_raw(
     layouts: &mut Vec<u8>,
     flow: Flow,
     payload: u16,
-    shim: &SaidShim,
+    bytes: &[u8],
+) -> Result<BriefWhat, AllocError>
+    requires { length bytes.now ≤ 400 }
+    ensures grows { IfOk result (λ brief. Grows layouts.old.items layouts.new.items) }
+    ensures held { IfOk result (λ brief. IsWhatHeld layouts.new.items brief) }
+    ensures means { IfOk result (λ brief. IsRaw flow payload bytes.now (what_in layouts.new.items brief)) }
+    ensures err { OnErr result (layouts.new.items ≡ layouts.old.items) }
+{
+    if bytes.is_empty() {
+        return Ok(BriefWhat::Bare { payload, flow });
+    }
+    let count = bytes.len() as u16;
+    if decode(bytes).is_none() {
+        return Ok(BriefWhat::Malformed {
+            payload,
+            bytes: count,
+            flow,
+        });
+    }
+    let start = put_bytes(layouts, bytes)?;
+    Ok(BriefWhat::Shim {
+        payload,
+        bytes: count,
+        flow,
+        start,
+    })
+}
+
+/// The brief form of a row that injects a packet with a shim. An error leaves the layouts as they were.
+pub(crate) fn brief_shim(
+    layouts: &mut Vec<u8>,
+    flow: Flow,
+    payload: u16,
+    shim: &Shim,
 ) -> Result<BriefWhat, AllocError>
     ensures grows { IfOk result (λ brief. Grows layouts.old.items layouts.new.items) }
     ensures held { IfOk result (λ brief. IsWhatHeld layouts.new.items brief) }
-    ensures means { IfOk result (λ brief. MeansWhat (say.Inject flow payload shim.now) (what_in layouts.new.items brief)) }
+    ensures same { IfOk result (λ brief. what_in layouts.new.items brief ≡ says.Inject flow payload (carried.Shim shim.now)) }
     ensures err { OnErr result (layouts.new.items ≡ layouts.old.items) }
 {
-    match shim {
-        SaidShim::Bytes(bytes) => {
-            let carried = carried_by_bytes(bytes);
-            brief_carried(layouts, flow, payload, &carried)
-        }
-        SaidShim::Built(shim) => {
-            let (start, bytes) = put_layout(layouts, shim)?;
-            Ok(BriefWhat::Shim {
-                payload,
-                bytes,
-                flow,
-                start,
-            })
-        }
-    }
+    let (start, bytes) = put_layout(layouts, shim)?;
+    Ok(BriefWhat::Shim {
+        payload,
+        bytes,
+        flow,
+        start,
+    })
 }
 
 // The brief form of a row that injects a packet.
@@ -162,33 +158,35 @@ fn brief_carried(
             bytes: *bytes,
             flow,
         }),
-        Carried::Shim(shim) => {
-            let (start, bytes) = put_layout(layouts, shim)?;
-            Ok(BriefWhat::Shim {
-                payload,
-                bytes,
-                flow,
-                start,
-            })
-        }
+        Carried::Shim(shim) => brief_shim(layouts, flow, payload, shim),
     }
 }
 
 // Puts the layout of a shim last, and answers where it begins and how many bytes it has. The error is
-// want of memory, of which layouts may take 4 GB.
+// want of memory.
 fn put_layout(layouts: &mut Vec<u8>, shim: &Shim) -> Result<(u32, u16), AllocError>
     ensures grows { IfOk result (λ place. Grows layouts.old.items layouts.new.items) }
     ensures held { IfOk result (λ place. IsLayoutAt layouts.new.items place.0 place.1) }
     ensures same { IfOk result (λ place. shim_in (part layouts.new.items place.0 place.1) ≡ carried.Shim shim.now) }
     ensures err { OnErr result (layouts.new.items ≡ layouts.old.items) }
 {
+    let mut bytes = ArrayVec::new();
+    encode(shim, &mut bytes);
+    let start = put_bytes(layouts, bytes.as_slice())?;
+    Ok((start, bytes.len() as u16))
+}
+
+// Puts bytes last, and answers where they begin. The error is want of memory, of which layouts may take 4 GB.
+fn put_bytes(layouts: &mut Vec<u8>, bytes: &[u8]) -> Result<u32, AllocError>
+    ensures grows { IfOk result (λ start. layouts.new.items ≡ layouts.old.items ++ bytes.now) }
+    ensures start { IfOk result (λ start. start ≡ length layouts.old.items) }
+    ensures err { OnErr result (layouts.new.items ≡ layouts.old.items) }
+{
     let Ok(start) = u32::try_from(layouts.len()) else {
         return Err(AllocError);
     };
-    let mut bytes = ArrayVec::new();
-    encode(shim, &mut bytes);
-    layouts.extend_from_slice(bytes.as_slice())?;
-    Ok((start, bytes.len() as u16))
+    layouts.extend_from_slice(bytes)?;
+    Ok(start)
 }
 
 /// The same over other layouts: the layout of its shim is put behind them. An error, which is want of memory,
@@ -231,13 +229,9 @@ fn put_part(layouts: &mut Vec<u8>, others: &[u8], start: u32, bytes: u16) -> Res
     ensures same { IfOk result (λ place. part layouts.new.items place bytes ≡ part others.now start bytes) }
     ensures err { OnErr result (layouts.new.items ≡ layouts.old.items) }
 {
-    let Ok(place) = u32::try_from(layouts.len()) else {
-        return Err(AllocError);
-    };
     let from = start as usize;
     let until = from + usize::from(bytes);
-    layouts.extend_from_slice(&others[from..until])?;
-    Ok(place)
+    put_bytes(layouts, &others[from..until])
 }
 
 /// What a brief form says over the layouts.

@@ -1,11 +1,11 @@
 use Rattle.std.proofs.Common.{◌≡◌, ◌∷◌, [], ◌++◌, List, sym, subst, ◌∙◌, ap}
 use Rattle.std.proofs.lemmas.Result.{err_from_is_err_and}
-use Rattle.tva_trace.specs.declared.brief.BriefRow.{BriefRow}
-use Rattle.tva_trace.specs.declared.rows.Row.{Row}
-use Rattle.tva_trace.specs.declared.rows.RowWhat.{RowWhat}
-use Rattle.tva_trace.specs.Brief.{AreHeld, row_in, rows_in}
-use Rattle.tva_trace.proofs.Packing.{grown_same, push_held, push_same, row_of}
-use Rattle.tva_trace.proofs.packed.PackedRows.push.Goals as goal
+use Rattle.tva_rows.specs.declared.brief.BriefRow.{BriefRow}
+use Rattle.tva_rows.specs.declared.rows.Row.{Row}
+use Rattle.tva_rows.specs.declared.rows.RowWhat.{RowWhat}
+use Rattle.tva_rows.specs.Brief.{AreHeld, row_in, rows_in}
+use Rattle.tva_rows.proofs.Packing.{grown_same, push_held, push_same, row_of}
+use Rattle.tva_rows.proofs.packed.PackedRows.push.Goals as goal
 
 pub returns-in_err-push-clause-err : goal.returns-in_err-push-clause-err
 returns-in_err-push-clause-err c =

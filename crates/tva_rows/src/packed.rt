@@ -1,15 +1,18 @@
 // The rows of a trace in little memory.
-ghost use Rattle.std.specs.Prelude.{◌≡◌, ◌<◌, [], ◌∷◌, ◌++◌, IfOk, OnErr, OnOk, length, slice_index_or};
-ghost use Rattle.tva_trace.specs.declared.rows.Row.{Row};
-ghost use Rattle.tva_trace.specs.Meaning.{Means};
-ghost use Rattle.tva_trace.specs.Brief.{Grows, IsWhatHeld, what_in};
+ghost use Rattle.std.specs.Prelude.{◌≡◌, ◌<◌, ◌≤◌, [], ◌∷◌, ◌++◌, IfOk, OnErr, OnOk, length, slice_index_or};
+ghost use Rattle.tva_shim.specs.declared.packets.Carried.TheVariants as carried;
+ghost use Rattle.tva_rows.specs.declared.rows.Row.{Row};
+ghost use Rattle.tva_rows.specs.declared.rows.RowWhat.{RowWhat};
+ghost use Rattle.tva_rows.specs.declared.rows.RowWhat.TheVariants as asks;
+ghost use Rattle.tva_rows.specs.Raw.{IsRaw};
+ghost use Rattle.tva_rows.specs.Brief.{Grows, IsWhatHeld, what_in};
 
-use crate::brief::{BriefRow, BriefWhat, brief_beside, brief_of, brief_said, what_from};
+use crate::brief::{BriefRow, BriefWhat, brief_beside, brief_of, brief_raw, brief_shim, what_from};
 use crate::rows::Row;
-use crate::said::SaidRow;
 use std::alloc::{AllocError, Global};
 use std::marker::Model;
-use tva_base::Time;
+use tva_base::{Flow, Time};
+use tva_shim::Shim;
 
 /// Rows, in at most 32 bytes each, and the layouts of their shims beside them. Contracts see them as
 /// a list.
@@ -21,8 +24,8 @@ pub struct PackedRows {
 
 impl Model for PackedRows {
     ghost use Rattle.std.specs.Prelude.{List};
-    ghost use Rattle.tva_trace.specs.declared.rows.Row.{Row};
-    ghost use Rattle.tva_trace.specs.Brief.{AreHeld, rows_in};
+    ghost use Rattle.tva_rows.specs.declared.rows.Row.{Row};
+    ghost use Rattle.tva_rows.specs.Brief.{AreHeld, rows_in};
 
     ghost Value = { List Row };
 
@@ -72,17 +75,41 @@ impl PackedRows {
         Ok(())
     }
 
-    /// Puts the row last that is meant by what is said. An error is want of memory, and changes nothing.
-    pub(crate) fn push_said(&mut self, said: &SaidRow) -> Result<(), AllocError>
-        ensures ok { OnOk result ((row : Row) × Means said.now row × (self.new ≡ self.old ++ row ∷ [])) }
+    /// Puts a row last that injects a packet with these bytes, at most 400, in place of a shim. An error is want of
+    /// memory, and changes nothing.
+    pub fn push_raw(
+        &mut self,
+        time: Time,
+        node: u16,
+        flow: Flow,
+        payload: u16,
+        bytes: &[u8],
+    ) -> Result<(), AllocError>
+        requires { length bytes.now ≤ 400 }
+        ensures ok { OnOk result ((what : RowWhat) × IsRaw flow payload bytes.now what
+            × (self.new ≡ self.old ++ record { time = time; node = node; what = what } ∷ [])) }
         ensures err { OnErr result (self.new ≡ self.old) }
     {
-        let what = brief_said(&mut self.layouts, &said.what)?;
-        self.rows.push(BriefRow {
-            time: said.time,
-            what,
-            node: said.node,
-        })?;
+        let what = brief_raw(&mut self.layouts, flow, payload, bytes)?;
+        self.rows.push(BriefRow { time, what, node })?;
+        Ok(())
+    }
+
+    /// Puts a row last that injects a packet with a shim. An error is want of memory, and changes nothing.
+    pub fn push_shim(
+        &mut self,
+        time: Time,
+        node: u16,
+        flow: Flow,
+        payload: u16,
+        shim: &Shim,
+    ) -> Result<(), AllocError>
+        ensures ok { OnOk result (self.new ≡ self.old
+            ++ record { time = time; node = node; what = asks.Inject flow payload (carried.Shim shim.now) } ∷ []) }
+        ensures err { OnErr result (self.new ≡ self.old) }
+    {
+        let what = brief_shim(&mut self.layouts, flow, payload, shim)?;
+        self.rows.push(BriefRow { time, what, node })?;
         Ok(())
     }
 

@@ -6,12 +6,12 @@ use Rattle.tva_shim.specs.declared.packets.Carried.TheVariants as carried
 use Rattle.tva_shim.specs.Shims.{ShimData, IsShim}
 use Rattle.tva_shim.specs.Layout.{HaveNoShim, layout}
 use Rattle.tva_shim.proofs.Readable.{shim_or_none}
-use Rattle.tva_trace.specs.declared.brief.BriefRow.{BriefRow}
-use Rattle.tva_trace.specs.declared.brief.BriefWhat as briefs
-use Rattle.tva_trace.specs.declared.brief.BriefWhat.TheVariants as brief
-use Rattle.tva_trace.specs.declared.rows.Row.{Row}
-use Rattle.tva_trace.specs.declared.rows.RowWhat as whats
-use Rattle.tva_trace.specs.declared.rows.RowWhat.TheVariants as what
+use Rattle.tva_rows.specs.declared.brief.BriefRow.{BriefRow}
+use Rattle.tva_rows.specs.declared.brief.BriefWhat as briefs
+use Rattle.tva_rows.specs.declared.brief.BriefWhat.TheVariants as brief
+use Rattle.tva_rows.specs.declared.rows.Row.{Row}
+use Rattle.tva_rows.specs.declared.rows.RowWhat as whats
+use Rattle.tva_rows.specs.declared.rows.RowWhat.TheVariants as what
 
 -- so many bytes from a place on
 abbrev pub part : List ℕ → ℕ → ℕ → List ℕ

@@ -8,14 +8,14 @@ use Rattle.tva_shim.specs.declared.packets.Carried.TheVariants as carried
 use Rattle.tva_shim.specs.Shims.{ShimData, IsShim}
 use Rattle.tva_shim.specs.Layout.{HaveNoShim, layout}
 use Rattle.tva_shim.proofs.Readable.{one_shim, shim_or_none}
-use Rattle.tva_trace.specs.declared.brief.BriefRow.{BriefRow}
-use Rattle.tva_trace.specs.declared.brief.BriefWhat.{BriefWhat}
-use Rattle.tva_trace.specs.declared.brief.BriefWhat.TheVariants as brief
-use Rattle.tva_trace.specs.declared.rows.Row.{Row}
-use Rattle.tva_trace.specs.declared.rows.RowWhat.{RowWhat}
-use Rattle.tva_trace.specs.declared.rows.RowWhat.TheVariants as what
-use Rattle.tva_trace.specs.Brief.{AreHeld, Grows, IsLayoutAt, IsWhatHeld, part, row_in, rows_in, shim_in, told_by}
-use Rattle.tva_trace.specs.Brief.{what_in}
+use Rattle.tva_rows.specs.declared.brief.BriefRow.{BriefRow}
+use Rattle.tva_rows.specs.declared.brief.BriefWhat.{BriefWhat}
+use Rattle.tva_rows.specs.declared.brief.BriefWhat.TheVariants as brief
+use Rattle.tva_rows.specs.declared.rows.Row.{Row}
+use Rattle.tva_rows.specs.declared.rows.RowWhat.{RowWhat}
+use Rattle.tva_rows.specs.declared.rows.RowWhat.TheVariants as what
+use Rattle.tva_rows.specs.Brief.{AreHeld, Grows, IsLayoutAt, IsWhatHeld, part, row_in, rows_in, shim_in, told_by}
+use Rattle.tva_rows.specs.Brief.{what_in}
 
 -- ---- the shim of a layout
 
