@@ -42,7 +42,12 @@ fn kind_at(plans: &[NodePlan], files: &FileCounts, node: u16, word: &[u8]) -> Op
     ensures valid { IfSome result (IsAllowed (is_host plans.now node) (has_room (counted files.now) node)) }
 {
     let kind = kind_of(word)?;
-    allowed(is_host(plans, node), has_room(files, node), kind)
+    // no other row asks how many files there are
+    let room = match kind {
+        RowKind::File => has_room(files, node),
+        _ => true,
+    };
+    allowed(is_host(plans, node), room, kind)
 }
 
 /// What a row that sends says.
