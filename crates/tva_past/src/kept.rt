@@ -112,8 +112,8 @@ impl<T> Kept<T> {
         self.held.clear();
     }
 
-    /// Moves all that memory holds into an empty list, and forgets it. The memory in which it stood stays with this
-    /// list, so that putting in takes none until it is full. The error is want of memory, and changes nothing.
+    /// Moves all that memory holds into an empty list, and forgets it. The error is want of memory, and changes
+    /// nothing. That this list keeps the memory in which it stood is how `Vec::append` is made; no clause says it.
     pub fn pour(&mut self, into: &mut Vec<T>) -> Result<(), AllocError>
         requires { into.old.items ≡ [] }
         ensures poured { OnOk result (into.new.items ≡ held self.old) }
@@ -128,8 +128,8 @@ impl<T> Kept<T> {
         Ok(())
     }
 
-    /// Hands out all that memory holds, and forgets it. The list goes on in `room`, which is empty, so that
-    /// putting in takes no memory until that is full.
+    /// Hands out all that memory holds, and forgets it. The list goes on in `room`, which is empty. That putting
+    /// in takes no memory until that is full is how `Vec` is made; no clause says it.
     pub fn take(&mut self, room: Vec<T>) -> Vec<T>
         requires { room.items ≡ [] }
         ensures taken { result.items ≡ held self.old }
