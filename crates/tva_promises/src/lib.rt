@@ -8,4 +8,6 @@
 
 mod laws;
 
-pub use laws::{nodes_keep_promises, refused_is_not_regular, runs_keep_promises};
+pub use laws::{
+    nodes_keep_promises, queued_before_a_restart, refused_is_not_regular, runs_keep_promises,
+};
