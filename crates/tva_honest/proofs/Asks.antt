@@ -15,7 +15,7 @@ use Rattle.tva_sender.specs.Contacts as contact
 use Rattle.tva_sender.specs.Contacts.{Contact, Ask, Taking, taking_in, last_taking, asks, asked_at, time}
 use Rattle.tva_flow.proofs.Same.{and_true}
 use Rattle.tva_honest.specs.Deals.{Deal, Prepared, Granted, Noticed, Coming}
-use Rattle.tva_honest.specs.Paths.{asks_kind, asks_in, ask_id, last_ask_id, same_id, come_as, ask_coming, ask_came, granted_by, grant_came, rights_in, last_rights}
+use Rattle.tva_honest.specs.Paths.{asks_kind, asks_in, ask_id, last_ask_id, same_id, come_as, ask_coming, ask_came, granted_by, grant_came, rights_in, last_rights, IsNoGrant}
 use Rattle.tva_honest.proofs.Lists.{some_same}
 use Rattle.tva_honest.proofs.Dealt.{shape_of_kind, shape_in, contact_of}
 
@@ -164,11 +164,6 @@ came-granted seen before (d ∷ ds) rights caps came e =
     ap (λ (o : Option ℕ). option_or o (granted_by seen before d))
     (came-granted seen (before ++ d ∷ []) ds rights caps came (ap (ask_came seen) (append_assoc before (d ∷ []) ds) ∙ e))
 
-abbrev pub IsNoGrant : Deal → Type 0
-IsNoGrant (Prepared t p) = Unit {0}
-IsNoGrant (Granted rights caps) = ⊥
-IsNoGrant Noticed = Unit {0}
-
 no_grant : (seen : List Coming) (before : List Deal) (d : Deal) → IsNoGrant d → granted_by seen before d ≡ None
 no_grant seen before (Prepared t p) k = refl
 no_grant seen before (Granted rights caps) k = absurd k
@@ -180,6 +175,14 @@ pub came-other : (seen : List Coming) (before ds : List Deal) (d : Deal) → IsN
 came-other seen before [] d k = no_grant seen before d k
 came-other seen before (x ∷ ds) d k =
     ap (λ (o : Option ℕ). option_or o (granted_by seen before x)) (came-other seen (before ++ x ∷ []) ds d k)
+
+-- nor do deals without a grant
+pub came-under : (seen : List Coming) (first under : List Deal) → AllByRecursion IsNoGrant under
+    → grant_came seen [] (first ++ under) ≡ grant_came seen [] first
+came-under seen first [] k = ap (grant_came seen []) (append-nil first)
+came-under seen first (d ∷ ds) k =
+    ap (grant_came seen []) (sym (append_assoc first (d ∷ []) ds))
+    ∙ (came-under seen (first ++ d ∷ []) ds k.1 ∙ came-other seen [] first d k.0)
 
 -- when an ask came, what came for it
 pub record CameFor (seen : List Coming) (ds : List Deal) (came : ℕ) : Type 0 where

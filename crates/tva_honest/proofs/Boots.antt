@@ -2,7 +2,7 @@
 use Rattle.std.proofs.Common.{◌≡◌, ◌≤◌, ℕ, Bool, true, false, cond, List, [], ◌∷◌, ◌++◌, length, map, is_some, Option, Some, None, refl, ap, sym, ◌∙◌, inl, inr, arith}
 use Rattle.std.specs.Prelude.{◌==◌, filter, IsSomeAnd}
 use Rattle.std.specs.Option.{option_map, option_and_then}
-use Rattle.std.specs.List.{filter_map, cons_option}
+use Rattle.std.specs.List.{AllByRecursion, filter_map, cons_option}
 use Rattle.std.proofs.lemmas.Bool.{cases_lt, le-leb, leb-true, eqb-true}
 use Rattle.std.proofs.lemmas.List.Sums.{length-filter}
 use Rattle.std.proofs.lemmas.Option.{cond_some}
@@ -12,6 +12,7 @@ use Rattle.tva_base.specs.declared.packet.Time.{Time}
 use Rattle.tva_base.specs.declared.plan.HostPlan.{HostPlan}
 use Rattle.tva_base.specs.declared.plan.RouterPlan.{RouterPlan}
 use Rattle.tva_base.specs.Changes.{last_of, has_come, boot_at, master_at, in_force}
+use Rattle.tva_base.specs.Clock.{router_second}
 use Rattle.tva_flow.specs.Charges.{Charge, same_flow, of_flow}
 use Rattle.tva_log.proofs.Joins.{filter_swap, each-passes}
 use Rattle.tva_router.specs.Boots.{charges_of_boot}
@@ -19,7 +20,7 @@ use Rattle.tva_log.specs.Entries.{Entry}
 use Rattle.tva_log.specs.Parts.{charged, charges}
 use Rattle.tva_paths.proofs.Walks.{at_place}
 use Rattle.tva_honest.specs.Deals.{Deal, Prepared, Coming, comings}
-use Rattle.tva_honest.specs.Paths.{come_as, comings_at, since_granted, WasCharged, IsSteadyPath, LieInBoot}
+use Rattle.tva_honest.specs.Paths.{come_as, comings_at, since_noticed, shows_nonce, is_charged_since, charged_since, WasCharged, IsSteadyPath, LieInBoot}
 use Rattle.tva_honest.proofs.Lists.{place}
 use Rattle.tva_honest.proofs.Asks.{come_is}
 use Rattle.tva_honest.proofs.Comings.{paid_of}
@@ -138,21 +139,35 @@ boot_charges plan f boot log e =
     filter_swap (λ (c : Charge). same_flow c.grant.flow f) p (charges log)
     ∙ (ap (filter p) e ∙ charged_when (λ (t : ℕ). boot_at plan t == boot) (comings f log))
 
--- what was charged before under a packet's grant lies in its boot
-pub in_boot : (host : HostPlan) (router : RouterPlan) (delay : ℕ) (own : List Deal) (seen : List Coming) (charged : List Charge)
-    (x : Coming) (steady : IsSteadyPath host router delay own seen charged x)
-    → LieInBoot router seen x.time (since_granted [] steady.last.in_time.before)
-in_boot host router delay own seen charged x steady before sent packet after place shown =
-    by (come_as (comings_at router x.time seen) packet.id) refl (was shown)
+each_passing : {X : Type 0} (P : X → Type 0) (q : X → Bool) (xs : List X) → AllByRecursion P xs → AllByRecursion P (filter q xs)
+each_passing P q [] k = tt
+each_passing P q (x ∷ xs) k = by (each_passing P q xs k.1) (q x)
   where
-    was : WasCharged (comings_at router x.time seen) (Prepared sent packet)
-    was =
-        at_place (WasCharged (comings_at router x.time seen)) (since_granted [] steady.last.in_time.before) before (Prepared sent packet) after place steady.paid
+    by : AllByRecursion P (filter q xs) → (b : Bool) → AllByRecursion P (cond b (x ∷ filter q xs) (filter q xs))
+    by ih true = (k.0, ih)
+    by ih false = ih
 
-    by : (o : Option Coming) → come_as (comings_at router x.time seen) packet.id ≡ o → is_some (option_and_then (λ (y : Coming). y.charge) o) ≡ true
+-- what counts for the life of a nonce alone lies in its boot
+pub in_boot : (host : HostPlan) (router : RouterPlan) (delay : ℕ) (own : List Deal) (seen : List Coming) (charged : List Charge)
+    (x : Coming) (steady : IsSteadyPath host router delay own seen charged x) → shows_nonce x.packet.carried ≡ true
+    → LieInBoot router (charged_since (router_second router.clock_offset steady.grant.ask.time) (comings_at router x.time seen)) x.time
+    (since_noticed steady.grant.under)
+in_boot host router delay own seen charged x steady alone before sent packet after place shown =
+    by (come_as (charged_since (router_second router.clock_offset steady.grant.ask.time) (comings_at router x.time seen)) packet.id) refl (was shown)
+  where
+    was : WasCharged (charged_since (router_second router.clock_offset steady.grant.ask.time) (comings_at router x.time seen)) (Prepared sent packet)
+    was =
+        at_place (WasCharged (charged_since (router_second router.clock_offset steady.grant.ask.time) (comings_at router x.time seen)))
+        (since_noticed steady.grant.under) before (Prepared sent packet) after place (steady.known alone).paid
+
+    by : (o : Option Coming) → come_as (charged_since (router_second router.clock_offset steady.grant.ask.time) (comings_at router x.time seen)) packet.id ≡ o
+        → is_some (option_and_then (λ (y : Coming). y.charge) o) ≡ true
         → IsSomeAnd o (λ y. (boot_at router y.time ≡ boot_at router x.time) × (is_some y.charge ≡ true))
     by None e k = absurd (cc)
     by (Some y) e k =
         let p : Coming → Bool = λ y. boot_at router y.time == boot_at router x.time in
-        let passes = come_is (λ (y : Coming). p y ≡ true) (comings_at router x.time seen) packet.id y (each-passes p seen) e in
+        let passes =
+        come_is (λ (y : Coming). p y ≡ true) (charged_since (router_second router.clock_offset steady.grant.ask.time) (comings_at router x.time seen)) packet.id y
+        (each_passing (λ (y : Coming). p y ≡ true) (λ (y : Coming). is_charged_since (router_second router.clock_offset steady.grant.ask.time) y.charge)
+        (comings_at router x.time seen) (each-passes p seen)) e in
         (eqb-true (boot_at router y.time) (boot_at router x.time) passes.0, k)

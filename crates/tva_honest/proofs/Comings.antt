@@ -1,8 +1,9 @@
 -- What a router charges to a flow is what its unmarked packets were charged, each at its place.
-use Rattle.std.proofs.Common.{◌≡◌, ℕ, Bool, true, false, not, ◌&&◌, cond, List, [], ◌∷◌, ◌++◌, is_some, Option, Some, None, refl, ap, sym, subst, ◌∙◌, append_assoc}
+use Rattle.std.proofs.Common.{◌≡◌, ℕ, Bool, true, false, not, ◌&&◌, cond, leb, List, [], ◌∷◌, ◌++◌, is_some, Option, Some, None, refl, ap, ap₂, sym, subst, ◌∙◌, arith, append_assoc}
 use Rattle.std.specs.Prelude.{filter}
-use Rattle.std.specs.Option.{option_map}
-use Rattle.std.specs.List.{AllByRecursion, filter_map, cons_option}
+use Rattle.std.specs.Option.{option_map, option_and_then}
+use Rattle.std.specs.List.{AllByRecursion, filter_map, cons_option, find}
+use Rattle.std.proofs.lemmas.Bool.{le-leb}
 use Rattle.std.proofs.lemmas.Option.{cond_some}
 use Rattle.tva_base.specs.declared.packet.Fate.{Fate}
 use Rattle.tva_base.specs.declared.packet.Flow.{Flow}
@@ -34,7 +35,8 @@ use Rattle.tva_log.specs.Parts.{charged, charge_of, charges, port_logs}
 use Rattle.tva_promises.specs.Fates.{NoRowRefusesShown, NoRowRefusesNonce, NoRowRefusesKind, NoRowRefuses, IsFate}
 use Rattle.tva_promises.specs.Promises.{KeepsPromises}
 use Rattle.tva_honest.specs.Deals.{Coming, coming, came_at, comings}
-use Rattle.tva_honest.specs.Paths.{shows, those_charged}
+use Rattle.tva_honest.specs.Deals.{Deal, Prepared, Granted, Noticed}
+use Rattle.tva_honest.specs.Paths.{shows, come_as, same_id, those_charged, is_charged_since, charged_since, WasCharged}
 use Rattle.tva_honest.proofs.Charges.{last-of}
 use Rattle.tva_honest.proofs.Lists.{some_same, place}
 
@@ -294,6 +296,85 @@ charged_here x xs ys false e = e
 pub charged_is : (seen : List Coming) → those_charged seen ≡ paid seen
 charged_is [] = refl
 charged_is (x ∷ xs) = charged_here x (those_charged xs) (paid xs) (is_some x.charge) (charged_is xs)
+
+-- what was charged to grants of no earlier second was charged
+pub since_charged : (second : ℕ) (seen : List Coming) → charged_since second seen ≡ paid (charged_since second seen)
+since_charged second [] = refl
+since_charged second (x ∷ xs) = by (since_charged second xs) x.charge refl
+  where
+    at : charged_since second xs ≡ paid (charged_since second xs) → (g : Grant) → x.charge ≡ Some g → (b : Bool)
+        → cond b (x ∷ charged_since second xs) (charged_since second xs) ≡ paid (cond b (x ∷ charged_since second xs) (charged_since second xs))
+    at ih g e true =
+        ap (λ (zs : List Coming). x ∷ zs) ih
+        ∙ sym (ap (λ (o : Option Grant). cons_option (cond (is_some o) (Some x) None) (paid (charged_since second xs))) e)
+    at ih g e false = ih
+
+    by : charged_since second xs ≡ paid (charged_since second xs) → (o : Option Grant) → x.charge ≡ o
+        → cond (is_charged_since second o) (x ∷ charged_since second xs) (charged_since second xs)
+        ≡ paid (cond (is_charged_since second o) (x ∷ charged_since second xs) (charged_since second xs))
+    by ih None e = ih
+    by ih (Some g) e = at ih g e (leb second g.second)
+
+-- all that was charged was so from the first second on
+from_first : (o : Option Grant) → is_charged_since 0 o ≡ is_some o
+from_first None = refl
+from_first (Some g) = le-leb 0 g.second (omega arith)
+
+pub since_first : (seen : List Coming) → charged_since 0 seen ≡ those_charged seen
+since_first [] = refl
+since_first (x ∷ xs) = ap₂ (λ (b : Bool) (ys : List Coming). cond b (x ∷ ys) ys) (from_first x.charge) (since_first xs)
+
+-- what is found first of all, and passes, is found first of those that pass
+find_by : (p q : Coming → Bool) (x y : Coming) (xs : List Coming) (a : Bool) → q x ≡ a → (find q xs ≡ Some y → find q (filter p xs) ≡ Some y)
+    → cond a (Some x) (find q xs) ≡ Some y → p y ≡ true → find q (cond (p x) (x ∷ filter p xs) (filter p xs)) ≡ Some y
+find_by p q x y xs true is rest e k =
+    let same : x ≡ y = some_same x y e in
+    let passes : p x ≡ true = ap p same ∙ k in
+    subst (λ (b : Bool). find q (cond b (x ∷ filter p xs) (filter p xs)) ≡ Some y) (sym passes)
+    (subst (λ (a : Bool). cond a (Some x) (find q (filter p xs)) ≡ Some y) (sym is) e)
+find_by p q x y xs false is rest e k = by (p x)
+  where
+    by : (b : Bool) → find q (cond b (x ∷ filter p xs) (filter p xs)) ≡ Some y
+    by true = subst (λ (a : Bool). cond a (Some x) (find q (filter p xs)) ≡ Some y) (sym is) (rest e)
+    by false = rest e
+
+find_passing : (p q : Coming → Bool) (xs : List Coming) (y : Coming) → find q xs ≡ Some y → p y ≡ true → find q (filter p xs) ≡ Some y
+find_passing p q [] y e k = absurd (cc)
+find_passing p q (x ∷ xs) y e k = find_by p q x y xs (q x) refl (λ r. find_passing p q xs y r k) e k
+
+-- what was charged is found among those that were charged
+pub was_since : (seen : List Coming) (d : Deal) → WasCharged seen d → WasCharged (charged_since 0 seen) d
+was_since seen (Prepared time p) was = λ shown. by (come_as seen p.id) refl (was shown)
+  where
+    by : (o : Option Coming) → come_as seen p.id ≡ o → is_some (option_and_then (λ (x : Coming). x.charge) o) ≡ true
+        → is_some (option_and_then (λ (x : Coming). x.charge) (come_as (charged_since 0 seen) p.id)) ≡ true
+    by None e k = absurd (cc)
+    by (Some y) e k =
+        let found : come_as (charged_since 0 seen) p.id ≡ Some y =
+        find_passing (λ (x : Coming). is_charged_since 0 x.charge) (λ (x : Coming). same_id x.packet.id p.id) seen y e (from_first y.charge ∙ k) in
+        ap (λ (o : Option Coming). is_some (option_and_then (λ (x : Coming). x.charge) o)) found ∙ k
+was_since seen (Granted rights caps) was = tt
+was_since seen Noticed was = tt
+
+-- and its charges are those of no earlier second
+pub since_paid : (second : ℕ) (seen : List Coming)
+    → filter (λ (c : Charge). leb second c.grant.second) (filter_map paid_of seen) ≡ filter_map paid_of (charged_since second seen)
+since_paid second [] = refl
+since_paid second (x ∷ xs) = by (since_paid second xs) x.charge refl
+  where
+    at : filter (λ (c : Charge). leb second c.grant.second) (filter_map paid_of xs) ≡ filter_map paid_of (charged_since second xs) → (g : Grant) → x.charge ≡ Some g → (b : Bool)
+        → cond b (charged x.time x.packet g ∷ filter (λ (c : Charge). leb second c.grant.second) (filter_map paid_of xs)) (filter (λ (c : Charge). leb second c.grant.second) (filter_map paid_of xs))
+        ≡ filter_map paid_of (cond b (x ∷ charged_since second xs) (charged_since second xs))
+    at ih g e true =
+        ap (λ (cs : List Charge). charged x.time x.packet g ∷ cs) ih
+        ∙ sym (ap (λ (o : Option Grant). cons_option (option_map (charged x.time x.packet) o) (filter_map paid_of (charged_since second xs))) e)
+    at ih g e false = ih
+
+    by : filter (λ (c : Charge). leb second c.grant.second) (filter_map paid_of xs) ≡ filter_map paid_of (charged_since second xs) → (o : Option Grant) → x.charge ≡ o
+        → filter (λ (c : Charge). leb second c.grant.second) (cons_option (option_map (charged x.time x.packet) o) (filter_map paid_of xs))
+        ≡ filter_map paid_of (cond (is_charged_since second o) (x ∷ charged_since second xs) (charged_since second xs))
+    by ih None e = ih
+    by ih (Some g) e = at ih g e (leb second g.second)
 
 -- a charge of what came
 pub charge_parts : (x : Coming) (o : Option Grant) (c : Charge) → x.charge ≡ o → option_map (charged x.time x.packet) o ≡ Some c

@@ -1,6 +1,6 @@
 -- The miles of a path: the deals of a host, each packet with its charge at the router.
-use Rattle.std.proofs.Common.{◌≡◌, ◌<◌, inl, inr, ℕ, true, false, cond, List, [], ◌∷◌, ◌++◌, map, is_some, Option, Some, None, refl, ap, ap₂, sym, subst, ◌∙◌, arith, append_assoc, append-nil}
-use Rattle.std.specs.Option.{option_and_then, IfSome}
+use Rattle.std.proofs.Common.{◌≡◌, ◌<◌, inl, inr, ℕ, ◌+◌, true, false, cond, List, [], ◌∷◌, ◌++◌, map, is_some, Option, Some, None, refl, ap, ap₂, sym, subst, ◌∙◌, arith, append_assoc, append-nil}
+use Rattle.std.specs.Option.{option_and_then, unwrap_or, IfSome}
 use Rattle.std.specs.List.{AllByRecursion, filter_map, cons_option}
 use Rattle.std.proofs.lemmas.List.Elements.{filter_map-append}
 use Rattle.tva_base.specs.declared.packet.PacketId.{PacketId}
@@ -20,11 +20,11 @@ use Rattle.tva_sender.specs.Contacts.{Contact, asked_at, uses_in}
 use Rattle.tva_host.specs.Receiving.{shows_grant}
 use Rattle.tva_log.proofs.Joins.{each-append, each-weaker}
 use Rattle.tva_log.specs.Entries.{Entry}
-use Rattle.tva_honest.specs.Miles.{Mile, Went, Got, Told, contacts, charges_in, last_came, since_got}
+use Rattle.tva_honest.specs.Miles.{Mile, Went, Got, Told, contact_in, contacts, paid_in, charges_in, last_came, since_got, after_told, since_notified}
 use Rattle.tva_honest.specs.SteadyMiles.{Way, ComesIn, IsPaid, IsMile, AreMiles, AreAuthorised}
 use Rattle.tva_honest.specs.Deals.{Deal, Prepared, Granted, Noticed, Coming}
-use Rattle.tva_honest.specs.Paths.{shows, come_as, ask_came, grant_came, since_granted, WasCharged}
-use Rattle.tva_honest.proofs.Pushes.{contacts-push, charges-push, came-got, came-same}
+use Rattle.tva_honest.specs.Paths.{shows, come_as, ask_came, grant_came, since_granted, after_noticed, since_noticed, IsNoGrant, WasCharged}
+use Rattle.tva_honest.proofs.Pushes.{contacts-push, charges-push, came-got, came-same, since-got, since-went, since-told}
 use Rattle.tva_honest.proofs.Lists.{Rises, rises_rest, rises_front}
 use Rattle.tva_honest.proofs.Dealt.{shape_of_kind, shape_in, counted, contact_of}
 use Rattle.tva_honest.proofs.Hosts.{deal_key, IsTrue}
@@ -64,24 +64,56 @@ beside-push seen [] (n ∷ ns) d m k l = absurd k
 beside-push seen (e ∷ es) [] d m k l = absurd k
 beside-push seen (e ∷ es) (n ∷ ns) d m k l = (k.0, beside-push seen es ns d m k.1 l)
 
--- those since the last grant stand beside each other too
-since_beside : (seen : List Coming) (own : List Deal) (gone : List Mile) (ds : List Deal) (ms : List Mile) → AreBeside seen own gone
-    → AreBeside seen ds ms → AreBeside seen (since_granted own ds) (since_got gone ms)
-since_beside seen own gone [] [] k l = k
-since_beside seen own gone [] (m ∷ ms) k l = absurd l
-since_beside seen own gone (d ∷ ds) [] k l = absurd l
-since_beside seen own gone (Prepared t p ∷ ds) (Went sent s bytes o ∷ ms) k l =
-    since_beside seen (own ++ Prepared t p ∷ []) (gone ++ Went sent s bytes o ∷ []) ds ms
-    (beside-push seen own gone (Prepared t p) (Went sent s bytes o) k l.0) l.1
-since_beside seen own gone (Prepared t p ∷ ds) (Got rights caps came ∷ ms) k l = absurd l.0
-since_beside seen own gone (Prepared t p ∷ ds) (Told ∷ ms) k l = absurd l.0
-since_beside seen own gone (Granted rights caps ∷ ds) (Went sent s bytes o ∷ ms) k l = absurd l.0
-since_beside seen own gone (Granted rights caps ∷ ds) (Got r cs came ∷ ms) k l = since_beside seen [] [] ds ms tt l.1
-since_beside seen own gone (Granted rights caps ∷ ds) (Told ∷ ms) k l = absurd l.0
-since_beside seen own gone (Noticed ∷ ds) (Went sent s bytes o ∷ ms) k l = absurd l.0
-since_beside seen own gone (Noticed ∷ ds) (Got rights caps came ∷ ms) k l = absurd l.0
-since_beside seen own gone (Noticed ∷ ds) (Told ∷ ms) k l =
-    since_beside seen (own ++ Noticed ∷ []) (gone ++ Told ∷ []) ds ms (beside-push seen own gone Noticed Told k tt) l.1
+-- those since a notice stand beside each other too
+abbrev BothBeside : List Coming → Option (List Deal) → Option (List Mile) → Type 0
+BothBeside seen None None = Unit {0}
+BothBeside seen None (Some ms) = ⊥
+BothBeside seen (Some ds) None = ⊥
+BothBeside seen (Some ds) (Some ms) = AreBeside seen ds ms
+
+after_beside : (seen : List Coming) (ds : List Deal) (ms : List Mile) → AreBeside seen ds ms
+    → BothBeside seen (after_noticed ds) (after_told ms)
+after_beside seen [] [] k = tt
+after_beside seen [] (m ∷ ms) k = absurd k
+after_beside seen (d ∷ ds) [] k = absurd k
+after_beside seen (Prepared t p ∷ ds) (Went sent s bytes o ∷ ms) k = after_beside seen ds ms k.1
+after_beside seen (Prepared t p ∷ ds) (Got rights caps came ∷ ms) k = absurd k.0
+after_beside seen (Prepared t p ∷ ds) (Told ∷ ms) k = absurd k.0
+after_beside seen (Granted rights caps ∷ ds) (Went sent s bytes o ∷ ms) k = absurd k.0
+after_beside seen (Granted rights caps ∷ ds) (Got r cs came ∷ ms) k = after_beside seen ds ms k.1
+after_beside seen (Granted rights caps ∷ ds) (Told ∷ ms) k = absurd k.0
+after_beside seen (Noticed ∷ ds) (Went sent s bytes o ∷ ms) k = absurd k.0
+after_beside seen (Noticed ∷ ds) (Got rights caps came ∷ ms) k = absurd k.0
+after_beside seen (Noticed ∷ ds) (Told ∷ ms) k = k.1
+
+noticed_by : (seen : List Coming) (ds : List Deal) (ms : List Mile) (o : Option (List Deal)) (p : Option (List Mile))
+    → BothBeside seen o p → AreBeside seen ds ms → AreBeside seen (unwrap_or o ds) (unwrap_or p ms)
+noticed_by seen ds ms None None k l = l
+noticed_by seen ds ms None (Some ns) k l = absurd k
+noticed_by seen ds ms (Some es) None k l = absurd k
+noticed_by seen ds ms (Some es) (Some ns) k l = k
+
+pub noticed_beside : (seen : List Coming) (ds : List Deal) (ms : List Mile) → AreBeside seen ds ms
+    → AreBeside seen (since_noticed ds) (since_notified ms)
+noticed_beside seen ds ms k = noticed_by seen ds ms (after_noticed ds) (after_told ms) (after_beside seen ds ms k) k
+
+-- one more deal since the last grant
+one_since : (own : List Deal) (d : Deal) → IsNoGrant d → since_granted own (d ∷ []) ≡ own ++ d ∷ []
+one_since own (Prepared t p) k = refl
+one_since own (Granted rights caps) k = absurd k
+one_since own Noticed k = refl
+
+since_other : (own ds : List Deal) (d : Deal) → IsNoGrant d → since_granted own (ds ++ d ∷ []) ≡ since_granted own ds ++ d ∷ []
+since_other own [] d k = one_since own d k
+since_other own (Prepared t p ∷ ds) d k = since_other (own ++ Prepared t p ∷ []) ds d k
+since_other own (Granted rights caps ∷ ds) d k = since_other [] ds d k
+since_other own (Noticed ∷ ds) d k = since_other (own ++ Noticed ∷ []) ds d k
+
+pub since_grant : (own ds : List Deal) (rights : Rights) (caps : List ℕ) → since_granted own (ds ++ Granted rights caps ∷ []) ≡ []
+since_grant own [] rights caps = refl
+since_grant own (Prepared t p ∷ ds) rights caps = since_grant (own ++ Prepared t p ∷ []) ds rights caps
+since_grant own (Granted r cs ∷ ds) rights caps = since_grant [] ds rights caps
+since_grant own (Noticed ∷ ds) rights caps = since_grant (own ++ Noticed ∷ []) ds rights caps
 
 -- what shows nothing uses nothing
 unused_kind : (t bytes : ℕ) (kind : Kind) → (shows_grant kind ≡ true → ⊥) → uses_in (contact.Prepared t (shape_of_kind kind) bytes) ≡ []
@@ -129,17 +161,72 @@ map-push : (ds : List Deal) (d : Deal) → map contact_of (ds ++ d ∷ []) ≡ m
 map-push [] d = refl
 map-push (e ∷ es) d = ap (λ (cs : List Contact). contact_of e ∷ cs) (map-push es d)
 
+-- all those behind a place without a grant
+pub since_under : (first under : List Deal) → AllByRecursion IsNoGrant under → since_granted [] (first ++ under) ≡ since_granted [] first ++ under
+since_under first [] k = ap (since_granted []) (append-nil first) ∙ sym (append-nil (since_granted [] first))
+since_under first (d ∷ ds) k =
+    ap (since_granted []) (sym (append_assoc first (d ∷ []) ds))
+    ∙ (since_under (first ++ d ∷ []) ds k.1
+    ∙ (ap (λ (es : List Deal). es ++ ds) (since_other [] first d k.0) ∙ append_assoc (since_granted [] first) (d ∷ []) ds))
+
+-- charges under the last grant
+under-push : (ms : List Mile) (m : Mile) → since_got [] (ms ++ m ∷ []) ≡ since_got [] ms ++ m ∷ [] → charges_in ms ≡ charges_in (since_got [] ms)
+    → charges_in (ms ++ m ∷ []) ≡ charges_in (since_got [] (ms ++ m ∷ []))
+under-push ms m since e =
+    charges-push ms m ∙ (ap (λ (cs : List Charge). cs ++ paid_in m) e
+    ∙ (sym (charges-push (since_got [] ms) m) ∙ ap charges_in (sym since)))
+
+-- ## before the last grant
+
+-- the miles of deals without a charge
+pub record Bare (w : Way) (ds : List Deal) : Type 0 where
+  pub miles : List Mile
+  pub contacts_are : contacts miles ≡ map contact_of ds
+  pub charges_are : charges_in miles ≡ []
+  pub are : AreMiles w [] miles
+
+-- an ask may come in time
+chosen : (w : Way) (o : Option Time) → (came : ℕ) × IfSome o (λ t. ComesIn w t.0 came)
+chosen w None = (0, tt)
+chosen w (Some t) = (t.0 + w.delay, record { from = omega arith; until = omega arith })
+
+bare_more : (w : Way) (ds : List Deal) (d : Deal) (m : Mile) (r : Bare w ds) → contact_in m ≡ contact_of d → paid_in m ≡ [] → IsMile w r.miles m
+    → Bare w (ds ++ d ∷ [])
+bare_more w ds d m r same none is = record {
+  miles = r.miles ++ m ∷ [];
+  contacts_are = contacts-push r.miles m ∙ (ap₂ (λ (cs : List Contact) (c : Contact). cs ++ c ∷ []) r.contacts_are same ∙ sym (map-push ds d));
+  charges_are = charges-push r.miles m ∙ ap₂ ◌++◌ r.charges_are none;
+  are = miles-push w [] r.miles m r.are is;
+}
+
+bare_step : (w : Way) (log : List Entry) (ds : List Deal) (d : Deal) → IsTrue log d → Bare w ds → Bare w (ds ++ d ∷ [])
+bare_step w log ds (Prepared t p) k r = bare_more w ds (Prepared t p) (Went t (shape_in p.carried) (counted p) None) r refl refl tt
+bare_step w log ds (Granted rights caps) k r =
+    let c = chosen w (asked_at (contacts r.miles)) in
+    bare_more w ds (Granted rights caps) (Got rights caps c.0) r refl refl (k, c.1)
+bare_step w log ds Noticed k r = bare_more w ds Noticed Told r refl refl tt
+
+pub bare_from : (w : Way) (log : List Entry) (before ds : List Deal) → Bare w before → AllByRecursion (IsTrue log) ds → Bare w (before ++ ds)
+bare_from w log before [] r fine = subst (Bare w) (sym (append-nil before)) r
+bare_from w log before (d ∷ ds) r fine =
+    subst (Bare w) (append_assoc before (d ∷ []) ds) (bare_from w log (before ++ d ∷ []) ds (bare_step w log before d fine.0 r) fine.1)
+
+pub bare_none : (w : Way) → Bare w []
+bare_none w = record { miles = []; contacts_are = refl; charges_are = refl; are = tt }
+
 -- ## along the deals
 
--- asks are looked for in all that came, and charges in what was met since the router began
+-- asks are looked for in all that came, and charges in what was met since the router began; grants are met at places that
+-- are open, and only where not all charges are of the last one
 
 module _ (w : Way) (seen met : List Coming) (log : List Entry) (own earlier : List Deal) (tail : List Deal) (whole : own ≡ earlier ++ tail)
-    (rises : Rises (keys own))
-    (comes : (before : List Deal) (rights : Rights) (caps : List ℕ) (rest : List Deal) (came : ℕ)
+    (rises : Rises (keys own)) (only_last : Type 0) (open_at : List Deal → Type 0)
+    (open_more : (before : List Deal) (d : Deal) → open_at before → open_at (before ++ d ∷ []))
+    (comes : (before : List Deal) (rights : Rights) (caps : List ℕ) (rest : List Deal) (came : ℕ) → open_at before
     → earlier ≡ before ++ Granted rights caps ∷ rest → ask_came seen before ≡ Some came → (ms : List Mile) → contacts ms ≡ map contact_of before
     → IfSome (asked_at (contacts ms)) (λ (t : Time). ComesIn w t.0 came))
-    (asked : (before : List Deal) (rights : Rights) (caps : List ℕ) (after : List Deal)
-    → earlier ≡ before ++ Granted rights caps ∷ after → is_some (ask_came seen before) ≡ true)
+    (asked : (before : List Deal) (rights : Rights) (caps : List ℕ) (after : List Deal) → open_at before
+    → earlier ≡ before ++ Granted rights caps ∷ after → (is_some (ask_came seen before) ≡ true) × (only_last → ⊥))
     (pays : (before : List Deal) (t : ℕ) (p : PacketData) (after : List Deal) (front : List Coming) (x : Coming) (back : List Coming)
     → own ≡ before ++ Prepared t p ∷ after → paid met ≡ front ++ x ∷ back
     → p.id ≡ x.packet.id → (c : Charge) → paid_of x ≡ Some c → (ms : List Mile) → last_came ms ≡ grant_came seen [] before
@@ -153,10 +240,53 @@ module _ (w : Way) (seen met : List Coming) (log : List Entry) (own earlier : Li
     pub charges_are : charges_in miles ≡ filter_map paid_of front
     pub are : AreMiles w [] miles
     pub came : last_came miles ≡ grant_came seen [] before
-    pub beside : AreBeside met before miles
+    pub beside : AreBeside met (since_granted [] before) (since_got [] miles)
+    pub under : only_last → charges_in miles ≡ charges_in (since_got [] miles)
 
-  run_none : Run [] []
-  run_none = record { miles = []; contacts_are = refl; charges_are = refl; are = tt; came = refl; beside = tt }
+  pub run_none : Run [] []
+  run_none = record {
+    miles = [];
+    contacts_are = refl;
+    charges_are = refl;
+    are = tt;
+    came = refl;
+    beside = tt;
+    under = λ only. refl;
+  }
+
+  beside_went : (before : List Deal) (ms : List Mile) (t : ℕ) (p : PacketData) (o : Option Charge)
+      → AreBeside met (since_granted [] before) (since_got [] ms)
+      → IsBeside met (Prepared t p) (Went t (shape_in p.carried) (counted p) o)
+      → AreBeside met (since_granted [] (before ++ Prepared t p ∷ [])) (since_got [] (ms ++ Went t (shape_in p.carried) (counted p) o ∷ []))
+  beside_went before ms t p o k l =
+      let m : Mile = Went t (shape_in p.carried) (counted p) o in
+      subst (λ (ds : List Deal). AreBeside met ds (since_got [] (ms ++ m ∷ []))) (sym (since_other [] before (Prepared t p) tt))
+      (subst (AreBeside met (since_granted [] before ++ Prepared t p ∷ [])) (sym (since-went [] ms t (shape_in p.carried) (counted p) o))
+      (beside-push met (since_granted [] before) (since_got [] ms) (Prepared t p) m k l))
+
+  beside_got : (before : List Deal) (ms : List Mile) (rights : Rights) (caps : List ℕ) (came : ℕ)
+      → AreBeside met (since_granted [] (before ++ Granted rights caps ∷ [])) (since_got [] (ms ++ Got rights caps came ∷ []))
+  beside_got before ms rights caps came =
+      subst (λ (ds : List Deal). AreBeside met ds (since_got [] (ms ++ Got rights caps came ∷ []))) (sym (since_grant [] before rights caps))
+      (subst (AreBeside met []) (sym (since-got [] ms rights caps came)) tt)
+
+  -- a grant behind deals without a charge
+  pub begun : (first : List Deal) (rights : Rights) (caps : List ℕ) (came : ℕ) (r : Bare w first) → ask_came seen first ≡ Some came
+      → AreSomeRights rights → IfSome (asked_at (contacts r.miles)) (λ (t : Time). ComesIn w t.0 came)
+      → Run (first ++ Granted rights caps ∷ []) []
+  begun first rights caps came r e fine comes_in =
+      let m : Mile = Got rights caps came in
+      record {
+        miles = r.miles ++ m ∷ [];
+        contacts_are = contacts-push r.miles m ∙ (ap (λ (cs : List Contact). cs ++ contact_of (Granted rights caps) ∷ []) r.contacts_are
+            ∙ sym (map-push first (Granted rights caps)));
+        charges_are = charges-push r.miles m ∙ (append-nil (charges_in r.miles) ∙ r.charges_are);
+        are = miles-push w [] r.miles m r.are (fine, comes_in);
+        came = came-got r.miles rights caps came ∙ sym (came-granted seen [] first rights caps came e);
+        beside = beside_got first r.miles rights caps came;
+        under = λ only. charges-push r.miles m ∙ (append-nil (charges_in r.miles) ∙ (r.charges_are
+            ∙ ap charges_in (sym (since-got [] r.miles rights caps came))));
+      }
 
   -- a packet that was not charged
   skipped : (before : List Deal) (front : List Coming) (t : ℕ) (p : PacketData) → Run before front → (IsCharged met p.id → ⊥)
@@ -170,7 +300,8 @@ module _ (w : Way) (seen met : List Coming) (log : List Entry) (own earlier : Li
         charges_are = charges-push r.miles m ∙ (append-nil (charges_in r.miles) ∙ r.charges_are);
         are = miles-push w [] r.miles m r.are tt;
         came = came-same r.miles m refl ∙ (r.came ∙ sym (came-other seen [] before (Prepared t p) tt));
-        beside = beside-push met before r.miles (Prepared t p) m r.beside (none, refl);
+        beside = beside_went before r.miles t p None r.beside (none, refl);
+        under = λ only. under-push r.miles m (since-went [] r.miles t (shape_in p.carried) (counted p) None) (r.under only);
       }
 
   -- one that was
@@ -188,24 +319,26 @@ module _ (w : Way) (seen met : List Coming) (log : List Entry) (own earlier : Li
         charges_are = charges-push r.miles m ∙ (ap₂ ◌++◌ r.charges_are one ∙ sym (filter_map-append paid_of front (x ∷ [])));
         are = miles-push w [] r.miles m r.are (pay r.miles r.came r.charges_are);
         came = came-same r.miles m refl ∙ (r.came ∙ sym (came-other seen [] before (Prepared t p) tt));
-        beside = beside-push met before r.miles (Prepared t p) m r.beside tt;
+        beside = beside_went before r.miles t p (Some c) r.beside tt;
+        under = λ only. under-push r.miles m (since-went [] r.miles t (shape_in p.carried) (counted p) (Some c)) (r.under only);
       }
 
   -- a grant
   granted : (before : List Deal) (front : List Coming) (rights : Rights) (caps : List ℕ) (rest : List Deal) (o : Option ℕ)
-      → Run before front → earlier ≡ before ++ Granted rights caps ∷ rest → ask_came seen before ≡ o → is_some o ≡ true → AreSomeRights rights
+      → Run before front → open_at before → earlier ≡ before ++ Granted rights caps ∷ rest → ask_came seen before ≡ o → is_some o ≡ true → (only_last → ⊥) → AreSomeRights rights
       → Run (before ++ Granted rights caps ∷ []) front
-  granted before front rights caps rest None r here e s fine = absurd (cc)
-  granted before front rights caps rest (Some came) r here e s fine =
+  granted before front rights caps rest None r opens here e s never fine = absurd (cc)
+  granted before front rights caps rest (Some came) r opens here e s never fine =
       let m : Mile = Got rights caps came in
       record {
         miles = r.miles ++ m ∷ [];
         contacts_are = contacts-push r.miles m ∙ (ap (λ (cs : List Contact). cs ++ contact_of (Granted rights caps) ∷ []) r.contacts_are
             ∙ sym (map-push before (Granted rights caps)));
         charges_are = charges-push r.miles m ∙ (append-nil (charges_in r.miles) ∙ r.charges_are);
-        are = miles-push w [] r.miles m r.are (fine, comes before rights caps rest came here e r.miles r.contacts_are);
+        are = miles-push w [] r.miles m r.are (fine, comes before rights caps rest came opens here e r.miles r.contacts_are);
         came = came-got r.miles rights caps came ∙ sym (came-granted seen [] before rights caps came e);
-        beside = beside-push met before r.miles (Granted rights caps) m r.beside tt;
+        beside = beside_got before r.miles rights caps came;
+        under = λ only. absurd (never only);
       }
 
   noticed : (before : List Deal) (front : List Coming) → Run before front → Run (before ++ Noticed ∷ []) front
@@ -216,7 +349,9 @@ module _ (w : Way) (seen met : List Coming) (log : List Entry) (own earlier : Li
     charges_are = charges-push r.miles Told ∙ (append-nil (charges_in r.miles) ∙ r.charges_are);
     are = miles-push w [] r.miles Told r.are tt;
     came = came-same r.miles Told refl ∙ (r.came ∙ sym (came-other seen [] before Noticed tt));
-    beside = beside-push met before r.miles Noticed Told r.beside tt;
+    beside = (let ds = since_other [] before Noticed tt in let ms = since-told [] r.miles in
+        rw (ds, ms) (beside-push met (since_granted [] before) (since_got [] r.miles) Noticed Told r.beside tt));
+    under = λ only. under-push r.miles Told (since-told [] r.miles) (r.under only);
   }
 
   -- what was skipped is of no charged packet: those before it were prepared before it, and those behind it behind it
@@ -274,6 +409,7 @@ module _ (w : Way) (seen met : List Coming) (log : List Entry) (own earlier : Li
     here : earlier ≡ before ++ ds
     seen_here : paid met ≡ front ++ xs
     run : Run before front
+    opens : open_at before
     ins : AllByRecursion (λ x. In before x.packet.id) front
 
   paid_some : (front : List Coming) (x : Coming) (back : List Coming) → paid met ≡ front ++ x ∷ back → is_some (paid_of x) ≡ true
@@ -296,6 +432,7 @@ module _ (w : Way) (seen met : List Coming) (log : List Entry) (own earlier : Li
     seen_here = a.seen_here ∙ sym (append_assoc front (x ∷ []) xs);
     run = charged_one before front t p x c a.run e (λ ms came charges. pays before t p (ds ++ tail) front x xs
         (own_here before (Prepared t p) ds a.here) a.seen_here k c e ms came charges);
+    opens = open_more before (Prepared t p) a.opens;
     ins = each-append (λ (y : Coming). In (before ++ Prepared t p ∷ []) y.packet.id) front (x ∷ [])
         (each-weaker (λ (y : Coming). In before y.packet.id) (λ (y : Coming). In (before ++ Prepared t p ∷ []) y.packet.id)
         (λ y i. in_left before (Prepared t p ∷ []) y.packet.id i) front a.ins)
@@ -311,6 +448,7 @@ module _ (w : Way) (seen met : List Coming) (log : List Entry) (own earlier : Li
     here = a.here ∙ sym (append_assoc before (d ∷ []) ds);
     seen_here = a.seen_here;
     run = by d a.here fine.0;
+    opens = open_more before d a.opens;
     ins = each-weaker (λ (y : Coming). In before y.packet.id) (λ (y : Coming). In (before ++ d ∷ []) y.packet.id)
         (λ y i. in_left before (d ∷ []) y.packet.id i) front a.ins;
   }
@@ -323,8 +461,8 @@ module _ (w : Way) (seen met : List Coming) (log : List Entry) (own earlier : Li
           (each-append (IsOther p.id) front xs (front_other before t p ds front all a.ins)
           (back_other t p ds xs (rises_back before (Prepared t p ∷ ds) all) (matches_in ds xs m)))))
       by (Granted rights caps) here k =
-          granted before front rights caps ds (ask_came seen before) a.run here refl
-          (asked before rights caps ds here) k
+          granted before front rights caps ds (ask_came seen before) a.run a.opens here refl
+          (asked before rights caps ds a.opens here).0 (asked before rights caps ds a.opens here).1 k
       by Noticed here k = noticed before front a.run
 
   walk : (before : List Deal) (front : List Coming) (ds : List Deal) (xs : List Coming) → AllByRecursion (IsTrue log) ds
@@ -340,10 +478,7 @@ module _ (w : Way) (seen met : List Coming) (log : List Entry) (own earlier : Li
   walk before front (d ∷ ds) (x ∷ xs) fine a (inr m) =
       walk (before ++ d ∷ []) front ds (x ∷ xs) fine.1 (step_skipped before front d ds (x ∷ xs) fine a m) m
 
-  pub miles_of : AllByRecursion (IsTrue log) earlier → Matches earlier (paid met) → Run earlier (paid met)
-  miles_of fine m = walk [] [] earlier (paid met) fine (record { here = refl; seen_here = refl; run = run_none; ins = tt }) m
-
-  pub authorised_since : (r : Run earlier (paid met)) → AllByRecursion (WasCharged met) (since_granted [] earlier)
-      → AreAuthorised (since_got [] r.miles)
-  authorised_since r a =
-      authorised met (since_granted [] earlier) (since_got [] r.miles) (since_beside met [] [] earlier r.miles tt r.beside) a
+  pub miles_of : (start ds : List Deal) → earlier ≡ start ++ ds → open_at start → Run start [] → AllByRecursion (IsTrue log) ds
+      → Matches ds (paid met) → Run earlier (paid met)
+  miles_of start ds here opens r fine m =
+      walk start [] ds (paid met) fine (record { here = here; seen_here = refl; run = r; opens = opens; ins = tt }) m

@@ -1,5 +1,5 @@
 -- From mile to mile.
-use Rattle.std.proofs.Common.{◌≡◌, ◌≤◌, ◌<◌, inl, inr, ℕ, ◌+◌, ◌-◌, ◌*◌, Bool, true, false, not, ◌&&◌, cond, ltb, leb, List, [], ◌∷◌, ◌++◌, Option, Some, None, refl, ap, sym, subst, ◌∙◌, arith, append_assoc, append-nil}
+use Rattle.std.proofs.Common.{◌≡◌, ◌≤◌, ◌<◌, inl, inr, ap₂, ℕ, ◌+◌, ◌-◌, ◌*◌, Bool, true, false, not, ◌&&◌, cond, ltb, leb, List, [], ◌∷◌, ◌++◌, Option, Some, None, refl, ap, sym, subst, ◌∙◌, arith, append_assoc, append-nil}
 use Rattle.std.specs.Prelude.{IsSomeAnd, sum_by}
 use Rattle.std.specs.List.{AllByRecursion}
 use Rattle.std.specs.Option.{option_or, option_map, unwrap_or, IfSome}
@@ -27,12 +27,12 @@ use Rattle.tva_sender.specs.Book.{Keeps}
 use Rattle.tva_sender.proofs.Pushes.{time_of, is_open, last_taking-push}
 use Rattle.tva_sender.proofs.Keeping.{keeps_prepared, keeps_answered, keeps_noticed}
 use Rattle.tva_honest.specs.Miles.{Mile, Went, Got, Told, contact_in, contacts, paid_in, charges_in, last_came}
-use Rattle.tva_honest.specs.SteadyMiles.{Way, ComesIn, grant_at, checked, IsMile, AreMiles, IsAuthorisedMile}
+use Rattle.tva_honest.specs.SteadyMiles.{Way, ComesIn, grant_at, checked, IsMile, AreMiles, AreAuthorised}
 use Rattle.tva_honest.proofs.Shown.{Allows, allows, by-taking, no-taking}
-use Rattle.tva_honest.proofs.Charges.{each-weaker, last-of, last-behind, Pairs, life-since}
+use Rattle.tva_honest.proofs.Charges.{each-weaker, last-of, last-behind, life-since}
 use Rattle.tva_honest.proofs.Seconds.{second-mono, second-later, second-within}
 use Rattle.tva_honest.proofs.Pushes.{contacts-push, charges-push, came-got, since-got, since-went, since-told}
-use Rattle.tva_honest.proofs.Stages.{IsFresh, AreOwn, NotAfter, Holds, Stage, none-after, stay, idle, used}
+use Rattle.tva_honest.proofs.Stages.{IsFresh, IsFull, AreOwn, NotAfter, Holds, Stage, none-after, stay, idle, unpaid, used}
 
 -- a capability that was minted for an ask is valid while its time lasts
 pub valid : (w : Way) (rights : Rights) (came at : ℕ) → AreSomeRights rights → came ≤ at → at + 1000000000 ≤ came + rights.t * 1000000000
@@ -94,7 +94,7 @@ pub record SpendsList (w : Way) (ms : List Mile) (k : Holds w ms) (sent bytes : 
 
 pub record SpendsNonce (w : Way) (ms : List Mile) (k : Holds w ms) (sent bytes nonce : ℕ) : Type 0 where
   pub spends : Spends w ms k sent bytes nonce
-  pub alive : sent + w.margin < life_of k.rights (uses (contacts k.own))
+  pub alive : sent + w.margin < life_of k.rights (uses (since_notice (contacts k.own)))
 
 pub by-list : (w : Way) (ms : List Mile) (k : Holds w ms) (sent body offered bytes : ℕ) (hd : Held) → bytes ≡ list_length w.version hd.caps body
     → IsSomeAnd (grant_held (contacts ms)) (λ g. (hd ≡ held g offered) × (fits w.margin sent g (list_length w.version hd.caps body) ≡ true)) → SpendsList w ms k sent bytes hd
@@ -113,10 +113,9 @@ by-nonce w ms k sent body offered bytes nonce sized shows =
     let g = grant_of (taking_of w ms k) in
     let facts = by-taking (λ g. (nonce ≡ nonce_of g offered) × (is_alive w.margin sent g ≡ true) × (fits w.margin sent g (nonce_length body) ≡ true)) (contacts ms) (taking_of w ms k) k.taking shows in
     let fit : fits w.margin sent g bytes ≡ true = subst (λ b. fits w.margin sent g b ≡ true) (sym sized) facts.2 in
-    let lives : sent + w.margin < life_of k.rights (uses (since_notice (contacts k.own))) = below _ _ facts.1 in
     record {
       spends = spends w ms k sent bytes nonce offered fit facts.0;
-      alive = omega (arith, lives, life-since k.rights (contacts k.own));
+      alive = below _ _ facts.1;
     }
 
 -- a list is charged to its grant
@@ -153,25 +152,44 @@ pub record HasFirst (cs : List Charge) : Type 0 where
   pub rest : List Charge
   pub is : cs ≡ first ∷ rest
 
-pub has-first : (delay : ℕ) (rights : Rights) (us : List Use) (cs : List Charge) (n : ℕ) → Pairs delay us cs → n < life_of rights us → HasFirst cs
-has-first delay rights [] cs n k l = absurd (omega (arith, l))
-has-first delay rights (u ∷ us) [] n k l = absurd k
-has-first delay rights (u ∷ us) (c ∷ cs) n k l = record { first = c; rest = cs; is = refl }
-
 pub last-own : (P : Charge → Type 0) (xs ys : List Charge) (d : Charge) → AllByRecursion P ys → HasFirst ys → last_charge (xs ++ ys) ≡ Some d → P d
 last-own P xs ys d all some e =
     let whole : last_charge (xs ++ some.first ∷ some.rest) ≡ Some d = subst (λ (z : List Charge). last_charge (xs ++ z) ≡ Some d) some.is e in
     let same : Some (last_or some.first some.rest) ≡ Some d = sym (last-behind xs some.first some.rest) ∙ whole in
     last-of P (some.first ∷ some.rest) d (subst (AllByRecursion P) some.is all) same
 
--- and it is of the grant, where all its packets were authorised
+-- where all that showed a grant were authorised, and one did, something was charged
+pub some-charge : (ms : List Mile) → AreAuthorised ms → charges_in ms ≡ [] → uses (contacts ms) ≡ []
+some-charge [] k e = refl
+some-charge (Went sent s bytes None ∷ ms) k e = ap₂ ◌++◌ k.0 (some-charge ms k.1 e)
+some-charge (Went sent s bytes (Some c) ∷ ms) k e = absurd (cc)
+some-charge (Got rights caps came ∷ ms) k e = some-charge ms k.1 e
+some-charge (Told ∷ ms) k e = some-charge ms k.1 e
+
+pub first-of : (cs : List Charge) → (cs ≡ [] → ⊥) → HasFirst cs
+first-of [] k = absurd (k refl)
+first-of (c ∷ cs) k = record { first = c; rest = cs; is = refl }
+
+-- behind no other charges the last one is of these
+first-behind : (xs ys : List Charge) (d : Charge) → xs ≡ [] → last_charge (xs ++ ys) ≡ Some d → HasFirst ys
+first-behind xs ys d e l = first-of ys (λ none. (let whole : last_charge ([] ++ []) ≡ Some d = subst (λ (z : List Charge). last_charge ([] ++ z) ≡ Some d) none (subst (λ (z : List Charge). last_charge (z ++ ys) ≡ Some d) e l) in cc))
+
+pub no-life : (rights : Rights) (us : List Use) (n : ℕ) → us ≡ [] → n < life_of rights us → ⊥
+no-life rights us n e l = (let more : n < life_of rights [] = subst (λ (z : List Use). n < life_of rights z) e l in omega (arith, more))
+
+-- and it is of the grant, where the grant's charges are full
 charge-nonce-own : (w : Way) (ms : List Mile) (k : Holds w ms) (sent bytes nonce : ℕ) (c : Charge) → SpendsNonce w ms k sent bytes nonce
-    → option_map (λ (d : Charge). d.grant) (last_charge (charges_in ms)) ≡ Some c.grant → AreOwn w k.rights k.came k.own → c.grant ≡ grant_at w k.rights k.came
-charge-nonce-own w ms k sent bytes nonce c by e own =
+    → option_map (λ (d : Charge). d.grant) (last_charge (charges_in ms)) ≡ Some c.grant → IsFull k.earlier k.own
+    → AllByRecursion (λ (d : Charge). d.grant ≡ grant_at w k.rights k.came) (charges_in k.own) → c.grant ≡ grant_at w k.rights k.came
+charge-nonce-own w ms k sent bytes nonce c by e full own =
     let l = last-is (last_charge (charges_in ms)) c.grant e in
-    let some = has-first w.delay k.rights (uses (contacts k.own)) (charges_in k.own) (sent + w.margin) own.pairs by.alive in
     let is : last_charge (charges_in k.earlier ++ charges_in k.own) ≡ Some l.last = ap last_charge (sym k.charges) ∙ l.is in
-    sym l.grant ∙ last-own (λ (d : Charge). d.grant ≡ grant_at w k.rights k.came) (charges_in k.earlier) (charges_in k.own) l.last own.grants some is
+    let some : HasFirst (charges_in k.own) = elim full [
+      | inl none ↦ first-behind (charges_in k.earlier) (charges_in k.own) l.last none is
+      | inr all ↦ first-of (charges_in k.own) (λ none. no-life k.rights (uses (contacts k.own)) (sent + w.margin) (some-charge k.own all none)
+          (let alive = by.alive in omega (arith, alive, life-since k.rights (contacts k.own))))
+    ] in
+    sym l.grant ∙ last-own (λ (d : Charge). d.grant ≡ grant_at w k.rights k.came) (charges_in k.earlier) (charges_in k.own) l.last own some is
 
 -- the times of asks after a packet that was prepared
 since-prepared : (b : Bool) (now retry asked : ℕ) (t : Time) → (b ≡ true → t.0 + retry ≤ now) → asked ≤ t.0 → asked ≤ (cond b (time now) t).0
@@ -194,7 +212,7 @@ asks-may margin version may o now body offered shape.Legacy k e = absurd (cc)
 went : (w : Way) (ms : List Mile) (k : Holds w ms) (sent body offered : ℕ) (s : Shape) (bytes : ℕ) (paid : Option Charge) → bytes ≡ length_of w.version s body
     → Allows w.margin w.version (may_ask w.retry (asked_at (contacts ms)) sent) (grant_held (contacts ms)) sent body offered s
     → AllByRecursion (NotAfter w k.came) (paid_in (Went sent s bytes paid))
-    → (IsAuthorisedMile (Went sent s bytes paid) → AreOwn w k.rights k.came k.own → AreOwn w k.rights k.came (k.own ++ Went sent s bytes paid ∷ []))
+    → (AreOwn w k.rights k.came k.earlier k.own → AreOwn w k.rights k.came k.earlier (k.own ++ Went sent s bytes paid ∷ []))
     → Holds w (ms ++ Went sent s bytes paid ∷ [])
 went w ms k sent body offered s bytes paid sized allowed some all =
     let peer = prepared w.version k.peer sent s body in
@@ -204,7 +222,7 @@ went w ms k sent body offered s bytes paid sized allowed some all =
     stay w ms k (Went sent s bytes paid) peer refl (λ b a. refl) (since-went [] ms sent s bytes paid) keeps
     (since-prepared (asks s) sent w.retry k.asked k.peer.asked may k.since)
     (again-prepared (asks s) k.peer.is_answered sent w.retry k.asked k.peer.asked may k.since k.again)
-    some (λ every one own. all one own)
+    some all
 
 not-after : (w : Way) (k_rights : Rights) (came : ℕ) (c : Charge) → c.grant ≡ grant_at w k_rights came → NotAfter w came c
 not-after w rights came c e = let same : c.grant.second ≡ router_second w.offset came = ap (λ (g : Grant). g.second) e in omega (arith, same)
@@ -213,31 +231,34 @@ not-after w rights came c e = let same : c.grant.second ≡ router_second w.offs
 by-shape : (w : Way) (ms : List Mile) (k : Holds w ms) (sent body offered : ℕ) (s : Shape) (bytes : ℕ) (paid : Option Charge) → IsMile w ms (Went sent s bytes paid) → bytes ≡ length_of w.version s body
     → Allows w.margin w.version (may_ask w.retry (asked_at (contacts ms)) sent) (grant_held (contacts ms)) sent body offered s → Holds w (ms ++ Went sent s bytes paid ∷ [])
 by-shape w ms k sent body offered shape.Request bytes None mile sized a =
-    went w ms k sent body offered shape.Request bytes None sized a tt (λ one own. idle w k.rights k.came k.own (Went sent shape.Request bytes None) refl refl own)
+    went w ms k sent body offered shape.Request bytes None sized a tt (λ own. idle w k.rights k.came k.earlier k.own (Went sent shape.Request bytes None) refl refl own)
 by-shape w ms k sent body offered shape.Request bytes (Some c) mile sized a = absurd mile.shown
-by-shape w ms k sent body offered (shape.List hd) bytes None mile sized a = went w ms k sent body offered (shape.List hd) bytes None sized a tt (λ one own. absurd (cc))
+by-shape w ms k sent body offered (shape.List hd) bytes None mile sized a = went w ms k sent body offered (shape.List hd) bytes None sized a tt
+    (λ own. unpaid w k.rights k.came k.earlier k.own (Went sent (shape.List hd) bytes None) (record { time = sent; length = bytes; nonce = hd.nonce }) refl refl own)
 by-shape w ms k sent body offered (shape.List hd) bytes (Some c) mile sized a =
     let list = by-list w ms k sent body offered bytes hd sized a in
     let grant = charge-list w ms k sent bytes hd c list mile.comes mile.behind mile.shown.1 in
     went w ms k sent body offered (shape.List hd) bytes (Some c) sized a (not-after w k.rights k.came c grant, tt)
-    (λ one own. used w k.rights k.came k.own (Went sent (shape.List hd) bytes (Some c)) (record { time = sent; length = bytes; nonce = hd.nonce }) c list.spends.offered refl refl grant
-    (record { length = mile.length; time = mile.comes.from }) mile.shown.0 list.spends.first own)
-by-shape w ms k sent body offered (shape.NonceOnly n) bytes None mile sized a = went w ms k sent body offered (shape.NonceOnly n) bytes None sized a tt (λ one own. absurd (cc))
+    (λ own. used w k.rights k.came k.earlier k.own (Went sent (shape.List hd) bytes (Some c)) (record { time = sent; length = bytes; nonce = hd.nonce }) c list.spends.offered refl refl
+    (λ full each. grant) mile.length mile.shown.0 list.spends.first own)
+by-shape w ms k sent body offered (shape.NonceOnly n) bytes None mile sized a = went w ms k sent body offered (shape.NonceOnly n) bytes None sized a tt
+    (λ own. unpaid w k.rights k.came k.earlier k.own (Went sent (shape.NonceOnly n) bytes None) (record { time = sent; length = bytes; nonce = n }) refl refl own)
 by-shape w ms k sent body offered (shape.NonceOnly n) bytes (Some c) mile sized a =
     let by = by-nonce w ms k sent body offered bytes n sized a in
     went w ms k sent body offered (shape.NonceOnly n) bytes (Some c) sized a (charge-nonce w ms k c mile.shown.1, tt)
-    (λ one own. used w k.rights k.came k.own (Went sent (shape.NonceOnly n) bytes (Some c)) (record { time = sent; length = bytes; nonce = n }) c by.spends.offered refl refl
-    (charge-nonce-own w ms k sent bytes n c by mile.shown.1 own)
-    (record { length = mile.length; time = mile.comes.from }) mile.shown.0 by.spends.first own)
-by-shape w ms k sent body offered (shape.Renewal hd) bytes None mile sized a = went w ms k sent body offered (shape.Renewal hd) bytes None sized a tt (λ one own. absurd (cc))
+    (λ own. used w k.rights k.came k.earlier k.own (Went sent (shape.NonceOnly n) bytes (Some c)) (record { time = sent; length = bytes; nonce = n }) c by.spends.offered refl refl
+    (λ full each. charge-nonce-own w ms k sent bytes n c by mile.shown.1 full each)
+    mile.length mile.shown.0 by.spends.first own)
+by-shape w ms k sent body offered (shape.Renewal hd) bytes None mile sized a = went w ms k sent body offered (shape.Renewal hd) bytes None sized a tt
+    (λ own. unpaid w k.rights k.came k.earlier k.own (Went sent (shape.Renewal hd) bytes None) (record { time = sent; length = bytes; nonce = hd.nonce }) refl refl own)
 by-shape w ms k sent body offered (shape.Renewal hd) bytes (Some c) mile sized a =
     let list = by-list w ms k sent body offered bytes hd sized a.1 in
     let grant = charge-list w ms k sent bytes hd c list mile.comes mile.behind mile.shown.1 in
     went w ms k sent body offered (shape.Renewal hd) bytes (Some c) sized a (not-after w k.rights k.came c grant, tt)
-    (λ one own. used w k.rights k.came k.own (Went sent (shape.Renewal hd) bytes (Some c)) (record { time = sent; length = bytes; nonce = hd.nonce }) c list.spends.offered refl refl grant
-    (record { length = mile.length; time = mile.comes.from }) mile.shown.0 list.spends.first own)
+    (λ own. used w k.rights k.came k.earlier k.own (Went sent (shape.Renewal hd) bytes (Some c)) (record { time = sent; length = bytes; nonce = hd.nonce }) c list.spends.offered refl refl
+    (λ full each. grant) mile.length mile.shown.0 list.spends.first own)
 by-shape w ms k sent body offered shape.Legacy bytes None mile sized a =
-    went w ms k sent body offered shape.Legacy bytes None sized a tt (λ one own. idle w k.rights k.came k.own (Went sent shape.Legacy bytes None) refl refl own)
+    went w ms k sent body offered shape.Legacy bytes None sized a tt (λ own. idle w k.rights k.came k.earlier k.own (Went sent shape.Legacy bytes None) refl refl own)
 by-shape w ms k sent body offered shape.Legacy bytes (Some c) mile sized a = absurd mile.shown
 
 -- without a grant so far
@@ -266,7 +287,7 @@ fresh-shape w ms f sent body offered shape.Legacy bytes (Some c) mile a = absurd
 told : (w : Way) (ms : List Mile) (k : Holds w ms) → Holds w (ms ++ Told ∷ [])
 told w ms k =
     stay w ms k Told (record k.peer { grant = noticed k.peer.grant }) refl (λ b a. refl) (since-told [] ms) (keeps_noticed k.peer (contacts ms) k.keeps) k.since k.again tt
-    (λ every one own. idle w k.rights k.came k.own Told refl refl own)
+    (λ own. idle w k.rights k.came k.earlier k.own Told refl refl own)
 
 -- an ask that is open
 record OpenAsk (o : Option Ask) : Type 0 where
@@ -278,7 +299,7 @@ open-ask None e = absurd (cc)
 open-ask (Some ask) e = record { ask = ask; is = refl }
 
 -- the charges before a taking are of earlier seconds
-old-stage : (w : Way) (ms : List Mile) → 1000000000 + w.margin ≤ w.retry → (t came : ℕ) → asked_at (contacts ms) ≡ Some (time t) → awaits (contacts ms) ≡ true → ComesIn w t came
+pub old-stage : (w : Way) (ms : List Mile) → 1000000000 + w.margin ≤ w.retry → (t came : ℕ) → asked_at (contacts ms) ≡ Some (time t) → awaits (contacts ms) ≡ true → ComesIn w t came
     → Stage w ms → AllByRecursion (λ c. c.grant.second < router_second w.offset came) (charges_in ms)
 old-stage w ms rules t came asked waits comes (inl f) = subst (AllByRecursion (λ (c : Charge). c.grant.second < router_second w.offset came)) (sym f.charges) tt
 old-stage w ms rules t came asked waits comes (inr k) =
@@ -322,7 +343,7 @@ got w ms rules stage rights caps came waits mile =
       keeps = subst (Keeps peer) (sym (contacts-push ms (Got rights caps came))) (keeps_answered before h rights caps kept);
       since = omega arith;
       again = λ e. absurd (cc);
-      all = λ every. record { grants = tt; pairs = tt; nonces = tt };
+      all = record { grants = λ full. tt; few = omega arith; nonces = tt };
     }
 
 step : (w : Way) (ms : List Mile) → 1000000000 + w.margin ≤ w.retry → Stage w ms → (m : Mile) → IsMile w ms m → IsNext w.margin w.retry w.version (contacts ms) (contact_in m) → Stage w (ms ++ m ∷ [])

@@ -29,8 +29,8 @@ use Rattle.tva_host.specs.Receiving.{shows_grant}
 use Rattle.tva_promises.specs.Fates.{NoRowRefusesShown, NoRowRefusesNonce, NoRowRefusesKind, NoRowRefuses}
 use Rattle.tva_paths.specs.Origins.{KeepsShown, KeepsKind, KeepsShim, KeepsCarried, Keeps}
 use Rattle.tva_honest.specs.Miles.{Mile, charges_in, last_came}
-use Rattle.tva_honest.specs.SteadyMiles.{Way, checked, IsShown}
-use Rattle.tva_honest.specs.Paths.{shows, IsMinted, ShowsMintedKind, ShowsMinted}
+use Rattle.tva_honest.specs.SteadyMiles.{Way, checked, IsShown, OfNonce}
+use Rattle.tva_honest.specs.Paths.{shows, is_nonce, shows_nonce, IsMinted, ShowsMintedKind, ShowsMinted}
 use Rattle.tva_honest.proofs.Lists.{some_same}
 use Rattle.tva_honest.proofs.Regular.{ShowsShape, ShowsGrant}
 use Rattle.tva_honest.proofs.Dealt.{shape_of_kind, shape_in, counted}
@@ -109,16 +109,18 @@ same_length p q k v =
 
 -- ## what it shows
 
--- at a router, over what it charged before, with the time at which the ask of the grant came
+-- at a router, over what it charged before to grants that are kept, with the time at which the ask of the grant came
 pub record At (w : Way) (router : RouterPlan) (q : PacketData) (ms : List Mile) (h : List Charge) (now : ℕ) : Type 0 where
   pub flow_is : w.flow ≡ q.flow
   pub master_is : w.master ≡ router.master
   pub offset_is : w.offset ≡ router.clock_offset
-  pub charges_are : last_charge (charges_in ms) ≡ holder h q.flow
+  pub keeps : Grant → Bool
+  pub charges_are : (d : Charge) → holder h q.flow ≡ Some d → keeps d.grant ≡ true → last_charge (charges_in ms) ≡ Some d
 
-pub at_router : (w : Way) (router : RouterPlan) (q : PacketData) (ms : List Mile) (h : List Charge) (now : ℕ) → w.flow ≡ q.flow
-    → w.master ≡ router.master → w.offset ≡ router.clock_offset → last_charge (charges_in ms) ≡ holder h q.flow → At w router q ms h now
-at_router w router q ms h now f m o c = record { flow_is = f; master_is = m; offset_is = o; charges_are = c }
+abbrev pub at_router : (w : Way) (router : RouterPlan) (q : PacketData) (ms : List Mile) (h : List Charge) (now : ℕ) → w.flow ≡ q.flow
+    → w.master ≡ router.master → w.offset ≡ router.clock_offset → (keeps : Grant → Bool)
+    → ((d : Charge) → holder h q.flow ≡ Some d → keeps d.grant ≡ true → last_charge (charges_in ms) ≡ Some d) → At w router q ms h now
+at_router w router q ms h now f m o keeps c = record { flow_is = f; master_is = m; offset_is = o; keeps = keeps; charges_are = c }
 
 minted_is : (w : Way) (router : RouterPlan) (q : PacketData) (ms : List Mile) (h : List Charge) (now : ℕ) → At w router q ms h now
     → (came : ℕ) (r : Rights) → capability_of (precap_of router.master q.flow (router_second router.clock_offset came)) r
@@ -146,44 +148,45 @@ checked_by w router q ms h now a on made came g (Some t) k r m =
     same ∙ shown
 
 held_by : (w : Way) (router : RouterPlan) (q : PacketData) (ms : List Mile) (h : List Charge) (now : ℕ) (a : At w router q ms h now)
-    (on : Option ℕ) (nonce : ℕ) (g : Grant) → NoRowRefusesNonce router h (arrival now on q) nonce g
+    (on : Option ℕ) (nonce : ℕ) (g : Grant) → a.keeps g ≡ true → NoRowRefusesNonce router h (arrival now on q) nonce g
     → option_map (λ (d : Charge). d.grant) (last_charge (charges_in ms)) ≡ Some g
-held_by w router q ms h now a on nonce g r = ap (option_map (λ (d : Charge). d.grant)) (a.charges_are ∙ r.held) ∙ ap Some r.grant_is
+held_by w router q ms h now a on nonce g kept r =
+    ap (option_map (λ (d : Charge). d.grant)) (a.charges_are r.charge r.held (ap a.keeps r.grant_is ∙ kept)) ∙ ap Some r.grant_is
 
 shown_kind : (w : Way) (router : RouterPlan) (q : PacketData) (ms : List Mile) (h : List Charge) (now : ℕ) (a : At w router q ms h now)
     (on : Option ℕ) (made came : Kind) (c : Charge) → KeepsKind made came
-    → c.time ≡ now → c.nonce ≡ kind_nonce came → NoRowRefusesKind router h (arrival now on q) came c.grant → IfSome (last_came ms)
+    → c.time ≡ now → c.nonce ≡ kind_nonce came → a.keeps c.grant ≡ true → NoRowRefusesKind router h (arrival now on q) came c.grant → IfSome (last_came ms)
     (λ t. ShowsMintedKind router q came t) → IsShown w ms (shape_of_kind made) c
-shown_kind w router q ms h now a on (kinds.Request x) (kinds.Request y) c k t n r m = absurd r
-shown_kind w router q ms h now a on (kinds.Request x) _ c k t n r m = absurd k
-shown_kind w router q ms h now a on (kinds.List x) (kinds.List y) c k t n r m = (
+shown_kind w router q ms h now a on (kinds.Request x) (kinds.Request y) c k t n kept r m = absurd r
+shown_kind w router q ms h now a on (kinds.Request x) _ c k t n kept r m = absurd k
+shown_kind w router q ms h now a on (kinds.List x) (kinds.List y) c k t n kept r m = (
   n ∙ k.nonce,
   subst (λ (z : ℕ). IfSome (last_came ms) (λ u. checked w x.rights u z ≡ Valid c.grant)) (sym t)
       (checked_by w router q ms h now a on x y c.grant (last_came ms) k r m),
 )
-shown_kind w router q ms h now a on (kinds.List x) _ c k t n r m = absurd k
-shown_kind w router q ms h now a on (kinds.Nonce x) (kinds.Nonce y) c k t n r m = (n ∙ k, held_by w router q ms h now a on y c.grant r)
-shown_kind w router q ms h now a on (kinds.Nonce x) _ c k t n r m = absurd k
-shown_kind w router q ms h now a on (kinds.Renewal x) (kinds.Renewal y) c k t n r m = (
+shown_kind w router q ms h now a on (kinds.List x) _ c k t n kept r m = absurd k
+shown_kind w router q ms h now a on (kinds.Nonce x) (kinds.Nonce y) c k t n kept r m = (n ∙ k, held_by w router q ms h now a on y c.grant kept r)
+shown_kind w router q ms h now a on (kinds.Nonce x) _ c k t n kept r m = absurd k
+shown_kind w router q ms h now a on (kinds.Renewal x) (kinds.Renewal y) c k t n kept r m = (
   n ∙ k.nonce,
   subst (λ (z : ℕ). IfSome (last_came ms) (λ u. checked w x.rights u z ≡ Valid c.grant)) (sym t)
       (checked_by w router q ms h now a on x y c.grant (last_came ms) k r m),
 )
-shown_kind w router q ms h now a on (kinds.Renewal x) _ c k t n r m = absurd k
+shown_kind w router q ms h now a on (kinds.Renewal x) _ c k t n kept r m = absurd k
 
 -- a packet that was charged shows its grant as it was prepared
 pub shown_as_made : (w : Way) (router : RouterPlan) (p q : PacketData) (ms : List Mile) (h : List Charge) (now : ℕ)
     (a : At w router q ms h now) (on : Option ℕ) (c : Charge) (v : AreShims p.carried q.carried)
-    → c.time ≡ now → c.nonce ≡ nonce_in q.carried → NoRowRefuses router h (arrival now on q) q.carried c.grant → IfSome (last_came ms)
+    → c.time ≡ now → c.nonce ≡ nonce_in q.carried → a.keeps c.grant ≡ true → NoRowRefuses router h (arrival now on q) q.carried c.grant → IfSome (last_came ms)
     (λ t. ShowsMinted router q q.carried t) → IsShown w ms (shape_in p.carried) c
-shown_as_made w router p q ms h now a on c v t n r m =
+shown_as_made w router p q ms h now a on c v t n kept r m =
     let nonce : c.nonce ≡ kind_nonce v.came.kind = n ∙ ap nonce_in v.came_is in
     let refused : NoRowRefuses router h (arrival now on q) (carried.Shim v.came) c.grant =
     subst (λ (x : Carried). NoRowRefuses router h (arrival now on q) x c.grant) v.came_is r in
     let minted : IfSome (last_came ms) (λ t. ShowsMinted router q (carried.Shim v.came) t) =
     subst (λ (x : Carried). IfSome (last_came ms) (λ t. ShowsMinted router q x t)) v.came_is m in
     subst (λ (s : Shape). IsShown w ms s c) (sym (shape_is p.carried q.carried v))
-    (shown_kind w router q ms h now a on v.made.kind v.came.kind c v.keeps.kind t nonce refused.1 minted)
+    (shown_kind w router q ms h now a on v.made.kind v.came.kind c v.keeps.kind t nonce kept refused.1 minted)
 
 -- ## what the last packet shows
 
@@ -221,3 +224,16 @@ shows_as_made w router p q ms h now a v m =
     let shown : ShowsGrant w ms (shape_of_kind v.made.kind) (carried.Shim v.came) = (v.unmarked, shape) in
     subst (λ (s : Shape). ShowsGrant w ms s q.carried) (sym (shape_is p.carried q.carried v))
     (subst (λ (x : Carried). ShowsGrant w ms (shape_of_kind v.made.kind) x) (sym v.came_is) shown)
+
+-- what holds of a nonce alone that comes
+nonce_kind : (made came : Kind) (P : Type 0) → KeepsKind made came → (is_nonce came ≡ true → P) → OfNonce (shape_of_kind made) P
+nonce_kind (kinds.Request x) came P k f = tt
+nonce_kind (kinds.List x) came P k f = tt
+nonce_kind (kinds.Nonce x) (kinds.Nonce y) P k f = f refl
+nonce_kind (kinds.Nonce x) _ P k f = absurd k
+nonce_kind (kinds.Renewal x) came P k f = tt
+
+pub of_nonce : (a b : Carried) (v : AreShims a b) (P : Type 0) → (shows_nonce b ≡ true → P) → OfNonce (shape_in a) P
+of_nonce a b v P k =
+    subst (λ (s : Shape). OfNonce s P) (sym (shape_is a b v))
+    (nonce_kind v.made.kind v.came.kind P v.keeps.kind (λ e. k (ap shows_nonce v.came_is ∙ e)))

@@ -5,7 +5,6 @@ pub mod Pushes
 pub mod Stages
 pub mod EachMile
 pub mod Authorised
-pub mod WalkMiles
 pub mod Lists
 pub mod Dealt
 pub mod Hosts

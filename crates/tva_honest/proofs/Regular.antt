@@ -27,8 +27,7 @@ use Rattle.tva_sender.specs.declared.shape.Held.{Held}
 use Rattle.tva_sender.specs.declared.shape.Shape.{Shape}
 use Rattle.tva_sender.specs.declared.shape.Shape.TheVariants as shape
 use Rattle.tva_honest.specs.Miles.{Mile, last_came, last_got}
-use Rattle.tva_honest.specs.SteadyMiles.{Way, grant_at, IsSteady, IsListTaken, IsNonceTaken, IsTaken}
-use Rattle.tva_honest.proofs.Authorised.{honest}
+use Rattle.tva_honest.specs.SteadyMiles.{Way, grant_at, IsListTaken, IsNonceTaken, IsTaken}
 use Rattle.tva_router.specs.declared.judged.Arrival.{Arrival}
 use Rattle.tva_router.specs.declared.judged.Judged.{Judged}
 use Rattle.tva_router.specs.Judging.{Answer, second_of, fresh_for, answer_of, answer_to_checked, answer_to_cap, answer_to_shown, answer_to_nonce, judged, judged_by, judged_kind, judged_shim, judge}
@@ -155,8 +154,8 @@ judge_regular plan h a carried.Nothing w miles s leads t k = absurd k
 judge_regular plan h a (carried.Malformed size) w miles s leads t k = absurd k
 judge_regular plan h a (carried.Shim shim) w miles s leads t k = shim_regular plan h a shim w miles s leads t k.0 k.1
 
-pub steady_regular : (plan : RouterPlan) (h : List Charge) (logs : PortLogs) (now : ℕ) (from : Option ℕ) (p : PacketData) (w : Way) (miles : List Mile) (prepared : ℕ) (s : Shape) → p.hops < 32 → LeadsTo plan p.flow w → IsSteady w h miles prepared s (packet_length p) now
+pub steady_regular : (plan : RouterPlan) (h : List Charge) (logs : PortLogs) (now : ℕ) (from : Option ℕ) (p : PacketData) (w : Way) (miles : List Mile) (s : Shape) → p.hops < 32 → LeadsTo plan p.flow w → IsTaken w h miles s (packet_length p) now
     → ShowsGrant w miles s p.carried → IsRegularBy w miles (handle plan h logs now from p).fate.charge (handle plan h logs now from p).fate.class
 unfolding handle
-steady_regular plan h logs now from p w miles prepared s below leads steady k =
-    rw (lt-leb 32 p.hops below) (judge_regular plan h (arrival now from p) p.carried w miles s leads (honest w h miles prepared s (packet_length p) now steady) k)
+steady_regular plan h logs now from p w miles s below leads taken k =
+    rw (lt-leb 32 p.hops below) (judge_regular plan h (arrival now from p) p.carried w miles s leads taken k)

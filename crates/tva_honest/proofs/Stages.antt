@@ -1,7 +1,9 @@
 -- What is known of the miles so far.
-use Rattle.std.proofs.Common.{◌≡◌, ◌≤◌, ◌<◌, ◌⊎◌, ℕ, ◌+◌, false, List, [], ◌∷◌, ◌++◌, Option, Some, None, refl, ap, sym, subst, ◌∙◌, arith, append_assoc, append-nil}
+use Rattle.std.proofs.Common.{◌≡◌, ◌≤◌, ◌<◌, ◌⊎◌, inl, inr, ℕ, ◌+◌, false, List, [], ◌∷◌, ◌++◌, Option, Some, None, refl, ap, sym, subst, ◌∙◌, arith, append_assoc, append-nil}
+use Rattle.std.specs.Prelude.{sum_by}
 use Rattle.std.specs.List.{AllByRecursion}
 use Rattle.std.specs.Option.{option_or, option_map, unwrap_or}
+use Rattle.std.proofs.lemmas.List.Sums.{sum_by-cons, sum_by-append}
 use Rattle.tva_base.specs.declared.packet.Rights.{Rights}
 use Rattle.tva_base.specs.Clock.{router_second}
 use Rattle.tva_base.specs.Versions.{AreSomeRights}
@@ -11,20 +13,23 @@ use Rattle.tva_sender.specs.Contacts.{Contact, Taking, taking_in, last_taking, l
 use Rattle.tva_sender.specs.Book.{Keeps}
 use Rattle.tva_sender.proofs.Pushes.{time_of, last_taking-push, taking_more, uses-push}
 use Rattle.tva_honest.specs.Miles.{Mile, contact_in, contacts, paid_in, charges_in, ask_came_in, last_came, since_got}
-use Rattle.tva_honest.specs.SteadyMiles.{Way, ComesIn, grant_at, IsAuthorisedMile, AreAuthorised}
-use Rattle.tva_honest.proofs.Charges.{each-append, each-weaker, IsChargeOf, Pairs, pairs-push}
-use Rattle.tva_honest.proofs.Pushes.{contacts-push, charges-push, came-same, authorised-front, authorised-last}
+use Rattle.tva_honest.specs.SteadyMiles.{Way, ComesIn, grant_at, AreAuthorised}
+use Rattle.tva_honest.proofs.Charges.{each-append, each-weaker}
+use Rattle.tva_honest.proofs.Pushes.{contacts-push, charges-push, came-same, authorised-front}
 
 -- no grant was taken so far, so no packet showed one
 pub record IsFresh (ms : List Mile) : Type 0 where
   pub taking : last_taking [] (contacts ms) ≡ None
   pub charges : charges_in ms ≡ []
 
--- what the charges of a grant are, where all its packets were authorised: those of its grant, one for
--- each use, with the first one's nonce
-pub record AreOwn (w : Way) (rights : Rights) (came : ℕ) (own : List Mile) : Type 0 where
-  pub grants : AllByRecursion (λ c. c.grant ≡ grant_at w rights came) (charges_in own)
-  pub pairs : Pairs w.delay (uses (contacts own)) (charges_in own)
+-- nothing was charged before, or all packets that show the grant were authorised
+abbrev pub IsFull : List Mile → List Mile → Type 0
+IsFull earlier own = (charges_in earlier ≡ []) ⊎ AreAuthorised own
+
+-- what the charges of a grant are: of its grant, no more than its uses, with the first one's nonce
+pub record AreOwn (w : Way) (rights : Rights) (came : ℕ) (earlier own : List Mile) : Type 0 where
+  pub grants : IsFull earlier own → AllByRecursion (λ c. c.grant ≡ grant_at w rights came) (charges_in own)
+  pub few : sum_by (λ c. c.length) (charges_in own) ≤ sum_by (λ u. u.length) (uses (contacts own))
   pub nonces : AllByRecursion (λ c. Some c.nonce ≡ first_nonce (uses (contacts own))) (charges_in own)
 
 abbrev pub NotAfter : Way → ℕ → Charge → Type 0
@@ -51,7 +56,7 @@ pub record Holds (w : Way) (ms : List Mile) : Type 0 where
   pub keeps : Keeps peer (contacts ms)
   pub since : asked ≤ peer.asked.0
   pub again : peer.is_answered ≡ false → asked + w.retry ≤ peer.asked.0
-  pub all : AreAuthorised own → AreOwn w rights came own
+  pub all : AreOwn w rights came earlier own
 
 abbrev pub Stage : Way → List Mile → Type 0
 Stage w ms = IsFresh ms ⊎ Holds w ms
@@ -68,7 +73,7 @@ pub stay : (w : Way) (ms : List Mile) (k : Holds w ms) (m : Mile) (peer : Peer) 
     → since_got [] (ms ++ m ∷ []) ≡ since_got [] ms ++ m ∷ []
     → Keeps peer (contacts ms ++ contact_in m ∷ []) → k.asked ≤ peer.asked.0 → (peer.is_answered ≡ false → k.asked + w.retry ≤ peer.asked.0)
     → AllByRecursion (NotAfter w k.came) (paid_in m)
-    → (AreAuthorised k.own → IsAuthorisedMile m → AreOwn w k.rights k.came k.own → AreOwn w k.rights k.came (k.own ++ m ∷ []))
+    → (AreOwn w k.rights k.came k.earlier k.own → AreOwn w k.rights k.came k.earlier (k.own ++ m ∷ []))
     → Holds w (ms ++ m ∷ [])
 stay w ms k m peer no_came no_taking since_push keeps since again some all =
     let own' = k.own ++ m ∷ [] in
@@ -97,17 +102,22 @@ stay w ms k m peer no_came no_taking since_push keeps since again some all =
       keeps = subst (Keeps peer) (sym (contacts-push ms m)) keeps;
       since = since;
       again = again;
-      all = λ every. all (authorised-front k.own m every) (authorised-last k.own m every) (k.all (authorised-front k.own m every));
+      all = all k.all;
     }
 
+-- what is full with a mile behind it is full without it
+full-front : (earlier own : List Mile) (m : Mile) → IsFull earlier (own ++ m ∷ []) → IsFull earlier own
+full-front earlier own m (inl none) = inl none
+full-front earlier own m (inr all) = inr (authorised-front own m all)
+
 -- a mile that shows nothing and is not charged leaves the charges as they are
-pub idle : (w : Way) (rights : Rights) (came : ℕ) (own : List Mile) (m : Mile) → uses_in (contact_in m) ≡ [] → paid_in m ≡ [] → AreOwn w rights came own → AreOwn w rights came (own ++ m ∷ [])
-idle w rights came own m no_use no_charge k =
+pub idle : (w : Way) (rights : Rights) (came : ℕ) (earlier own : List Mile) (m : Mile) → uses_in (contact_in m) ≡ [] → paid_in m ≡ [] → AreOwn w rights came earlier own → AreOwn w rights came earlier (own ++ m ∷ [])
+idle w rights came earlier own m no_use no_charge k =
     let cs : charges_in (own ++ m ∷ []) ≡ charges_in own = charges-push own m ∙ ap (λ (z : List Charge). charges_in own ++ z) no_charge ∙ append-nil (charges_in own) in
     let us : uses (contacts (own ++ m ∷ [])) ≡ uses (contacts own) = ap uses (contacts-push own m) ∙ uses-push (contacts own) (contact_in m) ∙ ap (λ (z : List Use). uses (contacts own) ++ z) no_use ∙ append-nil (uses (contacts own)) in
     record {
-      grants = rw cs k.grants;
-      pairs = rw (cs, us) k.pairs;
+      grants = λ full. subst (AllByRecursion (λ (c : Charge). c.grant ≡ grant_at w rights came)) (sym cs) (k.grants (full-front earlier own m full));
+      few = rw (cs, us) k.few;
       nonces = rw (cs, us) k.nonces;
     }
 
@@ -120,18 +130,46 @@ first-stays : (us : List Use) (u : Use) (n : ℕ) → Some n ≡ first_nonce us 
 first-stays [] u n e = absurd (cc)
 first-stays (v ∷ vs) u n e = e
 
--- a mile that shows the grant and is charged to it
-pub used : (w : Way) (rights : Rights) (came : ℕ) (own : List Mile) (m : Mile) (u : Use) (c : Charge) (offered : ℕ) → uses_in (contact_in m) ≡ u ∷ [] → paid_in m ≡ c ∷ []
-    → c.grant ≡ grant_at w rights came → IsChargeOf w.delay u c → c.nonce ≡ u.nonce → u.nonce ≡ unwrap_or (first_nonce (uses (contacts own))) offered
-    → AreOwn w rights came own → AreOwn w rights came (own ++ m ∷ [])
-used w rights came own m u c offered one_use one_charge grant pair nonce first k =
+-- charges with the first nonce have that of one more use
+nonces-stay : (us : List Use) (u : Use) (cs : List Charge) → AllByRecursion (λ c. Some c.nonce ≡ first_nonce us) cs → AllByRecursion (λ c. Some c.nonce ≡ first_nonce (us ++ u ∷ [])) cs
+nonces-stay us u cs k =
+    each-weaker (λ (c : Charge). Some c.nonce ≡ first_nonce us) (λ (c : Charge). Some c.nonce ≡ first_nonce (us ++ u ∷ [])) cs (λ d e. first-stays us u d.nonce e) k
+
+-- a mile that shows the grant and is not charged
+pub unpaid : (w : Way) (rights : Rights) (came : ℕ) (earlier own : List Mile) (m : Mile) (u : Use) → uses_in (contact_in m) ≡ u ∷ [] → paid_in m ≡ []
+    → AreOwn w rights came earlier own → AreOwn w rights came earlier (own ++ m ∷ [])
+unpaid w rights came earlier own m u one_use no_charge k =
+    let cs : charges_in (own ++ m ∷ []) ≡ charges_in own = charges-push own m ∙ ap (λ (z : List Charge). charges_in own ++ z) no_charge ∙ append-nil (charges_in own) in
+    let us : uses (contacts (own ++ m ∷ [])) ≡ uses (contacts own) ++ u ∷ [] = ap uses (contacts-push own m) ∙ uses-push (contacts own) (contact_in m) ∙ ap (λ (z : List Use). uses (contacts own) ++ z) one_use in
+    let more : sum_by (λ (x : Use). x.length) (uses (contacts own) ++ u ∷ []) ≡ sum_by (λ (x : Use). x.length) (uses (contacts own)) + sum_by (λ (x : Use). x.length) (u ∷ []) =
+    sum_by-append (λ (x : Use). x.length) (uses (contacts own)) (u ∷ []) in
+    let few : sum_by (λ (c : Charge). c.length) (charges_in own) ≤ sum_by (λ (x : Use). x.length) (uses (contacts own) ++ u ∷ []) = omega (arith, more, k.few) in
+    record {
+      grants = λ full. subst (AllByRecursion (λ (c : Charge). c.grant ≡ grant_at w rights came)) (sym cs) (k.grants (full-front earlier own m full));
+      few = rw (cs, us) few;
+      nonces = rw (cs, us) (nonces-stay (uses (contacts own)) u (charges_in own) k.nonces);
+    }
+
+-- a mile that shows the grant and is charged
+pub used : (w : Way) (rights : Rights) (came : ℕ) (earlier own : List Mile) (m : Mile) (u : Use) (c : Charge) (offered : ℕ) → uses_in (contact_in m) ≡ u ∷ [] → paid_in m ≡ c ∷ []
+    → (IsFull earlier own → AllByRecursion (λ d. d.grant ≡ grant_at w rights came) (charges_in own) → c.grant ≡ grant_at w rights came)
+    → c.length ≡ u.length → c.nonce ≡ u.nonce → u.nonce ≡ unwrap_or (first_nonce (uses (contacts own))) offered
+    → AreOwn w rights came earlier own → AreOwn w rights came earlier (own ++ m ∷ [])
+used w rights came earlier own m u c offered one_use one_charge grant length nonce first k =
     let cs : charges_in (own ++ m ∷ []) ≡ charges_in own ++ c ∷ [] = charges-push own m ∙ ap (λ (z : List Charge). charges_in own ++ z) one_charge in
     let us : uses (contacts (own ++ m ∷ [])) ≡ uses (contacts own) ++ u ∷ [] = ap uses (contacts-push own m) ∙ uses-push (contacts own) (contact_in m) ∙ ap (λ (z : List Use). uses (contacts own) ++ z) one_use in
-    let Same : List Use → Charge → Type 0 = λ vs d. Some d.nonce ≡ first_nonce vs in
+    let more : sum_by (λ (x : Use). x.length) (uses (contacts own) ++ u ∷ []) ≡ sum_by (λ (x : Use). x.length) (uses (contacts own)) + sum_by (λ (x : Use). x.length) (u ∷ []) =
+    sum_by-append (λ (x : Use). x.length) (uses (contacts own)) (u ∷ []) in
+    let paid : sum_by (λ (x : Charge). x.length) (charges_in own ++ c ∷ []) ≡ sum_by (λ (x : Charge). x.length) (charges_in own) + sum_by (λ (x : Charge). x.length) (c ∷ []) =
+    sum_by-append (λ (x : Charge). x.length) (charges_in own) (c ∷ []) in
+    let one : sum_by (λ (x : Use). x.length) (u ∷ []) ≡ u.length + sum_by (λ (x : Use). x.length) [] = sum_by-cons (λ (x : Use). x.length) u [] in
+    let other : sum_by (λ (x : Charge). x.length) (c ∷ []) ≡ c.length + sum_by (λ (x : Charge). x.length) [] = sum_by-cons (λ (x : Charge). x.length) c [] in
+    let few : sum_by (λ (x : Charge). x.length) (charges_in own ++ c ∷ []) ≤ sum_by (λ (x : Use). x.length) (uses (contacts own) ++ u ∷ []) = omega (arith, more, paid, one, other, length, k.few) in
     record {
-      grants = rw cs (each-append (λ (d : Charge). d.grant ≡ grant_at w rights came) (charges_in own) (c ∷ []) k.grants (grant, tt));
-      pairs = rw (cs, us) (pairs-push w.delay (uses (contacts own)) (charges_in own) u c k.pairs pair);
-      nonces = rw (cs, us) (each-append (Same (uses (contacts own) ++ u ∷ [])) (charges_in own) (c ∷ [])
-          (each-weaker (Same (uses (contacts own))) (Same (uses (contacts own) ++ u ∷ [])) (charges_in own) (λ d e. first-stays (uses (contacts own)) u d.nonce e) k.nonces)
+      grants = λ full. (let before = k.grants (full-front earlier own m full) in subst (AllByRecursion (λ (d : Charge). d.grant ≡ grant_at w rights came)) (sym cs)
+          (each-append (λ (d : Charge). d.grant ≡ grant_at w rights came) (charges_in own) (c ∷ []) before (grant (full-front earlier own m full) before, tt)));
+      few = rw (cs, us) few;
+      nonces = rw (cs, us) (each-append (λ (d : Charge). Some d.nonce ≡ first_nonce (uses (contacts own) ++ u ∷ [])) (charges_in own) (c ∷ [])
+          (nonces-stay (uses (contacts own)) u (charges_in own) k.nonces)
           (ap Some nonce ∙ first-more (uses (contacts own)) u offered first, tt));
     }

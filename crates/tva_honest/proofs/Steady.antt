@@ -1,9 +1,9 @@
 -- In each run what comes on a steady path and shows a grant is charged and goes on as regular.
-use Rattle.std.proofs.Common.{◌≡◌, ◌≤◌, ◌<◌, ◌⊎◌, inl, inr, ℕ, true, false, List, [], ◌∷◌, ◌++◌, map, is_some, Option, Some, None, refl, ap, ap₂, sym, subst, ◌∙◌, arith, append_assoc}
-use Rattle.std.specs.Prelude.{IsSomeAnd, ◌==◌}
+use Rattle.std.proofs.Common.{◌≡◌, ◌≤◌, ◌<◌, ◌⊎◌, inl, inr, ℕ, Bool, true, false, leb, List, [], ◌∷◌, ◌++◌, map, is_some, Option, Some, None, refl, ap, ap₂, sym, subst, ◌∙◌, arith, append_assoc, append-nil}
+use Rattle.std.specs.Prelude.{IsSomeAnd, filter, ◌==◌}
 use Rattle.std.specs.Option.{option_map, IfSome}
 use Rattle.std.specs.List.{AllByRecursion, filter_map, cons_option}
-use Rattle.std.proofs.lemmas.Bool.{eqb-true}
+use Rattle.std.proofs.lemmas.Bool.{eqb-true, le-leb}
 use Rattle.std.proofs.lemmas.List.Elements.{filter_map-append}
 use Rattle.tva_base.specs.declared.packet.Fate.{Fate}
 use Rattle.tva_base.specs.declared.packet.Flow.{Flow}
@@ -15,15 +15,18 @@ use Rattle.tva_base.specs.declared.packet.Time.{Time}
 use Rattle.tva_base.specs.declared.plan.HostPlan.{HostPlan}
 use Rattle.tva_base.specs.declared.plan.RouterPlan.{RouterPlan}
 use Rattle.tva_base.specs.Changes.{boot_at, in_force}
+use Rattle.tva_base.specs.Clock.{router_second}
 use Rattle.tva_base.specs.Plan.{IsHostPlan}
 use Rattle.tva_shim.specs.Shims.{IsReturn}
 use Rattle.tva_shim.specs.Packets.{PacketData, packet_length}
 use Rattle.tva_shim.specs.Shows.{back_in}
 use Rattle.tva_flow.specs.Charges.{Charge, same_flow, of_flow, last_charge, holder}
 use Rattle.tva_flow.proofs.Same.{flow_is}
+use Rattle.tva_sender.specs.declared.shape.Shape.{Shape}
 use Rattle.tva_sender.specs.Contacts as contact
 use Rattle.tva_sender.specs.Contacts.{Contact, Taking, last_taking, asked_at, time}
 use Rattle.tva_sender.specs.Played.{IsPlayed}
+use Rattle.tva_port.specs.Keeps.{AreRising}
 use Rattle.tva_router.specs.Boots.{charges_of_boot, charges_at}
 use Rattle.tva_router.specs.Handling.{arrival}
 use Rattle.tva_router.specs.Marks.{is_marked}
@@ -56,10 +59,11 @@ use Rattle.tva_promises.proofs.Entries.{fate_is}
 use Rattle.tva_paths.specs.Origins.{made_in, Keeps, HasOrigin}
 use Rattle.tva_paths.proofs.Walks.{at_place}
 use Rattle.tva_paths.proofs.Origins.{origin_at}
-use Rattle.tva_honest.specs.Miles.{Mile, contacts, charges_in, last_came}
-use Rattle.tva_honest.specs.SteadyMiles.{Way, ComesIn, IsPaid, IsSteady}
+use Rattle.tva_honest.specs.Miles.{Mile, contacts, charges_in, last_came, since_got, since_notified}
+use Rattle.tva_honest.specs.SteadyMiles as kit
+use Rattle.tva_honest.specs.SteadyMiles.{Way, ComesIn, IsPaid, is_since, IsSteady, IsNarrow, IsTaken}
 use Rattle.tva_honest.specs.Deals.{Deal, Prepared, Granted, Noticed, Coming, coming, deals, comings}
-use Rattle.tva_honest.specs.Paths.{shows, ask_coming, ask_came, grant_came, ShowsMinted, ComesInTime, ComesSteadily, comings_at, those_charged, IsSteadyPath, IsTakenByLast, AreHonestRegular}
+use Rattle.tva_honest.specs.Paths.{shows, shows_nonce, ask_coming, ask_came, grant_came, since_granted, since_noticed, IsNoGrant, ShowsMinted, ComesInTime, ComesSteadily, ComesUnder, comings_at, is_charged_since, charged_since, WasCharged, IsSteadyPath, IsNarrowPath, IsTakenByLast, AreHonestRegular}
 use Rattle.tva_honest.proofs.Given.{AreGiven}
 use Rattle.tva_honest.proofs.Lists.{some_same, Rises, rises_from, rises_rest, rises_front, rises_last, each_front, one_place}
 use Rattle.tva_honest.proofs.Dealt.{shape_in, counted, contact_of, played_front, map_place}
@@ -67,12 +71,13 @@ use Rattle.tva_honest.proofs.Hosts.{ordinal_of, made_at, entry_key, deal_key, ta
 use Rattle.tva_honest.proofs.Returns.{received_returns}
 use Rattle.tva_honest.proofs.Counts.{few_inputs}
 use Rattle.tva_honest.proofs.Matching.{In, come_key, keys, AreIn, Matches, in_place, in_append, in_behind, matched}
-use Rattle.tva_honest.proofs.Asks.{Asked, last_time, asked_place, come_id, ask_is, coming_is, last_rights_are}
-use Rattle.tva_honest.proofs.Comings.{paid_of, paid, charge_parts, paying_all, claim, claim_at, flow_charges, CameAt, came_place, paid_only, paid_place, charged_is}
+use Rattle.tva_honest.proofs.Asks.{Asked, last_time, asked_place, come_id, came-granted, came-under, ask_is, coming_is, last_rights_are}
+use Rattle.tva_honest.proofs.Comings.{paid_of, paid, charge_parts, paying_all, claim, claim_at, flow_charges, CameAt, came_place, paid_only, paid_place, charged_is, since_charged, since_first, was_since, since_paid}
+use Rattle.tva_honest.proofs.Authorised.{last-passes, each-behind, honest, narrow-honest}
 use Rattle.tva_honest.proofs.Boots.{one_master, passing_place, boot_charges}
-use Rattle.tva_honest.proofs.DealtMiles.{Run, miles_of, authorised_since}
+use Rattle.tva_honest.proofs.DealtMiles.{authorised, noticed_beside, since_grant, since_under, Bare, bare_from, bare_none, Run, run_none, begun, miles_of}
 use Rattle.tva_honest.proofs.Regular.{ShowsGrant, steady_regular}
-use Rattle.tva_honest.proofs.Kept.{AreShims, are_shims, same_length, at_router, shown_as_made, shows_as_made}
+use Rattle.tva_honest.proofs.Kept.{AreShims, are_shims, same_length, at_router, shown_as_made, shows_as_made, of_nonce}
 
 -- ## the times of a host's calls
 
@@ -146,6 +151,15 @@ rises_behind : (before ds : List Deal) → Rises (keys (before ++ ds)) → Rises
 rises_behind [] ds r = r
 rises_behind (b ∷ bs) ds r = rises_behind bs ds (rises_rest (deal_key b) (keys (bs ++ ds)) r)
 
+-- what stands behind the same is the same
+same_behind : (xs ys zs : List Deal) → xs ++ ys ≡ xs ++ zs → ys ≡ zs
+same_behind [] ys zs e = e
+same_behind (x ∷ xs) ys zs e = (let rest : xs ++ ys ≡ xs ++ zs = cc in same_behind xs ys zs rest)
+
+passes_if : (f : Charge → ℕ) (n : ℕ) (o : Option Charge) → IfSome o (λ c. n ≤ f c) → IfSome o (λ c. leb n (f c) ≡ true)
+passes_if f n None k = tt
+passes_if f n (Some c) k = le-leb n (f c) k
+
 -- ## in a run
 
 module _ (config : Config) (rows : List Row) (until : ℕ) (logs : Logs) (valid : IsConfig config)
@@ -172,8 +186,8 @@ module _ (config : Config) (rows : List Row) (until : ℕ) (logs : Logs) (valid 
   abbrev ruling : RouterPlan
   ruling = in_force router now
 
-  abbrev met : List Coming
-  met = comings_at router now seen
+  abbrev boot : List Coming
+  boot = comings_at router now seen
 
   abbrev held : List Charge
   held = charges_at router now (charges past)
@@ -276,16 +290,16 @@ module _ (config : Config) (rows : List Row) (until : ℕ) (logs : Logs) (valid 
       (ap (λ (z : PacketId). Some z.ordinal) same) (subst (λ (ds : List Deal). Rises (keys ds)) place rises) in
       (s.before, ap deal_time s.here)
 
-  -- the charge of what came steadily
-  pays_at : (b : List Entry) (i : Input) (o : Option ℕ) (p : PacketData) (ft : Fate) (ow : PacketData) (r : List Entry)
+  -- the charge of what came steadily, to a grant of no earlier second
+  pays_at : (s : ℕ) (b : List Entry) (i : Input) (o : Option ℕ) (p : PacketData) (ft : Fate) (ow : PacketData) (r : List Entry)
       → log_at logs node ≡ b ++ Took i (Arrived o p ft ow) ∷ r → same_flow p.flow packet.flow ≡ true → is_marked p.carried ≡ false
       → (before : List Deal) (t : ℕ) (q : PacketData) (after : List Deal) → own ≡ before ++ Prepared t q ∷ after → (front : List Coming)
-      → filter_map paid_of (comings_at router now (comings packet.flow b)) ≡ filter_map paid_of front
+      → filter_map paid_of (charged_since s (comings_at router now (comings packet.flow b))) ≡ filter_map paid_of front
       → q.id ≡ p.id → Steadily (coming i p ft) → boot_at router (input_time i) ≡ boot_at router now
-      → (g : Grant) → ft.charge ≡ Some g → (ms : List Mile)
+      → (g : Grant) → ft.charge ≡ Some g → leb s g.second ≡ true → (ms : List Mile)
       → last_came ms ≡ grant_came seen [] before → charges_in ms ≡ filter_map paid_of front
       → IsPaid way ms t (shape_in q.carried) (counted q) (charged (input_time i) p g)
-  pays_at b i o p ft ow r h flow plain before t q after place front fr same cs boot g e ms lc ce =
+  pays_at s b i o p ft ow r h flow plain before t q after place front fr same cs boot g e since ms lc ce =
       let u : ℕ = input_time i in
       let rules : RouterPlan = in_force router u in
       let paid_then : List Charge = charges_at router u (charges b) in
@@ -294,18 +308,24 @@ module _ (config : Config) (rows : List Row) (until : ℕ) (logs : Logs) (valid 
       let ic = claim rules paid_then (arrival u o p) p.carried g cl in
       let v = are_shims q.carried p.carried k.carried plain ic.shown in
       let it : InTime (coming i p ft) = cs.in_time in
-      let s = one_deal before t q after it.before it.sent it.packet it.after place it.place (it.same ∙ sym same) in
-      let sent : t ≡ it.sent = s.1 in
-      let came_eq : last_came ms ≡ grant_came seen [] it.before = lc ∙ ap (grant_came seen []) s.0 in
+      let at = one_deal before t q after it.before it.sent it.packet it.after place it.place (it.same ∙ sym same) in
+      let sent : t ≡ it.sent = at.1 in
+      let came_eq : last_came ms ≡ grant_came seen [] it.before = lc ∙ ap (grant_came seen []) at.0 in
       let fl : packet.flow ≡ p.flow = sym (flow_is p.flow packet.flow flow) in
       let of_boot : of_flow packet.flow paid_then ≡ filter_map paid_of (comings_at router now (comings packet.flow b)) =
       subst (λ (n : ℕ). of_flow packet.flow (charges_of_boot router n (charges b))
       ≡ filter_map paid_of (comings_at router now (comings packet.flow b))) (sym boot)
       (boot_charges router packet.flow (boot_at router now) b
       (flow_charges to router to_plan until (log_at logs node) keeps packet.flow b (Took i (Arrived o p ft ow) ∷ r) h)) in
-      let hold : last_charge (charges_in ms) ≡ holder paid_then p.flow =
-      ap last_charge (ce ∙ (sym fr ∙ sym of_boot)) ∙ ap (λ (z : Flow). last_charge (of_flow z paid_then)) fl in
-      let a = at_router way rules p ms paid_then u fl (one_master router now u (sym boot)) (sym (force_clock router u)) hold in
+      let later : Charge → Bool = λ (c : Charge). leb s c.grant.second in
+      let charged_then : filter later (of_flow packet.flow paid_then) ≡ charges_in ms =
+      ap (filter later) of_boot ∙ (since_paid s (comings_at router now (comings packet.flow b)) ∙ (fr ∙ sym ce)) in
+      let hold : (d : Charge) → holder paid_then p.flow ≡ Some d → leb s d.grant.second ≡ true → last_charge (charges_in ms) ≡ Some d =
+      λ d l k. ap last_charge (sym charged_then)
+      ∙ last-passes later (of_flow packet.flow paid_then) d (ap (λ (z : Flow). last_charge (of_flow z paid_then)) fl ∙ l) k in
+      let a =
+      at_router way rules p ms paid_then u fl (one_master router now u (sym boot)) (sym (force_clock router u))
+      (λ (z : Grant). leb s z.second) hold in
       let minted : IfSome (last_came ms) (λ v. ShowsMinted rules p p.carried v) =
       subst (λ (z : Option ℕ). IfSome z (λ v. ShowsMinted rules p p.carried v)) (sym came_eq) cs.minted in
       let after_delay = it.from in
@@ -314,8 +334,100 @@ module _ (config : Config) (rows : List Row) (until : ℕ) (logs : Logs) (valid 
         comes = record { from = omega (arith, sent, after_delay); until = omega (arith, sent, within) };
         behind = subst (λ (z : Option ℕ). IfSome z (λ u. u ≤ input_time i)) (sym came_eq) cs.behind;
         length = same_length q p k v;
-        shown = shown_as_made way rules q p ms paid_then u a o (charged u p g) v refl refl cl minted;
+        shown = shown_as_made way rules q p ms paid_then u a o (charged u p g) v refl refl since cl minted;
       }
+
+  -- the ask of a grant came within the margin
+  comes_for : (before rest : List Deal) (came : ℕ) → own ≡ before ++ rest → ask_came seen before ≡ Some came
+      → IsSomeAnd (ask_coming seen before) InTime → (ms : List Mile) → contacts ms ≡ map contact_of before
+      → IfSome (asked_at (contacts ms)) (λ (t : Time). ComesIn way t.0 came)
+  comes_for before rest came place e in_time ms same =
+      let c = ask_is seen before came e in
+      let it : InTime c.coming = subst (λ (o : Option Coming). IsSomeAnd o InTime) (coming_is seen before came c) in_time in
+      let p = asked_place before c.asked c.last in
+      let ask : Deal = Prepared c.asked.time p.packet in
+      let whole : own ≡ p.before ++ ask ∷ (p.after ++ rest) =
+      place ∙ (ap (λ (ds : List Deal). ds ++ rest) p.is ∙ append_assoc p.before (ask ∷ p.after) rest) in
+      let s =
+      one_deal p.before c.asked.time p.packet (p.after ++ rest) it.before it.sent it.packet it.after whole it.place
+      (it.same ∙ (come_id seen c.asked.id c.coming c.found ∙ sym p.same)) in
+      let sent : c.asked.time ≡ it.sent = s.1 in
+      let came_at : c.coming.time ≡ came = c.time in
+      let after_delay = it.from in
+      let within = it.until in
+      let asked : asked_at (contacts ms) ≡ Some (time c.asked.time) =
+      ap asked_at same ∙ (last_time before ∙ ap (option_map (λ (a : Asked). time a.time)) c.last) in
+      let comes : ComesIn way c.asked.time came =
+      record { from = omega (arith, sent, came_at, after_delay); until = omega (arith, sent, came_at, within) } in
+      subst (λ (o : Option Time). IfSome o (λ (t : Time). ComesIn way t.0 came)) (sym asked) comes
+
+  played_to : (before : List Deal) (sent : ℕ) (q : PacketData) (after : List Deal) → own ≡ before ++ Prepared sent q ∷ after
+      → IsPlayed host.margin host.retry host.version (map contact_of before ++ contact_of (Prepared sent q) ∷ [])
+  played_to before sent q after place =
+      let split : map contact_of own ≡ map contact_of before ++ contact_of (Prepared sent q) ∷ map contact_of after =
+      ap (map contact_of) place ∙ map_place before (Prepared sent q) after in
+      played_front host.margin host.retry host.version [] (map contact_of before) (contact_of (Prepared sent q))
+      (map contact_of after) (subst (IsPlayed host.margin host.retry host.version) split is_played)
+
+  -- what is taken by the last grant is charged to it and regular
+  taken_regular : (before : List Deal) (ms : List Mile) → contacts ms ≡ map contact_of before → last_came ms ≡ grant_came seen [] before
+      → (s : Shape) → IsTaken way held ms s (packet_length packet) now → ShowsGrant way ms s packet.carried
+      → IsTakenByLast router packet.flow seen before fate
+  taken_regular before ms same came_is s taken shows =
+      let is : fate ≡ (handled router past now on packet).fate =
+      fate_is to router past input on packet fate onward to_plan (keeps.contents past input (Arrived on packet fate onward) rest here) in
+      let r =
+      steady_regular ruling held (port_logs past) now on packet way ms s below
+      (record { flow_is = refl; master_is = refl; offset_is = sym (force_clock router now); slots_are = sym (force_slots router now) }) taken shows in
+      record {
+        rights = r.last.rights;
+        came = r.last.came;
+        granted = sym (last_rights_are [] before) ∙
+            (ap (λ (cs : List Contact). option_map (λ (t : Taking). t.rights) (last_taking [] cs)) (sym same)
+            ∙ r.last.rights_are);
+        asked = sym came_is ∙ r.last.came_is;
+        charge = ap (λ (f : Fate). f.charge) is ∙ (r.charge_is ∙ ap Some (sym r.last.is));
+        class = ap (λ (f : Fate). f.class) is ∙ r.class_is;
+      }
+
+  -- what was charged in the boot to grants of no earlier second than one
+  module _ (s : ℕ) (each : AllByRecursion Steadily (charged_since s boot)) where
+    abbrev recent : List Coming
+    recent = charged_since s boot
+
+    pays_for : (before : List Deal) (t : ℕ) (p : PacketData) (after : List Deal) (front : List Coming) (x : Coming) (back : List Coming)
+        → own ≡ before ++ Prepared t p ∷ after → paid recent ≡ front ++ x ∷ back
+        → p.id ≡ x.packet.id → (c : Charge) → paid_of x ≡ Some c → (ms : List Mile) → last_came ms ≡ grant_came seen [] before
+        → charges_in ms ≡ filter_map paid_of front
+        → IsPaid way ms t (shape_in p.carried) (counted p) c
+    pays_for before t p after front x back place picked same c pays ms lc ce =
+        let pa = paid_place recent front x back picked in
+        let mq = passing_place (λ (y : Coming). is_charged_since s y.charge) boot pa.before x pa.after pa.is in
+        let mp = passing_place (λ (y : Coming). boot_at router y.time == boot_at router now) seen mq.before x mq.after mq.is in
+        let ca = came mp.before x mp.after mp.is in
+        let boot_is : boot_at router x.time ≡ boot_at router now = eqb-true (boot_at router x.time) (boot_at router now) mp.passes in
+        let all : AllByRecursion Steadily (paid recent) = subst (AllByRecursion Steadily) (since_charged s boot) each in
+        let cs = at_place Steadily (paid recent) front x back picked all in
+        let parts = charge_parts x x.charge c refl pays in
+        let g : Grant = parts.0 in
+        let since : leb s g.second ≡ true = ap (is_charged_since s) (sym parts.1) ∙ mq.passes in
+        let fr : filter_map paid_of (charged_since s (comings_at router now (comings packet.flow ca.before))) ≡ filter_map paid_of front =
+        ap (λ (ys : List Coming). filter_map paid_of (charged_since s (comings_at router now ys))) ca.front_is
+        ∙ (ap (λ (ys : List Coming). filter_map paid_of (charged_since s ys)) mp.front_is
+        ∙ (ap (filter_map paid_of) mq.front_is ∙ (paid_only pa.before ∙ ap (filter_map paid_of) pa.front_is))) in
+        let pay : p.id ≡ x.packet.id → Steadily x → boot_at router x.time ≡ boot_at router now → x.charge ≡ Some g
+        → IsPaid way ms t (shape_in p.carried) (counted p) (charged x.time x.packet g) =
+        subst (λ (y : Coming). p.id ≡ y.packet.id → Steadily y → boot_at router y.time ≡ boot_at router now → y.charge ≡ Some g
+        → IsPaid way ms t (shape_in p.carried) (counted p) (charged y.time y.packet g)) ca.is
+        (λ k z b e. pays_at s ca.before ca.input ca.from ca.packet ca.fate ca.onward ca.rest ca.here ca.flow ca.unmarked
+        before t p after place front fr k z b g e since ms lc ce) in
+        subst (IsPaid way ms t (shape_in p.carried) (counted p)) parts.2 (pay same cs boot_is parts.1)
+
+    in_order : AreRising (map (λ (y : Coming). y.packet.id.ordinal) (recent ++ last ∷ [])) → AreBefore last (map come_key (paid recent))
+    in_order order =
+        rises_last (map come_key (paid recent)) (come_key last)
+        (subst Rises (ap (λ (ys : List Coming). map come_key (ys ++ last ∷ [])) (since_charged s boot) ∙ keys_push (paid recent) last)
+        (rises_from (map come_key (recent ++ last ∷ [])) order))
 
   module _ (steady : IsSteadyPath host router delay own seen held last) where
     abbrev at : InTime last
@@ -327,102 +439,141 @@ module _ (config : Config) (rows : List Row) (until : ℕ) (logs : Logs) (valid 
     abbrev tail : List Deal
     tail = Prepared at.sent at.packet ∷ at.after
 
-    -- what was charged came steadily
-    each : AllByRecursion Steadily (paid met)
-    each = subst (AllByRecursion Steadily) (charged_is met) steady.each
+    abbrev begin : List Deal
+    begin = steady.grant.first ++ Granted steady.grant.rights steady.grant.caps ∷ []
 
-    comes_for : (before : List Deal) (rights : Rights) (caps : List ℕ) (after : List Deal) (came : ℕ)
-        → earlier ≡ before ++ Granted rights caps ∷ after → ask_came seen before ≡ Some came → (ms : List Mile)
-        → contacts ms ≡ map contact_of before → IfSome (asked_at (contacts ms)) (λ (t : Time). ComesIn way t.0 came)
-    comes_for before rights caps after came front e ms same =
-        let c = ask_is seen before came e in
-        let it : InTime c.coming =
-        subst (λ (o : Option Coming). IsSomeAnd o InTime) (coming_is seen before came c) (steady.asked before rights caps after front) in
-        let p = asked_place before c.asked c.last in
-        let ask : Deal = Prepared c.asked.time p.packet in
-        let more : List Deal = Granted rights caps ∷ after in
-        let whole : own ≡ p.before ++ ask ∷ (p.after ++ (more ++ tail)) =
-        at.place ∙ (ap (λ (ds : List Deal). ds ++ tail) (front ∙ ap (λ (ds : List Deal). ds ++ more) p.is) ∙
-        (append_assoc (p.before ++ ask ∷ p.after) more tail ∙ append_assoc p.before (ask ∷ p.after) (more ++ tail))) in
-        let s =
-        one_deal p.before c.asked.time p.packet (p.after ++ (more ++ tail)) it.before it.sent it.packet it.after whole it.place
-        (it.same ∙ (come_id seen c.asked.id c.coming c.found ∙ sym p.same)) in
-        let sent : c.asked.time ≡ it.sent = s.1 in
-        let came_at : c.coming.time ≡ came = c.time in
-        let after_delay = it.from in
-        let within = it.until in
-        let asked : asked_at (contacts ms) ≡ Some (time c.asked.time) =
-        ap asked_at same ∙ (last_time before ∙ ap (option_map (λ (a : Asked). time a.time)) c.last) in
-        let comes : ComesIn way c.asked.time came =
-        record { from = omega (arith, sent, came_at, after_delay); until = omega (arith, sent, came_at, within) } in
-        subst (λ (o : Option Time). IfSome o (λ (t : Time). ComesIn way t.0 came)) (sym asked) comes
+    abbrev under : List Deal
+    under = steady.grant.under
 
-    asked_some : (o : Option Coming) → IsSomeAnd o InTime → is_some (option_map (λ (x : Coming). x.time) o) ≡ true
-    asked_some None k = absurd k
-    asked_some (Some x) k = refl
+    abbrev asked_time : ℕ
+    asked_time = steady.grant.ask.time
 
-    asked_for : (before : List Deal) (rights : Rights) (caps : List ℕ) (after : List Deal)
-        → earlier ≡ before ++ Granted rights caps ∷ after → is_some (ask_came seen before) ≡ true
-    asked_for before rights caps after e = asked_some (ask_coming seen before) (steady.asked before rights caps after e)
+    abbrev second : ℕ
+    second = router_second router.clock_offset asked_time
 
-    pays_for : (before : List Deal) (t : ℕ) (p : PacketData) (after : List Deal) (front : List Coming) (x : Coming) (back : List Coming)
-        → own ≡ before ++ Prepared t p ∷ after → paid met ≡ front ++ x ∷ back
-        → p.id ≡ x.packet.id → (c : Charge) → paid_of x ≡ Some c → (ms : List Mile) → last_came ms ≡ grant_came seen [] before
-        → charges_in ms ≡ filter_map paid_of front
-        → IsPaid way ms t (shape_in p.carried) (counted p) c
-    pays_for before t p after front x back place picked same c pays ms lc ce =
-        let pa = paid_place met front x back picked in
-        let mp = passing_place (λ (y : Coming). boot_at router y.time == boot_at router now) seen pa.before x pa.after pa.is in
-        let ca = came mp.before x mp.after mp.is in
-        let boot : boot_at router x.time ≡ boot_at router now = eqb-true (boot_at router x.time) (boot_at router now) mp.passes in
-        let cs = at_place Steadily (paid met) front x back picked each in
-        let parts = charge_parts x x.charge c refl pays in
-        let g : Grant = parts.0 in
-        let fr : filter_map paid_of (comings_at router now (comings packet.flow ca.before)) ≡ filter_map paid_of front =
-        ap (λ (ys : List Coming). filter_map paid_of (comings_at router now ys)) ca.front_is
-        ∙ (ap (filter_map paid_of) mp.front_is ∙ (paid_only pa.before ∙ ap (filter_map paid_of) pa.front_is)) in
-        let pay : p.id ≡ x.packet.id → Steadily x → boot_at router x.time ≡ boot_at router now → x.charge ≡ Some g
-        → IsPaid way ms t (shape_in p.carried) (counted p) (charged x.time x.packet g) =
-        subst (λ (y : Coming). p.id ≡ y.packet.id → Steadily y → boot_at router y.time ≡ boot_at router now → y.charge ≡ Some g
-        → IsPaid way ms t (shape_in p.carried) (counted p) (charged y.time y.packet g)) ca.is
-        (λ k s b e. pays_at ca.before ca.input ca.from ca.packet ca.fate ca.onward ca.rest ca.here ca.flow ca.unmarked
-        before t p after place front fr k s b g e ms lc ce) in
-        subst (IsPaid way ms t (shape_in p.carried) (counted p)) parts.2 (pay same cs boot parts.1)
+    abbrev met : List Coming
+    met = charged_since second boot
 
-    in_order : AreBefore last (map come_key (paid met))
-    in_order =
-        rises_last (map come_key (paid met)) (come_key last)
-        (subst Rises (ap (λ (ys : List Coming). map come_key (ys ++ last ∷ [])) (charged_is met) ∙ keys_push (paid met) last)
-        (rises_from (map come_key (those_charged met ++ last ∷ [])) steady.order))
+    split : earlier ≡ begin ++ under
+    split = steady.grant.place ∙ sym (append_assoc steady.grant.first (Granted steady.grant.rights steady.grant.caps ∷ []) under)
 
-    whole_rises : Rises (keys (earlier ++ tail))
-    whole_rises = subst (λ (ds : List Deal). Rises (keys ds)) at.place rises
+    ask_is_known : ask_came seen steady.grant.first ≡ Some asked_time
+    ask_is_known = ap (option_map (λ (x : Coming). x.time)) steady.grant.came
 
-    ins : AreIn earlier (paid met)
-    ins =
-        prepared_before earlier at.sent at.packet at.after last (paid met) at.same
-        (rises_behind earlier tail whole_rises)
-        (each-weaker Steadily (λ (y : Coming). In (earlier ++ tail) y.packet.id)
-        (λ y cs. let it : InTime y = cs.in_time in
-        subst (λ (ds : List Deal). In ds y.packet.id) (sym it.place ∙ at.place)
-        (in_place it.before it.sent it.packet it.after y.packet.id it.same)) (paid met) each)
-        in_order.1
+    came_behind : (ds : List Deal) → AllByRecursion IsNoGrant ds → grant_came seen [] (begin ++ ds) ≡ Some asked_time
+    came_behind ds k =
+        came-under seen begin ds k
+        ∙ came-granted seen [] steady.grant.first steady.grant.rights steady.grant.caps asked_time ask_is_known
 
-    fine : AllByRecursion (IsTrue (log_at logs sender)) earlier
+    place_under : (before : List Deal) (d : Deal) (after : List Deal) → under ≡ before ++ d ∷ after
+        → own ≡ (begin ++ before) ++ d ∷ (after ++ tail)
+    place_under before d after e =
+        at.place ∙ (ap (λ (ds : List Deal). ds ++ tail) (split ∙ ap (λ (ds : List Deal). begin ++ ds) e)
+        ∙ (append_assoc begin (before ++ d ∷ after) tail
+        ∙ (ap (λ (ds : List Deal). begin ++ ds) (append_assoc before (d ∷ after) tail)
+        ∙ sym (append_assoc begin before (d ∷ (after ++ tail))))))
+
+    -- what came so under the grant came steadily
+    steadily : (y : Coming) → ComesUnder host router delay under asked_time y → Steadily y
+    steadily y u =
+        let it = u.in_time in
+        let came_is : grant_came seen [] (begin ++ it.before) ≡ Some asked_time =
+        came_behind it.before (each_front IsNoGrant it.before (Prepared it.sent it.packet ∷ it.after)
+        (subst (AllByRecursion IsNoGrant) it.place steady.grant.last)) in
+        record {
+          in_time = record {
+            before = begin ++ it.before;
+            sent = it.sent;
+            packet = it.packet;
+            after = it.after ++ tail;
+            place = place_under it.before (Prepared it.sent it.packet) it.after it.place;
+            same = it.same;
+            from = it.from;
+            until = it.until;
+          };
+          behind = subst (λ (o : Option ℕ). IfSome o (λ came. came ≤ y.time)) (sym came_is) u.behind;
+          minted = subst (λ (o : Option ℕ). IfSome o (λ came. ShowsMinted (in_force router y.time) y.packet y.packet.carried came))
+              (sym came_is) u.minted;
+        }
+
+    each : AllByRecursion Steadily met
+    each = each-weaker (ComesUnder host router delay under asked_time) Steadily steadily met steady.each
+
+    -- grants stand only before the last one's deals
+    abbrev open_at : List Deal → Type 0
+    open_at before = (more : List Deal) × (before ≡ begin ++ more)
+
+    open_more : (before : List Deal) (d : Deal) → open_at before → open_at (before ++ d ∷ [])
+    open_more before d o = (o.0 ++ d ∷ [], ap (λ (ds : List Deal). ds ++ d ∷ []) o.1 ∙ append_assoc begin o.0 (d ∷ []))
+
+    none_open : (before : List Deal) (rights : Rights) (caps : List ℕ) (after : List Deal) → open_at before
+        → earlier ≡ before ++ Granted rights caps ∷ after → ⊥
+    none_open before rights caps after o e =
+        at_place IsNoGrant under o.0 (Granted rights caps) after
+        (same_behind begin under (o.0 ++ Granted rights caps ∷ after)
+        (sym split ∙ (e ∙ (ap (λ (ds : List Deal). ds ++ Granted rights caps ∷ after) o.1
+        ∙ append_assoc begin o.0 (Granted rights caps ∷ after))))) steady.grant.last
+
+    fine : AllByRecursion (IsTrue (log_at logs sender)) (steady.grant.first ++ Granted steady.grant.rights steady.grant.caps ∷ under)
     fine =
-        each_front (IsTrue (log_at logs sender)) earlier tail
-        (subst (AllByRecursion (IsTrue (log_at logs sender))) at.place told_all.each)
+        subst (AllByRecursion (IsTrue (log_at logs sender))) steady.grant.place
+        (each_front (IsTrue (log_at logs sender)) earlier tail
+        (subst (AllByRecursion (IsTrue (log_at logs sender))) at.place told_all.each))
 
-    match : Matches earlier (paid met)
-    match =
-        matched earlier (paid met) (rises_front (keys earlier) (keys tail)
-        (subst Rises (filter_map-append deal_key earlier tail) whole_rises)) in_order.0 ins
+    rises_under : Rises (keys under)
+    rises_under =
+        rises_front (keys under) (keys tail) (subst Rises (filter_map-append deal_key under tail)
+        (rises_behind begin (under ++ tail) (subst (λ (ds : List Deal). Rises (keys ds))
+        (at.place ∙ (ap (λ (ds : List Deal). ds ++ tail) split ∙ append_assoc begin under tail)) rises)))
 
-    miles : Run way seen met (log_at logs sender) own earlier tail at.place rises comes_for asked_for pays_for
-        (paying_all met) earlier (paid met)
+    ins : AreIn under (paid met)
+    ins =
+        subst (AreIn under) (since_charged second boot)
+        (each-weaker (ComesUnder host router delay under asked_time) (λ (y : Coming). In under y.packet.id)
+        (λ y u. subst (λ (ds : List Deal). In ds y.packet.id) (sym u.in_time.place)
+        (in_place u.in_time.before u.in_time.sent u.in_time.packet u.in_time.after y.packet.id u.in_time.same)) met steady.each)
+
+    match : Matches under (paid met)
+    match = matched under (paid met) rises_under (in_order second each steady.order).0 ins
+
+    bare : Bare way steady.grant.first
+    bare =
+        bare_from way (log_at logs sender) [] steady.grant.first (bare_none way)
+        (each_front (IsTrue (log_at logs sender)) steady.grant.first (Granted steady.grant.rights steady.grant.caps ∷ under) fine)
+
+    comes_first : IfSome (asked_at (contacts bare.miles)) (λ (t : Time). ComesIn way t.0 asked_time)
+    comes_first =
+        comes_for steady.grant.first (Granted steady.grant.rights steady.grant.caps ∷ (under ++ tail)) asked_time
+        (at.place ∙ (ap (λ (ds : List Deal). ds ++ tail) steady.grant.place
+        ∙ append_assoc steady.grant.first (Granted steady.grant.rights steady.grant.caps ∷ under) tail)) ask_is_known
+        (subst (λ (o : Option Coming). IsSomeAnd o InTime) (sym steady.grant.came) steady.grant.in_time)
+        bare.miles bare.contacts_are
+
+    abbrev Miles : List Deal → List Coming → Type 0
+    Miles before front =
+        Run way seen met (log_at logs sender) own earlier tail at.place rises (Unit {0}) open_at open_more
+        (λ before rights caps rest came o e. absurd (none_open before rights caps rest o e))
+        (λ before rights caps rest o e. absurd (none_open before rights caps rest o e))
+        (pays_for second each) (paying_all met) before front
+
+    miles : Miles earlier (paid met)
     miles =
-        miles_of way seen met (log_at logs sender) own earlier tail at.place rises comes_for asked_for pays_for
-        (paying_all met) fine match
+        miles_of way seen met (log_at logs sender) own earlier tail at.place rises (Unit {0}) open_at open_more
+        (λ before rights caps rest came o e. absurd (none_open before rights caps rest o e))
+        (λ before rights caps rest o e. absurd (none_open before rights caps rest o e))
+        (pays_for second each) (paying_all met) begin under split ([], sym (append-nil begin))
+        (begun way seen met (log_at logs sender) own earlier tail at.place rises (Unit {0}) open_at open_more
+        (λ before rights caps rest came o e. absurd (none_open before rights caps rest o e))
+        (λ before rights caps rest o e. absurd (none_open before rights caps rest o e))
+        (pays_for second each) (paying_all met) steady.grant.first steady.grant.rights steady.grant.caps asked_time bare ask_is_known
+        (at_place (IsTrue (log_at logs sender)) (steady.grant.first ++ Granted steady.grant.rights steady.grant.caps ∷ under)
+        steady.grant.first (Granted steady.grant.rights steady.grant.caps) under refl fine) comes_first)
+        (each-behind (IsTrue (log_at logs sender)) begin under
+        (subst (AllByRecursion (IsTrue (log_at logs sender))) (sym (append_assoc steady.grant.first (Granted steady.grant.rights steady.grant.caps ∷ []) under)) fine))
+        match
+
+    came_last : last_came miles.miles ≡ Some asked_time
+    came_last = miles.came ∙ (ap (grant_came seen []) split ∙ came_behind under steady.grant.last)
 
     kept : Keeps at.packet packet
     kept =
@@ -436,23 +587,35 @@ module _ (config : Config) (rows : List Row) (until : ℕ) (logs : Logs) (valid 
         (shape_in at.packet.carried) (packet_length packet) ∷ [])
     played_here =
         let q : PacketData = at.packet in
-        let split : map contact_of own ≡ map contact_of earlier ++ contact_of
-        (Prepared at.sent q) ∷ map contact_of at.after = ap (map contact_of) at.place ∙ map_place earlier
-        (Prepared at.sent q) at.after in
-        let front =
-        played_front host.margin host.retry host.version [] (map contact_of earlier) (contact_of (Prepared at.sent q))
-        (map contact_of at.after) (subst (IsPlayed host.margin host.retry host.version) split is_played) in
         let size : counted q ≡ packet_length packet = sym (same_length q packet kept shims) in
         subst (IsPlayed host.margin host.retry host.version)
         (ap₂ (λ (cs : List Contact) (n : ℕ). cs ++ contact.Prepared at.sent (shape_in q.carried) n ∷ [])
         (sym miles.contacts_are) size)
-        front
+        (played_to earlier at.sent q at.after at.place)
 
-    charged_so : of_flow packet.flow held ≡ charges_in miles.miles
+    charged_so : filter (λ (c : Charge). leb second c.grant.second) (of_flow packet.flow held) ≡ charges_in miles.miles
     charged_so =
-        boot_charges router packet.flow (boot_at router now) past
+        ap (filter (λ (c : Charge). leb second c.grant.second)) (boot_charges router packet.flow (boot_at router now) past
         (flow_charges to router to_plan until (log_at logs node) keeps packet.flow past
-        (Took input (Arrived on packet fate onward) ∷ rest) here) ∙ (paid_only met ∙ sym miles.charges_are)
+        (Took input (Arrived on packet fate onward) ∷ rest) here))
+        ∙ (since_paid second boot ∙ (paid_only met ∙ sym miles.charges_are))
+
+    since_is : since_granted [] earlier ≡ under
+    since_is =
+        ap (since_granted []) split ∙ (since_under begin under steady.grant.last
+        ∙ ap (λ (ds : List Deal). ds ++ under) (since_grant [] steady.grant.first steady.grant.rights steady.grant.caps))
+
+    known : shows_nonce packet.carried ≡ true → IfSome (last_came miles.miles) (λ came. kit.IsKnown way held miles.miles came)
+    known e =
+        let k = steady.known e in
+        let since : AllByRecursion (WasCharged met) (since_noticed (since_granted [] earlier)) =
+        subst (λ (ds : List Deal). AllByRecursion (WasCharged met) (since_noticed ds)) (sym since_is) k.paid in
+        let is_known : kit.IsKnown way held miles.miles asked_time = record {
+          authorised = authorised met (since_noticed (since_granted [] earlier)) (since_notified (since_got [] miles.miles))
+              (noticed_beside met (since_granted [] earlier) (since_got [] miles.miles) miles.beside) since;
+          held = passes_if (λ (c : Charge). c.grant.second) second (holder held packet.flow) k.last;
+        } in
+        subst (λ (o : Option ℕ). IfSome o (λ came. kit.IsKnown way held miles.miles came)) (sym came_last) is_known
 
     is_steady : IsSteady way held miles.miles at.sent (shape_in at.packet.carried) (packet_length packet)
         (input_time input)
@@ -460,45 +623,157 @@ module _ (config : Config) (rows : List Row) (until : ℕ) (logs : Logs) (valid 
       rules = planned.retry.0;
       played = played_here;
       miles = miles.are;
-      charges = charged_so;
+      under = miles.under tt;
+      charges = subst (λ (o : Option ℕ). IfSome o (λ came. filter (is_since way came) (of_flow packet.flow held) ≡ charges_in miles.miles))
+          (sym came_last) charged_so;
       comes = record { from = at.from; until = at.until };
       behind = subst (λ (o : Option ℕ). IfSome o (λ u. u ≤ input_time input)) (sym miles.came) steady.last.behind;
-      authorised = authorised_since way seen met
-          (log_at logs sender) own earlier tail at.place rises comes_for asked_for pays_for
-          (paying_all met) miles steady.paid;
+      nonce = of_nonce at.packet.carried packet.carried shims
+          (IfSome (last_came miles.miles) (λ came. kit.IsKnown way held miles.miles came)) known;
       room = steady.room;
     }
 
     shows_it : ShowsGrant way miles.miles (shape_in at.packet.carried) packet.carried
     shows_it =
         let a =
-        at_router way ruling packet miles.miles held now refl refl (sym (force_clock router now)) (ap last_charge (sym charged_so)) in
+        at_router way ruling packet miles.miles held now refl refl (sym (force_clock router now)) (λ (z : Grant). leb second z.second)
+        (λ d l k. ap last_charge (sym charged_so) ∙ last-passes (λ (c : Charge). leb second c.grant.second) (of_flow packet.flow held) d l k) in
         shows_as_made way ruling at.packet packet miles.miles held now a shims
         (subst (λ (o : Option ℕ). IfSome o (λ u. ShowsMinted ruling packet packet.carried u)) (sym miles.came) steady.last.minted)
 
-    pub regular : IsTakenByLast router packet.flow seen steady.last.in_time.before fate
+    regular : IsTakenByLast router packet.flow seen steady.last.in_time.before fate
     regular =
-        let is : fate ≡ (handled router past now on packet).fate =
-        fate_is to router past input on packet fate onward to_plan (keeps.contents past input (Arrived on packet fate onward) rest here) in
-        let r =
-        steady_regular ruling held (port_logs past) now on packet way miles.miles at.sent
-        (shape_in at.packet.carried) below
-        (record { flow_is = refl; master_is = refl; offset_is = sym (force_clock router now); slots_are = sym (force_slots router now) }) is_steady shows_it in
-        record {
-          rights = r.last.rights;
-          came = r.last.came;
-          granted = sym (last_rights_are [] earlier) ∙
-              (ap (λ (cs : List Contact). option_map (λ (t : Taking). t.rights) (last_taking [] cs)) (sym miles.contacts_are)
-              ∙ r.last.rights_are);
-          asked = sym miles.came ∙ r.last.came_is;
-          charge = ap (λ (f : Fate). f.charge) is ∙ (r.charge_is ∙ ap Some (sym r.last.is));
-          class = ap (λ (f : Fate). f.class) is ∙ r.class_is;
-        }
+        taken_regular earlier miles.miles miles.contacts_are miles.came (shape_in at.packet.carried)
+        (honest way held miles.miles at.sent (shape_in at.packet.carried) (packet_length packet) now is_steady) shows_it
+
+  -- ## in the narrower words
+
+  module _ (narrow : IsNarrowPath host router delay own seen held last) where
+    abbrev near : InTime last
+    near = narrow.last.in_time
+
+    abbrev before_it : List Deal
+    before_it = near.before
+
+    abbrev from_it : List Deal
+    from_it = Prepared near.sent near.packet ∷ near.after
+
+    abbrev all_charged : List Coming
+    all_charged = charged_since 0 boot
+
+    each_charged : AllByRecursion Steadily all_charged
+    each_charged = subst (AllByRecursion Steadily) (sym (since_first boot)) narrow.each
+
+    rising : AreBefore last (map come_key (paid all_charged))
+    rising =
+        in_order 0 each_charged (subst (λ (ys : List Coming). AreRising (map (λ (y : Coming). y.packet.id.ordinal) (ys ++ last ∷ [])))
+        (sym (since_first boot)) narrow.order)
+
+    whole_rises : Rises (keys (before_it ++ from_it))
+    whole_rises = subst (λ (ds : List Deal). Rises (keys ds)) near.place rises
+
+    ins_before : AreIn before_it (paid all_charged)
+    ins_before =
+        prepared_before before_it near.sent near.packet near.after last (paid all_charged) near.same
+        (rises_behind before_it from_it whole_rises)
+        (subst (AllByRecursion (λ (y : Coming). In (before_it ++ from_it) y.packet.id)) (since_charged 0 boot)
+        (each-weaker Steadily (λ (y : Coming). In (before_it ++ from_it) y.packet.id)
+        (λ y cs. let it : InTime y = cs.in_time in
+        subst (λ (ds : List Deal). In ds y.packet.id) (sym it.place ∙ near.place)
+        (in_place it.before it.sent it.packet it.after y.packet.id it.same)) all_charged each_charged))
+        rising.1
+
+    fine_before : AllByRecursion (IsTrue (log_at logs sender)) before_it
+    fine_before =
+        each_front (IsTrue (log_at logs sender)) before_it from_it
+        (subst (AllByRecursion (IsTrue (log_at logs sender))) near.place told_all.each)
+
+    match_before : Matches before_it (paid all_charged)
+    match_before =
+        matched before_it (paid all_charged) (rises_front (keys before_it) (keys from_it)
+        (subst Rises (filter_map-append deal_key before_it from_it) whole_rises)) rising.0 ins_before
+
+    grants_come : (before : List Deal) (rights : Rights) (caps : List ℕ) (after : List Deal) (came : ℕ) → Unit {0}
+        → before_it ≡ before ++ Granted rights caps ∷ after → ask_came seen before ≡ Some came → (ms : List Mile)
+        → contacts ms ≡ map contact_of before → IfSome (asked_at (contacts ms)) (λ (t : Time). ComesIn way t.0 came)
+    grants_come before rights caps after came o front e ms same =
+        comes_for before ((Granted rights caps ∷ after) ++ from_it) came
+        (near.place ∙ (ap (λ (ds : List Deal). ds ++ from_it) front ∙ append_assoc before (Granted rights caps ∷ after) from_it)) e
+        (narrow.asked before rights caps after front) ms same
+
+    grants_asked : (before : List Deal) (rights : Rights) (caps : List ℕ) (after : List Deal) → Unit {0}
+        → before_it ≡ before ++ Granted rights caps ∷ after → (is_some (ask_came seen before) ≡ true) × (⊥ → ⊥)
+    grants_asked before rights caps after o e =
+        (asked_some (ask_coming seen before) (narrow.asked before rights caps after e), λ only. only)
+      where
+        asked_some : (o : Option Coming) → IsSomeAnd o InTime → is_some (option_map (λ (x : Coming). x.time) o) ≡ true
+        asked_some None k = absurd k
+        asked_some (Some x) k = refl
+
+    abbrev All : List Deal → Type 0
+    All before = Unit {0}
+
+    miles_before : Run way seen all_charged (log_at logs sender) own before_it from_it near.place rises ⊥ All (λ before d o. tt)
+        grants_come grants_asked (pays_for 0 each_charged) (paying_all all_charged) before_it (paid all_charged)
+    miles_before =
+        miles_of way seen all_charged (log_at logs sender) own before_it from_it near.place rises ⊥ All (λ before d o. tt)
+        grants_come grants_asked (pays_for 0 each_charged) (paying_all all_charged) [] before_it refl tt
+        (run_none way seen all_charged (log_at logs sender) own before_it from_it near.place rises ⊥ All (λ before d o. tt)
+        grants_come grants_asked (pays_for 0 each_charged) (paying_all all_charged)) fine_before match_before
+
+    kept_so : Keeps near.packet packet
+    kept_so =
+        kept_at past input on packet fate onward rest here
+        near.before near.sent near.packet near.after near.place near.same
+
+    shims_so : AreShims near.packet.carried packet.carried
+    shims_so = are_shims near.packet.carried packet.carried kept_so.carried unmarked shown
+
+    all_charges : of_flow packet.flow held ≡ charges_in miles_before.miles
+    all_charges =
+        boot_charges router packet.flow (boot_at router now) past
+        (flow_charges to router to_plan until (log_at logs node) keeps packet.flow past
+        (Took input (Arrived on packet fate onward) ∷ rest) here)
+        ∙ (paid_only boot ∙ (ap (filter_map paid_of) (sym (charged_is boot) ∙ sym (since_first boot))
+        ∙ (paid_only all_charged ∙ sym miles_before.charges_are)))
+
+    is_narrow : IsNarrow way held miles_before.miles near.sent (shape_in near.packet.carried) (packet_length packet) now
+    is_narrow = record {
+      rules = planned.retry.0;
+      played = (let q : PacketData = near.packet in let size : counted q ≡ packet_length packet = sym (same_length q packet kept_so shims_so) in
+          subst (IsPlayed host.margin host.retry host.version)
+          (ap₂ (λ (cs : List Contact) (n : ℕ). cs ++ contact.Prepared near.sent (shape_in q.carried) n ∷ [])
+          (sym miles_before.contacts_are) size)
+          (played_to before_it near.sent q near.after near.place));
+      miles = miles_before.are;
+      charges = all_charges;
+      comes = record { from = near.from; until = near.until };
+      behind = subst (λ (o : Option ℕ). IfSome o (λ u. u ≤ input_time input)) (sym miles_before.came) narrow.last.behind;
+      authorised = authorised all_charged (since_granted [] before_it) (since_got [] miles_before.miles) miles_before.beside
+          (each-weaker (WasCharged boot) (WasCharged all_charged) (λ d was. was_since boot d was) (since_granted [] before_it) narrow.paid);
+      room = narrow.room;
+    }
+
+    regular_so : IsTakenByLast router packet.flow seen narrow.last.in_time.before fate
+    regular_so =
+        taken_regular before_it miles_before.miles miles_before.contacts_are miles_before.came (shape_in near.packet.carried)
+        (narrow-honest way held miles_before.miles near.sent (shape_in near.packet.carried) (packet_length packet) now is_narrow)
+        (let a =
+        at_router way ruling packet miles_before.miles held now refl refl (sym (force_clock router now)) (λ (z : Grant). true)
+        (λ d l k. ap last_charge (sym all_charges) ∙ l) in
+        shows_as_made way ruling near.packet packet miles_before.miles held now a shims_so
+        (subst (λ (o : Option ℕ). IfSome o (λ u. ShowsMinted ruling packet packet.carried u)) (sym miles_before.came) narrow.last.minted))
+
+  pub both_regular : ((steady : IsSteadyPath host router delay own seen held last)
+      → IsTakenByLast router packet.flow seen steady.last.in_time.before fate)
+      × ((narrow : IsNarrowPath host router delay own seen held last)
+      → IsTakenByLast router packet.flow seen narrow.last.in_time.before fate)
+  both_regular = (λ steady. regular steady, λ narrow. regular_so narrow)
 
 -- so it is in each run
 pub honest_regular : (config : Config) (rows : List Row) (until : ℕ) (logs : Logs) → IsConfig config → AreGiven config rows until logs
     → IsRunTo config rows until logs → AreHonestRegular config logs
 honest_regular config rows until logs valid given run sender node from to host router is_from from_plan is_to to_plan
-    past input on packet fate onward rest here unmarked below shown delay steady =
-    regular config rows until logs valid given run sender node from to host router is_from from_plan is_to to_plan
-    past input on packet fate onward rest here unmarked below shown delay steady
+    past input on packet fate onward rest here unmarked below shown delay =
+    both_regular config rows until logs valid given run sender node from to host router is_from from_plan is_to to_plan
+    past input on packet fate onward rest here unmarked below shown delay

@@ -1,18 +1,15 @@
 -- The paths of the worked walk are steady: up to its list, its nonce alone and its renewal.
-use Rattle.std.proofs.Common.{◌≡◌, ◌<◌, ℕ, List, [], ◌∷◌, ◌++◌, Some, None, refl, subst, arith}
-use Rattle.std.specs.Prelude.{IsSomeAnd}
+use Rattle.std.proofs.Common.{◌≡◌, ◌<◌, ℕ, List, [], ◌∷◌, ◌++◌, Some, None, refl, arith}
 use Rattle.std.proofs.lemmas.List.Elements.{All-nil, All-from_recursion}
 use Rattle.tva_base.specs.declared.packet.Class.TheVariants.{Regular, Legacy}
-use Rattle.tva_base.specs.declared.packet.Rights.{Rights}
 use Rattle.tva_base.specs.Changes.{in_force}
 use Rattle.tva_base.specs.Credit.{credit_of}
 use Rattle.tva_shim.specs.Layout.{layout, two_bytes, six_bytes, eight_bytes, number_bytes}
 use Rattle.tva_log.specs.declared.kinds.Input.TheVariants.{FromTrace}
 use Rattle.tva_log.specs.Entries.{Arrived, Entry, Took, Started}
 use Rattle.tva_honest.specs.Deals.{Deal, Prepared, Granted, Coming, coming, comings, deals}
-use Rattle.tva_honest.specs.Paths.{ask_coming, ComesInTime, ComesSteadily}
+use Rattle.tva_honest.specs.Paths.{ComesInTime, ComesSteadily}
 use Rattle.tva_honest.specs.Walk.{walk_b, walk_flow, walk_rights, walk_router, walk_host_a, walk_cap, walk_precap, walk_grant, walk_fate, walk_request, walk_list, walk_bare, walk_spoofed, walk_nonce, walk_renewal, walk_passes, walk_before_list, walk_before_nonce, walk_before_renewal, walk_log_a, walk_list_comes, walk_nonce_comes, walk_renewal_comes, IsSteadyBehind}
-use Rattle.tva_honest.proofs.Asks.{IsNoGrant}
 
 abbrev own : List Deal
 own = deals walk_b walk_log_a
@@ -49,7 +46,7 @@ named = Prepared 10000000 (walk_nonce 0)
 abbrev renewed : Deal
 renewed = Prepared 6000000000 (walk_renewal 0 0 (walk_cap walk_flow))
 
-request_in_time : InTime (record { time = 1001000; packet = walk_request 0 []; charge = None })
+abbrev request_in_time : InTime (record { time = 1001000; packet = walk_request 0 []; charge = None })
 request_in_time = record {
   before = [];
   sent = 0;
@@ -97,28 +94,35 @@ renewal_in_time = record {
   until = omega arith;
 }
 
--- ## the asks of grants
+-- ## the grant under which they were prepared
 
-abbrev AreNoGrants : List Deal → Type 0
-AreNoGrants [] = Unit {0}
-AreNoGrants (d ∷ ds) = IsNoGrant d × AreNoGrants ds
+abbrev request_coming : Coming
+request_coming = record { time = 1001000; packet = walk_request 0 []; charge = None }
 
-none_granted : (ds : List Deal) → AreNoGrants ds → (before : List Deal) (rights : Rights) (caps : List ℕ) (after : List Deal)
-    → ds ≡ before ++ Granted rights caps ∷ after → ⊥
-none_granted [] n [] rights caps after e = cc
-none_granted [] n (b ∷ bs) rights caps after e = cc
-none_granted (d ∷ ds) n [] rights caps after e = (let same : d ≡ Granted rights caps = cc in subst IsNoGrant same n.0)
-none_granted (d ∷ ds) n (b ∷ bs) rights caps after e =
-    (let rest : ds ≡ bs ++ Granted rights caps ∷ after = cc in none_granted ds n.1 bs rights caps after rest)
+-- the list and the nonce alone, among the deals since the grant
+abbrev list_under : (ds : List Deal) → ComesInTime walk_host_a 1000520 (listed ∷ ds) list_coming
+list_under ds = record {
+  before = [];
+  sent = 4002900;
+  packet = walk_list 0 0;
+  after = ds;
+  place = refl;
+  same = refl;
+  from = omega arith;
+  until = omega arith;
+}
 
--- before the one grant stands the request alone
-asked_by : (P : List Deal → Type 0) (rest : List Deal) → AreNoGrants rest → P (asked ∷ [])
-    → (before : List Deal) (rights : Rights) (caps : List ℕ) (after : List Deal)
-    → asked ∷ granted ∷ rest ≡ before ++ Granted rights caps ∷ after → P before
-asked_by P rest n k [] rights caps after e = absurd (cc)
-asked_by P rest n k (x ∷ []) rights caps after e = (let same : asked ≡ x = cc in subst (λ (d : Deal). P (d ∷ [])) same k)
-asked_by P rest n k (x ∷ y ∷ ys) rights caps after e =
-    absurd (let more : rest ≡ ys ++ Granted rights caps ∷ after = cc in none_granted rest n ys rights caps after more)
+abbrev nonce_under : ComesInTime walk_host_a 1000520 (listed ∷ named ∷ []) nonce_coming
+nonce_under = record {
+  before = listed ∷ [];
+  sent = 10000000;
+  packet = walk_nonce 0;
+  after = [];
+  place = refl;
+  same = refl;
+  from = omega arith;
+  until = omega arith;
+}
 
 -- ## the paths
 
@@ -137,11 +141,21 @@ steady_list = record {
       (walk_renewal 1 1 (walk_precap walk_flow 6));
   here = refl;
   steady = record {
-    each = tt;
     last = list_comes;
+    grant = record {
+      first = asked ∷ [];
+      rights = walk_rights;
+      caps = walk_cap walk_flow ∷ [];
+      under = [];
+      place = refl;
+      last = tt;
+      ask = request_coming;
+      came = refl;
+      in_time = request_in_time;
+    };
+    each = tt;
     order = (All-nil (λ n. 2 < n), tt);
-    asked = asked_by (λ before. IsSomeAnd (ask_coming (comings walk_flow walk_before_list) before) InTime) [] tt request_in_time;
-    paid = tt;
+    known = λ e. absurd (cc);
     room = λ e. omega arith;
   };
 }
@@ -157,12 +171,21 @@ steady_nonce = record {
       (walk_renewal 1 1 (walk_precap walk_flow 6));
   here = refl;
   steady = record {
-    each = (record { in_time = list_in_time; behind = omega arith; minted = refl }, tt);
     last = nonce_comes;
+    grant = record {
+      first = asked ∷ [];
+      rights = walk_rights;
+      caps = walk_cap walk_flow ∷ [];
+      under = listed ∷ [];
+      place = refl;
+      last = (tt, tt);
+      ask = request_coming;
+      came = refl;
+      in_time = request_in_time;
+    };
+    each = (record { in_time = list_under []; behind = omega arith; minted = refl }, tt);
     order = (All-from_recursion (λ n. 2 < n) (3 ∷ []) (omega arith, tt), (All-nil (λ n. 3 < n), tt));
-    asked = asked_by (λ before. IsSomeAnd (ask_coming (comings walk_flow walk_before_nonce) before) InTime) (listed ∷ []) (tt, tt)
-        request_in_time;
-    paid = (λ e. refl, tt);
+    known = λ e. record { paid = (λ e. refl, tt); last = omega arith };
     room = λ e. absurd (cc);
   };
 }
@@ -178,18 +201,27 @@ steady_renewal = record {
   rest = Started 6001010400 2 Regular (walk_renewal 1 1 (walk_precap walk_flow 6)) ∷ [];
   here = refl;
   steady = record {
-    each = (
-      record { in_time = list_in_time; behind = omega arith; minted = refl },
-      (record { in_time = nonce_in_time; behind = omega arith; minted = tt }, tt),
-    );
     last = renewal_comes;
+    grant = record {
+      first = asked ∷ [];
+      rights = walk_rights;
+      caps = walk_cap walk_flow ∷ [];
+      under = listed ∷ named ∷ [];
+      place = refl;
+      last = (tt, (tt, tt));
+      ask = request_coming;
+      came = refl;
+      in_time = request_in_time;
+    };
+    each = (
+      record { in_time = list_under (named ∷ []); behind = omega arith; minted = refl },
+      (record { in_time = nonce_under; behind = omega arith; minted = tt }, tt),
+    );
     order = (
       All-from_recursion (λ n. 2 < n) (3 ∷ 4 ∷ []) (omega arith, (omega arith, tt)),
       (All-from_recursion (λ n. 3 < n) (4 ∷ []) (omega arith, tt), (All-nil (λ n. 4 < n), tt)),
     );
-    asked = asked_by (λ before. IsSomeAnd (ask_coming (comings walk_flow walk_before_renewal) before) InTime) (listed ∷ named ∷ [])
-        (tt, (tt, tt)) request_in_time;
-    paid = (λ e. refl, (λ e. refl, tt));
+    known = λ e. absurd (cc);
     room = λ e. omega arith;
   };
 }

@@ -3,4 +3,3 @@ pub mod Paths
 pub mod Walk
 pub mod Miles
 pub mod SteadyMiles
-pub mod WalkMiles

@@ -1,6 +1,6 @@
 -- Kit: what a host sends to a peer and takes from it, and what a router on the way makes of it.
 use Rattle.std.specs.Prelude.{ℕ, List, [], ◌∷◌, ◌++◌, Option, Some, None}
-use Rattle.std.specs.Option.{option_or, option_map}
+use Rattle.std.specs.Option.{option_or, option_map, unwrap_or}
 use Rattle.tva_base.specs.declared.packet.Rights.{Rights}
 use Rattle.tva_flow.specs.Charges.{Charge}
 use Rattle.tva_sender.specs.declared.shape.Shape.{Shape}
@@ -55,3 +55,13 @@ since_got own [] = own
 since_got own (Went sent s bytes paid ∷ ms) = since_got (own ++ Went sent s bytes paid ∷ []) ms
 since_got own (Got rights caps came ∷ ms) = since_got [] ms
 since_got own (Told ∷ ms) = since_got (own ++ Told ∷ []) ms
+
+-- the miles after the first notice, and those that count for the life of a grant: all, or those since a notice
+abbrev pub after_told : List Mile → Option (List Mile)
+after_told [] = None
+after_told (Went sent s bytes paid ∷ ms) = after_told ms
+after_told (Got rights caps came ∷ ms) = after_told ms
+after_told (Told ∷ ms) = Some ms
+
+abbrev pub since_notified : List Mile → List Mile
+since_notified ms = unwrap_or (after_told ms) ms

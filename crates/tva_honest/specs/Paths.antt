@@ -1,12 +1,13 @@
 -- Product: when the path of a host's packets to a peer is steady at a router up to one of them, by the logs of host
 -- and router.
-use Rattle.std.specs.Prelude.{◌≡◌, ℕ, ◌+◌, ◌<◌, ◌≤◌, ◌==◌, Bool, true, false, ◌&&◌, if◌then◌else◌, List, [], ◌∷◌, ◌++◌}
-use Rattle.std.specs.Prelude.{filter, map, slice_get, is_some, Option, Some, None, IfSome, IsSomeAnd}
+use Rattle.std.specs.Prelude.{◌≡◌, ℕ, ◌+◌, ◌<◌, ◌≤◌, nat_le, ◌==◌, Bool, true, false, ◌&&◌, if◌then◌else◌, List, [], ◌∷◌, ◌++◌}
+use Rattle.std.specs.Prelude.{filter, map, slice_get, is_some, unwrap_or, Option, Some, None, IfSome, IsSomeAnd}
 use Rattle.std.specs.Option.{option_or, option_map, option_and_then}
 use Rattle.std.specs.List.{AllByRecursion, find}
 use Rattle.tva_base.specs.declared.packet.Class.TheVariants.{Regular}
 use Rattle.tva_base.specs.declared.packet.Fate.{Fate}
 use Rattle.tva_base.specs.declared.packet.Flow.{Flow}
+use Rattle.tva_base.specs.declared.packet.Grant.{Grant}
 use Rattle.tva_base.specs.declared.packet.PacketId.{PacketId}
 use Rattle.tva_base.specs.declared.packet.Rights.{Rights}
 use Rattle.tva_base.specs.declared.plan.HostPlan.{HostPlan}
@@ -20,7 +21,7 @@ use Rattle.tva_shim.specs.declared.packets.Carried.{Carried}
 use Rattle.tva_shim.specs.declared.packets.Carried.TheVariants as carried
 use Rattle.tva_shim.specs.Packets.{PacketData}
 use Rattle.tva_caps.specs.Formula.{precap_of, capability_of}
-use Rattle.tva_flow.specs.Charges.{Charge, lives, living_count}
+use Rattle.tva_flow.specs.Charges.{Charge, holder, lives, living_count}
 use Rattle.tva_port.specs.Keeps.{AreRising}
 use Rattle.tva_router.specs.Boots.{charges_at}
 use Rattle.tva_router.specs.Marks.{is_marked}
@@ -100,6 +101,23 @@ since_granted own (Prepared time packet ∷ ds) = since_granted (own ++ Prepared
 since_granted own (Granted rights caps ∷ ds) = since_granted [] ds
 since_granted own (Noticed ∷ ds) = since_granted (own ++ Noticed ∷ []) ds
 
+-- the deals behind the first notice among these, and those that count for the life of a grant: all, or those since a
+-- notice
+abbrev pub after_noticed : List Deal → Option (List Deal)
+after_noticed [] = None
+after_noticed (Prepared time packet ∷ ds) = after_noticed ds
+after_noticed (Granted rights caps ∷ ds) = after_noticed ds
+after_noticed (Noticed ∷ ds) = Some ds
+
+abbrev pub since_noticed : List Deal → List Deal
+since_noticed ds = unwrap_or (after_noticed ds) ds
+
+-- no grant was taken
+abbrev pub IsNoGrant : Deal → Type 0
+IsNoGrant (Prepared time packet) = Unit {0}
+IsNoGrant (Granted rights caps) = ⊥
+IsNoGrant Noticed = Unit {0}
+
 -- ## what comes
 
 -- a list, a nonce alone or a renewal
@@ -107,6 +125,18 @@ abbrev pub shows : Carried → Bool
 shows carried.Nothing = false
 shows (carried.Shim shim) = shows_grant shim.kind
 shows (carried.Malformed size) = false
+
+-- a nonce alone
+abbrev pub is_nonce : Kind → Bool
+is_nonce (kinds.Request entries) = false
+is_nonce (kinds.List shown) = false
+is_nonce (kinds.Nonce nonce) = true
+is_nonce (kinds.Renewal shown) = false
+
+abbrev pub shows_nonce : Carried → Bool
+shows_nonce carried.Nothing = false
+shows_nonce (carried.Shim shim) = is_nonce shim.kind
+shows_nonce (carried.Malformed size) = false
 
 -- the capability at the pointer is that of the pre-capability that the router minted at a time
 abbrev pub IsMinted : RouterPlan → PacketData → Shown → ℕ → Type 0
@@ -150,9 +180,13 @@ pub record ComesSteadily (host : HostPlan) (router : RouterPlan) (delay : ℕ) (
 abbrev pub comings_at : RouterPlan → ℕ → List Coming → List Coming
 comings_at router now seen = filter (λ x. boot_at router x.time == boot_at router now) seen
 
--- those that were charged
-abbrev pub those_charged : List Coming → List Coming
-those_charged seen = filter (λ x. is_some x.charge) seen
+-- those that were charged to grants of no earlier second
+abbrev pub is_charged_since : ℕ → Option Grant → Bool
+is_charged_since second None = false
+is_charged_since second (Some g) = nat_le second g.second
+
+abbrev pub charged_since : ℕ → List Coming → List Coming
+charged_since second seen = filter (λ x. is_charged_since second x.charge) seen
 
 -- a packet that shows a grant was charged
 abbrev pub WasCharged : List Coming → Deal → Type 0
@@ -161,13 +195,63 @@ WasCharged seen (Prepared time packet) =
 WasCharged seen (Granted rights caps) = Unit {0}
 WasCharged seen Noticed = Unit {0}
 
--- The path is steady up to a packet that shows a grant. It comes steadily, and so did all packets of its flow that
--- were charged in its boot, in the order in which the host numbered them. Of each grant that was taken before it was
--- prepared the last ask came in time, in whatever boot. All packets that were prepared before it under its grant and
--- show it were charged in its boot. And where the flow doesn't live, by the charges of the boot, the cache has room. So
--- a restart ends the path of each grant that was shown before it, and a grant that is asked for behind it may begin
--- another path.
+-- the last grant that was taken among these deals, with those before and after it; its last ask came to the router in
+-- time
+pub record HasLastGrant (host : HostPlan) (delay : ℕ) (own : List Deal) (seen : List Coming) (before : List Deal)
+    : Type 0 where
+  pub first : List Deal
+  pub rights : Rights
+  pub caps : List ℕ
+  pub under : List Deal
+  pub place : before ≡ first ++ Granted rights caps ∷ under
+  pub last : AllByRecursion IsNoGrant under
+  pub ask : Coming
+  pub came : ask_coming seen first ≡ Some ask
+  pub in_time : ComesInTime host delay own ask
+
+-- what came was prepared among these deals, under a grant, and came in time, behind the ask of the grant, which came to
+-- the router at a time; a capability that it points at is the one minted for that ask
+pub record ComesUnder (host : HostPlan) (router : RouterPlan) (delay : ℕ) (under : List Deal) (came : ℕ) (x : Coming)
+    : Type 0 where
+  pub in_time : ComesInTime host delay under x
+  pub behind : came ≤ x.time
+  pub minted : ShowsMinted (in_force router x.time) x.packet x.packet.carried came
+
+-- a nonce alone is known: what counts for the life of its grant and shows it was charged, to grants of no earlier
+-- second, and so was what was charged last
+pub record IsKnown (second : ℕ) (under : List Deal) (met : List Coming) (held : Option Charge) : Type 0 where
+  pub paid : AllByRecursion (WasCharged (charged_since second met)) (since_noticed under)
+  pub last : IfSome held (λ c. second ≤ c.grant.second)
+
+-- The path is steady up to a packet that shows a grant. It comes steadily, under a grant whose last ask came in time.
+-- What its flow was charged in its boot was charged to grants of earlier seconds than the one in which that ask came,
+-- or was prepared under the same grant and came so too, in the order in which the host numbered it. Where it shows a
+-- nonce alone, that is known. And where the flow doesn't live, by the charges of the boot, the cache has room. So what
+-- was lost, came late or came another way before the grant was asked for ends no path, and no more does what was lost
+-- under it, but for nonces alone.
 pub record IsSteadyPath (host : HostPlan) (router : RouterPlan) (delay : ℕ) (own : List Deal) (seen : List Coming)
+    (charged : List Charge) (x : Coming) : Type 0 where
+  pub last : ComesSteadily host router delay own seen x
+  pub grant : HasLastGrant host delay own seen last.in_time.before
+  pub each : AllByRecursion (ComesUnder host router delay grant.under grant.ask.time)
+      (charged_since (router_second router.clock_offset grant.ask.time) (comings_at router x.time seen))
+  pub order : AreRising (map (λ y. y.packet.id.ordinal)
+      (charged_since (router_second router.clock_offset grant.ask.time) (comings_at router x.time seen) ++ x ∷ []))
+  pub known : shows_nonce x.packet.carried ≡ true
+      → IsKnown (router_second router.clock_offset grant.ask.time) grant.under (comings_at router x.time seen)
+      (holder charged x.packet.flow)
+  pub room : lives charged x.packet.flow x.time ≡ false → living_count charged x.time < router.slots
+
+-- those that were charged
+abbrev pub those_charged : List Coming → List Coming
+those_charged seen = filter (λ x. is_some x.charge) seen
+
+-- The path is steady in narrower words, those of all that host and router had to do with one another. The packet comes
+-- steadily, and so did all packets of its flow that were charged in its boot, in the order in which the host numbered
+-- them. Of each grant that was taken before it was prepared the last ask came in time, in whatever boot. All packets
+-- that were prepared before it under its grant and show it were charged in its boot. And where the flow doesn't live,
+-- by the charges of the boot, the cache has room.
+pub record IsNarrowPath (host : HostPlan) (router : RouterPlan) (delay : ℕ) (own : List Deal) (seen : List Coming)
     (charged : List Charge) (x : Coming) : Type 0 where
   pub each : AllByRecursion (ComesSteadily host router delay own seen) (those_charged (comings_at router x.time seen))
   pub last : ComesSteadily host router delay own seen x
@@ -178,12 +262,12 @@ pub record IsSteadyPath (host : HostPlan) (router : RouterPlan) (delay : ℕ) (o
   pub paid : AllByRecursion (WasCharged (comings_at router x.time seen)) (since_granted [] last.in_time.before)
   pub room : lives charged x.packet.flow x.time ≡ false → living_count charged x.time < router.slots
 
--- of these deals each packet that shows a grant came in the boot that the time is in, and was charged there
+-- of these deals each packet that shows a grant is among those that came, in the boot that the time is in, and was
+-- charged there
 abbrev pub LieInBoot : RouterPlan → List Coming → ℕ → List Deal → Type 0
-LieInBoot router seen now own = (before : List Deal) (sent : ℕ) (packet : PacketData) (after : List Deal)
+LieInBoot router met now own = (before : List Deal) (sent : ℕ) (packet : PacketData) (after : List Deal)
     → own ≡ before ++ Prepared sent packet ∷ after → shows packet.carried ≡ true
-    → IsSomeAnd (come_as (comings_at router now seen) packet.id)
-    (λ y. (boot_at router y.time ≡ boot_at router now) × (is_some y.charge ≡ true))
+    → IsSomeAnd (come_as met packet.id) (λ y. (boot_at router y.time ≡ boot_at router now) × (is_some y.charge ≡ true))
 
 -- ## in a run
 
@@ -200,7 +284,8 @@ pub record IsTakenByLast (router : RouterPlan) (flow : Flow) (seen : List Coming
   pub class : fate.class ≡ Regular
 
 -- Each packet that comes to a router unmarked and below the hop limit, and shows a grant, is charged to the last grant
--- that its host took before it was prepared, and goes on as regular, where the path from that host is steady up to it.
+-- that its host took before it was prepared, and goes on as regular, where the path from that host is steady up to it,
+-- in the wider words or in the narrower ones.
 abbrev pub AreHonestRegular : Config → Logs → Type 0
 AreHonestRegular config logs =
     (sender node : ℕ) (from to : Site) (host : HostPlan) (router : RouterPlan)
@@ -211,6 +296,9 @@ AreHonestRegular config logs =
     → log_at logs node ≡ before ++ Took input (Arrived on packet fate onward) ∷ rest
     → is_marked packet.carried ≡ false → packet.hops < 32 → shows packet.carried ≡ true
     → (delay : ℕ)
-    (steady : IsSteadyPath host router delay (deals packet.flow.dst (log_at logs sender)) (comings packet.flow before)
-    (charges_at router (input_time input) (charges before)) (coming input packet fate))
-    → IsTakenByLast router packet.flow (comings packet.flow before) steady.last.in_time.before fate
+    → ((steady : IsSteadyPath host router delay (deals packet.flow.dst (log_at logs sender))
+    (comings packet.flow before) (charges_at router (input_time input) (charges before)) (coming input packet fate))
+    → IsTakenByLast router packet.flow (comings packet.flow before) steady.last.in_time.before fate)
+    × ((narrow : IsNarrowPath host router delay (deals packet.flow.dst (log_at logs sender))
+    (comings packet.flow before) (charges_at router (input_time input) (charges before)) (coming input packet fate))
+    → IsTakenByLast router packet.flow (comings packet.flow before) narrow.last.in_time.before fate)

@@ -1,5 +1,5 @@
 -- Kit: when the path of a host's packets is steady at a router, by miles.
-use Rattle.std.specs.Prelude.{◌≡◌, ℕ, ◌+◌, ◌<◌, ◌≤◌, false, List, [], ◌∷◌, ◌++◌, Some, None, IfSome, IsSomeAnd}
+use Rattle.std.specs.Prelude.{◌≡◌, ℕ, ◌+◌, ◌<◌, ◌≤◌, nat_le, Bool, true, false, List, [], ◌∷◌, ◌++◌, filter, Some, None, IfSome, IsSomeAnd}
 use Rattle.std.specs.Option.{option_map}
 use Rattle.tva_base.specs.declared.packet.Flow.{Flow}
 use Rattle.tva_base.specs.declared.packet.Grant.{Grant}
@@ -11,13 +11,13 @@ use Rattle.tva_caps.specs.declared.minters.Checked.TheVariants.{Valid}
 use Rattle.tva_caps.specs.Formula.{precap_of, capability_of}
 use Rattle.tva_caps.specs.Check.{check_of}
 use Rattle.tva_flow.specs.declared.verdicts.Verdict.TheVariants.{Authorised}
-use Rattle.tva_flow.specs.Charges.{Charge, of_flow, last_charge, lives, living_count}
+use Rattle.tva_flow.specs.Charges.{Charge, of_flow, last_charge, holder, lives, living_count}
 use Rattle.tva_flow.specs.Verdicts.{list_verdict, nonce_verdict}
 use Rattle.tva_sender.specs.declared.shape.Shape.{Shape}
 use Rattle.tva_sender.specs.declared.shape.Shape.TheVariants as shape
 use Rattle.tva_sender.specs.Contacts.{Prepared, asked_at, uses_in}
 use Rattle.tva_sender.specs.Played.{IsPlayed}
-use Rattle.tva_honest.specs.Miles.{Mile, Went, Got, Told, contacts, charges_in, last_came, last_got, since_got}
+use Rattle.tva_honest.specs.Miles.{Mile, Went, Got, Told, contacts, charges_in, last_came, last_got, since_got, since_notified}
 
 -- a sender's margin and retry in nanoseconds and the version of its shims, the least delay to the router in
 -- nanoseconds, the flow, and the router's master, the nanoseconds that its clock is ahead and its slots
@@ -89,21 +89,53 @@ abbrev pub AreAuthorised : List Mile → Type 0
 AreAuthorised [] = Unit {0}
 AreAuthorised (m ∷ ms) = IsAuthorisedMile m × AreAuthorised ms
 
+-- a charge is of no earlier second than an ask that came at a time
+abbrev pub is_since : Way → ℕ → Charge → Bool
+is_since w came c = nat_le (router_second w.offset came) c.grant.second
+
+-- a nonce alone is known: those packets that count for the life of its grant were authorised, and the last charge of
+-- the flow is of no earlier second
+pub record IsKnown (w : Way) (h : List Charge) (ms : List Mile) (came : ℕ) : Type 0 where
+  pub authorised : AreAuthorised (since_notified (since_got [] ms))
+  pub held : IfSome (holder h w.flow) (λ c. is_since w came c ≡ true)
+
+-- that holds of a nonce alone
+abbrev pub OfNonce : Shape → Type 0 → Type 0
+OfNonce shape.Request P = Unit {0}
+OfNonce (shape.List held) P = Unit {0}
+OfNonce (shape.NonceOnly nonce) P = P
+OfNonce (shape.Renewal held) P = Unit {0}
+OfNonce shape.Legacy P = Unit {0}
+
 -- The path is steady up to a packet that was sent in a shape and of a length, and comes at a time to the
 -- router, which charged so much before.
 pub record IsSteady (w : Way) (h : List Charge) (ms : List Mile) (sent : ℕ) (s : Shape) (bytes at : ℕ) : Type 0 where
   -- the sender keeps to its rules with this peer, up to the packet
   pub rules : 1000000000 + w.margin ≤ w.retry
   pub played : IsPlayed w.margin w.retry w.version (contacts ms ++ Prepared sent s bytes ∷ [])
-  -- all charges of the flow are of its packets, in the order in which they were prepared
+  -- but for charges of earlier seconds all charges of the flow are of its packets under the last grant, in the order in
+  -- which they were prepared
   pub miles : AreMiles w [] ms
-  pub charges : of_flow w.flow h ≡ charges_in ms
+  pub under : charges_in ms ≡ charges_in (since_got [] ms)
+  pub charges : IfSome (last_came ms) (λ came. filter (is_since w came) (of_flow w.flow h) ≡ charges_in ms)
   -- the packet comes within the margin, behind the ask of its grant
   pub comes : ComesIn w sent at
   pub behind : IfSome (last_came ms) (λ came. came ≤ at)
-  -- the packets before it under its grant were authorised
-  pub authorised : AreAuthorised (since_got [] ms)
+  -- a nonce alone is known
+  pub nonce : OfNonce s (IfSome (last_came ms) (λ came. IsKnown w h ms came))
   -- where the flow doesn't live, the cache has room
+  pub room : lives h w.flow at ≡ false → living_count h at < w.slots
+
+-- The path is steady in narrower words: all charges of the flow are of its packets, and those that show the last grant were
+-- authorised.
+pub record IsNarrow (w : Way) (h : List Charge) (ms : List Mile) (sent : ℕ) (s : Shape) (bytes at : ℕ) : Type 0 where
+  pub rules : 1000000000 + w.margin ≤ w.retry
+  pub played : IsPlayed w.margin w.retry w.version (contacts ms ++ Prepared sent s bytes ∷ [])
+  pub miles : AreMiles w [] ms
+  pub charges : of_flow w.flow h ≡ charges_in ms
+  pub comes : ComesIn w sent at
+  pub behind : IfSome (last_came ms) (λ came. came ≤ at)
+  pub authorised : AreAuthorised (since_got [] ms)
   pub room : lives h w.flow at ≡ false → living_count h at < w.slots
 
 -- a list is taken: it shows the rights that were granted last, its capability is valid, and that grant authorises it

@@ -1,10 +1,10 @@
 // What a sender that keeps to the rules can rely on.
-ghost use Rattle.std.specs.Prelude.{ℕ, List, [], ◌∷◌};
+ghost use Rattle.std.specs.Prelude.{◌≡◌, ℕ, true, List, []};
+ghost use Rattle.tva_base.specs.Clock.{router_second};
 ghost use Rattle.tva_base.specs.declared.plan.HostPlan.{HostPlan};
 ghost use Rattle.tva_base.specs.declared.plan.RouterPlan.{RouterPlan};
 ghost use Rattle.tva_flow.specs.Charges.{Charge};
 ghost use Rattle.tva_sender.specs.declared.shape.Shape.{Shape};
-ghost use Rattle.tva_sender.specs.declared.shape.Shape.TheVariants as shape;
 ghost use Rattle.tva_plan.specs.declared.config.Config.{Config};
 ghost use Rattle.tva_plan.specs.Valid.{IsConfig};
 ghost use Rattle.tva_rows.specs.declared.rows.Row.{Row};
@@ -12,14 +12,14 @@ ghost use Rattle.tva_rows.specs.Valid.{AreTraceRows};
 ghost use Rattle.tva_run.specs.Reaching.{Logs};
 ghost use Rattle.tva_run.specs.Run.{IsRunTo};
 ghost use Rattle.tva_honest.specs.Deals.{Deal, Coming};
-ghost use Rattle.tva_honest.specs.Paths.{AreHonestRegular, IsSteadyPath, LieInBoot, since_granted};
+ghost use Rattle.tva_honest.specs.Paths.{AreHonestRegular, IsSteadyPath, LieInBoot, charged_since, comings_at};
+ghost use Rattle.tva_honest.specs.Paths.{shows_nonce, since_noticed};
 ghost use Rattle.tva_honest.specs.Walk.{walk_before_list, walk_before_nonce, walk_before_renewal, walk_cap, walk_config};
 ghost use Rattle.tva_honest.specs.Walk.{walk_flow, walk_list, walk_list_comes, walk_logs, walk_nonce, walk_nonce_comes};
 ghost use Rattle.tva_honest.specs.Walk.{walk_precap, walk_renewal, walk_renewal_comes, walk_rows, walk_until};
 ghost use Rattle.tva_honest.specs.Walk.{IsSteadyBehind};
 ghost use Rattle.tva_honest.specs.Miles.{Mile};
-ghost use Rattle.tva_honest.specs.SteadyMiles.{Way, IsSteady, IsTaken};
-ghost use Rattle.tva_honest.specs.WalkMiles.{walk_way, walk_charge, walk_miles};
+ghost use Rattle.tva_honest.specs.SteadyMiles.{Way, IsSteady, IsNarrow, IsTaken};
 
 /// On a steady path each packet that shows a grant is authorised by it, whatever else the router charges:
 /// a list and a renewal by the check of their capability and by the grant's verdict, a nonce alone by the
@@ -27,15 +27,10 @@ ghost use Rattle.tva_honest.specs.WalkMiles.{walk_way, walk_charge, walk_miles};
 /// That senders who keep to their grants are not demoted is what TVA promises; the rules of the sender and
 /// the words of this law are this project's own.
 pub fn honest_senders_are_authorised()
-    ensures { (w : Way) (h : List Charge) (miles : List Mile) (sent : ℕ) (s : Shape) (bytes at : ℕ)
+    ensures steady { (w : Way) (h : List Charge) (miles : List Mile) (sent : ℕ) (s : Shape) (bytes at : ℕ)
         → IsSteady w h miles sent s bytes at → IsTaken w h miles s bytes at }
-{}
-
-/// Some paths are steady: that of a worked walk, up to the nonce alone of 1,028 bytes that its sender
-/// prepared at 10,000,000 ns and that came to the router at 11,010,280 ns.
-pub fn worked_walk_is_steady()
-    ensures { (master : List ℕ) (slots cap : ℕ)
-        → IsSteady (walk_way master slots) (walk_charge ∷ []) (walk_miles cap) 10000000 (shape.NonceOnly 2) 1028 11010280 }
+    ensures narrow { (w : Way) (h : List Charge) (miles : List Mile) (sent : ℕ) (s : Shape) (bytes at : ℕ)
+        → IsNarrow w h miles sent s bytes at → IsTaken w h miles s bytes at }
 {}
 
 /// In every run up to a time, in nanoseconds, of a configuration and the rows of a trace, each packet that
@@ -47,12 +42,15 @@ pub fn honest_senders_are_regular()
         → AreTraceRows config rows → IsRunTo config rows until logs → AreHonestRegular config logs }
 {}
 
-/// A restart ends a path: where it is steady up to a packet, all packets that were prepared before it under its grant
-/// and show that grant came to the router in the same boot, and were charged there. Times are in nanoseconds.
+/// A restart ends a path for nonces alone: where it is steady up to one, all packets that were prepared before it since
+/// its grant, or since the first notice on that, and show the grant came to the router in the same boot, and were charged
+/// there. Times are in nanoseconds.
 pub fn paths_lie_in_a_boot()
     ensures { (host : HostPlan) (router : RouterPlan) (delay : ℕ) (own : List Deal) (seen : List Coming) (charged : List Charge)
-        (x : Coming) (steady : IsSteadyPath host router delay own seen charged x)
-        → LieInBoot router seen x.time (since_granted [] steady.last.in_time.before) }
+        (x : Coming) (steady : IsSteadyPath host router delay own seen charged x) → shows_nonce x.packet.carried ≡ true
+        → LieInBoot router
+        (charged_since (router_second router.clock_offset steady.grant.ask.time) (comings_at router x.time seen)) x.time
+        (since_noticed steady.grant.under) }
 {}
 
 /// The logs of a worked walk, in nanoseconds, are a run: of the network of `examples/walk.toml` with a horizon of

@@ -1,14 +1,15 @@
 -- Where the third packet of a walk was prepared, and why no path is steady up to it.
-use Rattle.std.proofs.Common.{◌≡◌, ℕ, true, false, List, [], ◌∷◌, ◌++◌, refl, ap, subst, ◌∙◌, arith}
+use Rattle.std.proofs.Common.{◌≡◌, ℕ, true, false, List, [], ◌∷◌, ◌++◌, refl, ap, sym, subst, ◌∙◌, arith}
 use Rattle.std.specs.List.{AllByRecursion}
 use Rattle.tva_base.specs.declared.packet.PacketId.{PacketId}
 use Rattle.tva_base.specs.declared.packet.Rights.{Rights}
+use Rattle.tva_base.specs.Clock.{router_second}
 use Rattle.tva_shim.specs.Packets.{PacketData}
 use Rattle.tva_log.specs.Entries.{input_time}
 use Rattle.tva_log.specs.Parts.{charges}
 use Rattle.tva_router.specs.Boots.{charges_at}
 use Rattle.tva_honest.specs.Deals.{Deal, Prepared, Granted, coming, comings, deals}
-use Rattle.tva_honest.specs.Paths.{since_granted, comings_at, WasCharged, IsSteadyPath}
+use Rattle.tva_honest.specs.Paths.{since_noticed, comings_at, charged_since, WasCharged, IsSteadyPath}
 use Rattle.tva_honest.specs.Walk.{walk_b, walk_flow, walk_rights, walk_cap, walk_host_a, walk_request, walk_list, walk_nonce, walk_nonce_comes}
 use Rattle.tva_honest_tests.specs.Restart.{restarting_router, restart_log_a, restart_log_router, restart_fate}
 
@@ -32,16 +33,53 @@ place_of P tr tl tn r l n rights caps nr nl (a ∷ b ∷ c ∷ []) sent packet a
 place_of P tr tl tn r l n rights caps nr nl (a ∷ b ∷ c ∷ d ∷ ds) sent packet after e same k =
     absurd (let rest : [] ≡ ds ++ Prepared sent packet ∷ after = cc in none_there ds (Prepared sent packet) after rest)
 
-abbrev Paid : List Deal → Type 0
-Paid before = AllByRecursion (WasCharged (comings_at restarting_router 11010280 (comings walk_flow restart_log_router))) (since_granted [] before)
+-- what was shown under the last grant was charged behind the restart, from a second on
+record Paid (second : ℕ) (before : List Deal) : Type 0 where
+  first : List Deal
+  rights : Rights
+  caps : List ℕ
+  under : List Deal
+  place : before ≡ first ++ Granted rights caps ∷ under
+  paid : AllByRecursion (WasCharged (charged_since second (comings_at restarting_router 11010280 (comings walk_flow restart_log_router))))
+      (since_noticed under)
+
+-- nothing was
+not_paid : (second : ℕ) → Paid second (Prepared 0 (walk_request 0 []) ∷ Granted walk_rights (walk_cap walk_flow ∷ []) ∷ Prepared 4002900 (walk_list 0 0) ∷ []) → ⊥
+not_paid second p = by p.first p.place
+  where
+    at : (under : List Deal) → Prepared 4002900 (walk_list 0 0) ∷ [] ≡ under
+        → AllByRecursion (WasCharged (charged_since second (comings_at restarting_router 11010280 (comings walk_flow restart_log_router))))
+        (since_noticed under) → ⊥
+    at under e k =
+        let paid : AllByRecursion (WasCharged (charged_since second (comings_at restarting_router 11010280 (comings walk_flow restart_log_router))))
+        (Prepared 4002900 (walk_list 0 0) ∷ []) =
+        subst (λ (ds : List Deal). AllByRecursion (WasCharged (charged_since second (comings_at restarting_router 11010280 (comings walk_flow restart_log_router))))
+        (since_noticed ds)) (sym e) k in
+        (let never : false ≡ true = paid.0 refl in cc)
+
+    by : (first : List Deal)
+        → Prepared 0 (walk_request 0 []) ∷ Granted walk_rights (walk_cap walk_flow ∷ []) ∷ Prepared 4002900 (walk_list 0 0) ∷ []
+        ≡ first ++ Granted p.rights p.caps ∷ p.under → ⊥
+    by [] e = absurd (cc)
+    by (a ∷ []) e = at p.under (cc) p.paid
+    by (a ∷ b ∷ []) e = absurd (cc)
+    by (a ∷ b ∷ c ∷ ds) e = (let rest : [] ≡ ds ++ Granted p.rights p.caps ∷ p.under = cc in none_there ds (Granted p.rights p.caps) p.under rest)
 
 pub no_path : (delay : ℕ) → IsSteadyPath walk_host_a restarting_router delay (deals walk_b restart_log_a)
     (comings walk_flow restart_log_router)
     (charges_at restarting_router (input_time walk_nonce_comes) (charges restart_log_router))
     (coming walk_nonce_comes (walk_nonce 0) restart_fate) → ⊥
 no_path delay s =
-    let paid : Paid (Prepared 0 (walk_request 0 []) ∷ Granted walk_rights (walk_cap walk_flow ∷ []) ∷ Prepared 4002900 (walk_list 0 0) ∷ []) =
-    place_of Paid 0 4002900 10000000 (walk_request 0 []) (walk_list 0 0) (walk_nonce 0) walk_rights (walk_cap walk_flow ∷ [])
+    let second : ℕ = router_second restarting_router.clock_offset s.grant.ask.time in
+    let was : Paid second s.last.in_time.before = record {
+      first = s.grant.first;
+      rights = s.grant.rights;
+      caps = s.grant.caps;
+      under = s.grant.under;
+      place = s.grant.place;
+      paid = (s.known refl).paid;
+    } in
+    not_paid second
+    (place_of (Paid second) 0 4002900 10000000 (walk_request 0 []) (walk_list 0 0) (walk_nonce 0) walk_rights (walk_cap walk_flow ∷ [])
     (λ e. omega (arith, e)) (λ e. omega (arith, e))
-    s.last.in_time.before s.last.in_time.sent s.last.in_time.packet s.last.in_time.after s.last.in_time.place s.last.in_time.same s.paid in
-    (let never : false ≡ true = paid.0 refl in cc)
+    s.last.in_time.before s.last.in_time.sent s.last.in_time.packet s.last.in_time.after s.last.in_time.place s.last.in_time.same was)
