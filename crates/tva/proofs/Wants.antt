@@ -22,6 +22,7 @@ use Rattle.tva_base.specs.declared.event.Event.{Event}
 use Rattle.tva_run.specs.Report.{AreEventsTo, report_of}
 use Rattle.tva_run.proofs.Runs.{are_delayed}
 use Rattle.tva_run.proofs.Reports.{no_more_events}
+use Rattle.tva_promises.proofs.ReadRows.{rows_have}
 use Rattle.tva_promises.proofs.Runs.{read_run_keeps}
 use Rattle.tva_honest.proofs.Read.{read_given}
 use Rattle.tva_honest.proofs.Steady.{honest_regular}
@@ -187,9 +188,9 @@ files_of_each = record {
   of_text = λ text. tt;
   of_shim = λ bytes. tt;
   of_trace =
-      λ plan trace said valid read rows are until logs run. keeps plan rows until logs valid (files_few plan trace rows are) run;
+      λ plan trace said valid read rows are until logs run. keeps plan rows until logs valid (files_few plan trace rows are) (rows_have plan trace rows are) run;
   of_audit =
-      λ plan trace said report valid read good rows are until logs run. keeps plan rows until logs valid (files_few plan trace rows are) run;
+      λ plan trace said report valid read good rows are until logs run. keeps plan rows until logs valid (files_few plan trace rows are) (rows_have plan trace rows are) run;
   of_refusal = λ r. tt;
 }
 

@@ -48,14 +48,16 @@ use Rattle.tva_run.specs.Run.{IsRunTo}
 use Rattle.tva_paths.specs.Origins.{made_in}
 use Rattle.tva_paths.proofs.Origins.{AnyRow, any_rows, onward_keeps}
 use Rattle.tva_paths.proofs.Walks.{IsEntryGood, all_good}
-use Rattle.tva_delivery.specs.Delivery.{IsHostAt, bytes_delivered, transfer_at}
+use Rattle.tva_delivery.specs.Delivery.{HasMade, IsHostAt, bytes_delivered, transfer_at}
+use Rattle.tva_delivery.proofs.Bytes.{HasBytes, IsFull, all_full, some_sent}
 use Rattle.tva_delivery.proofs.Lists.{some_same}
 use Rattle.tva_delivery.proofs.Ranges.{bytes-more, bytes_at, files_act, host_makes}
 use Rattle.tva_delivery.proofs.Counting.{few_transfers}
 
 -- ## what is true
 
--- a range is of a transfer of that number at a host of that source's address, to that destination, and ends within it
+-- a range is of a transfer of that number at a host of that source's address, to that destination, which sent it; it has
+-- a byte at least and ends within the transfer
 pub record IsSegment (config : Config) (logs : Logs) (flow : Flow) (transfer first bytes : ℕ) : Type 0 where
   pub other : ℕ
   pub from : HostPlan
@@ -65,6 +67,8 @@ pub record IsSegment (config : Config) (logs : Logs) (flow : Flow) (transfer fir
   pub is : transfer_at from (log_at logs other) transfer ≡ Some file
   pub dst : file.dst ≡ flow.dst
   pub within : first + bytes ≤ file.size
+  pub some : 1 ≤ bytes
+  pub sent : HasMade (log_at logs other) flow (Data transfer first bytes)
 
 -- at a host of that source's address so much of the destination's transfer was delivered
 pub record IsAnswer (config : Config) (logs : Logs) (flow : Flow) (transfer next : ℕ) : Type 0 where
@@ -133,7 +137,24 @@ module _ (config : Config) (logs : Logs) where
   -- ## a host
 
   module _ (rows : List Row) (until : ℕ) (few : (node : ℕ) → files_at node rows ≤ 65536) (run : IsRunTo config rows until logs)
-      (node : ℕ) (site : Site) (plan : HostPlan) (is : site_at config node ≡ Some site) (host : site.plan ≡ plans.Host plan) where
+      (node : ℕ) (site : Site) (plan : HostPlan) (is : site_at config node ≡ Some site) (host : site.plan ≡ plans.Host plan)
+      (full : AllByRecursion IsFull (log_at logs node)) where
+    -- what the host made is true
+    abbrev Own : Flow → Upper → Type 0
+    Own flow above = HasMade (log_at logs node) flow above → IsTrueUpper config logs flow above
+
+    abbrev OwnPacket : PacketData → Type 0
+    OwnPacket p = Own p.flow p.upper
+
+    abbrev MakesOwn : Content → Type 0
+    MakesOwn c = (p : PacketData) → made_in c ≡ Some p → OwnPacket p
+
+    some_own : (q : PacketData) → OwnPacket q → (p : PacketData) → Some q ≡ Some p → OwnPacket p
+    some_own q k p e = subst OwnPacket (some_same q p e) k
+
+    none_own : (p : PacketData) → None ≡ Some p → OwnPacket p
+    none_own p e = absurd (cc)
+
     at_host : IsHostAt config node plan
     at_host = (site, is, host)
 
@@ -159,9 +180,9 @@ module _ (config : Config) (logs : Logs) where
     act_true : (before : List Entry) (e : Entry) (rest : List Entry) → log_at logs node ≡ before ++ e ∷ rest → (act : Act)
         → act_of e ≡ Some act
         → (dst : Address) (above : Upper) → sent_by plan.address (files plan before) act ≡ Some (to_from dst plan.address, above)
-        → IsTrueUpper config logs (to_from dst plan.address) above
-    act_true before e rest split act does dst Nothing sent = tt
-    act_true before e rest split act does dst (Data transfer first bytes) sent =
+        → Own (to_from dst plan.address) above
+    act_true before e rest split act does dst Nothing sent made = tt
+    act_true before e rest split act does dst (Data transfer first bytes) sent made =
         let own = sent_data plan.address (files plan before) act (to_from dst plan.address) transfer first bytes sent in
         let after = files_act plan before e act does in
         let here : slice_get (files plan (before ++ e ∷ [])).transfers own.place ≡ Some own.transfer =
@@ -179,8 +200,10 @@ module _ (config : Config) (logs : Logs) where
           is = ap (slice_get (files plan (log_at logs node)).transfers) number ∙ all.at;
           dst = all.dst ∙ own.to;
           within = (let fits = own.fits in let size = all.size in omega (arith, fits, size));
+          some = some_sent plan (log_at logs node) before e rest full split act does (to_from dst plan.address) transfer first bytes sent;
+          sent = made;
         }
-    act_true before e rest split act does dst (Ack transfer next) sent =
+    act_true before e rest split act does dst (Ack transfer next) sent made =
         let tells = sent_ack plan.address (files plan before) act (to_from dst plan.address) transfer next sent in
         let after = files_act plan before e act does in
         let most = delivered_most (before ++ e ∷ []) rest (split ∙ sym (append_assoc before (e ∷ []) rest)) dst transfer in
@@ -197,8 +220,8 @@ module _ (config : Config) (logs : Logs) where
 
     due_true : (h : History) (now : ℕ) (dst : Address) (o : Option Upper)
         → ((above : Upper) → option_map {U = Flow × Upper} (λ u. (to_from dst plan.address, u)) o ≡ Some (to_from dst plan.address, above)
-        → IsTrueUpper config logs (to_from dst plan.address) above)
-        → IfSome (option_map (sent_with site.number plan h now dst) o) (λ (made : Made). IsTruePacket config logs made.packet)
+        → Own (to_from dst plan.address) above)
+        → IfSome (option_map (sent_with site.number plan h now dst) o) (λ (made : Made). OwnPacket made.packet)
     unfolding intended
     due_true h now dst None lifts = tt
     due_true h now dst (Some above) lifts = lifts above refl
@@ -206,49 +229,49 @@ module _ (config : Config) (logs : Logs) where
     made_true : (h : History) (known : Files) (now : ℕ) (w : RowWhat)
         → ((act : Act) → act_of_row w ≡ Some act → (dst : Address) (above : Upper)
         → sent_by plan.address known act ≡ Some (to_from dst plan.address, above)
-        → IsTrueUpper config logs (to_from dst plan.address) above)
-        → IfSome (made_for site.number plan h known now w) (λ (made : Made). IsTruePacket config logs made.packet)
+        → Own (to_from dst plan.address) above)
+        → IfSome (made_for site.number plan h known now w) (λ (made : Made). OwnPacket made.packet)
     unfolding intended
-    made_true h known now (Send dst payload) lifts = tt
-    made_true h known now (Inject flow payload carries) lifts = tt
+    made_true h known now (Send dst payload) lifts = λ made. tt
+    made_true h known now (Inject flow payload carries) lifts = λ made. tt
     made_true h known now (File dst size segment) lifts =
         lifts (Filed dst size segment) refl dst (first_segment known dst size segment) refl
     made_true h known now (Tick dst) lifts =
         due_true h now dst (segment_due known dst) (λ above e. lifts (Ticked dst) refl dst above e)
 
-    sent_true : (before : List Entry) (made : Option Made) → IfSome made (λ (m : Made). IsTruePacket config logs m.packet)
-        → MakesTrue (sent_out site plan before made)
-    sent_true before None k p e = none_true p e
-    sent_true before (Some made) k p e = some_true made.packet k p e
+    sent_true : (before : List Entry) (made : Option Made) → IfSome made (λ (m : Made). OwnPacket m.packet)
+        → MakesOwn (sent_out site plan before made)
+    sent_true before None k p e = none_own p e
+    sent_true before (Some made) k p e = some_own made.packet k p e
 
     -- ## for a packet that comes in
 
     reply_true : (h : History) (now : ℕ) (src : Address) (back : Option ReturnInfo) (above : Upper)
-        → IsTrueUpper config logs (to_from src plan.address) above
+        → Own (to_from src plan.address) above
         → (p : PacketData) → option_map (λ (made : Made). made.packet) (reply_of site.number plan h now src back above) ≡ Some p
-        → IsTruePacket config logs p
-    reply_true h now src None above k p e = none_true p e
-    reply_true h now src (Some back) above k p e = some_true _ k p e
+        → OwnPacket p
+    reply_true h now src None above k p e = none_own p e
+    reply_true h now src (Some back) above k p e = some_own _ k p e
 
     abbrev RepliesTrue : Receipt → Type 0
-    RepliesTrue r = (p : PacketData) → option_map (λ (made : Made). made.packet) r.reply ≡ Some p → IsTruePacket config logs p
+    RepliesTrue r = (p : PacketData) → option_map (λ (made : Made). made.packet) r.reply ≡ Some p → OwnPacket p
 
     either_true : (b : Bool) (r s : Receipt) → RepliesTrue r → RepliesTrue s → RepliesTrue (cond b r s)
     either_true true r s k l = k
     either_true false r s k l = l
 
     receipt_true : (h : History) (now : ℕ) (q : PacketData) (above : Upper)
-        → IsTrueUpper config logs (to_from q.flow.src plan.address) above
+        → Own (to_from q.flow.src plan.address) above
         → RepliesTrue (receipt_of site.number plan h now q above)
     unfolding receipt_of
     receipt_true h now q above k =
         either_true (eqb q.flow.dst.0 plan.address.0) (receiving.received site.number plan h now q.flow.src q.carried above) stray
         (reply_true (before_reply plan q.flow.src q.carried h) now q.flow.src
         (brought_by above (receiving.answer_to_claim plan h.deeds q.flow.src q.carried (claim_in q.carried))) above k)
-        (λ p e. none_true p e)
+        (λ p e. none_own p e)
 
     hosted_true : (before : List Entry) (input : Input) (rest : List Entry)
-        → log_at logs node ≡ before ++ Took input (hosted site plan before input) ∷ rest → MakesTrue (hosted site plan before input)
+        → log_at logs node ≡ before ++ Took input (hosted site plan before input) ∷ rest → MakesOwn (hosted site plan before input)
     hosted_true before (FromTrace row) rest split =
         let h = history_of plan (calls before) in
         let known = files plan before in
@@ -266,19 +289,30 @@ module _ (config : Config) (logs : Logs) where
         → content site before input ≡ Some c → MakesTrue c
     host_true before input c rest split e =
         let makes = host_makes site plan host before input c e in
-        subst MakesTrue makes (hosted_true before input rest (split ∙ ap (λ (x : Content). before ++ Took input x ∷ rest) (sym makes)))
+        let own = hosted_true before input rest (split ∙ ap (λ (x : Content). before ++ Took input x ∷ rest) (sym makes)) in
+        λ p made. subst MakesOwn makes own p made (record {
+          before = before;
+          input = input;
+          content = c;
+          rest = rest;
+          here = split;
+          packet = p;
+          makes = made;
+          flow = refl;
+          upper = refl;
+        })
 
 -- ## in a run
 
 module _ (config : Config) (rows : List Row) (until : ℕ) (logs : Logs) (valid : IsConfig config) (few : (node : ℕ) → files_at node rows ≤ 65536)
-    (run : IsRunTo config rows until logs) where
+    (bytes : AllByRecursion (λ (row : Row). HasBytes row.what) rows) (run : IsRunTo config rows until logs) where
   makes_by : (node : ℕ) (site : Site) (plan : NodePlan) → site.plan ≡ plan → site_at config node ≡ Some site
       → (before : List Entry) (input : Input) (c : Content) (rest : List Entry) → log_at logs node ≡ before ++ Took input c ∷ rest
       → content site before input ≡ Some c → MakesTrue config logs c
   makes_by node site (plans.Router plan) kind is before input c rest split e =
       routed_true config logs site.number plan before input c (subst (λ (p : NodePlan). content_by site p before input ≡ Some c) kind e)
   makes_by node site (plans.Host plan) kind is before input c rest split e =
-      host_true config logs rows until few run node site plan is kind before input c rest split e
+      host_true config logs rows until few run node site plan is kind (all_full config rows until logs valid bytes run node site is) before input c rest split e
 
   -- each packet that a node's log names has a true upper part
   pub all_true : (node : ℕ) (site : Site) → site_at config node ≡ Some site

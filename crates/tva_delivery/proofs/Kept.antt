@@ -1,10 +1,11 @@
 -- Every run keeps files.
-use Rattle.std.proofs.Common.{◌≡◌, ℕ, ◌≤◌, Bool, true, false, cond, List, [], ◌∷◌, ◌++◌, Contains, Option, Some, None, inl, inr, refl, sym, ap, ap₂, subst, ◌∙◌, ⊎_elim, arith}
-use Rattle.std.specs.Prelude.{slice_get}
-use Rattle.std.specs.Option.{option_map}
+use Rattle.std.proofs.Common.{◌≡◌, ℕ, ◌≤◌, ◌⊎◌, ◌&&◌, Bool, true, false, cond, List, [], ◌∷◌, ◌++◌, Option, Some, None, inl, inr, refl, sym, ap, ap₂, subst, ◌∙◌, ⊎_elim, append_assoc, arith}
+use Rattle.std.specs.Prelude.{◌==◌, slice_get, slice_index_or}
+use Rattle.std.specs.Option.{option_and_then, option_map}
 use Rattle.std.specs.List.{AllByRecursion, cons_option}
-use Rattle.std.proofs.lemmas.Bool.{eqb-true}
-use Rattle.std.proofs.lemmas.List.{get_or_past}
+use Rattle.std.proofs.lemmas.Bool.{and_parts, eqb-true}
+use Rattle.std.proofs.lemmas.List.{append-nil, get_or_past}
+use Rattle.std.proofs.lemmas.List.Elements.{recursion_from_All}
 use Rattle.std.proofs.lemmas.Option.{slice_get_cases}
 use Rattle.tva_base.specs.declared.addresses.Address.{Address}
 use Rattle.tva_base.specs.declared.event.DataLine.{DataLine}
@@ -17,32 +18,37 @@ use Rattle.tva_shim.specs.Packets.{PacketData}
 use Rattle.tva_plan.specs.declared.config.Config.{Config}
 use Rattle.tva_plan.specs.declared.config.NodePlan.{NodePlan}
 use Rattle.tva_plan.specs.declared.config.NodePlan.TheVariants as plans
+use Rattle.tva_plan.specs.Names.{is_host}
 use Rattle.tva_plan.specs.Valid.{IsConfig}
 use Rattle.tva_transfer.specs.declared.transfers.Transfer.{Transfer}
-use Rattle.tva_transfer.specs.Files.{Act, Filed, Ticked, Came, is_addressed_to}
+use Rattle.tva_host.specs.Calls.{history_of}
+use Rattle.tva_transfer.specs.Files.{Files, Act, Filed, Ticked, Came, heard, is_addressed_to, next_of, range_of}
 use Rattle.tva_transfer.specs.Couriers.{Follow, to_from}
-use Rattle.tva_transfer.proofs.History.{HasCome, ranges_came}
+use Rattle.tva_transfer.proofs.History.{HasCome}
 use Rattle.tva_transfer.proofs.Sent.{acked_came, address_is}
 use Rattle.tva_rows.specs.declared.rows.Row.{Row}
 use Rattle.tva_rows.specs.declared.rows.RowWhat.{RowWhat}
 use Rattle.tva_rows.specs.declared.rows.RowWhat.TheVariants.{Send, Inject, File, Tick}
-use Rattle.tva_rows.specs.Valid.{files_at}
+use Rattle.tva_rows.specs.Valid.{AreTraceRows, IsRowWhat, files_at}
 use Rattle.tva_log.specs.declared.kinds.Input.{Input}
 use Rattle.tva_log.specs.declared.kinds.Input.TheVariants.{FromTrace, Arrival}
 use Rattle.tva_log.specs.Sites.{Site, site_of}
-use Rattle.tva_log.specs.Entries.{Content, Entry, Took, Started}
-use Rattle.tva_log.specs.Parts.{act_of_row, acts, files}
-use Rattle.tva_log.specs.Contents.{arrived, content, content_by, next_id, packet_of_row, routed}
+use Rattle.tva_log.specs.Entries.{Content, Entry, Took, Started, entry_time}
+use Rattle.tva_log.specs.Parts.{act_of_row, acts, calls, files}
+use Rattle.tva_log.specs.Contents.{arrived, content, content_by, hosted, made_for, next_id, packet_of_row, routed}
 use Rattle.tva_log.specs.NodeLog.{GoesOn, due}
+use Rattle.tva_log.proofs.Joins.{each-weaker}
 use Rattle.tva_run.specs.Reaching.{Logs, links_out, log_at, site_at}
-use Rattle.tva_run.specs.Run.{IsRunTo}
+use Rattle.tva_run.specs.Run.{IsRunTo, logs_before}
 use Rattle.tva_paths.proofs.Origins.{AnyRow}
 use Rattle.tva_paths.proofs.Walks.{IsEntryGood, at_place}
-use Rattle.tva_delivery.specs.Delivery.{IsHostAt, IsOfFile, KeepsFiles, bytes_delivered, range_in, ranges}
+use Rattle.tva_delivery.specs.Delivery.{IsHostAt, IsOfFile, KeepsFiles, bytes_delivered, range_at, range_by, range_in, ranges}
 use Rattle.tva_delivery.proofs.Lists.{some_same}
 use Rattle.tva_delivery.proofs.Apart.{hosts_apart}
-use Rattle.tva_delivery.proofs.Ranges.{log_follows, log_told}
+use Rattle.tva_delivery.proofs.Ranges.{host_makes, log_follows, sent_none}
 use Rattle.tva_delivery.proofs.Above.{IsAnswer, IsSegment, IsTruePacket, IsTrueUpper, all_true}
+use Rattle.tva_delivery.proofs.Bytes.{HasBytes}
+use Rattle.tva_delivery.proofs.Earlier.{IsTaken, taken_by, taken_of}
 
 -- ## what came in at a host is true
 
@@ -65,22 +71,25 @@ module _ (config : Config) (logs : Logs) where
   row_acts (File dst size segment) more h = (tt, h)
   row_acts (Tick dst) more h = (tt, h)
 
-  true_acts : (log : List Entry) → AllByRecursion (IsEntryGood (IsTruePacket config logs) AnyRow) log
-      → AllByRecursion IsTrueAct (acts log)
+  heard_true : (home : Address) (p : PacketData) (source : Address) (above : Upper) → (above ≡ Nothing → ⊥) → p.flow.src.0 ≡ source.0
+      → heard home p ≡ above → IsTruePacket config logs p → IsTrueUpper config logs (to_from home source) above
+  heard_true home p source above some from brings packet =
+      let own = heard_by home p above (is_addressed_to home p) refl some brings in
+      let flow : p.flow ≡ to_from home source = ap₂ to_from own.0 (address_is p.flow.src source from) in
+      subst (λ (f : Flow). IsTrueUpper config logs f above) flow (subst (IsTrueUpper config logs p.flow) own.1 packet)
+
+  true_acts : (log : List Entry) → AllByRecursion (IsTaken (IsTruePacket config logs)) log → AllByRecursion IsTrueAct (acts log)
   true_acts [] h = tt
   true_acts (Took (FromTrace row) c ∷ es) h = row_acts row.what (acts es) (true_acts es h.1)
-  true_acts (Took (Arrival time link p) c ∷ es) h = (h.0.0, true_acts es h.1)
+  true_acts (Took (Arrival time link p) c ∷ es) h = (h.0, true_acts es h.1)
   true_acts (Started u l c p ∷ es) h = true_acts es h.1
 
   come_true : (home : Address) (log : List Entry) (source : Address) (above : Upper) → (above ≡ Nothing → ⊥)
-      → AllByRecursion (IsEntryGood (IsTruePacket config logs) AnyRow) log → HasCome home (acts log) source above
+      → AllByRecursion (IsTaken (IsTruePacket config logs)) log → HasCome home (acts log) source above
       → IsTrueUpper config logs (to_from home source) above
   come_true home log source above some h come =
-      let p = come.packet in
-      let own = heard_by home p above (is_addressed_to home p) refl some come.brings in
-      let flow : p.flow ≡ to_from home source = ap₂ to_from own.0 (address_is p.flow.src source come.from) in
-      let packet : IsTruePacket config logs p = at_place IsTrueAct (acts log) come.before (Came p) come.after come.is (true_acts log h) in
-      subst (λ (f : Flow). IsTrueUpper config logs f above) flow (subst (IsTrueUpper config logs p.flow) own.1 packet)
+      heard_true home come.packet source above some come.from come.brings
+      (at_place IsTrueAct (acts log) come.before (Came come.packet) come.after come.is (true_acts log h))
 
 -- ## a router tells no range
 
@@ -110,38 +119,79 @@ module _ (site : Site) (plan : RouterPlan) (router : site.plan ≡ plans.Router 
   content_none before i c e =
       routed_none site.number plan before i c (subst (λ (p : NodePlan). content_by site p before i ≡ Some c) router e)
 
-  router_none : (before : List Entry) (is : List Input) (es : List Entry) → GoesOn site before is es → (s : Address) (t : ℕ)
-      → ranges s t es ≡ []
-  router_none before [] [] g s t = refl
-  router_none before (i ∷ is) [] g s t = absurd g
-  router_none before [] (Took j c ∷ es) g s t = absurd g
-  router_none before (i ∷ is) (Took j c ∷ es) g s t =
-      let e : content site before j ≡ Some c = subst (λ (x : Input). content site before x ≡ Some c) (sym g.0) g.1 in
-      ap (λ (o : Option DataLine). cons_option o (ranges s t es)) (content_none before j c e s t)
-      ∙ router_none (before ++ Took j c ∷ []) is es g.2 s t
-  router_none before [] (Started u l c p ∷ es) g s t = router_none (before ++ Started u l c p ∷ []) [] es g.1 s t
-  router_none before (i ∷ is) (Started u l c p ∷ es) g s t = router_none (before ++ Started u l c p ∷ []) (i ∷ is) es g.1 s t
+-- what an entry that takes something took
+content_at : (site : Site) (before : List Entry) (is : List Input) (front : List Entry) (i : Input) (c : Content) (rest : List Entry)
+    → GoesOn site before is (front ++ Took i c ∷ rest) → content site (before ++ front) i ≡ Some c
+content_at site before [] [] i c rest g = absurd g
+content_at site before (j ∷ is) [] i c rest g =
+    let made : content site before i ≡ Some c = subst (λ (x : Input). content site before x ≡ Some c) (sym g.0) g.1 in
+    subst (λ (log : List Entry). content site log i ≡ Some c) (sym (append-nil before)) made
+content_at site before [] (Took k d ∷ front) i c rest g = absurd g
+content_at site before (j ∷ is) (Took k d ∷ front) i c rest g =
+    subst (λ (log : List Entry). content site log i ≡ Some c) (append_assoc before (Took k d ∷ []) front)
+    (content_at site (before ++ Took k d ∷ []) is front i c rest g.2)
+content_at site before [] (Started u l k p ∷ front) i c rest g =
+    subst (λ (log : List Entry). content site log i ≡ Some c) (append_assoc before (Started u l k p ∷ []) front)
+    (content_at site (before ++ Started u l k p ∷ []) [] front i c rest g.1)
+content_at site before (j ∷ is) (Started u l k p ∷ front) i c rest g =
+    subst (λ (log : List Entry). content site log i ≡ Some c) (append_assoc before (Started u l k p ∷ []) front)
+    (content_at site (before ++ Started u l k p ∷ []) (j ∷ is) front i c rest g.1)
+
+-- a router's log tells none
+none_told : (log : List Entry)
+    → ((before : List Entry) (e : Entry) (rest : List Entry) → log ≡ before ++ e ∷ rest → (s : Address) (t : ℕ) → range_at s t e ≡ None)
+    → (s : Address) (t : ℕ) → ranges s t log ≡ []
+none_told log none s t = go [] log refl
+  where
+    go : (before es : List Entry) → log ≡ before ++ es → ranges s t es ≡ []
+    go before [] split = refl
+    go before (e ∷ es) split =
+        ap (λ (o : Option DataLine). cons_option o (ranges s t es)) (none before e es split s t)
+        ∙ go (before ++ e ∷ []) es (split ∙ sym (append_assoc before (e ∷ []) es))
+
+-- a packet that delivers a range brought it from the source
+brought : (known : Files) (p : PacketData) (s : Address) (t : ℕ) (above : Upper) (r : DataLine)
+    → option_and_then (range_by s t p) (range_of known p.flow.src above) ≡ Some r → (p.flow.src.0 ≡ s.0) × (above ≡ Data t r.first r.bytes)
+unfolding range_of
+brought known p s t Nothing r e = absurd (cc)
+brought known p s t (Ack number next) r e = absurd (cc)
+brought known p s t (Data number first bytes) r e = by_place (first == next_of known p.flow.src number) e
+  where
+    one : DataLine
+    one = record { transfer = number; first = first; bytes = bytes }
+
+    by_name : (b : Bool) → ((p.flow.src.0 == s.0) && (number == t)) ≡ b → cond b (Some one) None ≡ Some r
+        → (p.flow.src.0 ≡ s.0) × (Data number first bytes ≡ Data t r.first r.bytes)
+    by_name false is e = absurd (cc)
+    by_name true is e =
+        let parts = and_parts (p.flow.src.0 == s.0) (number == t) is in
+        let same : one ≡ r = some_same one r e in
+        (eqb-true p.flow.src.0 s.0 parts.0, ap (λ (n : ℕ). Data n first bytes) (eqb-true number t parts.1) ∙ ap (λ (x : DataLine). Data t x.first x.bytes) same)
+
+    by_place : (b : Bool) → option_and_then (range_by s t p) (cond b (Some one) None) ≡ Some r
+        → (p.flow.src.0 ≡ s.0) × (Data number first bytes ≡ Data t r.first r.bytes)
+    by_place false e = absurd (cc)
+    by_place true e = by_name ((p.flow.src.0 == s.0) && (number == t)) refl e
 
 -- ## in a run
 
-none_in : (r : DataLine) → Contains [] r → ⊥
-none_in r c = let l = c.1 in omega (arith, l)
+none_here : (before : List Entry) (e : Entry) (rest : List Entry) → [] ≡ before ++ e ∷ rest → ⊥
+none_here [] e rest is = absurd (cc)
+none_here (x ∷ xs) e rest is = absurd (cc)
 
 module _ (config : Config) (rows : List Row) (until : ℕ) (logs : Logs) (valid : IsConfig config) (few : (node : ℕ) → files_at node rows ≤ 65536)
-    (run : IsRunTo config rows until logs) where
+    (bytes : AllByRecursion (λ (row : Row). HasBytes row.what) rows) (run : IsRunTo config rows until logs) where
+  abbrev IsOfItsFile : ℕ → Entry → Type 0
+  IsOfItsFile node e = (s : Address) (t : ℕ) (r : DataLine) → range_at s t e ≡ Some r
+      → IsOfFile config (logs_before (entry_time e) logs) node s t r
+
   record IsKept (node : ℕ) : Type 0 where
     in_order : (s : Address) (t : ℕ) → Follow 0 (ranges s t (log_at logs node))
-    of_file : (s : Address) (t : ℕ) (r : DataLine) → Contains (ranges s t (log_at logs node)) r → IsOfFile config logs node s t r
+    of_file : (before : List Entry) (e : Entry) (rest : List Entry) → log_at logs node ≡ before ++ e ∷ rest → IsOfItsFile node e
 
-  empty_kept : (node : ℕ) → ((s : Address) (t : ℕ) → ranges s t (log_at logs node) ≡ []) → IsKept node
-  empty_kept node none = record {
-    in_order = λ s t. subst (Follow 0) (sym (none s t)) tt;
-    of_file = λ s t r has. absurd (none_in r (subst (λ (rs : List DataLine). Contains rs r) (none s t) has));
-  }
-
-  segment_of_file : (node : ℕ) (plan : HostPlan) (s : Address) (t : ℕ) (r : DataLine) → IsHostAt config node plan
-      → IsSegment config logs (to_from plan.address s) t r.first r.bytes → IsOfFile config logs node s t r
-  segment_of_file node plan s t r at g = record {
+  segment_of_file : (now : Logs) (node : ℕ) (plan : HostPlan) (s : Address) (t : ℕ) (r : DataLine) → IsHostAt config node plan
+      → IsSegment config now (to_from plan.address s) t r.first r.bytes → IsOfFile config now node s t r
+  segment_of_file now node plan s t r at g = record {
     to = plan;
     receiver = at;
     other = g.other;
@@ -152,24 +202,59 @@ module _ (config : Config) (rows : List Row) (until : ℕ) (logs : Logs) (valid 
     is = g.is;
     dst = g.dst;
     within = g.within;
+    some = g.some;
+    sent = g.sent;
   }
+
+  -- at a router
+  router_tells : (node : ℕ) (site : Site) (plan : RouterPlan) → site.plan ≡ plans.Router plan → site_at config node ≡ Some site
+      → (before : List Entry) (e : Entry) (rest : List Entry) → log_at logs node ≡ before ++ e ∷ rest
+      → (s : Address) (t : ℕ) → range_at s t e ≡ None
+  router_tells node site plan kind is before (Started u l c p) rest split s t = refl
+  router_tells node site plan kind is before (Took i c) rest split s t =
+      let has = run.each node site is in
+      content_none site plan kind before i c (content_at site [] (due until has.inputs) before i c rest
+      (subst (GoesOn site [] (due until has.inputs)) split has.is_log.steps)) s t
+
+  -- at a host
+  host_tells : (node : ℕ) (site : Site) (plan : HostPlan) → site.plan ≡ plans.Host plan → site_at config node ≡ Some site
+      → (before : List Entry) (i : Input) (rest : List Entry) → log_at logs node ≡ before ++ Took i (hosted site plan before i) ∷ rest
+      → IsOfItsFile node (Took i (hosted site plan before i))
+  host_tells node site plan kind is before (FromTrace row) rest split s t r e =
+      let none = sent_none site plan before (made_for site.number plan (history_of plan (calls before)) (files plan before) row.time.0 row.what) s t in
+      absurd (cc (none, e))
+  host_tells node site plan kind is before (Arrival time link p) rest split s t r e =
+      let took = Took (Arrival time link p) (hosted site plan before (Arrival time link p)) in
+      let came = brought (files plan before) p s t (heard plan.address p) r e in
+      let now = logs_before time.0 logs in
+      let true_now = at_place (IsTaken (IsTruePacket config now)) (before ++ took ∷ []) before took [] refl
+      (taken_by config rows until logs valid few bytes run node site is before took rest split) in
+      segment_of_file now node plan s t r (site, is, kind)
+      (heard_true config now plan.address p s (Data t r.first r.bytes) (λ e. absurd (cc)) came.0 came.1 true_now)
+
+  tells : (node : ℕ) (site : Site) (plan : HostPlan) → site.plan ≡ plans.Host plan → site_at config node ≡ Some site
+      → (before : List Entry) (e : Entry) (rest : List Entry) → log_at logs node ≡ before ++ e ∷ rest → IsOfItsFile node e
+  tells node site plan kind is before (Started u l c p) rest split = λ s t r e. absurd (cc)
+  tells node site plan kind is before (Took i c) rest split =
+      let has = run.each node site is in
+      let made = host_makes site plan kind before i c (content_at site [] (due until has.inputs) before i c rest
+      (subst (GoesOn site [] (due until has.inputs)) split has.is_log.steps)) in
+      subst (λ (x : Content). IsOfItsFile node (Took i x)) made
+      (host_tells node site plan kind is before i rest (split ∙ ap (λ (x : Content). before ++ Took i x ∷ rest) (sym made)))
 
   node_kept : (node : ℕ) (site : Site) (plan : NodePlan) → site.plan ≡ plan → site_at config node ≡ Some site → IsKept node
   node_kept node site (plans.Router plan) kind is =
-      let has = run.each node site is in
-      empty_kept node (λ s t. router_none site plan kind [] (due until has.inputs) (log_at logs node) has.is_log.steps s t)
+      let none = router_tells node site plan kind is in
+      record {
+        in_order = λ s t. subst (Follow 0) (sym (none_told (log_at logs node) none s t)) tt;
+        of_file = λ before e rest split s t r told. let nothing = none before e rest split s t in absurd (cc (nothing, told));
+      }
   node_kept node site (plans.Host plan) kind is =
       let log = log_at logs node in
       let has = run.each node site is in
       record {
         in_order = λ s t. log_follows site plan kind (due until has.inputs) log has.is_log.steps s t;
-        of_file = λ s t r told.
-            let known = subst (λ (rs : List DataLine). Contains rs r)
-            (log_told site plan kind (due until has.inputs) log has.is_log.steps s t) told in
-            let come = ranges_came plan.address (acts log) s t r known in
-            segment_of_file node plan s t r (site, is, kind)
-            (come_true config logs plan.address log s (Data t r.first r.bytes) (λ e. absurd (cc))
-            (all_true config rows until logs valid few run node site is) come);
+        of_file = tells node site plan kind is;
       }
 
   all_kept : (node : ℕ) → IsKept node
@@ -183,31 +268,72 @@ module _ (config : Config) (rows : List Row) (until : ℕ) (logs : Logs) (valid 
         let c = run.count in
         let p = past.0 in
         let none : log_at logs node ≡ [] = get_or_past logs node [] (omega arith) in
-        empty_kept node (λ s t. ap (ranges s t) none)
+        record {
+          in_order = λ s t. subst (λ (log : List Entry). Follow 0 (ranges s t log)) (sym none) tt;
+          of_file = λ before e rest split s t r told. absurd (none_here before e rest (sym none ∙ split));
+        }
   ]
 
   -- where it was acknowledged, it was delivered at the host of that address
-  was_delivered : (node : ℕ) (to : HostPlan) (source dst : Address) (transfer next : ℕ) → IsHostAt config node to → dst ≡ to.address
-      → IsAnswer config logs (to_from source dst) transfer next → next ≤ bytes_delivered source transfer (log_at logs node)
-  was_delivered node to source dst transfer next at same a =
+  was_delivered : (now : Logs) (node : ℕ) (to : HostPlan) (source dst : Address) (transfer next : ℕ) → IsHostAt config node to → dst ≡ to.address
+      → IsAnswer config now (to_from source dst) transfer next → next ≤ bytes_delivered source transfer (log_at now node)
+  was_delivered now node to source dst transfer next at same a =
       let one : a.other ≡ node = hosts_apart config a.other node a.to to valid a.receiver at (a.address ∙ same) in
-      subst (λ n. next ≤ bytes_delivered source transfer (log_at logs n)) one a.most
+      subst (λ n. next ≤ bytes_delivered source transfer (log_at now n)) one a.most
+
+  -- of a transfer nothing is acknowledged after these entries, or what its destination told by then
+  answered_by : (now : Logs) (from : HostPlan) (log : List Entry) → AllByRecursion (IsTaken (IsTruePacket config now)) log
+      → (transfer : ℕ) (file : Transfer) → slice_get (files from log).transfers transfer ≡ Some file
+      → (file.acked ≡ 0) ⊎ IsAnswer config now (to_from from.address file.dst) transfer file.acked
+  answered_by now from log h transfer file is =
+      ⊎_elim (λ none. inl none)
+      (λ come. inr (come_true config now from.address log file.dst (Ack transfer file.acked) (λ e. absurd (cc)) h come))
+      (acked_came from.address (acts log) transfer file is)
 
   file_delivered : (node other : ℕ) (to from : HostPlan) → IsHostAt config node to → IsHostAt config other from
+      → (before : List Entry) (e : Entry) (rest : List Entry) → log_at logs other ≡ before ++ e ∷ rest
       → (transfer : ℕ) (file : Transfer)
-      → slice_get (files from (log_at logs other)).transfers transfer ≡ Some file → file.dst ≡ to.address
-      → file.acked ≤ bytes_delivered from.address transfer (log_at logs node)
-  file_delivered node other to from at sender transfer file is same =
-      let log = log_at logs other in
+      → slice_get (files from (before ++ e ∷ [])).transfers transfer ≡ Some file → file.dst ≡ to.address
+      → file.acked ≤ bytes_delivered from.address transfer (log_at (logs_before (entry_time e) logs) node)
+  file_delivered node other to from at sender before e rest split transfer file is same =
+      let now = logs_before (entry_time e) logs in
       ⊎_elim (λ none. omega (arith, none))
-      (λ come. was_delivered node to from.address file.dst transfer file.acked at same
-      (come_true config logs from.address log file.dst (Ack transfer file.acked) (λ e. absurd (cc))
-      (all_true config rows until logs valid few run other sender.0 sender.1) come))
-      (acked_came from.address (acts log) transfer file is)
+      (λ answer. was_delivered now node to from.address file.dst transfer file.acked at same answer)
+      (answered_by now from (before ++ e ∷ [])
+      (taken_by config rows until logs valid few bytes run other sender.0 sender.1 before e rest split) transfer file is)
+
+  none_answers : (other : ℕ) (from : HostPlan) → IsHostAt config other from → (transfer : ℕ) (file : Transfer)
+      → slice_get (files from (log_at logs other)).transfers transfer ≡ Some file
+      → ((node : ℕ) (to : HostPlan) → IsHostAt config node to → file.dst ≡ to.address → ⊥) → file.acked ≡ 0
+  none_answers other from sender transfer file is nobody =
+      let log = log_at logs other in
+      ⊎_elim (λ none. none)
+      (λ answer. absurd (nobody answer.other answer.to answer.receiver (sym answer.address)))
+      (answered_by logs from log
+      (each-weaker (IsEntryGood (IsTruePacket config logs) AnyRow) (IsTaken (IsTruePacket config logs)) (taken_of (IsTruePacket config logs)) log
+      (all_true config rows until logs valid few bytes run other sender.0 sender.1)) transfer file is)
 
   pub keeps : KeepsFiles config logs
   keeps = record {
     in_order = λ node s t. (all_kept node).in_order s t;
-    of_file = λ node s t r has. (all_kept node).of_file s t r has;
-    acknowledged = λ node other to from at sender transfer file is same. file_delivered node other to from at sender transfer file is same;
+    of_file = λ node before e rest split s t r told. (all_kept node).of_file before e rest split s t r told;
+    acknowledged = λ node other to from at sender before e rest split transfer file is same.
+        file_delivered node other to from at sender before e rest split transfer file is same;
+    nobody = λ other from sender transfer file is none. none_answers other from sender transfer file is none;
   }
+
+-- ## the rows of a trace have bytes
+
+what_has : (b : Bool) (w : RowWhat) → IsRowWhat b w → HasBytes w
+what_has b (Send dst payload) k to size segment e = absurd (cc)
+what_has b (Inject flow payload carries) k to size segment e = absurd (cc)
+what_has b (File dst size segment) k to most part e =
+    let sizes : size ≡ most = cc in
+    let parts : segment ≡ part = cc in
+    (subst (λ n. 1 ≤ n) sizes k.1.some, subst (λ n. 1 ≤ n) parts k.1.bytes)
+what_has b (Tick dst) k to size segment e = absurd (cc)
+
+pub rows_have : (config : Config) (rows : List Row) → AreTraceRows config rows → AllByRecursion (λ (row : Row). HasBytes row.what) rows
+rows_have config rows trace =
+    recursion_from_All (λ (row : Row). HasBytes row.what) rows
+    (λ k d within. let row = trace.each k d within in what_has (is_host config.nodes (slice_index_or rows k d).node) (slice_index_or rows k d).what row.what)

@@ -1,4 +1,4 @@
--- Crate: where a packet was made, and what no router changes in it on its way.
+-- Product: where a packet was made, and what no router changes in it on its way.
 use Rattle.std.specs.Prelude.{◌≡◌, true, List, ◌∷◌, ◌++◌, length, Option, Some, None}
 use Rattle.std.specs.Option.{option_map}
 use Rattle.tva_shim.specs.declared.kinds.Shown.{Shown}

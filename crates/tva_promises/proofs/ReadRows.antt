@@ -1,6 +1,8 @@
--- The rows that a text stands for are within the sizes of a network.
-use Rattle.std.proofs.Common.{◌≡◌, ℕ, ◌+◌, ◌≤◌, Bool, true, false, cond, List, [], ◌∷◌, ◌++◌, length, Option, Some, None, Result, Ok, Err, refl, sym, ap, subst}
+-- The rows that a text stands for are within the sizes of a network, and its files have bytes.
+use Rattle.std.proofs.Common.{◌≡◌, ℕ, ◌+◌, ◌≤◌, Bool, true, false, cond, List, [], ◌∷◌, ◌++◌, length, Option, Some, None, Result, Ok, Err, refl, sym, ap, subst, arith}
 use Rattle.std.specs.List.{AllByRecursion, AllZip}
+use Rattle.std.proofs.lemmas.Bool.{ltb-true}
+use Rattle.tva_base.specs.declared.addresses.Address.{Address}
 use Rattle.tva_base.specs.Addresses.{address_of}
 use Rattle.tva_base.specs.Decimal.{decimal_of}
 use Rattle.tva_plan.specs.declared.config.Config.{Config}
@@ -10,6 +12,7 @@ use Rattle.tva_rows.specs.declared.rows.Row.{Row}
 use Rattle.tva_trace.specs.declared.rows.RowKind as kinds
 use Rattle.tva_trace.specs.declared.rows.RowKind.TheVariants as kind
 use Rattle.tva_rows.specs.declared.rows.RowWhat.{RowWhat}
+use Rattle.tva_rows.specs.declared.rows.RowWhat.TheVariants.{File}
 use Rattle.tva_trace.specs.declared.rows.TraceFault.{TraceFault}
 use Rattle.tva_trace.specs.declared.rows.TraceRule as rules
 use Rattle.tva_trace.specs.declared.rows.TraceRule.TheVariants as rule
@@ -20,8 +23,10 @@ use Rattle.tva_trace.specs.Items.{row_shim}
 use Rattle.tva_trace.specs.Rows.{Ruled, ◌>>=◌, behind, demand, row_fault, field, filed_by, filing_of, flow_from, hold, injection_of, is_empty, is_header, kind_at, positive, records_in, row_of, rows_from, rows_under, sending_of, then_rows, ticking_of, times, what_of}
 use Rattle.std.specs.Prelude.{nat_le, nat_lt, ◌==◌}
 use Rattle.tva_trace.specs.Meaning.{AreRows, Means, MeansWhat}
+use Rattle.tva_rows.specs.Valid.{IsFile}
 use Rattle.tva_trace.specs.Valid.{IsSaidShim}
 use Rattle.tva_trace.proofs.Reading.{carried-fits}
+use Rattle.tva_log.proofs.Joins.{each-weaker}
 use Rattle.tva_promises.specs.Sizes.{IsSizedWhat}
 use Rattle.tva_promises.proofs.SaidShims.{decimal_fits, shim_fits}
 
@@ -53,7 +58,7 @@ held r false u gave = absurd (cc)
 abbrev IsSizedSaid : SaidWhat → Type 0
 IsSizedSaid (say.Send dst payload) = payload ≤ 1600
 IsSizedSaid (say.Inject flow payload shim) = (payload ≤ 1600) × IsSaidShim shim
-IsSizedSaid (say.File dst size segment) = (size ≤ 100000000) × (segment ≤ 1500)
+IsSizedSaid (say.File dst size segment) = IsFile size segment
 IsSizedSaid (say.Tick dst) = Unit {0}
 
 sending_sized : (fields : List (List ℕ)) (w : SaidWhat) → sending_of fields ≡ Ok w → IsSizedSaid w
@@ -81,13 +86,16 @@ injection_sized plans k fields w gave =
     let sized : IsSizedSaid made = (fits, within) in
     subst IsSizedSaid (ok_one made w g4) sized))))
 
-positive_by : (b : Bool) (n m : ℕ) → cond b (Some n) None ≡ Some m → Some n ≡ Some m
-positive_by true n m e = e
-positive_by false n m e = absurd (cc)
+positive_by : (b : Bool) (n m : ℕ) → nat_lt 0 n ≡ b → cond b (Some n) None ≡ Some m → (Some n ≡ Some m) × (1 ≤ m)
+positive_by true n m some e =
+    let above = ltb-true 0 n some in
+    let same : n ≡ m = cc in
+    (e, omega (arith, above, same))
+positive_by false n m some e = absurd (cc)
 
-positive_is : (o : Option ℕ) (n : ℕ) → positive o ≡ Some n → o ≡ Some n
+positive_is : (o : Option ℕ) (n : ℕ) → positive o ≡ Some n → (o ≡ Some n) × (1 ≤ n)
 positive_is None n e = absurd (cc)
-positive_is (Some m) n e = positive_by (nat_lt 0 m) m n e
+positive_is (Some m) n e = positive_by (nat_lt 0 m) m n refl e
 
 filing_sized : (fields : List (List ℕ)) (w : SaidWhat) → filing_of fields ≡ Ok w → IsSizedSaid w
 unfolding filing_of
@@ -99,7 +107,12 @@ filing_sized fields w gave =
     let made : SaidWhat = say.File dst size segment in
     let short = positive_is (decimal_of (field fields 5) 1500) segment (demanded rule.Payload (positive (decimal_of (field fields 5) 1500)) segment k3) in
     let few = positive_is (decimal_of (field fields 6) 100000000) size (demanded rule.Shim (positive (decimal_of (field fields 6) 100000000)) size k4) in
-    let sized : IsSizedSaid made = (decimal_fits (field fields 6) 100000000 size few, decimal_fits (field fields 5) 1500 segment short) in
+    let sized : IsFile size segment = record {
+      some = few.1;
+      most = decimal_fits (field fields 6) 100000000 size few.0;
+      bytes = short.1;
+      few = decimal_fits (field fields 5) 1500 segment short.0;
+    } in
     subst IsSizedSaid (ok_one made w g4) sized))))
 
 ticking_sized : (fields : List (List ℕ)) (w : SaidWhat) → ticking_of fields ≡ Ok w → IsSizedSaid w
@@ -183,22 +196,45 @@ under_said config (fields ∷ records) said gave =
 
 -- ## what is said is meant
 
-what_meant : (said : SaidWhat) (w : RowWhat) → IsSizedSaid said → MeansWhat said w → IsSizedWhat w
-what_meant (say.Send dst payload) w s m = subst IsSizedWhat (sym m) s
-what_meant (say.File dst size segment) w s m = subst IsSizedWhat (sym m) s
-what_meant (say.Tick dst) w s m = subst IsSizedWhat (sym m) s
-what_meant (say.Inject flow payload shim) w s m = subst IsSizedWhat (sym m.2) (s.0, carried-fits shim m.0 s.1 m.1)
+-- a row that begins a file says how many bytes, and how many in a segment
+abbrev HasBytes : RowWhat → Type 0
+HasBytes w = (dst : Address) (size segment : ℕ) → w ≡ File dst size segment → (1 ≤ size) × (1 ≤ segment)
+
+abbrev IsSizedFull : RowWhat → Type 0
+IsSizedFull w = IsSizedWhat w × HasBytes w
+
+file_has : (dst : Address) (size segment : ℕ) → IsFile size segment → HasBytes (File dst size segment)
+file_has dst size segment f to most part e =
+    let sizes : size ≡ most = cc in
+    let parts : segment ≡ part = cc in
+    (subst (λ n. 1 ≤ n) sizes f.some, subst (λ n. 1 ≤ n) parts f.bytes)
+
+what_meant : (said : SaidWhat) (w : RowWhat) → IsSizedSaid said → MeansWhat said w → IsSizedFull w
+what_meant (say.Send dst payload) w s m = subst IsSizedFull (sym m) (s, λ to most part e. absurd (cc))
+what_meant (say.File dst size segment) w s m = subst IsSizedFull (sym m) ((s.most, s.few), file_has dst size segment s)
+what_meant (say.Tick dst) w s m = subst IsSizedFull (sym m) (tt, λ to most part e. absurd (cc))
+what_meant (say.Inject flow payload shim) w s m = subst IsSizedFull (sym m.2) ((s.0, carried-fits shim m.0 s.1 m.1), λ to most part e. absurd (cc))
 
 -- a row within the sizes
 abbrev pub IsSizedRow : Row → Type 0
 IsSizedRow row = IsSizedWhat row.what
 
-rows_meant : (said : List SaidRow) (rows : List Row) → AreSized said → AllZip Means said rows → AllByRecursion IsSizedRow rows
+abbrev IsFullRow : Row → Type 0
+IsFullRow row = IsSizedFull row.what
+
+rows_meant : (said : List SaidRow) (rows : List Row) → AreSized said → AllZip Means said rows → AllByRecursion IsFullRow rows
 rows_meant [] [] s m = tt
 rows_meant [] (y ∷ ys) s m = absurd m
 rows_meant (x ∷ xs) [] s m = absurd m
 rows_meant (x ∷ xs) (y ∷ ys) s m = (what_meant x.what y.what s.0 m.0.2, rows_meant xs ys s.1 m.1)
 
+rows_full : (config : Config) (text : List ℕ) (rows : List Row) → AreRows config text rows → AllByRecursion IsFullRow rows
+rows_full config text rows are = rows_meant are.0 rows (under_said config (records_in text) are.0 are.1) are.2
+
 -- so are the rows that a text stands for
 pub rows_sized : (config : Config) (text : List ℕ) (rows : List Row) → AreRows config text rows → AllByRecursion IsSizedRow rows
-rows_sized config text rows are = rows_meant are.0 rows (under_said config (records_in text) are.0 are.1) are.2
+rows_sized config text rows are = each-weaker IsFullRow IsSizedRow (λ row f. f.0) rows (rows_full config text rows are)
+
+-- and those that begin a file have bytes
+pub rows_have : (config : Config) (text : List ℕ) (rows : List Row) → AreRows config text rows → AllByRecursion (λ (row : Row). HasBytes row.what) rows
+rows_have config text rows are = each-weaker IsFullRow (λ (row : Row). HasBytes row.what) (λ row f. f.1) rows (rows_full config text rows are)
