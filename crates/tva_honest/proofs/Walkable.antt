@@ -1,5 +1,5 @@
 -- The worked walk's configuration is valid, and so are its rows.
-use Rattle.std.proofs.Common.{◌≡◌, ◌<◌, ◌^◌, ℕ, zero, suc, ◌&&◌, true, false, List, [], ◌∷◌, length, map, Contains, slice_index_or, refl, ap, arith}
+use Rattle.std.proofs.Common.{◌≡◌, ◌<◌, ◌≤◌, ◌^◌, ℕ, zero, suc, ◌&&◌, true, false, List, [], ◌∷◌, length, map, Contains, slice_index_or, refl, ap, arith}
 use Rattle.std.specs.Prelude.{◌==◌}
 use Rattle.std.specs.List.{AllByRecursion}
 use Rattle.std.proofs.lemmas.Bool.{and_right}
