@@ -1,7 +1,5 @@
 -- Each run of a trace that is replayed has what is written.
-use Rattle.std.proofs.Common.{ℕ, List, None, Ok, ◌≡◌, ◌∙◌, ap, subst, inl, inr, IfSome}
-use Rattle.std.specs.declared.option.Option.{Option}
-use Rattle.std.specs.Io.KnownBytes.{append_known}
+use Rattle.std.proofs.Common.{ℕ, List, ◌++◌, None, Ok, ◌≡◌, ◌∙◌, ap, subst, inl, inr, IfSome}
 use Rattle.tva_outside.specs.Held.{HeldByName}
 use Rattle.tva_plan.specs.declared.config.Config.{Config}
 use Rattle.tva_plan.specs.Valid.{IsConfig}
@@ -14,16 +12,16 @@ use Rattle.tva.specs.Expected.{Expected, audits, replays}
 use Rattle.tva.specs.Parts.{IsCut}
 use Rattle.tva.specs.Wanted.{wanted}
 use Rattle.tva.proofs.Replays.{cut_of_nothing, of_rows, same_report}
-use Rattle.tva.proofs.Wants.{HoldsOfEach, of_any}
+use Rattle.tva.proofs.Wants.{HoldsOfEach, of_wanted}
 
-module _ (old new : Option (List ℕ)) where
+module _ (old new : List ℕ) where
   -- what is written whole is what each run has
   abbrev pub IsOne : Expected → Type 0
   IsOne x = WroteAll old new x → WroteEach old new x
 
   one_of_trace : (plan : Config) (trace : List ℕ) (said : List SaidRow) → IsConfig plan → rows_of plan trace ≡ Ok said → IsOne (replays plan trace)
   one_of_trace plan trace said valid read (text, (rows, are, has), written) = λ others other theirs report.
-      written ∙ ap (append_known old) (same_report plan rows valid text other has.report (of_rows plan trace rows valid are other others theirs report))
+      written ∙ ap (λ (xs : List ℕ). old ++ xs) (same_report plan rows valid text other has.report (of_rows plan trace rows valid are other others theirs report))
 
   one_of_audit : (plan : Config) (trace : List ℕ) (said : List SaidRow) (report : List ℕ) → IsConfig plan → rows_of plan trace ≡ Ok said → first_bad report ≡ None
       → IsOne (audits plan trace report)
@@ -39,8 +37,8 @@ module _ (old new : Option (List ℕ)) where
     of_refusal = λ r wrote. tt;
   }
 
-  pub one_of_wanted : (held : Option HeldByName) (words : List (List ℕ)) → IfSome (wanted held words) IsOne
-  one_of_wanted = of_any IsOne one_of_each
+  pub one_of_wanted : (words : List (List ℕ)) (files : HeldByName) → IfSome (wanted files words) IsOne
+  one_of_wanted = of_wanted IsOne one_of_each
 
   -- and a part of it is the first of what each run has
   abbrev pub IsFirst : Expected → Type 0
@@ -60,5 +58,5 @@ module _ (old new : Option (List ℕ)) where
     of_refusal = λ r wrote. tt;
   }
 
-  pub first_of_wanted : (held : Option HeldByName) (words : List (List ℕ)) → IfSome (wanted held words) IsFirst
-  first_of_wanted = of_any IsFirst first_of_each
+  pub first_of_wanted : (words : List (List ℕ)) (files : HeldByName) → IfSome (wanted files words) IsFirst
+  first_of_wanted = of_wanted IsFirst first_of_each

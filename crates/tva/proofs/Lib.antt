@@ -1,3 +1,5 @@
+pub mod Given
+pub mod Found
 pub mod Fronts
 pub mod Pieces
 pub mod Replays

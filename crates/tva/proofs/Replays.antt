@@ -1,10 +1,9 @@
 -- What a replay answers, from what it found.
 use Rattle.std.proofs.Math.Seq.{take-length}
-use Rattle.std.proofs.Common.{◌≡◌, inl, inr, ℕ, ◌+◌, List, ◌++◌, length, sym, ap, ◌∙◌, subst, None, Some}
+use Rattle.std.proofs.Common.{◌≡◌, inl, inr, ℕ, ◌+◌, List, ◌++◌, length, sym, ap, ◌∙◌, subst, append-nil, refl, Ok, Err}
 use Rattle.std.proofs.lemmas.Grind.{flat_map-append}
-use Rattle.std.specs.declared.option.Option.{Option}
-use Rattle.std.specs.Io.KnownBytes.{append_known}
 use Rattle.tva_outside.specs.Held.{HeldByName}
+use Rattle.tva_outside.specs.Loads.{Load}
 use Rattle.tva_base.specs.declared.event.Event.{Event}
 use Rattle.tva_plan.specs.declared.config.Config.{Config}
 use Rattle.tva_plan.specs.Valid.{IsConfig}
@@ -16,17 +15,18 @@ use Rattle.tva_run.specs.Report.{AreEventsTo, IsReport, lines_of, report_of, tot
 use Rattle.tva_run.proofs.Runs.{are_delayed}
 use Rattle.tva_run.proofs.Reports.{events_begin, one_list}
 use Rattle.tva_existence.proofs.Whole.{read_report}
-use Rattle.tva.specs.Command.{replay}
-use Rattle.tva.specs.Expected.{Expected, followed, refuses, plan_at, replays, told, trace_at}
-use Rattle.tva.specs.Answer.{Answers, WroteCut}
-use Rattle.tva.specs.Parts.{IsCut, IsFound, IsReplayed}
+use Rattle.tva.specs.Command.{Command, replay}
+use Rattle.tva.specs.Given.{AgreeSince}
+use Rattle.tva.specs.Expected.{Expected, Sought, comes_to, followed, refuses, plan_at, replays, trace_at}
+use Rattle.tva.specs.Answer.{Answers, HasFound, Just, OfCommand, WroteAll, WroteCut, WroteLines, WrotePart}
+use Rattle.tva.specs.Parts.{IsCut, IsFound, IsNotFound, IsReplayed}
 use Rattle.tva_run.specs.Shown.{IsBegun, IsCutShort, all_of}
 use Rattle.tva.specs.declared.status.Status as status
 use Rattle.tva.specs.declared.status.Status.TheVariants.{Done, Found as Differs, Usage, ReadFault, WriteFault, TooLarge, BadConfig, BadTrace, EventLimit, OutOfMemory, BadReport}
-use Rattle.tva.proofs.Pieces.{append_known-nil, cut_of_longer}
+use Rattle.tva.proofs.Pieces.{cut_of_longer}
 
 -- the lines of the windows before the one that passes the number of events are the first of all up to its end
-pub cut_of_short : (plan : Config) (rows : List Row) (old new : Option (List ℕ)) (text : List ℕ) (short : IsCutShort plan rows text) → IsCut old new text
+pub cut_of_short : (plan : Config) (rows : List Row) (old new : List ℕ) (text : List ℕ) (short : IsCutShort plan rows text) → IsCut old new text
     → IsCut old new (lines_of plan (all_of short.shown ++ short.passing))
 cut_of_short plan rows old new text short cut =
     subst (λ (t : List ℕ). IsCut old new t) (sym (flat_map-append (line_of plan) (all_of short.shown) short.passing))
@@ -41,7 +41,7 @@ module _ (plan : Config) (rows : List Row) (valid : IsConfig plan) where
       a.whole ∙ ap (report_of plan) (one_list plan rows (are_delayed plan valid) (plan.horizon.0 + 1) a.told b.told a.events b.events) ∙ sym b.whole
 
   -- it begins with the lines of what happened up to some time
-  begins_with : (old new : Option (List ℕ)) (until : ℕ) (first : List Event) (other : List ℕ) → AreEventsTo plan rows until first → IsReport plan rows other
+  begins_with : (old new : List ℕ) (until : ℕ) (first : List Event) (other : List ℕ) → AreEventsTo plan rows until first → IsReport plan rows other
       → IsCut old new (lines_of plan first) → IsCut old new other
   unfolding report_of
   begins_with old new until first other are report cut =
@@ -53,22 +53,22 @@ module _ (plan : Config) (rows : List Row) (valid : IsConfig plan) where
       subst (λ (text : List ℕ). IsCut old new text) (sym whole)
       (cut_of_longer old new (lines_of plan first ++ lines_of plan rest) total (cut_of_longer old new (lines_of plan first) (lines_of plan rest) cut))
 
-  begins_of_begun : (old new : Option (List ℕ)) (text other : List ℕ) → IsBegun plan rows text → IsReport plan rows other → IsCut old new text → IsCut old new other
+  begins_of_begun : (old new : List ℕ) (text other : List ℕ) → IsBegun plan rows text → IsReport plan rows other → IsCut old new text → IsCut old new other
   begins_of_begun old new text other (inl report) each cut = subst (λ (t : List ℕ). IsCut old new t) (same_report text other report each) cut
   begins_of_begun old new text other (inr lines) each cut =
       begins_with old new lines.until lines.told other lines.events each (subst (λ (t : List ℕ). IsCut old new t) lines.lines cut)
 
-  begins_of_short : (old new : Option (List ℕ)) (text other : List ℕ) → IsCutShort plan rows text → IsReport plan rows other → IsCut old new text → IsCut old new other
+  begins_of_short : (old new : List ℕ) (text other : List ℕ) → IsCutShort plan rows text → IsReport plan rows other → IsCut old new text → IsCut old new other
   begins_of_short old new text other short each cut =
       begins_with old new short.until (all_of short.shown ++ short.passing) other short.events each (cut_of_short plan rows old new text short cut)
 
 -- where nothing is written every text begins with it
-pub cut_of_nothing : (old new : Option (List ℕ)) (text : List ℕ) → new ≡ old → IsCut old new text
-cut_of_nothing old new text same = (0, same ∙ sym (append_known-nil old))
+pub cut_of_nothing : (old new : List ℕ) (text : List ℕ) → new ≡ old → IsCut old new text
+cut_of_nothing old new text same = (0, same ∙ sym (append-nil old))
 
 -- what is written whole is a cut
-pub cut_of_whole : (old new : Option (List ℕ)) (text : List ℕ) → new ≡ append_known old text → IsCut old new text
-cut_of_whole old new text w = (length text, w ∙ ap (append_known old) (sym (take-length text)))
+pub cut_of_whole : (old new : List ℕ) (text : List ℕ) → new ≡ old ++ text → IsCut old new text
+cut_of_whole old new text w = (length text, w ∙ ap (λ (xs : List ℕ). old ++ xs) (sym (take-length text)))
 
 -- ## what the replay of its rows answers
 
@@ -77,17 +77,17 @@ module _ (plan : Config) (trace : List ℕ) (rows : List Row) (valid : IsConfig 
   of_rows text others theirs report = subst (λ (rs : List Row). IsReport plan rs text) (rows_are_one plan trace others rows theirs are) report
 
   -- the first bytes of what is begun are those of the report
-  cut_of_begun : (old new : Option (List ℕ)) (text : List ℕ) → IsBegun plan rows text → IsCut old new text → WroteCut old new (replays plan trace)
+  cut_of_begun : (old new : List ℕ) (text : List ℕ) → IsBegun plan rows text → IsCut old new text → WroteCut old new (replays plan trace)
   cut_of_begun old new text begun cut =
       let whole = read_report plan rows valid trace are in
       (whole.0, (rows, are, whole.1), begins_of_begun plan rows valid old new text whole.0 begun whole.1 cut)
 
-  cut_at_limit : (old new : Option (List ℕ)) (text : List ℕ) → IsCutShort plan rows text → new ≡ append_known old text → WroteCut old new (replays plan trace)
+  cut_at_limit : (old new : List ℕ) (text : List ℕ) → IsCutShort plan rows text → new ≡ old ++ text → WroteCut old new (replays plan trace)
   cut_at_limit old new text short written =
       let whole = read_report plan rows valid trace are in
       (whole.0, (rows, are, whole.1), begins_of_short plan rows valid old new text whole.0 short whole.1 (cut_of_whole old new text written))
 
-  pub answers_of_replayed : (w : Type 0) (old new : Option (List ℕ)) (s : status.Status) → IsReplayed plan rows old new w s → Answers (Some (replays plan trace)) ⊥ w old new s
+  pub answers_of_replayed : (w : Type 0) (old new : List ℕ) (s : status.Status) → IsReplayed plan rows old new w s → Answers (Just (replays plan trace)) w old new s
   answers_of_replayed w old new Done (text, has, written) = (text, (rows, are, has), written)
   answers_of_replayed w old new Usage a = absurd a
   answers_of_replayed w old new (Differs f) a = absurd a
@@ -104,48 +104,74 @@ module _ (plan : Config) (trace : List ℕ) (rows : List Row) (valid : IsConfig 
 
 -- ## files
 
--- an answer of what reads no more is one of what has read
-pub with_reads : (x : Expected) (r w : Type 0) (old new : Option (List ℕ)) (s : status.Status) → Answers (Some x) ⊥ w old new s → Answers (Some x) r w old new s
-with_reads x r w old new Done a = a
-with_reads x r w old new (Differs f) a = a
-with_reads x r w old new (BadReport k) a = a
-with_reads x r w old new Usage a = a
-with_reads x r w old new ReadFault a = (elim a.0 [ inl none ↦ absurd none | inr missing ↦ inr missing ], a.1)
-with_reads x r w old new WriteFault a = a
-with_reads x r w old new (TooLarge k) a = a
-with_reads x r w old new (BadConfig f) a = a
-with_reads x r w old new (BadTrace f) a = a
-with_reads x r w old new (EventLimit m) a = a
-with_reads x r w old new OutOfMemory a = a
+-- what holds of one thing alone holds of a command, where it comes to that over all files that agree
+pub answers_of_just : (first last : List Load) (command : Command) (x : Expected) (w : Type 0) (old new : List ℕ) (s : status.Status)
+    → ((files : HeldByName) → AgreeSince first last files → comes_to command files ≡ x)
+    → Answers (Just x) w old new s → Answers (OfCommand first last command) w old new s
+answers_of_just first last command x w old new Done comes a = λ files agree. subst (λ (y : Expected). WroteAll old new y) (sym (comes files agree)) a
+answers_of_just first last command x w old new (Differs f) comes a = (λ files agree. subst (λ (y : Expected). HasFound f y) (sym (comes files agree)) a.0, a.1)
+answers_of_just first last command x w old new Usage comes a = a
+answers_of_just first last command x w old new ReadFault comes a = (λ files agree. subst (λ (y : Expected). y ≡ refuses ReadFault) (sym (comes files agree)) a.0, a.1)
+answers_of_just first last command x w old new WriteFault comes a = (a.0, λ files agree. subst (λ (y : Expected). WroteCut old new y) (sym (comes files agree)) a.1)
+answers_of_just first last command x w old new (TooLarge k) comes a = (λ files agree. subst (λ (y : Expected). y ≡ refuses (TooLarge k)) (sym (comes files agree)) a.0, a.1)
+answers_of_just first last command x w old new (BadConfig f) comes a = (λ files agree. subst (λ (y : Expected). y ≡ refuses (BadConfig f)) (sym (comes files agree)) a.0, a.1)
+answers_of_just first last command x w old new (BadTrace f) comes a = (λ files agree. subst (λ (y : Expected). y ≡ refuses (BadTrace f)) (sym (comes files agree)) a.0, a.1)
+answers_of_just first last command x w old new (BadReport k) comes a = (λ files agree. subst (λ (y : Expected). y ≡ refuses (BadReport k)) (sym (comes files agree)) a.0, a.1)
+answers_of_just first last command x w old new (EventLimit m) comes a = λ files agree. subst (λ (y : Expected). WroteLines m old new y × WrotePart old new y) (sym (comes files agree)) a
+answers_of_just first last command x w old new OutOfMemory comes a = λ files agree. subst (λ (y : Expected). WrotePart old new y) (sym (comes files agree)) a
 
--- where the shelf tells nothing, less is said
-pub untold : (x : Expected) (r w : Type 0) (old new : Option (List ℕ)) (s : status.Status) → (Some x ≡ Some (refuses ReadFault) → ⊥) → Answers (Some x) ⊥ w old new s → Answers None r w old new s
-untold x r w old new Done apart a = tt
-untold x r w old new (Differs f) apart a = (tt, a.1)
-untold x r w old new (BadReport k) apart a = (tt, a.1)
-untold x r w old new Usage apart a = a
-untold x r w old new ReadFault apart a = absurd (elim a.0 [ inl none ↦ none | inr missing ↦ apart missing ])
-untold x r w old new WriteFault apart a = (a.0, tt)
-untold x r w old new (TooLarge k) apart a = (tt, a.1)
-untold x r w old new (BadConfig f) apart a = (tt, a.1)
-untold x r w old new (BadTrace f) apart a = (tt, a.1)
-untold x r w old new (EventLimit m) apart a = tt
-untold x r w old new OutOfMemory apart a = tt
+-- where what is sought isn't found, a command that comes to its refusal then is answered so, and nothing is written
+pub answers_of_missing : {A : Type 0} (first between last : List Load) (seek : HeldByName → Sought A) (command : Command) (w : Type 0) (old : List ℕ) (s : status.Status)
+    → ((files : HeldByName) → AgreeSince first last files → AgreeSince between last files)
+    → ((files : HeldByName) (r : status.Status) → AgreeSince first last files → seek files ≡ Err r → comes_to command files ≡ refuses r)
+    → IsNotFound between last seek s → Answers (OfCommand first last command) w old old s
+answers_of_missing first between last seek command w old Done here comes a = absurd a
+answers_of_missing first between last seek command w old (Differs f) here comes a = absurd a
+answers_of_missing first between last seek command w old (BadReport k) here comes a = absurd a
+answers_of_missing first between last seek command w old Usage here comes a = absurd a
+answers_of_missing first between last seek command w old WriteFault here comes a = absurd a
+answers_of_missing first between last seek command w old (EventLimit m) here comes a = absurd a
+answers_of_missing first between last seek command w old ReadFault here comes a = (λ files agree. comes files ReadFault agree (a files (here files agree)), refl)
+answers_of_missing first between last seek command w old (TooLarge k) here comes a = (λ files agree. comes files (TooLarge k) agree (a files (here files agree)), refl)
+answers_of_missing first between last seek command w old (BadConfig f) here comes a = (λ files agree. comes files (BadConfig f) agree (a files (here files agree)), refl)
+answers_of_missing first between last seek command w old (BadTrace f) here comes a = (λ files agree. comes files (BadTrace f) agree (a files (here files agree)), refl)
+answers_of_missing first between last seek command w old OutOfMemory here comes a = λ files agree. inl refl
 
-told_replay : (held : Option HeldByName) (config trace text : List ℕ) (plan : Config) (r w : Type 0) (old new : Option (List ℕ)) (s : status.Status) →
-    IsFound held (plan_at config) plan → IsFound held (trace_at plan trace) text →
-    Answers (Some (replays plan text)) ⊥ w old new s → Answers (told held (replay config trace)) r w old new s
-told_replay None config trace text plan r w old new s found rows a = untold (replays plan text) r w old new s (λ e. cc) a
-told_replay (Some files) config trace text plan r w old new s found rows a =
-    let after : Config → Expected = λ plan. followed (trace_at plan trace files) (replays plan) in
-    let comes : followed (plan_at config files) after ≡ replays plan text =
-    ap (λ p. followed p after) found ∙ ap (λ t. followed t (replays plan)) rows in
-    subst (λ (x : Expected). Answers (Some x) r w old new s) (sym comes) (with_reads (replays plan text) r w old new s a)
+-- what a replay comes to
+module _ (config trace : List ℕ) (files : HeldByName) where
+  replay_unread : (r : status.Status) → plan_at config files ≡ Err r → comes_to (replay config trace) files ≡ refuses r
+  replay_unread r e = ap (λ (p : Sought Config). followed p (λ plan. followed (trace_at plan trace files) (replays plan))) e
 
--- what a replay answers where its plan and its rows were found, one after another
-pub replay_found : (held between : Option HeldByName) (config trace text : List ℕ) (plan : Config) (rows : List Row) (r w : Type 0) (old new : Option (List ℕ)) (s : status.Status) →
-    between ≡ held → IsConfig plan → AreRows plan text rows → IsFound held (plan_at config) plan → IsFound between (trace_at plan trace) text →
-    IsReplayed plan rows old new w s → Answers (told held (replay config trace)) r w old new s
-replay_found held between config trace text plan rows r w old new s same valid are found there a =
-    told_replay held config trace text plan r w old new s found (subst (λ (h : Option HeldByName). IsFound h (trace_at plan trace) text) same there)
-    (answers_of_replayed plan text rows valid are w old new s a)
+  pub replay_planned : (plan : Config) → plan_at config files ≡ Ok plan → comes_to (replay config trace) files ≡ followed (trace_at plan trace files) (replays plan)
+  replay_planned plan e = ap (λ (p : Sought Config). followed p (λ plan. followed (trace_at plan trace files) (replays plan))) e
+
+  replay_traced : (plan : Config) (text : List ℕ) → plan_at config files ≡ Ok plan → trace_at plan trace files ≡ Ok text → comes_to (replay config trace) files ≡ replays plan text
+  replay_traced plan text e f = replay_planned plan e ∙ ap (λ (t : Sought (List ℕ)). followed t (replays plan)) f
+
+  replay_untraced : (plan : Config) (r : status.Status) → plan_at config files ≡ Ok plan → trace_at plan trace files ≡ Err r → comes_to (replay config trace) files ≡ refuses r
+  replay_untraced plan r e f = replay_planned plan e ∙ ap (λ (t : Sought (List ℕ)). followed t (replays plan)) f
+
+-- what a replay answers where its plan isn't found
+pub replay_no_plan : (first last : List Load) (config trace : List ℕ) (w : Type 0) (old : List ℕ) (s : status.Status)
+    → IsNotFound first last (plan_at config) s → Answers (OfCommand first last (replay config trace)) w old old s
+replay_no_plan first last config trace w old s a =
+    answers_of_missing first first last (plan_at config) (replay config trace) w old s (λ files agree. agree) (λ files r agree e. replay_unread config trace files r e) a
+
+module _ (first between last : List Load) (config trace : List ℕ) (plan : Config)
+    (before : (files : HeldByName) → AgreeSince first last files → AgreeSince first between files)
+    (behind : (files : HeldByName) → AgreeSince first last files → AgreeSince between last files)
+    (found : IsFound first between (plan_at config) plan) where
+  -- or where its rows aren't
+  pub replay_no_rows : (w : Type 0) (old : List ℕ) (s : status.Status)
+      → IsNotFound between last (trace_at plan trace) s → Answers (OfCommand first last (replay config trace)) w old old s
+  replay_no_rows w old s a =
+      answers_of_missing first between last (trace_at plan trace) (replay config trace) w old s behind
+      (λ files r agree e. replay_untraced config trace files plan r (found files (before files agree)) e) a
+
+  -- or where both are
+  pub replay_found : (text : List ℕ) (rows : List Row) (w : Type 0) (old new : List ℕ) (s : status.Status) → IsConfig plan → AreRows plan text rows
+      → IsFound between last (trace_at plan trace) text → IsReplayed plan rows old new w s → Answers (OfCommand first last (replay config trace)) w old new s
+  replay_found text rows w old new s valid are there a =
+      answers_of_just first last (replay config trace) (replays plan text) w old new s
+      (λ files agree. replay_traced config trace files plan text (found files (before files agree)) (there files (behind files agree)))
+      (answers_of_replayed plan text rows valid are w old new s a)

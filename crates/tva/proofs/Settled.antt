@@ -1,9 +1,10 @@
 -- How a run ends where nothing fails.
-use Rattle.std.proofs.Common.{◌≡◌, inl, inr, ℕ, List, ◌++◌, refl, Some, None, IfSome, sym, subst}
-use Rattle.std.specs.declared.option.Option.{Option}
+use Rattle.std.proofs.Common.{◌≡◌, inl, inr, ℕ, List, ◌++◌, refl, sym, subst}
 use Rattle.tva_report.specs.declared.differences.Finding.{Finding}
-use Rattle.tva.specs.Expected.{Expected, writes, shows, replays, audits, refuses, Ends, IsText}
-use Rattle.tva.specs.Answer.{Answers, HasFound, IsBegunText, WroteLines}
+use Rattle.tva_outside.specs.Loads.{Load}
+use Rattle.tva.specs.Command.{Command}
+use Rattle.tva.specs.Expected.{Expected, comes_to, writes, shows, replays, audits, refuses, Ends, IsText}
+use Rattle.tva.specs.Answer.{Answers, HasFound, IsBegunText, OfCommand, WroteLines}
 use Rattle.tva_run.specs.Shown.{all_of}
 use Rattle.tva.specs.Wanted.{Settles, SettlesRefusal}
 use Rattle.tva.specs.declared.status.Status as status
@@ -17,11 +18,11 @@ ends_with_text (replays plan trace) text (rows, are, has) = (rows, are, (text, h
 ends_with_text (audits plan trace report) text (rows, are, has, sums, are_sums, same) = (rows, are, has)
 ends_with_text (refuses r) text is = absurd is
 
-ends_missing : (x : Expected) → Some x ≡ Some (refuses ReadFault) → Ends ReadFault x
-ends_missing x missing = let is : x ≡ refuses ReadFault = cc in subst (λ (y : Expected). Ends ReadFault y) (sym is) refl
+ends_refused : (r : status.Status) (x : Expected) → x ≡ refuses r → Ends r x
+ends_refused r x is = subst (λ (y : Expected). Ends r y) (sym is) refl
 
 -- what is cut short ends with the event limit
-ends_at_limit : (most : ℕ) (old new : Option (List ℕ)) (x : Expected) → WroteLines most old new x → Ends (EventLimit most) x
+ends_at_limit : (most : ℕ) (old new : List ℕ) (x : Expected) → WroteLines most old new x → Ends (EventLimit most) x
 ends_at_limit most old new (writes whole) l = absurd l
 ends_at_limit most old new (shows bytes) l = absurd l
 ends_at_limit most old new (replays plan trace) (rows, are, (same, (text, short, w))) =
@@ -37,20 +38,20 @@ ends_found f (replays plan trace) h = absurd h
 ends_found f (audits plan trace report) h = h
 ends_found f (refuses r) h = absurd h
 
--- a run that answers so ends as it is to, where neither count rose
-pub settles_of_answer : (e : Option Expected) (r w : Type 0) (old new : Option (List ℕ)) (s : status.Status) → Answers e r w old new s → (r → ⊥) → (w → ⊥) → IfSome e (Settles s)
-settles_of_answer None r w old new s a reads writes_rose = tt
-settles_of_answer (Some x) r w old new Done a reads writes_rose = inl (ends_with_text x a.0 a.1)
-settles_of_answer (Some x) r w old new Usage a reads writes_rose = absurd a
-settles_of_answer (Some x) r w old new (Differs f) a reads writes_rose = inl (ends_found f x a.0)
-settles_of_answer (Some x) r w old new (BadReport k) a reads writes_rose = inl (subst (λ (y : Expected). Ends (BadReport k) y) (sym a.0) refl)
-settles_of_answer (Some x) r w old new ReadFault a reads writes_rose = elim a.0 [ inl rose ↦ absurd (reads rose) | inr missing ↦ inl (ends_missing x missing) ]
-settles_of_answer (Some x) r w old new WriteFault a reads writes_rose = absurd (writes_rose a.0)
-settles_of_answer (Some x) r w old new (TooLarge k) a reads writes_rose = inl (subst (λ (y : Expected). Ends (TooLarge k) y) (sym a.0) refl)
-settles_of_answer (Some x) r w old new (BadConfig f) a reads writes_rose = inl (subst (λ (y : Expected). Ends (BadConfig f) y) (sym a.0) refl)
-settles_of_answer (Some x) r w old new (BadTrace f) a reads writes_rose = inl (subst (λ (y : Expected). Ends (BadTrace f) y) (sym a.0) refl)
-settles_of_answer (Some x) r w old new (EventLimit m) a reads writes_rose = inl (ends_at_limit m old new x a.0)
-settles_of_answer (Some x) r w old new OutOfMemory a reads writes_rose = inr refl
+-- a run that answers so ends as it is to, where the sink's count didn't rise
+pub settles_of_answer : (first last : List Load) (command : Command) (w : Type 0) (old new : List ℕ) (s : status.Status) → Answers (OfCommand first last command) w old new s → (w → ⊥)
+    → OfCommand first last command (Settles s)
+settles_of_answer first last command w old new Done a unfailed = λ files agree. let text = a files agree in inl (ends_with_text (comes_to command files) text.0 text.1)
+settles_of_answer first last command w old new Usage a unfailed = absurd a
+settles_of_answer first last command w old new (Differs f) a unfailed = λ files agree. inl (ends_found f (comes_to command files) (a.0 files agree))
+settles_of_answer first last command w old new ReadFault a unfailed = λ files agree. inl (ends_refused ReadFault (comes_to command files) (a.0 files agree))
+settles_of_answer first last command w old new (TooLarge k) a unfailed = λ files agree. inl (ends_refused (TooLarge k) (comes_to command files) (a.0 files agree))
+settles_of_answer first last command w old new (BadConfig f) a unfailed = λ files agree. inl (ends_refused (BadConfig f) (comes_to command files) (a.0 files agree))
+settles_of_answer first last command w old new (BadTrace f) a unfailed = λ files agree. inl (ends_refused (BadTrace f) (comes_to command files) (a.0 files agree))
+settles_of_answer first last command w old new (BadReport k) a unfailed = λ files agree. inl (ends_refused (BadReport k) (comes_to command files) (a.0 files agree))
+settles_of_answer first last command w old new WriteFault a unfailed = absurd (unfailed a.0)
+settles_of_answer first last command w old new (EventLimit m) a unfailed = λ files agree. inl (ends_at_limit m old new (comes_to command files) (a files agree).0)
+settles_of_answer first last command w old new OutOfMemory a unfailed = λ files agree. inr refl
 
 -- what has a text, or one that is begun, is no refusal of what is read
 refusal_of_begun : (s : status.Status) (x : Expected) (text : List ℕ) → IsBegunText x text → SettlesRefusal s x
@@ -74,17 +75,17 @@ refusal_of_settled s (replays plan trace) e = tt
 refusal_of_settled s (audits plan trace report) e = tt
 refusal_of_settled s (refuses r) e = e
 
--- the same for refusals of what is read, where no load failed
-pub refusal_of_answer : (e : Option Expected) (r w : Type 0) (old new : Option (List ℕ)) (s : status.Status) → Answers e r w old new s → (r → ⊥) → IfSome e (SettlesRefusal s)
-refusal_of_answer None r w old new s a reads = tt
-refusal_of_answer (Some x) r w old new Done a reads = refusal_of_text Done x a.0 a.1
-refusal_of_answer (Some x) r w old new Usage a reads = absurd a
-refusal_of_answer (Some x) r w old new (Differs f) a reads = refusal_of_settled (Differs f) x (inl (ends_found f x a.0))
-refusal_of_answer (Some x) r w old new (BadReport k) a reads = refusal_of_settled (BadReport k) x (inl (subst (λ (y : Expected). Ends (BadReport k) y) (sym a.0) refl))
-refusal_of_answer (Some x) r w old new ReadFault a reads = elim a.0 [ inl rose ↦ absurd (reads rose) | inr missing ↦ refusal_of_settled ReadFault x (inl (ends_missing x missing)) ]
-refusal_of_answer (Some x) r w old new WriteFault a reads = refusal_of_begun WriteFault x a.1.0 a.1.1
-refusal_of_answer (Some x) r w old new (TooLarge k) a reads = refusal_of_settled (TooLarge k) x (inl (subst (λ (y : Expected). Ends (TooLarge k) y) (sym a.0) refl))
-refusal_of_answer (Some x) r w old new (BadConfig f) a reads = refusal_of_settled (BadConfig f) x (inl (subst (λ (y : Expected). Ends (BadConfig f) y) (sym a.0) refl))
-refusal_of_answer (Some x) r w old new (BadTrace f) a reads = refusal_of_settled (BadTrace f) x (inl (subst (λ (y : Expected). Ends (BadTrace f) y) (sym a.0) refl))
-refusal_of_answer (Some x) r w old new (EventLimit m) a reads = refusal_of_settled (EventLimit m) x (inl (ends_at_limit m old new x a.0))
-refusal_of_answer (Some x) r w old new OutOfMemory a reads = refusal_of_settled OutOfMemory x (inr refl)
+-- the same for refusals of what is read
+pub refusal_of_answer : (first last : List Load) (command : Command) (w : Type 0) (old new : List ℕ) (s : status.Status) → Answers (OfCommand first last command) w old new s
+    → OfCommand first last command (SettlesRefusal s)
+refusal_of_answer first last command w old new Done a = λ files agree. let text = a files agree in refusal_of_text Done (comes_to command files) text.0 text.1
+refusal_of_answer first last command w old new Usage a = absurd a
+refusal_of_answer first last command w old new (Differs f) a = λ files agree. refusal_of_settled (Differs f) (comes_to command files) (inl (ends_found f (comes_to command files) (a.0 files agree)))
+refusal_of_answer first last command w old new ReadFault a = λ files agree. refusal_of_settled ReadFault (comes_to command files) (inl (ends_refused ReadFault (comes_to command files) (a.0 files agree)))
+refusal_of_answer first last command w old new (TooLarge k) a = λ files agree. refusal_of_settled (TooLarge k) (comes_to command files) (inl (ends_refused (TooLarge k) (comes_to command files) (a.0 files agree)))
+refusal_of_answer first last command w old new (BadConfig f) a = λ files agree. refusal_of_settled (BadConfig f) (comes_to command files) (inl (ends_refused (BadConfig f) (comes_to command files) (a.0 files agree)))
+refusal_of_answer first last command w old new (BadTrace f) a = λ files agree. refusal_of_settled (BadTrace f) (comes_to command files) (inl (ends_refused (BadTrace f) (comes_to command files) (a.0 files agree)))
+refusal_of_answer first last command w old new (BadReport k) a = λ files agree. refusal_of_settled (BadReport k) (comes_to command files) (inl (ends_refused (BadReport k) (comes_to command files) (a.0 files agree)))
+refusal_of_answer first last command w old new WriteFault a = λ files agree. let text = a.1 files agree in refusal_of_begun WriteFault (comes_to command files) text.0 text.1
+refusal_of_answer first last command w old new (EventLimit m) a = λ files agree. refusal_of_settled (EventLimit m) (comes_to command files) (inl (ends_at_limit m old new (comes_to command files) (a files agree).0))
+refusal_of_answer first last command w old new OutOfMemory a = λ files agree. refusal_of_settled OutOfMemory (comes_to command files) (inr refl)

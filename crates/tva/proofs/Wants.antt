@@ -1,8 +1,8 @@
 -- What holds of all that words can come to: its runs keep their promises, and it is to end in just one way.
 use Rattle.std.proofs.Common.{◌≡◌, ℕ, ◌+◌, All, Bool, true, false, cond, List, length, Result, Ok, Err, Some, None, IfSome, refl, sym, ◌∙◌, ap, subst, inl, inr, arith}
 use Rattle.std.specs.declared.option.Option.{Option}
-use Rattle.std.specs.Prelude.{nat_lt, option_and_then}
-use Rattle.std.specs.Option.{option_map_or}
+use Rattle.std.specs.Prelude.{nat_lt}
+use Rattle.std.specs.Option.{option_map, option_map_or}
 use Rattle.std.specs.Result.{result_map_both}
 use Rattle.tva_outside.specs.Held.{HeldByName, bytes_at}
 use Rattle.tva_plan.specs.declared.config.Config.{Config}
@@ -40,7 +40,7 @@ use Rattle.tva_audit.proofs.Budgets.{sums_below}
 use Rattle.tva_gen.specs.Text.{generated}
 use Rattle.tva.specs.Check.{check_line}
 use Rattle.tva.specs.Command.{Command, command_of, replay, check, shim, gen, audit}
-use Rattle.tva.specs.Expected.{Expected, writes, shows, replays, audits, refuses, Sought, followed, ◌>>=◌, within_limit, plan_at, trace_at, report_at, told, Ends, EndsAudit, EndsReplay}
+use Rattle.tva.specs.Expected.{Expected, writes, shows, replays, audits, refuses, Sought, followed, ◌>>=◌, within_limit, plan_at, trace_at, report_at, comes_to, Ends, EndsAudit, EndsReplay}
 use Rattle.tva.specs.Network.{OfRows, EachKeepsPromises, EachTakesHonest, EachKeepsFiles, AreSumsBelow}
 use Rattle.tva_run.specs.Shown.{HasReport, IsPastLimit, IsWithinLimit}
 use Rattle.tva.specs.Wanted.{wanted, HasOneEnd}
@@ -109,41 +109,27 @@ module _ (P : Expected → Type 0) (holds : HoldsOfEach P) where
   of_report_at name files next h =
       of_file 1073741824 (bytes_at files name) (λ text. good_or_bad text (first_bad text)) next (λ text. of_report_or_fault text (first_bad text) next refl (h text))
 
-  of_told : (files : HeldByName) (c : Command) → IfSome (told (Some files) c) P
-  of_told files (replay config trace) =
+  of_comes : (files : HeldByName) (c : Command) → P (comes_to c files)
+  of_comes files (replay config trace) =
       of_plan_at config files (λ plan. followed (trace_at plan trace files) (replays plan))
       (λ plan valid. of_trace_at trace files plan (replays plan) (λ text said read. holds.of_trace plan text said valid read))
-  of_told files (check config) =
+  of_comes files (check config) =
       of_plan_at config files (λ plan. writes (check_line plan)) (λ plan valid. holds.of_text (check_line plan))
-  of_told files (shim bytes) = holds.of_shim bytes
-  of_told files (gen seed count config) =
+  of_comes files (shim bytes) = holds.of_shim bytes
+  of_comes files (gen seed count config) =
       of_plan_at config files (λ plan. writes (generated plan seed count)) (λ plan valid. holds.of_text (generated plan seed count))
-  of_told files (audit config trace report) =
+  of_comes files (audit config trace report) =
       of_plan_at config files (λ plan. followed (trace_at plan trace files) (λ rows. followed (report_at report files) (audits plan rows)))
       (λ plan valid.
       of_trace_at trace files plan (λ rows. followed (report_at report files) (audits plan rows))
       (λ text said read. of_report_at report files (audits plan text) (λ bytes good. holds.of_audit plan text said bytes valid read good)))
 
-  of_command : (files : HeldByName) (c : Option Command) → IfSome (option_and_then (told (Some files)) c) P
+  of_command : (files : HeldByName) (c : Option Command) → IfSome (option_map (λ command. comes_to command files) c) P
   of_command files None = tt
-  of_command files (Some c) = of_told files c
+  of_command files (Some c) = of_comes files c
 
-  of_wanted : (words : List (List ℕ)) (files : HeldByName) → IfSome (wanted (Some files) words) P
+  pub of_wanted : (words : List (List ℕ)) (files : HeldByName) → IfSome (wanted files words) P
   of_wanted words files = of_command files (command_of words)
-
-  -- where it isn't told what is held, words alone come to a shim's text
-  of_words : (c : Option Command) → IfSome (option_and_then (told None) c) P
-  of_words None = tt
-  of_words (Some (replay config trace)) = tt
-  of_words (Some (check config)) = tt
-  of_words (Some (shim bytes)) = holds.of_shim bytes
-  of_words (Some (gen seed count config)) = tt
-  of_words (Some (audit config trace report)) = tt
-
-  -- of files that are told or aren't
-  pub of_any : (held : Option HeldByName) (words : List (List ℕ)) → IfSome (wanted held words) P
-  of_any None words = of_words (command_of words)
-  of_any (Some files) words = of_wanted words files
 
 -- ## promises
 
@@ -159,7 +145,7 @@ kept_of_each = record {
 }
 
 -- every run of a trace that is to be replayed keeps its promises
-pub kept_of_wanted : (words : List (List ℕ)) (files : HeldByName) → IfSome (wanted (Some files) words) (OfRows EachKeepsPromises)
+pub kept_of_wanted : (words : List (List ℕ)) (files : HeldByName) → IfSome (wanted files words) (OfRows EachKeepsPromises)
 kept_of_wanted = of_wanted (OfRows EachKeepsPromises) kept_of_each
 
 -- ## honest senders
@@ -178,7 +164,7 @@ honest_of_each = record {
 }
 
 -- and takes what honest senders show
-pub honest_of_wanted : (words : List (List ℕ)) (files : HeldByName) → IfSome (wanted (Some files) words) (OfRows EachTakesHonest)
+pub honest_of_wanted : (words : List (List ℕ)) (files : HeldByName) → IfSome (wanted files words) (OfRows EachTakesHonest)
 honest_of_wanted = of_wanted (OfRows EachTakesHonest) honest_of_each
 
 -- ## files
@@ -195,7 +181,7 @@ files_of_each = record {
 }
 
 -- and its files
-pub files_of_wanted : (words : List (List ℕ)) (files : HeldByName) → IfSome (wanted (Some files) words) (OfRows EachKeepsFiles)
+pub files_of_wanted : (words : List (List ℕ)) (files : HeldByName) → IfSome (wanted files words) (OfRows EachKeepsFiles)
 files_of_wanted = of_wanted (OfRows EachKeepsFiles) files_of_each
 
 -- ## sums
@@ -214,7 +200,7 @@ below_of_each = record {
 }
 
 -- and the sums of an audit are below their limits
-pub below_of_wanted : (words : List (List ℕ)) (files : HeldByName) → IfSome (wanted (Some files) words) AreSumsBelow
+pub below_of_wanted : (words : List (List ℕ)) (files : HeldByName) → IfSome (wanted files words) AreSumsBelow
 below_of_wanted = of_wanted AreSumsBelow below_of_each
 
 -- ## one end
@@ -365,5 +351,5 @@ one_end_of_each = record {
 }
 
 -- what words come to ends in just one way
-pub one_end_of_wanted : (words : List (List ℕ)) (files : HeldByName) → IfSome (wanted (Some files) words) HasOneEnd
+pub one_end_of_wanted : (words : List (List ℕ)) (files : HeldByName) → IfSome (wanted files words) HasOneEnd
 one_end_of_wanted = of_wanted HasOneEnd one_end_of_each

@@ -1,13 +1,8 @@
 -- The replay of rows, window by window.
-use Rattle.std.proofs.Common.{◌≡◌, ◌≤◌, ◌<◌, ℕ, ◌+◌, ◌-◌, List, [], ◌∷◌, ◌++◌, length, All, refl, sym, ap, ◌∙◌, subst, inl, inr, arith, length-append}
+use Rattle.std.proofs.Common.{◌≡◌, ◌≤◌, ◌<◌, ℕ, ◌+◌, ◌-◌, List, [], ◌∷◌, ◌++◌, length, All, refl, sym, ap, ◌∙◌, subst, inl, inr, arith, append_assoc, append-nil, length-append}
 use Rattle.std.proofs.Math.Seq.{take-length}
-use Rattle.std.specs.List.{AllByRecursion}
 use Rattle.std.proofs.lemmas.Grind.{flat_map-append}
-use Rattle.std.proofs.lemmas.List.Elements.{All-from_recursion, recursion_from_All}
-use Rattle.std.specs.declared.option.Option.{Option}
-use Rattle.std.specs.Io.KnownBytes.{append_known}
 use Rattle.tva_outside.specs.Faults.{Rose}
-use Rattle.tva_outside.proofs.Written.{append_known-append_known}
 use Rattle.tva_base.specs.declared.event.Event.{Event}
 use Rattle.tva_base.specs.declared.event.Totals.{Totals}
 use Rattle.tva_plan.specs.declared.config.Config.{Config}
@@ -24,22 +19,16 @@ use Rattle.tva.specs.Parts.{IsReplayed, IsWritten, WroteCutShort, ended_by}
 use Rattle.tva_run.specs.Shown.{AreLines, HasReport, IsBegun, IsCutShort, all_of}
 use Rattle.tva.specs.declared.status.Status as status
 use Rattle.tva.specs.declared.status.Status.TheVariants.{Done, Found as Differs, Usage, ReadFault, WriteFault, TooLarge, BadConfig, BadTrace, EventLimit, OutOfMemory, BadReport}
-use Rattle.tva.proofs.Pieces.{append_known-nil, written_both}
-
-each-right : {X : Type 0} (P : X → Type 0) (xs ys : List X) → AllByRecursion P (xs ++ ys) → AllByRecursion P ys
-each-right P [] ys h = h
-each-right P (x ∷ xs) ys h = each-right P xs ys h.1
-
-All-right : {X : Type 0} (P : X → Type 0) (xs ys : List X) → All P (xs ++ ys) → All P ys
-All-right P xs ys h = All-from_recursion P ys (each-right P xs ys (recursion_from_All P (xs ++ ys) h))
+use Rattle.tva.proofs.Given.{All-right}
+use Rattle.tva.proofs.Pieces.{written_both}
 
 module _ (plan : Config) (rows : List Row) where
   -- the network stands for the run, and the lines of what it gave are written
-  pub record IsShown (old now : Option (List ℕ)) (net : NetState) : Type 0 where
+  pub record IsShown (old now : List ℕ) (net : NetState) : Type 0 where
     pub windows : List Window
     pub told : List Event
     pub stands : StandsFor plan rows windows told net
-    pub written : now ≡ append_known old (lines_of plan told)
+    pub written : now ≡ old ++ lines_of plan told
 
   -- what the network gave is the run's
   events_to : (windows : List Window) (told : List Event) (net : NetState) → StandsFor plan rows windows told net → AreEventsTo plan rows net.work.worked_to told
@@ -49,41 +38,41 @@ module _ (plan : Config) (rows : List Row) where
   lines_more told list = flat_map-append (line_of plan) told list
 
   -- the network stands for the run, and the lines of what it gave are written but for these events, the last ones
-  pub record IsBehind (old now : Option (List ℕ)) (list : List Event) (net : NetState) : Type 0 where
+  pub record IsBehind (old now : List ℕ) (list : List Event) (net : NetState) : Type 0 where
     pub windows : List Window
     pub told : List Event
     pub stands : StandsFor plan rows windows (told ++ list) net
-    pub written : now ≡ append_known old (lines_of plan told)
+    pub written : now ≡ old ++ lines_of plan told
 
-  pub behind_nothing : (old : Option (List ℕ)) (net : NetState) → StandsFor plan rows [] [] net → IsBehind old old [] net
-  behind_nothing old net s = record { windows = []; told = []; stands = s; written = sym (append_known-nil old) }
+  pub behind_nothing : (old : List ℕ) (net : NetState) → StandsFor plan rows [] [] net → IsBehind old old [] net
+  behind_nothing old net s = record { windows = []; told = []; stands = s; written = sym (append-nil old) }
 
   -- a window more is given
-  pub behind_more : (old now : Option (List ℕ)) (before net : NetState) (list : List Event) (shown : IsShown old now before)
+  pub behind_more : (old now : List ℕ) (before net : NetState) (list : List Event) (shown : IsShown old now before)
       → GoesOn plan rows shown.windows shown.told list net → IsBehind old now list net
   behind_more old now before net list shown g = record { windows = shown.windows ++ g.more; told = shown.told; stands = g.stands; written = shown.written }
 
   -- the nodes and links of its events are the configuration's
-  pub behind_named : (old now : Option (List ℕ)) (list : List Event) (net : NetState) → IsBehind old now list net → All (HasEvent plan) list
+  pub behind_named : (old now : List ℕ) (list : List Event) (net : NetState) → IsBehind old now list net → All (HasEvent plan) list
   behind_named old now list net b =
       All-right (HasEvent plan) b.told list
       (events_named plan rows net.work.worked_to (b.told ++ list) b.stands.tells.way.valid (events_to b.windows (b.told ++ list) net b.stands))
 
   -- its lines are written whole
-  pub shows_more : (old mid after : Option (List ℕ)) (list : List Event) (net : NetState) (b : IsBehind old mid list net)
-      → after ≡ append_known mid (lines_of plan list) → IsShown old after net
+  pub shows_more : (old mid after : List ℕ) (list : List Event) (net : NetState) (b : IsBehind old mid list net)
+      → after ≡ mid ++ lines_of plan list → IsShown old after net
   shows_more old mid after list net b w = record {
     windows = b.windows;
     told = b.told ++ list;
     stands = b.stands;
     written =
-        w ∙ ap (λ (known : Option (List ℕ)). append_known known (lines_of plan list)) b.written
-        ∙ append_known-append_known old (lines_of plan b.told) (lines_of plan list)
-        ∙ ap (append_known old) (sym (lines_more b.told list));
+        w ∙ ap (λ (known : List ℕ). known ++ lines_of plan list) b.written
+        ∙ append_assoc old (lines_of plan b.told) (lines_of plan list)
+        ∙ ap (λ (xs : List ℕ). old ++ xs) (sym (lines_more b.told list));
   }
 
   -- how writing the first bytes of what is begun ends a replay
-  begun_ends : (old now : Option (List ℕ)) (rose : Type 0) (text : List ℕ) (s : status.Status) → IsBegun plan rows text → (s ≡ Done → IsReplayed plan rows old now rose s)
+  begun_ends : (old now : List ℕ) (rose : Type 0) (text : List ℕ) (s : status.Status) → IsBegun plan rows text → (s ≡ Done → IsReplayed plan rows old now rose s)
       → IsWritten old now rose text s → IsReplayed plan rows old now rose s
   begun_ends old now rose text Done b done w = done refl
   begun_ends old now rose text WriteFault b done w = (w.0, (text, b, w.1))
@@ -98,7 +87,7 @@ module _ (plan : Config) (rows : List Row) where
   begun_ends old now rose text (EventLimit m) b done w = absurd w
 
   -- a window isn't written whole
-  pub stops_in_window : (old mid after : Option (List ℕ)) (first between now : ℕ) (list : List Event) (net : NetState) (s : status.Status) (b : IsBehind old mid list net)
+  pub stops_in_window : (old mid after : List ℕ) (first between now : ℕ) (list : List Event) (net : NetState) (s : status.Status) (b : IsBehind old mid list net)
       → first ≤ between → (s ≡ Done → ⊥) → IsWritten mid after (Rose between now) (lines_of plan list) s → IsReplayed plan rows old after (Rose first now) s
   stops_in_window old mid after first between now list net s b later not_done w =
       let both = written_both old mid after first between now (lines_of plan b.told) (lines_of plan list) s b.written later w in
@@ -112,7 +101,7 @@ module _ (plan : Config) (rows : List Row) where
       begun_ends old after (Rose first now) text s (inr begun) (λ e. absurd (not_done e)) both
 
   -- the total line comes last
-  pub ends_with_total : (old mid after : Option (List ℕ)) (first between now : ℕ) (before net : NetState) (totals : Totals) (s : status.Status) (shown : IsShown old mid before)
+  pub ends_with_total : (old mid after : List ℕ) (first between now : ℕ) (before net : NetState) (totals : Totals) (s : status.Status) (shown : IsShown old mid before)
       → HasEnded plan rows shown.windows shown.told net → totals ≡ net.totals → first ≤ between → IsWritten mid after (Rose between now) (summary_of totals) s
       → IsReplayed plan rows old after (Rose first now) s
   unfolding report_of
@@ -131,15 +120,15 @@ module _ (plan : Config) (rows : List Row) where
       both
 
   -- memory is wanting between windows
-  ends_between : (old mid : Option (List ℕ)) (before : NetState) (rose : Type 0) → IsShown old mid before → IsReplayed plan rows old mid rose OutOfMemory
+  ends_between : (old mid : List ℕ) (before : NetState) (rose : Type 0) → IsShown old mid before → IsReplayed plan rows old mid rose OutOfMemory
   ends_between old mid before rose shown =
       let text : List ℕ = lines_of plan shown.told in
       let lines : AreLines plan rows text =
       record { until = before.work.worked_to; told = shown.told; events = events_to shown.windows shown.told before shown.stands; lines = refl } in
-      inr (text, inr lines, (length text, shown.written ∙ ap (append_known old) (sym (take-length text))))
+      inr (text, inr lines, (length text, shown.written ∙ ap (λ (xs : List ℕ). old ++ xs) (sym (take-length text))))
 
   -- a window passes the number of events
-  ends_at_limit : (old mid : Option (List ℕ)) (before net : NetState) (most : ℕ) (shown : IsShown old mid before) → most ≡ plan.max_events
+  ends_at_limit : (old mid : List ℕ) (before net : NetState) (most : ℕ) (shown : IsShown old mid before) → most ≡ plan.max_events
       → PassesLimit plan rows shown.windows shown.told net → WroteCutShort plan rows most old mid
   ends_at_limit old mid before net most shown same p =
       let told = shown.told in
@@ -159,10 +148,10 @@ module _ (plan : Config) (rows : List Row) where
         more = subst (λ (es : List Event). plan.max_events < length (es ++ p.list)) held p.many;
         lines = refl;
       } in
-      (same, (text, short, shown.written ∙ ap (λ (es : List Event). append_known old (lines_of plan es)) held))
+      (same, (text, short, shown.written ∙ ap (λ (es : List Event). old ++ lines_of plan es) held))
 
   -- the network comes to an error
-  pub ends_refused : (old mid : Option (List ℕ)) (before net : NetState) (rose : Type 0) (e : NetError) (shown : IsShown old mid before)
+  pub ends_refused : (old mid : List ℕ) (before net : NetState) (rose : Type 0) (e : NetError) (shown : IsShown old mid before)
       → Refuses plan rows shown.windows shown.told e before net → IsReplayed plan rows old mid rose (ended_by e)
   ends_refused old mid before net rose (error.EventLimit most) shown r = ends_at_limit old mid before net most shown r.0 r.2
   ends_refused old mid before net rose error.OutOfMemory shown r = ends_between old mid before rose shown

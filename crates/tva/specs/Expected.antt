@@ -1,8 +1,8 @@
--- Product: what a command comes to, where the shelf tells what it holds.
+-- Product: what a command comes to over files.
 use Rattle.std.specs.Prelude.{◌≡◌, ℕ, ◌+◌, List, ◌++◌, length, nat_lt, if◌then◌else◌}
 use Rattle.std.specs.Prelude.{Result, Ok, Err, None, Some, codes}
 use Rattle.std.specs.declared.option.Option.{Option}
-use Rattle.std.specs.Option.{option_map, option_map_or}
+use Rattle.std.specs.Option.{option_map_or}
 use Rattle.std.specs.Result.{result_map_both}
 use Rattle.tva_outside.specs.Held.{HeldByName, bytes_at}
 use Rattle.tva_plan.specs.declared.config.Config.{Config}
@@ -79,11 +79,6 @@ comes_to (gen seed count config) files = followed (plan_at config files) (λ pla
 comes_to (audit config trace report) files =
     followed (plan_at config files) (λ plan. followed (trace_at plan trace files)
     (λ rows. followed (report_at report files) (audits plan rows)))
-
--- the same where the shelf tells what it holds, or the command reads nothing
-abbrev pub told : Option HeldByName → Command → Option Expected
-told held (shim bytes) = Some (shows bytes)
-told held command = option_map (comes_to command) held
 
 -- the text is what is to be written
 abbrev pub IsText : Expected → List ℕ → Type 0

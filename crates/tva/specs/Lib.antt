@@ -4,6 +4,7 @@ pub mod Audit
 pub mod Check
 pub mod Command
 pub mod Expected
+pub mod Given
 pub mod Network
 pub mod Parts
 pub mod Status

@@ -1,15 +1,22 @@
 -- Product: what words come to, and what may then be said of a run.
-use Rattle.std.specs.Prelude.{◌≡◌, ◌⊎◌, ℕ, List, option_and_then, None, Some}
+use Rattle.std.specs.Prelude.{◌≡◌, ◌⊎◌, ℕ, List, IfSome, None, Some}
+use Rattle.std.specs.Option.{option_map}
 use Rattle.std.specs.declared.option.Option.{Option}
 use Rattle.tva_outside.specs.Held.{HeldByName}
+use Rattle.tva_outside.specs.Loads.{Load}
+use Rattle.tva.specs.Given.{OfFiles}
 use Rattle.tva.specs.Command.{Command, command_of, shim}
-use Rattle.tva.specs.Expected.{Expected, refuses, told, Ends}
+use Rattle.tva.specs.Expected.{Expected, comes_to, refuses, Ends}
 use Rattle.tva.specs.declared.status.Status as status
 use Rattle.tva.specs.declared.status.Status.TheVariants.{Done, WriteFault, EventLimit, OutOfMemory}
 
--- what is to come of the words, where they are a command and the shelf tells
-abbrev pub wanted : Option HeldByName → List (List ℕ) → Option Expected
-wanted held words = option_and_then (told held) (command_of words)
+-- what is to come of the words over files, where they are a command
+abbrev pub wanted : HeldByName → List (List ℕ) → Option Expected
+wanted files words = option_map (λ command. comes_to command files) (command_of words)
+
+-- it holds of what is to come of the words, over any files that agree with what was given since
+abbrev pub OfWanted : List Load → List Load → List (List ℕ) → (Expected → Type 0) → Type 0
+OfWanted old new words holds = OfFiles old new (λ files. IfSome (wanted files words) holds)
 
 -- words that need no file: they are no command, or that which shows a shim
 abbrev pub NeedsNoFile : Option Command → Type 0

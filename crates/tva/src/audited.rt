@@ -7,7 +7,9 @@ ghost use Rattle.tva_report.specs.Lines.{report_lines};
 ghost use Rattle.tva_lines.specs.Lines.{name_of_node};
 ghost use Rattle.tva_rows.specs.Valid.{AreTraceRows};
 ghost use Rattle.tva.specs.Audit.{audit_text, sum_line, worst_word};
+ghost use Rattle.tva.specs.Given.{WasTaken};
 ghost use Rattle.tva.specs.Parts.{IsAudited, refused_by};
+ghost use Rattle.tva.specs.Wanted.{IsRefusal};
 
 use crate::parts::send;
 use crate::status::Status;
@@ -24,6 +26,7 @@ use tva_rows::PackedRows;
 
 /// Audits a report of the rows under the plan. Where it is the report of the run, a line for each router
 /// is written, and how many lines the report has: all at once, and nothing where it isn't.
+#[tactic(auto, using(crate::proofs::Given::taken_none, crate::proofs::Given::no_fault, crate::proofs::Audits::refused_apart))]
 pub fn audit_rows<R: Threads + Sync, W: Sink, G: Gate>(
     rt: &R,
     alloc: Global,
@@ -36,7 +39,11 @@ pub fn audit_rows<R: Threads + Sync, W: Sink, G: Gate>(
     requires config { IsConfig plan.now }
     requires rows { AreTraceRows plan.now rows }
     ensures writes { W.faults out.old ≤ W.faults out.new }
-    ensures answer { IsAudited plan.now rows report.now (W.written out.old) (W.written out.new)
+    ensures written { WasTaken (W.written out.old) (W.written out.new) (W.took out.old) (W.took out.new) }
+    ensures no_fault { ¬ result ≡ Status.ReadFault }
+    ensures unwritten { IsRefusal result → out.new ≡ out.old }
+    ensures unfailed { result ≡ Status.Done → W.faults out.new ≡ W.faults out.old }
+    ensures answer { IsAudited plan.now rows report.now (W.took out.old) (W.took out.new)
         (Rose (W.faults out.old) (W.faults out.new)) result }
 {
     let sums = match audit_packed(rt, alloc, plan, rows, report, gate) {

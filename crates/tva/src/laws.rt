@@ -1,6 +1,5 @@
 // What is written, by every run that there is.
 ghost use Rattle.std.specs.Prelude.{ℕ, IfSome, List};
-ghost use Rattle.std.specs.declared.option.Option.{Option};
 ghost use Rattle.tva_outside.specs.Held.{HeldByName};
 ghost use Rattle.tva.specs.Answer.{WroteAll, WrotePart};
 ghost use Rattle.tva.specs.Each.{BeginsEach, WroteEach};
@@ -10,8 +9,8 @@ ghost use Rattle.tva.specs.Wanted.{wanted};
 /// begins with a part that is written. Of a trace whose report is audited, and found right, each run has
 /// that very report.
 pub fn what_is_written_is_of_each_run()
-    ensures one { (held : Option HeldByName) (words : List (List ℕ)) (old new : Option (List ℕ)) →
-        IfSome (wanted held words) (λ x. WroteAll old new x → WroteEach old new x) }
-    ensures each { (held : Option HeldByName) (words : List (List ℕ)) (old new : Option (List ℕ)) →
-        IfSome (wanted held words) (λ x. WrotePart old new x → BeginsEach old new x) }
+    ensures one { (files : HeldByName) (words : List (List ℕ)) (old new : List ℕ) →
+        IfSome (wanted files words) (λ x. WroteAll old new x → WroteEach old new x) }
+    ensures each { (files : HeldByName) (words : List (List ℕ)) (old new : List ℕ) →
+        IfSome (wanted files words) (λ x. WrotePart old new x → BeginsEach old new x) }
 {}

@@ -1,8 +1,8 @@
 //! The program `tva`: replays packet traces through a network of the Traffic Validation Architecture.
 //! `run` does what the words of the command line ask for, over whatever shelf, sink and gate it is
-//! handed. Its contract promises, over a shelf and a sink that tell what they hold, which text is written,
-//! that on every status what was written is the beginning of it, and for what cause each refusal comes; and
-//! of every run of an accepted configuration and trace, over any files, what its nodes, honest senders and
+//! handed. Its contract promises, over what its loads gave and its writes took, which text is written, that
+//! on every status what was written is the beginning of it, and for what cause each refusal comes; and of
+//! every run of an accepted configuration and trace, over any files, what its nodes, honest senders and
 //! files keep. It audits reports by the same words.
 #![tactic(auto)]
 

@@ -1,11 +1,12 @@
 // The parts of a command that reach outside.
 ghost use Rattle.std.specs.Prelude.{◌≡◌, ◌≤◌, ◌^◌, ◌++◌, IfOk, IfErr, length};
 ghost use Rattle.tva_outside.specs.Faults.{Rose};
-ghost use Rattle.std.specs.Option.{option_map};
 ghost use Rattle.tva_plan.specs.Valid.{IsConfig};
 ghost use Rattle.tva_rows.specs.Valid.{AreTraceRows};
 ghost use Rattle.tva.specs.Expected.{file_at, plan_at, trace_at};
-ghost use Rattle.tva.specs.Parts.{AreRowsOf, IsFound, IsNotFound, IsWritten};
+ghost use Rattle.tva.specs.Given.{WasTaken};
+ghost use Rattle.tva.specs.Parts.{AreRowsOf, IsFound, IsNotFound, IsToldOf, IsWritten, WasAsked};
+ghost use Rattle.tva.specs.Wanted.{IsRefusal};
 
 use crate::status::Status;
 use crate::{CONFIG_MAX, TRACE_MAX};
@@ -20,9 +21,12 @@ use tva_trace::{TraceError, read_packed};
 pub fn load<S: Shelf>(alloc: Global, shelf: &mut S, name: &str, max: u64) -> Result<Vec<u8>, Status>
     requires { max ≤ 2 ^ 40 }
     ensures held { S.held shelf.new ≡ S.held shelf.old }
+    ensures asked { WasAsked (S.gave shelf.old) (S.gave shelf.new) name.now }
+    ensures told { IsToldOf (S.held shelf.old) (S.gave shelf.old) (S.gave shelf.new) (Rose (S.faults shelf.old) (S.faults shelf.new)) result }
+    ensures unfailed { IfOk result (λ _. S.faults shelf.new ≡ S.faults shelf.old) }
     ensures never_falls { S.faults shelf.old ≤ S.faults shelf.new }
-    ensures ok { IfOk result (λ bytes. IsFound (S.held shelf.old) (file_at max name.now) bytes.items) }
-    ensures err { IfErr result (IsNotFound (option_map (file_at max name.now) (S.held shelf.old)) (Rose (S.faults shelf.old) (S.faults shelf.new))) }
+    ensures ok { IfOk result (λ bytes. IsFound (S.gave shelf.old) (S.gave shelf.new) (file_at max name.now) bytes.items) }
+    ensures err { IfErr result (IsNotFound (S.gave shelf.old) (S.gave shelf.new) (file_at max name.now)) }
 {
     match shelf.load(alloc, name, max) {
         Loaded::Bytes(bytes) => Ok(bytes),
@@ -35,10 +39,13 @@ pub fn load<S: Shelf>(alloc: Global, shelf: &mut S, name: &str, max: u64) -> Res
 /// The plan of the configuration that is held under a name.
 pub fn load_plan<S: Shelf>(alloc: Global, shelf: &mut S, name: &str) -> Result<Config, Status>
     ensures held { S.held shelf.new ≡ S.held shelf.old }
+    ensures asked { WasAsked (S.gave shelf.old) (S.gave shelf.new) name.now }
+    ensures told { IsToldOf (S.held shelf.old) (S.gave shelf.old) (S.gave shelf.new) (Rose (S.faults shelf.old) (S.faults shelf.new)) result }
+    ensures unfailed { IfOk result (λ _. S.faults shelf.new ≡ S.faults shelf.old) }
     ensures never_falls { S.faults shelf.old ≤ S.faults shelf.new }
-    ensures ok { IfOk result (IsFound (S.held shelf.old) (plan_at name.now)) }
+    ensures ok { IfOk result (IsFound (S.gave shelf.old) (S.gave shelf.new) (plan_at name.now)) }
     ensures valid { IfOk result IsConfig }
-    ensures err { IfErr result (IsNotFound (option_map (plan_at name.now) (S.held shelf.old)) (Rose (S.faults shelf.old) (S.faults shelf.new))) }
+    ensures err { IfErr result (IsNotFound (S.gave shelf.old) (S.gave shelf.new) (plan_at name.now)) }
 {
     let bytes = match load(alloc, shelf, name, CONFIG_MAX) {
         Ok(bytes) => bytes,
@@ -60,10 +67,13 @@ pub fn load_rows<S: Shelf>(
 ) -> Result<PackedRows, Status>
     requires { length plan.now.nodes ≤ 65536 }
     ensures held { S.held shelf.new ≡ S.held shelf.old }
+    ensures asked { WasAsked (S.gave shelf.old) (S.gave shelf.new) name.now }
+    ensures told { IsToldOf (S.held shelf.old) (S.gave shelf.old) (S.gave shelf.new) (Rose (S.faults shelf.old) (S.faults shelf.new)) result }
+    ensures unfailed { IfOk result (λ _. S.faults shelf.new ≡ S.faults shelf.old) }
     ensures never_falls { S.faults shelf.old ≤ S.faults shelf.new }
-    ensures ok { IfOk result (λ rows. AreRowsOf (S.held shelf.old) (trace_at plan.now name.now) plan.now rows) }
+    ensures ok { IfOk result (λ rows. AreRowsOf (S.gave shelf.old) (S.gave shelf.new) (trace_at plan.now name.now) plan.now rows) }
     ensures valid { IfOk result (λ rows. AreTraceRows plan.now rows) }
-    ensures err { IfErr result (IsNotFound (option_map (trace_at plan.now name.now) (S.held shelf.old)) (Rose (S.faults shelf.old) (S.faults shelf.new))) }
+    ensures err { IfErr result (IsNotFound (S.gave shelf.old) (S.gave shelf.new) (trace_at plan.now name.now)) }
 {
     let bytes = match load(alloc, shelf, name, TRACE_MAX) {
         Ok(bytes) => bytes,
@@ -77,9 +87,13 @@ pub fn load_rows<S: Shelf>(
 }
 
 /// Writes the bytes.
+#[tactic(auto, using(crate::proofs::Given::taken_of))]
 pub fn send<W: Sink>(out: &mut W, bytes: &[u8]) -> Status
     ensures never_falls { W.faults out.old ≤ W.faults out.new }
-    ensures answer { IsWritten (W.written out.old) (W.written out.new) (Rose (W.faults out.old) (W.faults out.new)) bytes.now result }
+    ensures written { WasTaken (W.written out.old) (W.written out.new) (W.took out.old) (W.took out.new) }
+    ensures unfailed { result ≡ Status.Done → W.faults out.new ≡ W.faults out.old }
+    ensures no_refusal { ¬ IsRefusal result }
+    ensures answer { IsWritten (W.took out.old) (W.took out.new) (Rose (W.faults out.old) (W.faults out.new)) bytes.now result }
 {
     match write_all(out, bytes) {
         Sent::All => Status::Done,
@@ -89,9 +103,13 @@ pub fn send<W: Sink>(out: &mut W, bytes: &[u8]) -> Status
 }
 
 /// Writes the first bytes, and then the others.
+#[tactic(auto, using(crate::proofs::Given::taken_both))]
 pub fn send_both<W: Sink>(out: &mut W, first: &[u8], second: &[u8]) -> Status
     ensures never_falls { W.faults out.old ≤ W.faults out.new }
-    ensures answer { IsWritten (W.written out.old) (W.written out.new) (Rose (W.faults out.old) (W.faults out.new)) (first.now ++ second.now) result }
+    ensures written { WasTaken (W.written out.old) (W.written out.new) (W.took out.old) (W.took out.new) }
+    ensures unfailed { result ≡ Status.Done → W.faults out.new ≡ W.faults out.old }
+    ensures no_refusal { ¬ IsRefusal result }
+    ensures answer { IsWritten (W.took out.old) (W.took out.new) (Rose (W.faults out.old) (W.faults out.new)) (first.now ++ second.now) result }
 {
     match send(out, first) {
         Status::Done => send(out, second),

@@ -3,7 +3,9 @@ ghost use Rattle.std.specs.Prelude.{◌≡◌, ◌≤◌};
 ghost use Rattle.tva_outside.specs.Faults.{Rose};
 ghost use Rattle.tva_plan.specs.Valid.{IsConfig};
 ghost use Rattle.tva_rows.specs.Valid.{AreTraceRows};
+ghost use Rattle.tva.specs.Given.{WasTaken};
 ghost use Rattle.tva.specs.Parts.{IsReplayed, ended_by};
+ghost use Rattle.tva.specs.Wanted.{IsRefusal};
 
 use crate::lines::{send_lines, send_total};
 use crate::status::Status;
@@ -18,6 +20,7 @@ use tva_rows::PackedRows;
 /// Writes the report of the rows under the plan: the lines of each window while the next is worked,
 /// and the total line. Nothing is written of the window in which there are more events than the plan allows.
 /// The network forgets each window once it is given.
+#[tactic(auto, using(crate::proofs::Given::taken_none))]
 pub fn replay_rows<R: Threads + Sync, W: Sink, G: Gate>(
     rt: &R,
     alloc: Global,
@@ -29,7 +32,10 @@ pub fn replay_rows<R: Threads + Sync, W: Sink, G: Gate>(
     requires config { IsConfig plan.now }
     requires rows { AreTraceRows plan.now rows }
     ensures writes { W.faults out.old ≤ W.faults out.new }
-    ensures answer { IsReplayed plan.now rows (W.written out.old) (W.written out.new)
+    ensures written { WasTaken (W.written out.old) (W.written out.new) (W.took out.old) (W.took out.new) }
+    ensures unfailed { result ≡ Status.Done → W.faults out.new ≡ W.faults out.old }
+    ensures no_refusal { ¬ IsRefusal result }
+    ensures answer { IsReplayed plan.now rows (W.took out.old) (W.took out.new)
         (Rose (W.faults out.old) (W.faults out.new)) result }
 {
     let mut net = match Net::build_keeping(alloc, plan, rows, Memory::Nothing) {

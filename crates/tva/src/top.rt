@@ -1,16 +1,17 @@
 // The top call.
-ghost use Rattle.std.specs.Prelude.{◌≡◌, ◌≤◌, ◌⊎◌, ◌↔◌, ℕ, IfSome, length, None, Some};
+ghost use Rattle.std.specs.Prelude.{◌≡◌, ◌≤◌, ◌⊎◌, ◌↔◌, ◌∷◌, [], ℕ, IfSome, IsSomeAnd, length, None, Some};
 ghost use Rattle.tva_outside.specs.Held.{HeldByName};
 ghost use Rattle.tva_outside.specs.Faults.{Rose};
 ghost use Rattle.tva_config_entries.specs.declared.faults.ConfigFault.{ConfigFault};
 ghost use Rattle.tva_report.specs.declared.differences.Finding.{Finding};
 ghost use Rattle.tva_trace.specs.declared.rows.TraceFault.{TraceFault};
 ghost use Rattle.tva.specs.Asked.{asked};
-ghost use Rattle.tva.specs.Command.{command_of, texts, replay, check, shim, gen, audit};
-ghost use Rattle.tva.specs.Expected.{told, shows, refuses};
-ghost use Rattle.tva.specs.Answer.{Answers, HasFound, WroteAll, WroteLines, WrotePart};
+ghost use Rattle.tva.specs.Command.{command_of, texts, replay, check, gen, audit};
+ghost use Rattle.tva.specs.Expected.{shows, refuses};
+ghost use Rattle.tva.specs.Answer.{Answers, HasFound, Just, OfCommand, WroteAll, WroteLines, WrotePart};
+ghost use Rattle.tva.specs.Given.{files_of, IsTold, WasTaken, WereAsked};
 ghost use Rattle.tva.specs.Network.{AreSumsBelow, EachKeepsFiles, EachKeepsPromises, EachTakesHonest, OfRows};
-ghost use Rattle.tva.specs.Wanted.{wanted, HasOneEnd, IsRefusal, NeedsNoFile, Settles, SettlesRefusal};
+ghost use Rattle.tva.specs.Wanted.{wanted, OfWanted, HasOneEnd, IsRefusal, NeedsNoFile, Settles, SettlesRefusal};
 
 use crate::REPORT_MAX;
 use crate::audited::audit_rows;
@@ -31,7 +32,7 @@ use tva_shim_text::shim_text;
 /// too large, and a fault of the configuration or of the trace, or a bad line of the report; then, window
 /// by window, more events than the configuration allows, and failing writes. A line of an audited report
 /// that differs is told where the run ends.
-#[tactic(auto, using(crate::proofs::Fronts::part_of_answer, crate::proofs::Settled::settles_of_answer, crate::proofs::Settled::refusal_of_answer))]
+#[tactic(auto, using(crate::proofs::Given::taken_none, crate::proofs::Given::asked_none, crate::proofs::Given::told_none))]
 pub fn run<R: Threads + Sync, S: Shelf, W: Sink, G: Gate>(
     rt: &R,
     alloc: Global,
@@ -43,18 +44,20 @@ pub fn run<R: Threads + Sync, S: Shelf, W: Sink, G: Gate>(
     // When each answer comes.
     ensures usage { result ≡ Status.Usage ↔ (command_of (texts words.now) ≡ None) }
     ensures read_fault { result ≡ Status.ReadFault → Rose (S.faults shelf.old) (S.faults shelf.new)
-        ⊎ (wanted (S.held shelf.old) (texts words.now) ≡ Some (refuses Status.ReadFault)) }
+        ⊎ IsSomeAnd (S.held shelf.old) (λ files. wanted files (texts words.now) ≡ Some (refuses Status.ReadFault)) }
+    ensures missing { result ≡ Status.ReadFault →
+        OfWanted (S.gave shelf.old) (S.gave shelf.new) (texts words.now) (λ x. x ≡ refuses Status.ReadFault) }
     ensures write_fault { result ≡ Status.WriteFault → Rose (W.faults out.old) (W.faults out.new) }
     ensures too_large { (k : ℕ) → result ≡ Status.TooLarge k →
-        IfSome (wanted (S.held shelf.old) (texts words.now)) (λ x. x ≡ refuses (Status.TooLarge k)) }
+        OfWanted (S.gave shelf.old) (S.gave shelf.new) (texts words.now) (λ x. x ≡ refuses (Status.TooLarge k)) }
     ensures bad_config { (fault : ConfigFault) → result ≡ Status.BadConfig fault →
-        IfSome (wanted (S.held shelf.old) (texts words.now)) (λ x. x ≡ refuses (Status.BadConfig fault)) }
+        OfWanted (S.gave shelf.old) (S.gave shelf.new) (texts words.now) (λ x. x ≡ refuses (Status.BadConfig fault)) }
     ensures bad_trace { (fault : TraceFault) → result ≡ Status.BadTrace fault →
-        IfSome (wanted (S.held shelf.old) (texts words.now)) (λ x. x ≡ refuses (Status.BadTrace fault)) }
+        OfWanted (S.gave shelf.old) (S.gave shelf.new) (texts words.now) (λ x. x ≡ refuses (Status.BadTrace fault)) }
     ensures bad_report { (line : ℕ) → result ≡ Status.BadReport line →
-        IfSome (wanted (S.held shelf.old) (texts words.now)) (λ x. x ≡ refuses (Status.BadReport line)) }
+        OfWanted (S.gave shelf.old) (S.gave shelf.new) (texts words.now) (λ x. x ≡ refuses (Status.BadReport line)) }
     ensures found { (finding : Finding) → result ≡ Status.Found finding →
-        IfSome (wanted (S.held shelf.old) (texts words.now)) (HasFound finding) }
+        OfWanted (S.gave shelf.old) (S.gave shelf.new) (texts words.now) (HasFound finding) }
 
     // What is written: the whole text, of a replay the report of the run, and of an audit, whose report
     // is that of the run, what its routers let through; with the event limit the lines of all windows
@@ -62,48 +65,54 @@ pub fn run<R: Threads + Sync, S: Shelf, W: Sink, G: Gate>(
     // text that is to be written, of a replay the report of the run. That there is no other report is
     // a law (`what_is_written_is_of_each_run`).
     ensures done { result ≡ Status.Done →
-        IfSome (wanted (S.held shelf.old) (texts words.now)) (WroteAll (W.written out.old) (W.written out.new)) }
+        OfWanted (S.gave shelf.old) (S.gave shelf.new) (texts words.now) (WroteAll (W.took out.old) (W.took out.new)) }
     ensures event_limit { (most : ℕ) → result ≡ Status.EventLimit most →
-        IfSome (wanted (S.held shelf.old) (texts words.now)) (WroteLines most (W.written out.old) (W.written out.new)) }
-    ensures front { IfSome (wanted (S.held shelf.old) (texts words.now)) (WrotePart (W.written out.old) (W.written out.new)) }
-    ensures nothing { IsRefusal result → W.written out.new ≡ W.written out.old }
+        OfWanted (S.gave shelf.old) (S.gave shelf.new) (texts words.now) (WroteLines most (W.took out.old) (W.took out.new)) }
+    ensures front { OfWanted (S.gave shelf.old) (S.gave shelf.new) (texts words.now) (WrotePart (W.took out.old) (W.took out.new)) }
+    ensures nothing { IsRefusal result → out.new ≡ out.old }
+    ensures written { WasTaken (W.written out.old) (W.written out.new) (W.took out.old) (W.took out.new) }
 
-    // Where no count rises it comes to what is wanted, unless memory runs out; and to each refusal
-    // of what is read where no load fails.
-    ensures complete { ¬ Rose (S.faults shelf.old) (S.faults shelf.new) → ¬ Rose (W.faults out.old) (W.faults out.new) →
-        IfSome (wanted (S.held shelf.old) (texts words.now)) (Settles result) }
-    ensures refused { ¬ Rose (S.faults shelf.old) (S.faults shelf.new) →
-        IfSome (wanted (S.held shelf.old) (texts words.now)) (SettlesRefusal result) }
+    // Where the sink's count doesn't rise it comes to what is wanted, unless memory runs out; and to each
+    // refusal of what is read. A file that can't be read is as one that isn't there.
+    ensures complete { ¬ Rose (W.faults out.old) (W.faults out.new) →
+        OfWanted (S.gave shelf.old) (S.gave shelf.new) (texts words.now) (Settles result) }
+    ensures refused { OfWanted (S.gave shelf.old) (S.gave shelf.new) (texts words.now) (SettlesRefusal result) }
 
     // Of any files, whatever shelf and sink tell, and whatever the answer. There is just one way in
     // which the words are to end over them: a trace that is to be replayed has rows, and their run is
     // within its number of events, or passes it. An audited report is that of the run, or has a first
     // line that differs.
-    ensures one_end { (files : HeldByName) → IfSome (wanted (Some files) (texts words.now)) HasOneEnd }
+    ensures one_end { (files : HeldByName) → IfSome (wanted files (texts words.now)) HasOneEnd }
 
     // The network: in every run of a trace that is to be replayed, or whose report is audited, up to any
     // time, the log of each node keeps its promises at each of its places. Budgets are counted for each
     // router, each of its boots and each grant.
-    ensures network { (files : HeldByName) → IfSome (wanted (Some files) (texts words.now)) (OfRows EachKeepsPromises) }
+    ensures network { (files : HeldByName) → IfSome (wanted files (texts words.now)) (OfRows EachKeepsPromises) }
 
     // Honest senders, in each such run: what shows a grant is charged and regular at each router to
     // which the path of its host is steady, in a boot of that router.
-    ensures honest { (files : HeldByName) → IfSome (wanted (Some files) (texts words.now)) (OfRows EachTakesHonest) }
+    ensures honest { (files : HeldByName) → IfSome (wanted files (texts words.now)) (OfRows EachTakesHonest) }
 
     // Files, in each such run: whatever is lost, dropped, demoted, repeated or late, a receiver delivers
     // each range of a transfer once and in order, and its sender never believes more than was delivered.
-    ensures delivered { (files : HeldByName) → IfSome (wanted (Some files) (texts words.now)) (OfRows EachKeepsFiles) }
+    ensures delivered { (files : HeldByName) → IfSome (wanted files (texts words.now)) (OfRows EachKeepsFiles) }
 
     // Sums: in each whole run of an audited trace no router let a grant have twice its units in one boot.
-    ensures limits { (files : HeldByName) → IfSome (wanted (Some files) (texts words.now)) AreSumsBelow }
+    ensures limits { (files : HeldByName) → IfSome (wanted files (texts words.now)) AreSumsBelow }
 
-    // What stays. Words that need no file leave the shelf as it was, and usage the sink, whatever
-    // they are.
+    // What is read: the first of the command's files, all or some or none, each once and in order. What the
+    // shelf tells that it holds agrees with what it gave. With `Done` no load and no write failed.
+    ensures in_order { WereAsked (S.gave shelf.old) (S.gave shelf.new) (files_of (command_of (texts words.now))) }
+    ensures told { IsTold (S.held shelf.old) (S.gave shelf.old) (S.gave shelf.new)
+        (Rose (S.faults shelf.old) (S.faults shelf.new)) result }
+    ensures all_read { result ≡ Status.Done → S.faults shelf.new ≡ S.faults shelf.old }
+    ensures all_written { result ≡ Status.Done → W.faults out.new ≡ W.faults out.old }
+
+    // What stays. Words that need no file leave the shelf as it was, whatever it is.
     ensures held { S.held shelf.new ≡ S.held shelf.old }
     ensures reads { S.faults shelf.old ≤ S.faults shelf.new }
     ensures writes { W.faults out.old ≤ W.faults out.new }
     ensures unread { NeedsNoFile (command_of (texts words.now)) → shelf.new ≡ shelf.old }
-    ensures unwritten { result ≡ Status.Usage → out.new ≡ out.old }
 {
     match parse(words) {
         Some(command) => run_command(rt, alloc, &command, shelf, out, gate),
@@ -111,6 +120,7 @@ pub fn run<R: Threads + Sync, S: Shelf, W: Sink, G: Gate>(
     }
 }
 
+#[tactic(auto, using(crate::proofs::Fronts::shim_answers, crate::proofs::Given::asked_none, crate::proofs::Given::told_none, crate::proofs::Given::no_fault))]
 fn run_command<R: Threads + Sync, S: Shelf, W: Sink, G: Gate>(
     rt: &R,
     alloc: Global,
@@ -121,10 +131,16 @@ fn run_command<R: Threads + Sync, S: Shelf, W: Sink, G: Gate>(
 ) -> Status
     ensures held { S.held shelf.new ≡ S.held shelf.old }
     ensures reads { S.faults shelf.old ≤ S.faults shelf.new }
+    ensures in_order { WereAsked (S.gave shelf.old) (S.gave shelf.new) (files_of (Some (asked command.now))) }
+    ensures told { IsTold (S.held shelf.old) (S.gave shelf.old) (S.gave shelf.new) (Rose (S.faults shelf.old) (S.faults shelf.new)) result }
+    ensures all_read { result ≡ Status.Done → S.faults shelf.new ≡ S.faults shelf.old }
     ensures writes { W.faults out.old ≤ W.faults out.new }
-    ensures answer { Answers (told (S.held shelf.old) (asked command.now))
-        (Rose (S.faults shelf.old) (S.faults shelf.new)) (Rose (W.faults out.old) (W.faults out.new))
-        (W.written out.old) (W.written out.new) result }
+    ensures written { WasTaken (W.written out.old) (W.written out.new) (W.took out.old) (W.took out.new) }
+    ensures all_written { result ≡ Status.Done → W.faults out.new ≡ W.faults out.old }
+    ensures unwritten { IsRefusal result → out.new ≡ out.old }
+    ensures answer { Answers (OfCommand (S.gave shelf.old) (S.gave shelf.new) (asked command.now))
+        (Rose (W.faults out.old) (W.faults out.new))
+        (W.took out.old) (W.took out.new) result }
     ensures unread { NeedsNoFile (Some (asked command.now)) → shelf.new ≡ shelf.old }
 {
     match command {
@@ -144,6 +160,7 @@ fn run_command<R: Threads + Sync, S: Shelf, W: Sink, G: Gate>(
     }
 }
 
+#[tactic(auto, using(crate::proofs::Given::taken_none, crate::proofs::Given::asked_none, crate::proofs::Given::asked_one))]
 fn run_replay<R: Threads + Sync, S: Shelf, W: Sink, G: Gate>(
     rt: &R,
     alloc: Global,
@@ -155,10 +172,16 @@ fn run_replay<R: Threads + Sync, S: Shelf, W: Sink, G: Gate>(
 ) -> Status
     ensures held { S.held shelf.new ≡ S.held shelf.old }
     ensures reads { S.faults shelf.old ≤ S.faults shelf.new }
+    ensures in_order { WereAsked (S.gave shelf.old) (S.gave shelf.new) (config.now ∷ trace.now ∷ []) }
+    ensures told { IsTold (S.held shelf.old) (S.gave shelf.old) (S.gave shelf.new) (Rose (S.faults shelf.old) (S.faults shelf.new)) result }
+    ensures all_read { result ≡ Status.Done → S.faults shelf.new ≡ S.faults shelf.old }
     ensures writes { W.faults out.old ≤ W.faults out.new }
-    ensures answer { Answers (told (S.held shelf.old) (replay config.now trace.now))
-        (Rose (S.faults shelf.old) (S.faults shelf.new)) (Rose (W.faults out.old) (W.faults out.new))
-        (W.written out.old) (W.written out.new) result }
+    ensures written { WasTaken (W.written out.old) (W.written out.new) (W.took out.old) (W.took out.new) }
+    ensures all_written { result ≡ Status.Done → W.faults out.new ≡ W.faults out.old }
+    ensures unwritten { IsRefusal result → out.new ≡ out.old }
+    ensures answer { Answers (OfCommand (S.gave shelf.old) (S.gave shelf.new) (replay config.now trace.now))
+        (Rose (W.faults out.old) (W.faults out.new))
+        (W.took out.old) (W.took out.new) result }
 {
     let plan = match load_plan(alloc, shelf, config) {
         Ok(plan) => plan,
@@ -171,13 +194,20 @@ fn run_replay<R: Threads + Sync, S: Shelf, W: Sink, G: Gate>(
     replay_rows(rt, alloc, &plan, rows, out, gate)
 }
 
+#[tactic(auto, using(crate::proofs::Given::taken_none, crate::proofs::Given::asked_none, crate::proofs::Given::asked_one))]
 fn run_check<S: Shelf, W: Sink>(alloc: Global, config: &str, shelf: &mut S, out: &mut W) -> Status
     ensures held { S.held shelf.new ≡ S.held shelf.old }
     ensures reads { S.faults shelf.old ≤ S.faults shelf.new }
+    ensures in_order { WereAsked (S.gave shelf.old) (S.gave shelf.new) (config.now ∷ []) }
+    ensures told { IsTold (S.held shelf.old) (S.gave shelf.old) (S.gave shelf.new) (Rose (S.faults shelf.old) (S.faults shelf.new)) result }
+    ensures all_read { result ≡ Status.Done → S.faults shelf.new ≡ S.faults shelf.old }
     ensures writes { W.faults out.old ≤ W.faults out.new }
-    ensures answer { Answers (told (S.held shelf.old) (check config.now))
-        (Rose (S.faults shelf.old) (S.faults shelf.new)) (Rose (W.faults out.old) (W.faults out.new))
-        (W.written out.old) (W.written out.new) result }
+    ensures written { WasTaken (W.written out.old) (W.written out.new) (W.took out.old) (W.took out.new) }
+    ensures all_written { result ≡ Status.Done → W.faults out.new ≡ W.faults out.old }
+    ensures unwritten { IsRefusal result → out.new ≡ out.old }
+    ensures answer { Answers (OfCommand (S.gave shelf.old) (S.gave shelf.new) (check config.now))
+        (Rose (W.faults out.old) (W.faults out.new))
+        (W.took out.old) (W.took out.new) result }
 {
     let plan = match load_plan(alloc, shelf, config) {
         Ok(plan) => plan,
@@ -188,11 +218,15 @@ fn run_check<S: Shelf, W: Sink>(alloc: Global, config: &str, shelf: &mut S, out:
     send(out, line.as_bytes())
 }
 
+#[tactic(auto, using(crate::proofs::Given::taken_none))]
 fn run_shim<W: Sink>(alloc: Global, bytes: &[u8], out: &mut W) -> Status
     requires { length bytes.now ≤ 400 }
     ensures writes { W.faults out.old ≤ W.faults out.new }
-    ensures answer { Answers (Some (shows bytes.now)) ⊥ (Rose (W.faults out.old) (W.faults out.new))
-        (W.written out.old) (W.written out.new) result }
+    ensures written { WasTaken (W.written out.old) (W.written out.new) (W.took out.old) (W.took out.new) }
+    ensures all_written { result ≡ Status.Done → W.faults out.new ≡ W.faults out.old }
+    ensures no_refusal { ¬ IsRefusal result }
+    ensures answer { Answers (Just (shows bytes.now)) (Rose (W.faults out.old) (W.faults out.new))
+        (W.took out.old) (W.took out.new) result }
 {
     match shim_text(alloc, bytes) {
         Ok(text) => send_both(out, text.as_bytes(), b"\n"),
@@ -200,6 +234,7 @@ fn run_shim<W: Sink>(alloc: Global, bytes: &[u8], out: &mut W) -> Status
     }
 }
 
+#[tactic(auto, using(crate::proofs::Given::taken_none, crate::proofs::Given::asked_none, crate::proofs::Given::asked_one))]
 fn run_gen<S: Shelf, W: Sink>(
     alloc: Global,
     seed: u64,
@@ -210,10 +245,16 @@ fn run_gen<S: Shelf, W: Sink>(
 ) -> Status
     ensures held { S.held shelf.new ≡ S.held shelf.old }
     ensures reads { S.faults shelf.old ≤ S.faults shelf.new }
+    ensures in_order { WereAsked (S.gave shelf.old) (S.gave shelf.new) (config.now ∷ []) }
+    ensures told { IsTold (S.held shelf.old) (S.gave shelf.old) (S.gave shelf.new) (Rose (S.faults shelf.old) (S.faults shelf.new)) result }
+    ensures all_read { result ≡ Status.Done → S.faults shelf.new ≡ S.faults shelf.old }
     ensures writes { W.faults out.old ≤ W.faults out.new }
-    ensures answer { Answers (told (S.held shelf.old) (gen seed count config.now))
-        (Rose (S.faults shelf.old) (S.faults shelf.new)) (Rose (W.faults out.old) (W.faults out.new))
-        (W.written out.old) (W.written out.new) result }
+    ensures written { WasTaken (W.written out.old) (W.written out.new) (W.took out.old) (W.took out.new) }
+    ensures all_written { result ≡ Status.Done → W.faults out.new ≡ W.faults out.old }
+    ensures unwritten { IsRefusal result → out.new ≡ out.old }
+    ensures answer { Answers (OfCommand (S.gave shelf.old) (S.gave shelf.new) (gen seed count config.now))
+        (Rose (W.faults out.old) (W.faults out.new))
+        (W.took out.old) (W.took out.new) result }
 {
     let plan = match load_plan(alloc, shelf, config) {
         Ok(plan) => plan,
@@ -225,6 +266,7 @@ fn run_gen<S: Shelf, W: Sink>(
     }
 }
 
+#[tactic(auto, using(crate::proofs::Given::taken_none, crate::proofs::Given::asked_none, crate::proofs::Given::asked_one))]
 fn run_audit<R: Threads + Sync, S: Shelf, W: Sink, G: Gate>(
     rt: &R,
     alloc: Global,
@@ -237,10 +279,16 @@ fn run_audit<R: Threads + Sync, S: Shelf, W: Sink, G: Gate>(
 ) -> Status
     ensures held { S.held shelf.new ≡ S.held shelf.old }
     ensures reads { S.faults shelf.old ≤ S.faults shelf.new }
+    ensures in_order { WereAsked (S.gave shelf.old) (S.gave shelf.new) (config.now ∷ trace.now ∷ report.now ∷ []) }
+    ensures told { IsTold (S.held shelf.old) (S.gave shelf.old) (S.gave shelf.new) (Rose (S.faults shelf.old) (S.faults shelf.new)) result }
+    ensures all_read { result ≡ Status.Done → S.faults shelf.new ≡ S.faults shelf.old }
     ensures writes { W.faults out.old ≤ W.faults out.new }
-    ensures answer { Answers (told (S.held shelf.old) (audit config.now trace.now report.now))
-        (Rose (S.faults shelf.old) (S.faults shelf.new)) (Rose (W.faults out.old) (W.faults out.new))
-        (W.written out.old) (W.written out.new) result }
+    ensures written { WasTaken (W.written out.old) (W.written out.new) (W.took out.old) (W.took out.new) }
+    ensures all_written { result ≡ Status.Done → W.faults out.new ≡ W.faults out.old }
+    ensures unwritten { IsRefusal result → out.new ≡ out.old }
+    ensures answer { Answers (OfCommand (S.gave shelf.old) (S.gave shelf.new) (audit config.now trace.now report.now))
+        (Rose (W.faults out.old) (W.faults out.new))
+        (W.took out.old) (W.took out.new) result }
 {
     let plan = match load_plan(alloc, shelf, config) {
         Ok(plan) => plan,

@@ -21,7 +21,8 @@ HoldsMore held name max = IfSome held (λ files. IsSomeAnd (bytes_at files name)
 -- what a load of a name with this limit may answer, where the count of faults went from before to now: it may rise
 -- at a failure, and at nothing else
 abbrev pub IsLoaded : Option HeldByName → List ℕ → ℕ → ℕ → ℕ → Loaded → Type 0
-IsLoaded held name max before now (Bytes bytes) = IsHeld held name bytes.items × (length bytes.items ≤ max) × (now ≡ before)
+IsLoaded held name max before now (Bytes bytes) =
+    IsHeld held name bytes.items × (length bytes.items ≤ max) × (now ≡ before)
 IsLoaded held name max before now Failed = Rose before now ⊎ IsMissing held name
 IsLoaded held name max before now (TooLarge k) = HoldsMore held name max × (k ≡ max + 1) × (now ≡ before)
 IsLoaded held name max before now OutOfMemory = now ≡ before

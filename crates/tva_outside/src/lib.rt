@@ -1,8 +1,9 @@
 //! What lies outside the program: a shelf that it reads from, a sink that it writes to, and a gate
 //! that is told of each node before it is worked. There are two shelves and two sinks: those of the
-//! system, which count their failures and tell nothing, and those in memory, which tell all that
-//! they hold and fail at the calls that they are told to fail at. Its contract promises what each
-//! load read and each write appended, and that no failure is answered which was not counted.
+//! system, which count their failures, and those in memory, which tell all that they hold and fail at the
+//! calls that they are told to fail at. All tell what they were asked for and gave, or took. Its contract
+//! promises what each load read and each write appended, and that no failure is answered which was not
+//! counted.
 #![tactic(auto)]
 
 mod calls;

@@ -1,11 +1,14 @@
-use Rattle.std.proofs.Common.{◌≤◌, ◌-◌}
+use Rattle.std.proofs.Common.{◌≡◌, ◌≤◌, ◌-◌}
+use Rattle.tva.specs.Given.{WasTaken}
 use Rattle.tva.proofs.Windowed.{IsBehind}
 use Rattle.tva.proofs.replay.replay_rows.Given as goal
 
 -- the lines of what the network gave before the last window are written, and the count hasn't fallen
 abbrev pub invariant-loop-status : goal.invariant-loop-status
 invariant-loop-status g l = record {
-  behind : IsBehind l.plan l.fn.rows (g.W.Sink.written l.fn.out) (g.W.Sink.written l.out) l.events.items l.net;
+  behind : IsBehind l.plan l.fn.rows (g.W.Sink.took l.fn.out) (g.W.Sink.took l.out) l.events.items l.net;
+  taken : WasTaken (g.W.Sink.written l.fn.out) (g.W.Sink.written l.out) (g.W.Sink.took l.fn.out) (g.W.Sink.took l.out);
+  same : g.W.Sink.faults l.out ≡ g.W.Sink.faults l.fn.out;
   later : g.W.Sink.faults l.fn.out ≤ g.W.Sink.faults l.out;
 }
 
