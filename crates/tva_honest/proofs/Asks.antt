@@ -1,5 +1,5 @@
 -- Asks and grants among deals, as the contacts of a sender have them, and when they came to a router.
-use Rattle.std.proofs.Common.{◌≡◌, ℕ, Bool, true, false, cond, eqb, List, [], ◌∷◌, ◌++◌, map, Option, Some, None, refl, ap, ap₂, sym, subst, ◌∙◌, append_assoc, append-nil}
+use Rattle.std.proofs.Common.{◌≡◌, ◌⊎◌, inl, inr, ℕ, Bool, true, false, cond, eqb, List, [], ◌∷◌, ◌++◌, map, Option, Some, None, refl, ap, ap₂, sym, subst, ◌∙◌, append_assoc, append-nil}
 use Rattle.std.specs.Option.{option_or, option_map, option_and_then}
 use Rattle.std.specs.List.{AllByRecursion, find}
 use Rattle.std.proofs.lemmas.Bool.{eqb-true}
@@ -183,6 +183,34 @@ came-under seen first [] k = ap (grant_came seen []) (append-nil first)
 came-under seen first (d ∷ ds) k =
     ap (grant_came seen []) (sym (append_assoc first (d ∷ []) ds))
     ∙ (came-under seen (first ++ d ∷ []) ds k.1 ∙ came-other seen [] first d k.0)
+
+-- the last grant among deals
+pub record LastAt (ds : List Deal) : Type 0 where
+  pub first : List Deal
+  pub rights : Rights
+  pub caps : List ℕ
+  pub under : List Deal
+  pub is : ds ≡ first ++ Granted rights caps ∷ under
+  pub none : AllByRecursion IsNoGrant under
+
+split_by : (d : Deal) (ds : List Deal) → AllByRecursion IsNoGrant ds ⊎ LastAt ds → AllByRecursion IsNoGrant (d ∷ ds) ⊎ LastAt (d ∷ ds)
+split_by (Prepared t p) ds (inl n) = inl (tt, n)
+split_by (Granted rights caps) ds (inl n) =
+    inr (record { first = []; rights = rights; caps = caps; under = ds; is = refl; none = n })
+split_by Noticed ds (inl n) = inl (tt, n)
+split_by d ds (inr l) =
+    inr (record {
+      first = d ∷ l.first;
+      rights = l.rights;
+      caps = l.caps;
+      under = l.under;
+      is = ap (λ (xs : List Deal). d ∷ xs) l.is;
+      none = l.none;
+    })
+
+pub split_last : (ds : List Deal) → AllByRecursion IsNoGrant ds ⊎ LastAt ds
+split_last [] = inl tt
+split_last (d ∷ ds) = split_by d ds (split_last ds)
 
 -- when an ask came, what came for it
 pub record CameFor (seen : List Coming) (ds : List Deal) (came : ℕ) : Type 0 where

@@ -139,7 +139,7 @@ boot_charges plan f boot log e =
     filter_swap (λ (c : Charge). same_flow c.grant.flow f) p (charges log)
     ∙ (ap (filter p) e ∙ charged_when (λ (t : ℕ). boot_at plan t == boot) (comings f log))
 
-each_passing : {X : Type 0} (P : X → Type 0) (q : X → Bool) (xs : List X) → AllByRecursion P xs → AllByRecursion P (filter q xs)
+pub each_passing : {X : Type 0} (P : X → Type 0) (q : X → Bool) (xs : List X) → AllByRecursion P xs → AllByRecursion P (filter q xs)
 each_passing P q [] k = tt
 each_passing P q (x ∷ xs) k = by (each_passing P q xs k.1) (q x)
   where

@@ -63,19 +63,6 @@ Pairs delay [] (c ∷ cs) = ⊥
 Pairs delay (u ∷ us) [] = ⊥
 Pairs delay (u ∷ us) (c ∷ cs) = IsChargeOf delay u c × Pairs delay us cs
 
-pub pairs-push : (delay : ℕ) (us : List Use) (cs : List Charge) (u : Use) (c : Charge) → Pairs delay us cs → IsChargeOf delay u c → Pairs delay (us ++ u ∷ []) (cs ++ c ∷ [])
-pairs-push delay [] [] u c k l = (l, tt)
-pairs-push delay [] (d ∷ ds) u c k l = absurd k
-pairs-push delay (v ∷ vs) [] u c k l = absurd k
-pairs-push delay (v ∷ vs) (d ∷ ds) u c k l = (k.0, pairs-push delay vs ds u c k.1 l)
-
-pub pairs-bytes : (delay : ℕ) (us : List Use) (cs : List Charge) → Pairs delay us cs → sum_by (λ c. c.length) cs ≡ sum_by (λ u. u.length) us
-pairs-bytes delay [] [] k = refl
-pairs-bytes delay [] (c ∷ cs) k = absurd k
-pairs-bytes delay (u ∷ us) [] k = absurd k
-pairs-bytes delay (u ∷ us) (c ∷ cs) k =
-    omega (arith, k.0.length, pairs-bytes delay us cs k.1, sum_by-cons (λ (d : Charge). d.length) c cs, sum_by-cons (λ (v : Use). v.length) u us)
-
 abbrev pub credit_in : Rights → Use → ℕ
 credit_in rights u = credit_of u.length rights
 

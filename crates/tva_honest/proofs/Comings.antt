@@ -1,9 +1,10 @@
 -- What a router charges to a flow is what its unmarked packets were charged, each at its place.
-use Rattle.std.proofs.Common.{◌≡◌, ℕ, Bool, true, false, not, ◌&&◌, cond, leb, List, [], ◌∷◌, ◌++◌, is_some, Option, Some, None, refl, ap, ap₂, sym, subst, ◌∙◌, arith, append_assoc}
+use Rattle.std.proofs.Common.{◌≡◌, ◌<◌, ℕ, Bool, true, false, not, ◌&&◌, cond, leb, List, [], ◌∷◌, ◌++◌, is_some, Option, Some, None, refl, ap, ap₂, sym, subst, ◌∙◌, arith, append_assoc}
 use Rattle.std.specs.Prelude.{filter}
-use Rattle.std.specs.Option.{option_map, option_and_then}
+use Rattle.std.specs.Option.{option_map, option_and_then, IfSome}
 use Rattle.std.specs.List.{AllByRecursion, filter_map, cons_option, find}
 use Rattle.std.proofs.lemmas.Bool.{le-leb}
+use Rattle.std.proofs.lemmas.Bool.Decides.{nat_tests}
 use Rattle.std.proofs.lemmas.Option.{cond_some}
 use Rattle.tva_base.specs.declared.packet.Fate.{Fate}
 use Rattle.tva_base.specs.declared.packet.Flow.{Flow}
@@ -19,7 +20,7 @@ use Rattle.tva_shim.specs.declared.packets.Carried.TheVariants as carried
 use Rattle.tva_shim.specs.Packets.{PacketData}
 use Rattle.tva_caps.specs.declared.minters.Checked.TheVariants as checks
 use Rattle.tva_caps.specs.Check.{check_of, checked_at}
-use Rattle.tva_flow.specs.Charges.{Charge, same_flow, of_flow}
+use Rattle.tva_flow.specs.Charges.{Charge, same_flow, of_flow, holder}
 use Rattle.tva_flow.proofs.Same.{flow_is}
 use Rattle.tva_router.specs.declared.judged.Arrival.{Arrival}
 use Rattle.tva_router.specs.Boots.{charges_at}
@@ -36,7 +37,8 @@ use Rattle.tva_promises.specs.Fates.{NoRowRefusesShown, NoRowRefusesNonce, NoRow
 use Rattle.tva_promises.specs.Promises.{KeepsPromises}
 use Rattle.tva_honest.specs.Deals.{Coming, coming, came_at, comings}
 use Rattle.tva_honest.specs.Deals.{Deal, Prepared, Granted, Noticed}
-use Rattle.tva_honest.specs.Paths.{shows, come_as, same_id, those_charged, is_charged_since, charged_since, WasCharged}
+use Rattle.tva_honest.specs.Paths.{shows, is_nonce, shows_nonce, come_as, same_id, is_charged_since, charged_since, WasCharged}
+use Rattle.tva_honest.specs.Narrow.{those_charged}
 use Rattle.tva_honest.proofs.Charges.{last-of}
 use Rattle.tva_honest.proofs.Lists.{some_same, place}
 
@@ -95,6 +97,21 @@ claim plan h a carried.Nothing g r = absurd r
 claim plan h a (carried.Shim shim) g r =
     let k = claim_kind plan h a shim.kind g r.1 in record { flow_is = k.0; unmarked = r.0; shown = k.1 }
 claim plan h a (carried.Malformed size) g r = absurd r
+
+-- a nonce alone is charged to the grant of the flow's last charge
+held_kind : (plan : RouterPlan) (h : List Charge) (a : Arrival) (kind : Kind) (g : Grant) → NoRowRefusesKind plan h a kind g
+    → is_nonce kind ≡ true → IfSome (holder h a.flow) (λ c. c.grant ≡ g)
+held_kind plan h a (kinds.Request entries) g r e = absurd (cc)
+held_kind plan h a (kinds.List shown) g r e = absurd (cc)
+held_kind plan h a (kinds.Nonce nonce) g r e =
+    subst (λ (o : Option Charge). IfSome o (λ c. c.grant ≡ g)) (sym r.held) r.grant_is
+held_kind plan h a (kinds.Renewal shown) g r e = absurd (cc)
+
+pub held_nonce : (plan : RouterPlan) (h : List Charge) (a : Arrival) (c : Carried) (g : Grant) → NoRowRefuses plan h a c g
+    → shows_nonce c ≡ true → IfSome (holder h a.flow) (λ c. c.grant ≡ g)
+held_nonce plan h a carried.Nothing g r e = absurd r
+held_nonce plan h a (carried.Shim shim) g r e = held_kind plan h a shim.kind g r.1 e
+held_nonce plan h a (carried.Malformed size) g r e = absurd r
 
 -- ## one entry
 
@@ -338,7 +355,7 @@ find_by p q x y xs false is rest e k = by (p x)
     by true = subst (λ (a : Bool). cond a (Some x) (find q (filter p xs)) ≡ Some y) (sym is) (rest e)
     by false = rest e
 
-find_passing : (p q : Coming → Bool) (xs : List Coming) (y : Coming) → find q xs ≡ Some y → p y ≡ true → find q (filter p xs) ≡ Some y
+pub find_passing : (p q : Coming → Bool) (xs : List Coming) (y : Coming) → find q xs ≡ Some y → p y ≡ true → find q (filter p xs) ≡ Some y
 find_passing p q [] y e k = absurd (cc)
 find_passing p q (x ∷ xs) y e k = find_by p q x y xs (q x) refl (λ r. find_passing p q xs y r k) e k
 
@@ -375,6 +392,51 @@ since_paid second (x ∷ xs) = by (since_paid second xs) x.charge refl
         ≡ filter_map paid_of (cond (is_charged_since second o) (x ∷ charged_since second xs) (charged_since second xs))
     by ih None e = ih
     by ih (Some g) e = at ih g e (leb second g.second)
+
+-- of those that were charged the same are of no earlier second as of all
+since_again : (second : ℕ) (x : Coming) (xs : List Coming) (o : Option Grant) → x.charge ≡ o
+    → charged_since second xs ≡ charged_since second (charged_since 0 xs)
+    → cond (is_charged_since second o) (x ∷ charged_since second xs) (charged_since second xs)
+    ≡ charged_since second (cond (is_charged_since 0 o) (x ∷ charged_since 0 xs) (charged_since 0 xs))
+since_again second x xs None e ih = ih
+since_again second x xs (Some g) e ih =
+    subst (λ (b : Bool). cond (leb second g.second) (x ∷ charged_since second xs) (charged_since second xs)
+    ≡ charged_since second (cond b (x ∷ charged_since 0 xs) (charged_since 0 xs))) (sym (from_first (Some g)))
+    (subst (λ (o : Option Grant). cond (leb second g.second) (x ∷ charged_since second xs) (charged_since second xs)
+    ≡ cond (is_charged_since second o) (x ∷ charged_since second (charged_since 0 xs)) (charged_since second (charged_since 0 xs))) (sym e)
+    (ap (λ (ys : List Coming). cond (leb second g.second) (x ∷ ys) ys) ih))
+
+pub since_each : (second : ℕ) (seen : List Coming) → charged_since second seen ≡ charged_since second (charged_since 0 seen)
+since_each second [] = refl
+since_each second (x ∷ xs) = since_again second x xs x.charge refl (since_each second xs)
+
+pub since_all : (second : ℕ) (seen : List Coming) → charged_since second seen ≡ charged_since second (paid (charged_since 0 seen))
+since_all second seen = since_each second seen ∙ ap (charged_since second) (since_charged 0 seen)
+
+-- behind those that were charged to grants of earlier seconds
+early_by : (second : ℕ) (x : Coming) (xs ys : List Coming) (o : Option Grant) → x.charge ≡ o
+    → AllByRecursion (λ (c : Charge). c.grant.second < second) (cons_option (option_map (charged x.time x.packet) o) (filter_map paid_of xs))
+    → (AllByRecursion (λ (c : Charge). c.grant.second < second) (filter_map paid_of xs) → charged_since second (xs ++ ys) ≡ charged_since second ys)
+    → cond (is_charged_since second o) (x ∷ charged_since second (xs ++ ys)) (charged_since second (xs ++ ys)) ≡ charged_since second ys
+early_by second x xs ys None e k ih = ih k
+early_by second x xs ys (Some g) e k ih =
+    let early : leb second g.second ≡ false = (let less : g.second < second = k.0 in grind (arith, nat_tests)) in
+    subst (λ (b : Bool). cond b (x ∷ charged_since second (xs ++ ys)) (charged_since second (xs ++ ys)) ≡ charged_since second ys) (sym early) (ih k.1)
+
+pub since_early : (second : ℕ) (xs ys : List Coming) → AllByRecursion (λ (c : Charge). c.grant.second < second) (filter_map paid_of xs)
+    → charged_since second (xs ++ ys) ≡ charged_since second ys
+since_early second [] ys k = refl
+since_early second (x ∷ xs) ys k = early_by second x xs ys x.charge refl k (λ l. since_early second xs ys l)
+
+-- all of these were charged
+paid_one : (x : Coming) (xs : List Coming) (o : Option Grant) → x.charge ≡ o → is_some (option_map (charged x.time x.packet) o) ≡ true
+    → paid xs ≡ xs → cons_option (cond (is_some o) (Some x) None) (paid xs) ≡ x ∷ xs
+paid_one x xs None e k ih = absurd (cc)
+paid_one x xs (Some g) e k ih = ap (λ (ys : List Coming). x ∷ ys) ih
+
+pub paid_all : (xs : List Coming) → AllByRecursion (λ x. is_some (paid_of x) ≡ true) xs → paid xs ≡ xs
+paid_all [] k = refl
+paid_all (x ∷ xs) k = paid_one x xs x.charge refl k.0 (paid_all xs k.1)
 
 -- a charge of what came
 pub charge_parts : (x : Coming) (o : Option Grant) (c : Charge) → x.charge ≡ o → option_map (charged x.time x.packet) o ≡ Some c

@@ -1,8 +1,10 @@
 -- The miles of a path: the deals of a host, each packet with its charge at the router.
-use Rattle.std.proofs.Common.{◌≡◌, ◌<◌, inl, inr, ℕ, ◌+◌, true, false, cond, List, [], ◌∷◌, ◌++◌, map, is_some, Option, Some, None, refl, ap, ap₂, sym, subst, ◌∙◌, arith, append_assoc, append-nil}
+use Rattle.std.proofs.Common.{◌≡◌, ◌<◌, inl, inr, ℕ, ◌+◌, true, false, Bool, ◌&&◌, cond, leb, eq-eqb, List, [], ◌∷◌, ◌++◌, map, is_some, Option, Some, None, refl, ap, ap₂, sym, subst, ◌∙◌, arith, append_assoc, append-nil}
+use Rattle.std.specs.Prelude.{IsSomeAnd}
 use Rattle.std.specs.Option.{option_and_then, unwrap_or, IfSome}
 use Rattle.std.specs.List.{AllByRecursion, filter_map, cons_option}
 use Rattle.std.proofs.lemmas.List.Elements.{filter_map-append}
+use Rattle.tva_base.specs.declared.packet.Grant.{Grant}
 use Rattle.tva_base.specs.declared.packet.PacketId.{PacketId}
 use Rattle.tva_base.specs.declared.packet.Rights.{Rights}
 use Rattle.tva_base.specs.declared.packet.Time.{Time}
@@ -23,14 +25,14 @@ use Rattle.tva_log.specs.Entries.{Entry}
 use Rattle.tva_honest.specs.Miles.{Mile, Went, Got, Told, contact_in, contacts, paid_in, charges_in, last_came, since_got, after_told, since_notified}
 use Rattle.tva_honest.specs.SteadyMiles.{Way, ComesIn, IsPaid, IsMile, AreMiles, AreAuthorised}
 use Rattle.tva_honest.specs.Deals.{Deal, Prepared, Granted, Noticed, Coming}
-use Rattle.tva_honest.specs.Paths.{shows, come_as, ask_came, grant_came, since_granted, after_noticed, since_noticed, IsNoGrant, WasCharged}
+use Rattle.tva_honest.specs.Paths.{shows, same_id, come_as, is_charged_since, charged_since, ask_came, grant_came, since_granted, after_noticed, since_noticed, IsNoGrant, WasCharged}
 use Rattle.tva_honest.proofs.Pushes.{contacts-push, charges-push, came-got, came-same, since-got, since-went, since-told}
 use Rattle.tva_honest.proofs.Lists.{Rises, rises_rest, rises_front}
 use Rattle.tva_honest.proofs.Dealt.{shape_of_kind, shape_in, counted, contact_of}
 use Rattle.tva_honest.proofs.Hosts.{deal_key, IsTrue}
 use Rattle.tva_honest.proofs.Matching.{IsOf, In, keys, Matches, in_left, in_last, in_behind, matches_in}
-use Rattle.tva_honest.proofs.Asks.{come_is, came-granted, came-other}
-use Rattle.tva_honest.proofs.Comings.{paid_of, paid, paid_each}
+use Rattle.tva_honest.proofs.Asks.{id_is, come_is, came-granted, came-other}
+use Rattle.tva_honest.proofs.Comings.{paid_of, paid, paid_each, charge_parts, find_passing}
 
 -- ## miles beside their deals
 
@@ -38,10 +40,10 @@ use Rattle.tva_honest.proofs.Comings.{paid_of, paid, paid_each}
 abbrev pub IsCharged : List Coming → PacketId → Type 0
 IsCharged seen id = is_some (option_and_then (λ (x : Coming). x.charge) (come_as seen id)) ≡ true
 
--- a packet without a charge was not charged, and has its shape
+-- a packet without a charge was not charged, and has its shape; one with a charge was charged to its grant
 abbrev pub IsBeside : List Coming → Deal → Mile → Type 0
 IsBeside seen (Prepared t p) (Went sent s bytes None) = (IsCharged seen p.id → ⊥) × (s ≡ shape_in p.carried)
-IsBeside seen (Prepared t p) (Went sent s bytes (Some c)) = Unit {0}
+IsBeside seen (Prepared t p) (Went sent s bytes (Some c)) = IsSomeAnd (come_as seen p.id) (λ y. y.charge ≡ Some c.grant)
 IsBeside seen (Prepared t p) (Got rights caps came) = ⊥
 IsBeside seen (Prepared t p) Told = ⊥
 IsBeside seen (Granted rights caps) (Went sent s bytes o) = ⊥
@@ -161,6 +163,66 @@ map-push : (ds : List Deal) (d : Deal) → map contact_of (ds ++ d ∷ []) ≡ m
 map-push [] d = refl
 map-push (e ∷ es) d = ap (λ (cs : List Contact). contact_of e ∷ cs) (map-push es d)
 
+-- of one identity the first is found
+id_same : (a b : PacketId) → a ≡ b → same_id a b ≡ true
+id_same a b e = subst (λ (z : PacketId). same_id a z ≡ true) e (ap₂ ◌&&◌ (eq-eqb a.node a.node refl) (eq-eqb a.ordinal a.ordinal refl))
+
+found_past : (y : Coming) (id : PacketId) (o : Option Coming) (x : Coming) (b : Bool) → same_id y.packet.id id ≡ b → (y.packet.id ≡ id → ⊥)
+    → o ≡ Some x → cond b (Some y) o ≡ Some x
+found_past y id o x true is other e = absurd (other (id_is y.packet.id id is))
+found_past y id o x false is other e = e
+
+found_behind : (front : List Coming) (x : Coming) (back : List Coming) (id : PacketId) → AllByRecursion (λ y. y.packet.id ≡ id → ⊥) front
+    → id ≡ x.packet.id → come_as (front ++ x ∷ back) id ≡ Some x
+found_behind [] x back id a e =
+    ap (λ (b : Bool). cond b (Some x) (come_as back id)) (id_same x.packet.id id (sym e))
+found_behind (y ∷ ys) x back id a e =
+    found_past y id (come_as (ys ++ x ∷ back) id) x (same_id y.packet.id id) refl a.0 (found_behind ys x back id a.1 e)
+
+-- what was charged to a grant of no earlier second is found among what was
+found_since : (s : ℕ) (g h : Grant) (met : List Coming) (id : PacketId) (o : Option Coming) → leb s g.second ≡ true → h ≡ g
+    → come_as met id ≡ o → IsSomeAnd o (λ y. y.charge ≡ Some h)
+    → is_some (option_and_then (λ (x : Coming). x.charge) (come_as (charged_since s met) id)) ≡ true
+found_since s g h met id None late same e k = absurd k
+found_since s g h met id (Some y) late same e k =
+    let charge : y.charge ≡ Some g = k ∙ ap Some same in
+    let found : come_as (charged_since s met) id ≡ Some y =
+    find_passing (λ (x : Coming). is_charged_since s x.charge) (λ (x : Coming). same_id x.packet.id id) met y e (ap (is_charged_since s) charge ∙ late) in
+    ap (λ (o : Option Coming). is_some (option_and_then (λ (x : Coming). x.charge) o)) found ∙ ap is_some charge
+
+pub since_known : (s : ℕ) (g : Grant) → leb s g.second ≡ true → (met : List Coming) (ds : List Deal) (ms : List Mile) → AreBeside met ds ms
+    → AllByRecursion (λ c. c.grant ≡ g) (charges_in ms) → AllByRecursion (WasCharged met) ds → AllByRecursion (WasCharged (charged_since s met)) ds
+since_known s g late met [] [] k c a = tt
+since_known s g late met [] (m ∷ ms) k c a = absurd k
+since_known s g late met (d ∷ ds) [] k c a = absurd k
+since_known s g late met (Prepared t p ∷ ds) (Went sent r bytes None ∷ ms) k c a =
+    (λ shown. absurd (k.0.0 (a.0 shown)), since_known s g late met ds ms k.1 c a.1)
+since_known s g late met (Prepared t p ∷ ds) (Went sent r bytes (Some d) ∷ ms) k c a =
+    (λ shown. found_since s g d.grant met p.id (come_as met p.id) late c.0 refl k.0, since_known s g late met ds ms k.1 c.1 a.1)
+since_known s g late met (Prepared t p ∷ ds) (Got rights caps came ∷ ms) k c a = absurd k.0
+since_known s g late met (Prepared t p ∷ ds) (Told ∷ ms) k c a = absurd k.0
+since_known s g late met (Granted rights caps ∷ ds) (Went sent r bytes o ∷ ms) k c a = absurd k.0
+since_known s g late met (Granted rights caps ∷ ds) (Got q cs came ∷ ms) k c a = (tt, since_known s g late met ds ms k.1 c a.1)
+since_known s g late met (Granted rights caps ∷ ds) (Told ∷ ms) k c a = absurd k.0
+since_known s g late met (Noticed ∷ ds) (Went sent r bytes o ∷ ms) k c a = absurd k.0
+since_known s g late met (Noticed ∷ ds) (Got rights caps came ∷ ms) k c a = absurd k.0
+since_known s g late met (Noticed ∷ ds) (Told ∷ ms) k c a = (tt, since_known s g late met ds ms k.1 c a.1)
+
+-- what holds of all deals holds of those since a notice
+each_noticed : (P : Deal → Type 0) (ds : List Deal) → AllByRecursion P ds → IfSome (after_noticed ds) (AllByRecursion P)
+each_noticed P [] k = tt
+each_noticed P (Prepared t p ∷ ds) k = each_noticed P ds k.1
+each_noticed P (Granted rights caps ∷ ds) k = each_noticed P ds k.1
+each_noticed P (Noticed ∷ ds) k = k.1
+
+each_since_by : (P : Deal → Type 0) (ds : List Deal) (o : Option (List Deal)) → IfSome o (AllByRecursion P) → AllByRecursion P ds
+    → AllByRecursion P (unwrap_or o ds)
+each_since_by P ds None k l = l
+each_since_by P ds (Some es) k l = k
+
+pub each_since : (P : Deal → Type 0) (ds : List Deal) → AllByRecursion P ds → AllByRecursion P (since_noticed ds)
+each_since P ds k = each_since_by P ds (after_noticed ds) (each_noticed P ds k) k
+
 -- all those behind a place without a grant
 pub since_under : (first under : List Deal) → AllByRecursion IsNoGrant under → since_granted [] (first ++ under) ≡ since_granted [] first ++ under
 since_under first [] k = ap (since_granted []) (append-nil first) ∙ sym (append-nil (since_granted [] first))
@@ -232,7 +294,7 @@ module _ (w : Way) (seen met : List Coming) (log : List Entry) (own earlier : Li
     → p.id ≡ x.packet.id → (c : Charge) → paid_of x ≡ Some c → (ms : List Mile) → last_came ms ≡ grant_came seen [] before
     → charges_in ms ≡ filter_map paid_of front
     → IsPaid w ms t (shape_in p.carried) (counted p) c)
-    (paying : AllByRecursion (λ x. is_some (paid_of x) ≡ true) (paid met)) where
+    (paying : AllByRecursion (λ x. is_some (paid_of x) ≡ true) (paid met)) (met_is : met ≡ paid met) where
   -- the miles of the deals so far, with what was charged so far
   pub record Run (before : List Deal) (front : List Coming) : Type 0 where
     pub miles : List Mile
@@ -306,10 +368,10 @@ module _ (w : Way) (seen met : List Coming) (log : List Entry) (own earlier : Li
 
   -- one that was
   charged_one : (before : List Deal) (front : List Coming) (t : ℕ) (p : PacketData) (x : Coming) (c : Charge) → Run before front
-      → paid_of x ≡ Some c
+      → paid_of x ≡ Some c → IsSomeAnd (come_as met p.id) (λ y. y.charge ≡ Some c.grant)
       → ((ms : List Mile) → last_came ms ≡ grant_came seen [] before → charges_in ms ≡ filter_map paid_of front
       → IsPaid w ms t (shape_in p.carried) (counted p) c) → Run (before ++ Prepared t p ∷ []) (front ++ x ∷ [])
-  charged_one before front t p x c r e pay =
+  charged_one before front t p x c r e found pay =
       let m : Mile = Went t (shape_in p.carried) (counted p) (Some c) in
       let one : c ∷ [] ≡ filter_map paid_of (x ∷ []) = ap (λ (o : Option Charge). cons_option o []) (sym e) in
       record {
@@ -319,7 +381,7 @@ module _ (w : Way) (seen met : List Coming) (log : List Entry) (own earlier : Li
         charges_are = charges-push r.miles m ∙ (ap₂ ◌++◌ r.charges_are one ∙ sym (filter_map-append paid_of front (x ∷ [])));
         are = miles-push w [] r.miles m r.are (pay r.miles r.came r.charges_are);
         came = came-same r.miles m refl ∙ (r.came ∙ sym (came-other seen [] before (Prepared t p) tt));
-        beside = beside_went before r.miles t p (Some c) r.beside tt;
+        beside = beside_went before r.miles t p (Some c) r.beside found;
         under = λ only. under-push r.miles m (since-went [] r.miles t (shape_in p.carried) (counted p) (Some c)) (r.under only);
       }
 
@@ -422,6 +484,19 @@ module _ (w : Way) (seen met : List Coming) (log : List Entry) (own earlier : Li
   own_here : (before : List Deal) (d : Deal) (ds : List Deal) → earlier ≡ before ++ d ∷ ds → own ≡ before ++ d ∷ (ds ++ tail)
   own_here before d ds here = whole ∙ (ap (λ (es : List Deal). es ++ tail) here ∙ append_assoc before (d ∷ ds) tail)
 
+  -- what came with the identity of one that is matched
+  found_so : (before : List Deal) (front : List Coming) (t : ℕ) (p : PacketData) (ds : List Deal) (x : Coming) (xs : List Coming) (c : Charge)
+      → At before front (Prepared t p ∷ ds) (x ∷ xs) → p.id ≡ x.packet.id → paid_of x ≡ Some c
+      → IsSomeAnd (come_as met p.id) (λ y. y.charge ≡ Some c.grant)
+  found_so before front t p ds x xs c a k e =
+      let all : Rises (keys (before ++ Prepared t p ∷ ds)) = subst (λ (es : List Deal). Rises (keys es)) a.here earlier_rises in
+      let found : come_as met p.id ≡ Some x =
+      ap (λ (ys : List Coming). come_as ys p.id) (met_is ∙ a.seen_here)
+      ∙ found_behind front x xs p.id (front_other before t p ds front all a.ins) k in
+      let parts = charge_parts x x.charge c refl e in
+      subst (λ (o : Option Coming). IsSomeAnd o (λ y. y.charge ≡ Some c.grant)) (sym found)
+      (parts.1 ∙ ap (λ (d : Charge). Some d.grant) parts.2)
+
   -- a deal that is matched
   step_matched : (before : List Deal) (front : List Coming) (d : Deal) (ds : List Deal) (x : Coming) (xs : List Coming)
       (o : Option Charge) → At before front (d ∷ ds) (x ∷ xs) → IsOf d x.packet.id → paid_of x ≡ o → is_some o ≡ true
@@ -430,7 +505,7 @@ module _ (w : Way) (seen met : List Coming) (log : List Entry) (own earlier : Li
   step_matched before front (Prepared t p) ds x xs (Some c) a k e s = record {
     here = a.here ∙ sym (append_assoc before (Prepared t p ∷ []) ds);
     seen_here = a.seen_here ∙ sym (append_assoc front (x ∷ []) xs);
-    run = charged_one before front t p x c a.run e (λ ms came charges. pays before t p (ds ++ tail) front x xs
+    run = charged_one before front t p x c a.run e (found_so before front t p ds x xs c a k e) (λ ms came charges. pays before t p (ds ++ tail) front x xs
         (own_here before (Prepared t p) ds a.here) a.seen_here k c e ms came charges);
     opens = open_more before (Prepared t p) a.opens;
     ins = each-append (λ (y : Coming). In (before ++ Prepared t p ∷ []) y.packet.id) front (x ∷ [])

@@ -299,7 +299,7 @@ open-ask None e = absurd (cc)
 open-ask (Some ask) e = record { ask = ask; is = refl }
 
 -- the charges before a taking are of earlier seconds
-pub old-stage : (w : Way) (ms : List Mile) → 1000000000 + w.margin ≤ w.retry → (t came : ℕ) → asked_at (contacts ms) ≡ Some (time t) → awaits (contacts ms) ≡ true → ComesIn w t came
+old-stage : (w : Way) (ms : List Mile) → 1000000000 + w.margin ≤ w.retry → (t came : ℕ) → asked_at (contacts ms) ≡ Some (time t) → awaits (contacts ms) ≡ true → ComesIn w t came
     → Stage w ms → AllByRecursion (λ c. c.grant.second < router_second w.offset came) (charges_in ms)
 old-stage w ms rules t came asked waits comes (inl f) = subst (AllByRecursion (λ (c : Charge). c.grant.second < router_second w.offset came)) (sym f.charges) tt
 old-stage w ms rules t came asked waits comes (inr k) =
@@ -310,6 +310,15 @@ old-stage w ms rules t came asked waits comes (inr k) =
     let again = k.again unanswered in
     let later : router_second w.offset k.came < router_second w.offset came = second-later w.offset k.came came (omega (arith, rules, again, at, k.comes.until, comes.from)) in
     each-weaker (NotAfter w k.came) (λ (c : Charge). c.grant.second < router_second w.offset came) (charges_in ms) (λ c l. omega (arith, l, later)) (none-after w ms k)
+
+-- so they are where a grant is taken
+pub old-before : (w : Way) (ms : List Mile) → 1000000000 + w.margin ≤ w.retry → Stage w ms → (rights : Rights) (caps : List ℕ) (came : ℕ) → awaits (contacts ms) ≡ true
+    → IsMile w ms (Got rights caps came) → AllByRecursion (λ c. c.grant.second < router_second w.offset came) (charges_in ms)
+old-before w ms rules stage rights caps came waits mile =
+    let o = open-ask (last_ask (contacts ms)) waits in
+    let asked : asked_at (contacts ms) ≡ Some (time o.ask.time) = ap (λ (x : Option Ask). option_map (λ (a : Ask). time a.time) x) o.is in
+    let comes : ComesIn w o.ask.time came = subst (λ (x : Option Time). IfSome x (λ a. ComesIn w a.0 came)) asked mile.1 in
+    old-stage w ms rules o.ask.time came asked waits comes stage
 
 -- a grant is taken
 got : (w : Way) (ms : List Mile) → 1000000000 + w.margin ≤ w.retry → Stage w ms → (rights : Rights) (caps : List ℕ) (came : ℕ) → awaits (contacts ms) ≡ true

@@ -46,7 +46,7 @@ use Rattle.tva_honest.specs.Deals.{Deal, Prepared, Granted, Noticed, sent_for, g
 use Rattle.tva_honest.proofs.Lists.{some_same, Rises, rises-push}
 use Rattle.tva_honest.proofs.Dealt.{contact_of, row_deal, receipt_deal, map_more}
 use Rattle.tva_transfer.specs.Files as transfers
-use Rattle.tva_transfer.specs.Files.{Files, answered, first_segment, segment_due}
+use Rattle.tva_transfer.specs.Files.{Files, answered, segment_due}
 use Rattle.tva_base.specs.declared.packet.Upper.{Upper}
 use Rattle.tva_base.specs.declared.packet.Upper.TheVariants as upper
 use Rattle.tva_base.specs.declared.event.DataLine.{DataLine}

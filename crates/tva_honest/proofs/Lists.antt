@@ -1,7 +1,7 @@
 -- Lists with keys that rise, and where a list stands from which another one was picked.
 use Rattle.std.proofs.Common.{◌≡◌, ◌≤◌, ◌<◌, ℕ, suc, ◌+◌, List, [], ◌∷◌, ◌++◌, length, Option, Some, None, refl, ap, ap₂, subst, ◌∙◌, arith}
 use Rattle.std.specs.List.{AllByRecursion, filter_map, cons_option}
-use Rattle.std.proofs.lemmas.List.Elements.{recursion_from_All}
+use Rattle.std.proofs.lemmas.List.Elements.{recursion_from_All, All-from_recursion}
 use Rattle.tva_log.proofs.Joins.{each-append}
 use Rattle.tva_port.specs.Keeps.{AreRising}
 
@@ -30,6 +30,10 @@ rises-push (m ∷ ms) n r a = (each-append (λ k. m < k) ms (n ∷ []) r.0 (a.0,
 pub rises_from : (ns : List ℕ) → AreRising ns → Rises ns
 rises_from [] r = tt
 rises_from (n ∷ ns) r = (recursion_from_All (λ m. n < m) ns r.0, rises_from ns r.1)
+
+pub rising_from : (ns : List ℕ) → Rises ns → AreRising ns
+rising_from [] r = tt
+rising_from (n ∷ ns) r = (All-from_recursion (λ m. n < m) ns r.0, rising_from ns r.1)
 
 pub each_rest : {X : Type 0} (P : X → Type 0) (o : Option X) (xs : List X) → AllByRecursion P (cons_option o xs) → AllByRecursion P xs
 each_rest P None xs h = h

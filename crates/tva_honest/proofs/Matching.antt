@@ -1,8 +1,9 @@
 -- What came in the order in which it was prepared is matched with what was prepared, one by one.
-use Rattle.std.proofs.Common.{◌≡◌, ◌<◌, ◌⊎◌, inl, inr, ℕ, List, [], ◌∷◌, ◌++◌, Option, Some, ap, sym, subst, ◌∙◌, arith}
-use Rattle.std.specs.Prelude.{map}
+use Rattle.std.proofs.Common.{◌≡◌, ◌<◌, ◌⊎◌, inl, inr, ℕ, Bool, true, false, cond, refl, List, [], ◌∷◌, ◌++◌, Option, Some, ap, sym, subst, ◌∙◌, arith}
+use Rattle.std.specs.Prelude.{map, filter}
 use Rattle.std.specs.List.{AllByRecursion, filter_map, cons_option}
 use Rattle.tva_base.specs.declared.packet.PacketId.{PacketId}
+use Rattle.tva_base.specs.declared.packet.Rights.{Rights}
 use Rattle.tva_shim.specs.Packets.{PacketData}
 use Rattle.tva_log.proofs.Joins.{each-weaker}
 use Rattle.tva_honest.specs.Deals.{Deal, Prepared, Granted, Noticed, Coming}
@@ -125,3 +126,80 @@ matches_in (d ∷ ds) (x ∷ xs) (inl m) = (
 matches_in (d ∷ ds) (x ∷ xs) (inr m) =
     each-weaker (λ (y : Coming). In ds y.packet.id) (λ (y : Coming). In (d ∷ ds) y.packet.id) (λ y k. inr k) (x ∷ xs)
     (matches_in ds (x ∷ xs) m)
+
+-- where what is in was prepared
+pub record InAt (ds : List Deal) (id : PacketId) : Type 0 where
+  pub before : List Deal
+  pub time : ℕ
+  pub packet : PacketData
+  pub after : List Deal
+  pub is : ds ≡ before ++ Prepared time packet ∷ after
+  pub same : packet.id ≡ id
+
+pub in_at : (ds : List Deal) (id : PacketId) → In ds id → InAt ds id
+in_at [] id k = absurd k
+in_at (Prepared t p ∷ ds) id (inl k) = record { before = []; time = t; packet = p; after = ds; is = refl; same = k }
+in_at (Granted rights caps ∷ ds) id (inl k) = absurd k
+in_at (Noticed ∷ ds) id (inl k) = absurd k
+in_at (d ∷ ds) id (inr k) =
+    let a = in_at ds id k in
+    record {
+      before = d ∷ a.before;
+      time = a.time;
+      packet = a.packet;
+      after = a.after;
+      is = ap (λ (es : List Deal). d ∷ es) a.is;
+      same = a.same;
+    }
+
+-- what is matched before a grant, and behind it
+pub record SplitMatch (first under : List Deal) (xs : List Coming) : Type 0 where
+  pub before : List Coming
+  pub after : List Coming
+  pub is : xs ≡ before ++ after
+  pub front : Matches first before
+  pub back : Matches under after
+
+match_more : (d : Deal) (ds : List Deal) (xs : List Coming) → Matches ds xs → Matches (d ∷ ds) xs
+match_more d ds [] k = k
+match_more d ds (x ∷ xs) k = inr k
+
+pub split_match : (first under : List Deal) (rights : Rights) (caps : List ℕ) (xs : List Coming) → Matches (first ++ Granted rights caps ∷ under) xs
+    → SplitMatch first under xs
+split_match [] under rights caps [] m = record { before = []; after = []; is = refl; front = tt; back = m }
+split_match [] under rights caps (x ∷ xs) (inl m) = absurd m.0
+split_match [] under rights caps (x ∷ xs) (inr m) = record { before = []; after = x ∷ xs; is = refl; front = tt; back = m }
+split_match (d ∷ ds) under rights caps [] m =
+    let s = split_match ds under rights caps [] m in
+    record { before = s.before; after = s.after; is = s.is; front = match_more d ds s.before s.front; back = s.back }
+split_match (d ∷ ds) under rights caps (x ∷ xs) (inl m) =
+    let s = split_match ds under rights caps xs m.1 in
+    record {
+      before = x ∷ s.before;
+      after = s.after;
+      is = ap (λ (ys : List Coming). x ∷ ys) s.is;
+      front = inl (m.0, s.front);
+      back = s.back;
+    }
+split_match (d ∷ ds) under rights caps (x ∷ xs) (inr m) =
+    let s = split_match ds under rights caps (x ∷ xs) m in
+    record { before = s.before; after = s.after; is = s.is; front = match_more d ds s.before s.front; back = s.back }
+
+-- keys of those that pass
+pub keys_passing : (Q : ℕ → Type 0) (p : Coming → Bool) (xs : List Coming) → AllByRecursion Q (map come_key xs)
+    → AllByRecursion Q (map come_key (filter p xs))
+keys_passing Q p [] k = tt
+keys_passing Q p (x ∷ xs) k = by (keys_passing Q p xs k.1) (p x)
+  where
+    by : AllByRecursion Q (map come_key (filter p xs)) → (b : Bool) → AllByRecursion Q (map come_key (cond b (x ∷ filter p xs) (filter p xs)))
+    by ih true = (k.0, ih)
+    by ih false = ih
+
+pub rises_passing : (p : Coming → Bool) (xs : List Coming) → Rises (map come_key xs) → Rises (map come_key (filter p xs))
+rises_passing p [] r = tt
+rises_passing p (x ∷ xs) r = by (rises_passing p xs r.1) (keys_passing (λ n. come_key x < n) p xs r.0) (p x)
+  where
+    by : Rises (map come_key (filter p xs)) → AllByRecursion (λ n. come_key x < n) (map come_key (filter p xs)) → (b : Bool)
+        → Rises (map come_key (cond b (x ∷ filter p xs) (filter p xs)))
+    by ih later true = (later, ih)
+    by ih later false = ih

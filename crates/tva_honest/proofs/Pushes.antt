@@ -5,7 +5,7 @@ use Rattle.tva_base.specs.declared.packet.Rights.{Rights}
 use Rattle.tva_flow.specs.Charges.{Charge}
 use Rattle.tva_sender.specs.declared.shape.Shape.{Shape}
 use Rattle.tva_honest.specs.Miles.{Mile, Went, Got, Told, contact_in, contacts, paid_in, charges_in, ask_came_in, last_came, since_got}
-use Rattle.tva_honest.specs.SteadyMiles.{IsAuthorisedMile, AreAuthorised}
+use Rattle.tva_honest.specs.SteadyMiles.{AreAuthorised}
 
 pub contacts-push : (ms : List Mile) (m : Mile) → contacts (ms ++ m ∷ []) ≡ contacts ms ++ contact_in m ∷ []
 contacts-push [] m = refl
@@ -14,9 +14,6 @@ contacts-push (d ∷ ds) m = ap (λ cs. contact_in d ∷ cs) (contacts-push ds m
 pub charges-push : (ms : List Mile) (m : Mile) → charges_in (ms ++ m ∷ []) ≡ charges_in ms ++ paid_in m
 charges-push [] m = append-nil (paid_in m)
 charges-push (d ∷ ds) m = ap (λ cs. paid_in d ++ cs) (charges-push ds m) ∙ sym (append_assoc (paid_in d) (charges_in ds) (paid_in m))
-
-or_got : {X : Type 0} (x : X) (o : Option X) → option_or (Some x) o ≡ Some x
-or_got x o = refl
 
 pub came-got : (ms : List Mile) (rights : Rights) (caps : List ℕ) (came : ℕ) → last_came (ms ++ Got rights caps came ∷ []) ≡ Some came
 came-got [] rights caps came = refl
@@ -48,7 +45,3 @@ since-told own (Told ∷ ds) = since-told (own ++ Told ∷ []) ds
 pub authorised-front : (ms : List Mile) (m : Mile) → AreAuthorised (ms ++ m ∷ []) → AreAuthorised ms
 authorised-front [] m k = tt
 authorised-front (d ∷ ds) m k = (k.0, authorised-front ds m k.1)
-
-pub authorised-last : (ms : List Mile) (m : Mile) → AreAuthorised (ms ++ m ∷ []) → IsAuthorisedMile m
-authorised-last [] m k = k.0
-authorised-last (d ∷ ds) m k = authorised-last ds m k.1

@@ -24,8 +24,8 @@ use Rattle.tva_flow.specs.Charges.{Charge, same_flow, of_flow, last_charge, hold
 use Rattle.tva_flow.proofs.Same.{flow_is}
 use Rattle.tva_sender.specs.declared.shape.Shape.{Shape}
 use Rattle.tva_sender.specs.Contacts as contact
-use Rattle.tva_sender.specs.Contacts.{Contact, Taking, last_taking, asked_at, time}
-use Rattle.tva_sender.specs.Played.{IsPlayed}
+use Rattle.tva_sender.specs.Contacts.{Contact, Taking, last_taking, asked_at, awaits, time}
+use Rattle.tva_sender.specs.Played.{IsPlayed, AreNext}
 use Rattle.tva_port.specs.Keeps.{AreRising}
 use Rattle.tva_router.specs.Boots.{charges_of_boot, charges_at}
 use Rattle.tva_router.specs.Handling.{arrival}
@@ -61,21 +61,24 @@ use Rattle.tva_paths.proofs.Walks.{at_place}
 use Rattle.tva_paths.proofs.Origins.{origin_at}
 use Rattle.tva_honest.specs.Miles.{Mile, contacts, charges_in, last_came, since_got, since_notified}
 use Rattle.tva_honest.specs.SteadyMiles as kit
-use Rattle.tva_honest.specs.SteadyMiles.{Way, ComesIn, IsPaid, is_since, IsSteady, IsNarrow, IsTaken}
+use Rattle.tva_honest.specs.SteadyMiles.{Way, ComesIn, grant_at, AreAuthorised, IsPaid, is_since, IsSteady, IsNarrow, IsTaken}
 use Rattle.tva_honest.specs.Deals.{Deal, Prepared, Granted, Noticed, Coming, coming, deals, comings}
-use Rattle.tva_honest.specs.Paths.{shows, shows_nonce, ask_coming, ask_came, grant_came, since_granted, since_noticed, IsNoGrant, ShowsMinted, ComesInTime, ComesSteadily, ComesUnder, comings_at, is_charged_since, charged_since, WasCharged, IsSteadyPath, IsNarrowPath, IsTakenByLast, AreHonestRegular}
+use Rattle.tva_honest.specs.Paths.{shows, shows_nonce, ask_coming, ask_came, grant_came, since_granted, since_noticed, IsNoGrant, ShowsMinted, ComesInTime, ComesSteadily, ComesUnder, comings_at, is_charged_since, charged_since, WasCharged, HasLastGrant, IsSteadyPath, IsTakenByLast, AreHonestRegular}
+use Rattle.tva_honest.specs.Narrow.{IsNarrowPath, AreNarrowSteady}
 use Rattle.tva_honest.proofs.Given.{AreGiven}
-use Rattle.tva_honest.proofs.Lists.{some_same, Rises, rises_from, rises_rest, rises_front, rises_last, each_front, one_place}
+use Rattle.tva_honest.proofs.Lists.{some_same, Rises, rises-push, rises_from, rising_from, rises_rest, rises_front, rises_last, each_front, one_place}
 use Rattle.tva_honest.proofs.Dealt.{shape_in, counted, contact_of, played_front, map_place}
 use Rattle.tva_honest.proofs.Hosts.{ordinal_of, made_at, entry_key, deal_key, takes, IsMadeIn, IsTrue, Told, told}
 use Rattle.tva_honest.proofs.Returns.{received_returns}
 use Rattle.tva_honest.proofs.Counts.{few_inputs}
-use Rattle.tva_honest.proofs.Matching.{In, come_key, keys, AreIn, Matches, in_place, in_append, in_behind, matched}
-use Rattle.tva_honest.proofs.Asks.{Asked, last_time, asked_place, come_id, came-granted, came-under, ask_is, coming_is, last_rights_are}
-use Rattle.tva_honest.proofs.Comings.{paid_of, paid, charge_parts, paying_all, claim, claim_at, flow_charges, CameAt, came_place, paid_only, paid_place, charged_is, since_charged, since_first, was_since, since_paid}
-use Rattle.tva_honest.proofs.Authorised.{last-passes, each-behind, honest, narrow-honest}
-use Rattle.tva_honest.proofs.Boots.{one_master, passing_place, boot_charges}
-use Rattle.tva_honest.proofs.DealtMiles.{authorised, noticed_beside, since_grant, since_under, Bare, bare_from, bare_none, Run, run_none, begun, miles_of}
+use Rattle.tva_honest.proofs.Matching.{In, come_key, keys, AreIn, Matches, in_place, in_append, in_behind, matched, matches_in, in_at, SplitMatch, split_match, keys_passing, rises_passing}
+use Rattle.tva_honest.proofs.Asks.{Asked, last_time, asked_place, come_id, came-granted, came-under, LastAt, split_last, ask_is, coming_is, last_rights_are}
+use Rattle.tva_honest.proofs.Comings.{paid_of, paid, charge_parts, paying_all, claim, claim_at, flow_charges, CameAt, came_place, paid_only, paid_place, charged_is, since_charged, since_first, since_each, since_all, since_early, paid_all, was_since, since_paid, held_nonce}
+use Rattle.tva_honest.proofs.Authorised.{last-passes, each-behind, Front, front, none, honest, narrow-honest}
+use Rattle.tva_honest.proofs.Stages.{Holds, Stage}
+use Rattle.tva_honest.proofs.EachMile.{old-before, walk}
+use Rattle.tva_honest.proofs.Boots.{one_master, passing_place, boot_charges, each_passing}
+use Rattle.tva_honest.proofs.DealtMiles.{authorised, noticed_beside, since_grant, since_under, since_known, each_since, Bare, bare_from, bare_none, Run, run_none, begun, miles_of}
 use Rattle.tva_honest.proofs.Regular.{ShowsGrant, steady_regular}
 use Rattle.tva_honest.proofs.Kept.{AreShims, are_shims, same_length, at_router, shown_as_made, shows_as_made, of_nonce}
 
@@ -150,6 +153,11 @@ prepared_before earlier t q after x (y ∷ ys) same r a b =
 rises_behind : (before ds : List Deal) → Rises (keys (before ++ ds)) → Rises (keys ds)
 rises_behind [] ds r = r
 rises_behind (b ∷ bs) ds r = rises_behind bs ds (rises_rest (deal_key b) (keys (bs ++ ds)) r)
+
+each_with : {X : Type 0} (P Q R : X → Type 0) → ((x : X) → P x → Q x → R x) → (xs : List X) → AllByRecursion P xs → AllByRecursion Q xs
+    → AllByRecursion R xs
+each_with P Q R f [] k l = tt
+each_with P Q R f (x ∷ xs) k l = (f x k.0 l.0, each_with P Q R f xs k.1 l.1)
 
 -- what stands behind the same is the same
 same_behind : (xs ys zs : List Deal) → xs ++ ys ≡ xs ++ zs → ys ≡ zs
@@ -554,18 +562,18 @@ module _ (config : Config) (rows : List Row) (until : ℕ) (logs : Logs) (valid 
         Run way seen met (log_at logs sender) own earlier tail at.place rises (Unit {0}) open_at open_more
         (λ before rights caps rest came o e. absurd (none_open before rights caps rest o e))
         (λ before rights caps rest o e. absurd (none_open before rights caps rest o e))
-        (pays_for second each) (paying_all met) before front
+        (pays_for second each) (paying_all met) (since_charged second boot) before front
 
     miles : Miles earlier (paid met)
     miles =
         miles_of way seen met (log_at logs sender) own earlier tail at.place rises (Unit {0}) open_at open_more
         (λ before rights caps rest came o e. absurd (none_open before rights caps rest o e))
         (λ before rights caps rest o e. absurd (none_open before rights caps rest o e))
-        (pays_for second each) (paying_all met) begin under split ([], sym (append-nil begin))
+        (pays_for second each) (paying_all met) (since_charged second boot) begin under split ([], sym (append-nil begin))
         (begun way seen met (log_at logs sender) own earlier tail at.place rises (Unit {0}) open_at open_more
         (λ before rights caps rest came o e. absurd (none_open before rights caps rest o e))
         (λ before rights caps rest o e. absurd (none_open before rights caps rest o e))
-        (pays_for second each) (paying_all met) steady.grant.first steady.grant.rights steady.grant.caps asked_time bare ask_is_known
+        (pays_for second each) (paying_all met) (since_charged second boot) steady.grant.first steady.grant.rights steady.grant.caps asked_time bare ask_is_known
         (at_place (IsTrue (log_at logs sender)) (steady.grant.first ++ Granted steady.grant.rights steady.grant.caps ∷ under)
         steady.grant.first (Granted steady.grant.rights steady.grant.caps) under refl fine) comes_first)
         (each-behind (IsTrue (log_at logs sender)) begin under
@@ -641,7 +649,7 @@ module _ (config : Config) (rows : List Row) (until : ℕ) (logs : Logs) (valid 
         shows_as_made way ruling at.packet packet miles.miles held now a shims
         (subst (λ (o : Option ℕ). IfSome o (λ u. ShowsMinted ruling packet packet.carried u)) (sym miles.came) steady.last.minted)
 
-    regular : IsTakenByLast router packet.flow seen steady.last.in_time.before fate
+    pub regular : IsTakenByLast router packet.flow seen steady.last.in_time.before fate
     regular =
         taken_regular earlier miles.miles miles.contacts_are miles.came (shape_in at.packet.carried)
         (honest way held miles.miles at.sent (shape_in at.packet.carried) (packet_length packet) now is_steady) shows_it
@@ -714,12 +722,12 @@ module _ (config : Config) (rows : List Row) (until : ℕ) (logs : Logs) (valid 
     All before = Unit {0}
 
     miles_before : Run way seen all_charged (log_at logs sender) own before_it from_it near.place rises ⊥ All (λ before d o. tt)
-        grants_come grants_asked (pays_for 0 each_charged) (paying_all all_charged) before_it (paid all_charged)
+        grants_come grants_asked (pays_for 0 each_charged) (paying_all all_charged) (since_charged 0 boot) before_it (paid all_charged)
     miles_before =
         miles_of way seen all_charged (log_at logs sender) own before_it from_it near.place rises ⊥ All (λ before d o. tt)
-        grants_come grants_asked (pays_for 0 each_charged) (paying_all all_charged) [] before_it refl tt
+        grants_come grants_asked (pays_for 0 each_charged) (paying_all all_charged) (since_charged 0 boot) [] before_it refl tt
         (run_none way seen all_charged (log_at logs sender) own before_it from_it near.place rises ⊥ All (λ before d o. tt)
-        grants_come grants_asked (pays_for 0 each_charged) (paying_all all_charged)) fine_before match_before
+        grants_come grants_asked (pays_for 0 each_charged) (paying_all all_charged) (since_charged 0 boot)) fine_before match_before
 
     kept_so : Keeps near.packet packet
     kept_so =
@@ -764,16 +772,284 @@ module _ (config : Config) (rows : List Row) (until : ℕ) (logs : Logs) (valid 
         shows_as_made way ruling near.packet packet miles_before.miles held now a shims_so
         (subst (λ (o : Option ℕ). IfSome o (λ u. ShowsMinted ruling packet packet.carried u)) (sym miles_before.came) narrow.last.minted))
 
-  pub both_regular : ((steady : IsSteadyPath host router delay own seen held last)
-      → IsTakenByLast router packet.flow seen steady.last.in_time.before fate)
-      × ((narrow : IsNarrowPath host router delay own seen held last)
-      → IsTakenByLast router packet.flow seen narrow.last.in_time.before fate)
-  both_regular = (λ steady. regular steady, λ narrow. regular_so narrow)
+    -- ## which the wider words call steady too
+
+    came_before : grant_came seen [] before_it ≡ Some regular_so.came
+    came_before = regular_so.asked
+
+    last_at : LastAt before_it
+    last_at = elim (split_last before_it) [
+      | inl none ↦ absurd (let nothing = came-under seen [] before_it none in let is = came_before in cc)
+      | inr l ↦ l
+    ]
+
+    -- the ask of the last grant, as it came
+    record AskSo (first : List Deal) : Type 0 where
+      ask : Coming
+      came : ask_coming seen first ≡ Some ask
+      in_time : InTime ask
+
+    ask_so : (first : List Deal) (o : Option Coming) → ask_coming seen first ≡ o → IsSomeAnd o InTime → AskSo first
+    ask_so first None e k = absurd k
+    ask_so first (Some x) e k = record { ask = x; came = e; in_time = k }
+
+    the_ask : AskSo last_at.first
+    the_ask =
+        ask_so last_at.first (ask_coming seen last_at.first) refl
+        (narrow.asked last_at.first last_at.rights last_at.caps last_at.under last_at.is)
+
+    abbrev granted_last : Deal
+    granted_last = Granted last_at.rights last_at.caps
+
+    abbrev begin_so : List Deal
+    begin_so = last_at.first ++ granted_last ∷ []
+
+    abbrev second_so : ℕ
+    second_so = router_second router.clock_offset the_ask.ask.time
+
+    abbrev grant_so : HasLastGrant host delay own seen before_it
+    grant_so = record {
+      first = last_at.first;
+      rights = last_at.rights;
+      caps = last_at.caps;
+      under = last_at.under;
+      place = last_at.is;
+      last = last_at.none;
+      ask = the_ask.ask;
+      came = the_ask.came;
+      in_time = the_ask.in_time;
+    }
+
+    asked_so : ask_came seen last_at.first ≡ Some the_ask.ask.time
+    asked_so = ap (option_map (λ (x : Coming). x.time)) the_ask.came
+
+    came_so : (ds : List Deal) → AllByRecursion IsNoGrant ds → grant_came seen [] (begin_so ++ ds) ≡ Some the_ask.ask.time
+    came_so ds k =
+        came-under seen begin_so ds k ∙ came-granted seen [] last_at.first last_at.rights last_at.caps the_ask.ask.time asked_so
+
+    split_so : before_it ≡ begin_so ++ last_at.under
+    split_so = last_at.is ∙ sym (append_assoc last_at.first (granted_last ∷ []) last_at.under)
+
+    came_is_so : grant_came seen [] before_it ≡ Some the_ask.ask.time
+    came_is_so = ap (grant_came seen []) split_so ∙ came_so last_at.under last_at.none
+
+    place_so : (before : List Deal) (d : Deal) (after : List Deal) → last_at.under ≡ before ++ d ∷ after
+        → own ≡ (begin_so ++ before) ++ d ∷ (after ++ from_it)
+    place_so before d after e =
+        near.place ∙ (ap (λ (ds : List Deal). ds ++ from_it) (split_so ∙ ap (λ (ds : List Deal). begin_so ++ ds) e)
+        ∙ (append_assoc begin_so (before ++ d ∷ after) from_it
+        ∙ (ap (λ (ds : List Deal). begin_so ++ ds) (append_assoc before (d ∷ after) from_it)
+        ∙ sym (append_assoc begin_so before (d ∷ (after ++ from_it))))))
+
+    -- what was charged under the last grant, and before it
+    parts : SplitMatch last_at.first last_at.under (paid all_charged)
+    parts =
+        split_match last_at.first last_at.under last_at.rights last_at.caps (paid all_charged)
+        (subst (λ (ds : List Deal). Matches ds (paid all_charged)) last_at.is match_before)
+
+    abbrev olds : List Coming
+    olds = parts.before
+
+    abbrev news : List Coming
+    news = parts.after
+
+    olds_paid : paid olds ≡ olds
+    olds_paid =
+        paid_all olds (each_front (λ (y : Coming). is_some (paid_of y) ≡ true) olds news
+        (subst (AllByRecursion (λ (y : Coming). is_some (paid_of y) ≡ true)) parts.is (paying_all all_charged)))
+
+    abbrev behind_olds : List Deal
+    behind_olds = granted_last ∷ (last_at.under ++ from_it)
+
+    place_olds : own ≡ last_at.first ++ behind_olds
+    place_olds =
+        near.place ∙ (ap (λ (ds : List Deal). ds ++ from_it) last_at.is
+        ∙ append_assoc last_at.first (granted_last ∷ last_at.under) from_it)
+
+    before_place : (before : List Deal) (d : Deal) (after : List Deal) → last_at.first ≡ before ++ d ∷ after
+        → before_it ≡ before ++ d ∷ (after ++ granted_last ∷ last_at.under)
+    before_place before d after e =
+        last_at.is ∙ (ap (λ (ds : List Deal). ds ++ granted_last ∷ last_at.under) e
+        ∙ append_assoc before (d ∷ after) (granted_last ∷ last_at.under))
+
+    pays_olds : (before : List Deal) (t : ℕ) (p : PacketData) (after : List Deal) (front : List Coming) (x : Coming) (back : List Coming)
+        → own ≡ before ++ Prepared t p ∷ after → paid olds ≡ front ++ x ∷ back
+        → p.id ≡ x.packet.id → (c : Charge) → paid_of x ≡ Some c → (ms : List Mile) → last_came ms ≡ grant_came seen [] before
+        → charges_in ms ≡ filter_map paid_of front
+        → IsPaid way ms t (shape_in p.carried) (counted p) c
+    pays_olds before t p after front x back place picked same c pays ms lc ce =
+        pays_for 0 each_charged before t p after front x (back ++ news) place
+        (parts.is ∙ (ap (λ (ys : List Coming). ys ++ news) (sym olds_paid ∙ picked) ∙ append_assoc front (x ∷ back) news))
+        same c pays ms lc ce
+
+    olds_come : (before : List Deal) (rights : Rights) (caps : List ℕ) (after : List Deal) (came : ℕ) → Unit {0}
+        → last_at.first ≡ before ++ Granted rights caps ∷ after → ask_came seen before ≡ Some came → (ms : List Mile)
+        → contacts ms ≡ map contact_of before → IfSome (asked_at (contacts ms)) (λ (t : Time). ComesIn way t.0 came)
+    olds_come before rights caps after came o e k ms same =
+        grants_come before rights caps (after ++ granted_last ∷ last_at.under) came tt (before_place before (Granted rights caps) after e) k ms same
+
+    olds_asked : (before : List Deal) (rights : Rights) (caps : List ℕ) (after : List Deal) → Unit {0}
+        → last_at.first ≡ before ++ Granted rights caps ∷ after → (is_some (ask_came seen before) ≡ true) × (⊥ → ⊥)
+    olds_asked before rights caps after o e =
+        grants_asked before rights caps (after ++ granted_last ∷ last_at.under) tt (before_place before (Granted rights caps) after e)
+
+    fine_olds : AllByRecursion (IsTrue (log_at logs sender)) (last_at.first ++ granted_last ∷ last_at.under)
+    fine_olds = subst (AllByRecursion (IsTrue (log_at logs sender))) last_at.is fine_before
+
+    miles_olds : Run way seen olds (log_at logs sender) own last_at.first behind_olds place_olds rises ⊥ All (λ before d o. tt)
+        olds_come olds_asked pays_olds (paying_all olds) (sym olds_paid) last_at.first (paid olds)
+    miles_olds =
+        miles_of way seen olds (log_at logs sender) own last_at.first behind_olds place_olds rises ⊥ All (λ before d o. tt)
+        olds_come olds_asked pays_olds (paying_all olds) (sym olds_paid) [] last_at.first refl tt
+        (run_none way seen olds (log_at logs sender) own last_at.first behind_olds place_olds rises ⊥ All (λ before d o. tt)
+        olds_come olds_asked pays_olds (paying_all olds) (sym olds_paid))
+        (each_front (IsTrue (log_at logs sender)) last_at.first (granted_last ∷ last_at.under) fine_olds)
+        (subst (Matches last_at.first) (sym olds_paid) parts.front)
+
+    next_olds : Front host.margin host.retry host.version [] (map contact_of last_at.first) (contact_of granted_last)
+    next_olds =
+        front host.margin host.retry host.version [] (map contact_of last_at.first) (contact_of granted_last)
+        (played_front host.margin host.retry host.version [] (map contact_of last_at.first) (contact_of granted_last)
+        (map contact_of (last_at.under ++ from_it))
+        (subst (IsPlayed host.margin host.retry host.version)
+        (ap (map contact_of) place_olds ∙ map_place last_at.first granted_last (last_at.under ++ from_it)) is_played))
+
+    early_olds : AllByRecursion (λ (c : Charge). c.grant.second < second_so) (filter_map paid_of olds)
+    early_olds =
+        subst (AllByRecursion (λ (c : Charge). c.grant.second < second_so)) (miles_olds.charges_are ∙ ap (filter_map paid_of) olds_paid)
+        (old-before way miles_olds.miles planned.retry.0
+        (walk way planned.retry.0 [] miles_olds.miles (none way) miles_olds.are
+        (subst (AreNext host.margin host.retry host.version []) (sym miles_olds.contacts_are) next_olds.front))
+        last_at.rights last_at.caps the_ask.ask.time
+        (subst (λ (cs : List Contact). awaits cs ≡ true) (sym miles_olds.contacts_are) next_olds.last.0) (
+          at_place (IsTrue (log_at logs sender)) (last_at.first ++ granted_last ∷ last_at.under) last_at.first granted_last last_at.under refl fine_olds,
+          comes_for last_at.first behind_olds the_ask.ask.time place_olds asked_so
+              (subst (λ (o : Option Coming). IsSomeAnd o InTime) (sym the_ask.came) the_ask.in_time) miles_olds.miles miles_olds.contacts_are,
+        ))
+
+    recent_is : charged_since second_so boot ≡ charged_since second_so news
+    recent_is = since_all second_so boot ∙ (ap (charged_since second_so) parts.is ∙ since_early second_so olds news early_olds)
+
+    -- what came steadily and was prepared under the grant came so under it
+    comes_under : (y : Coming) → In last_at.under y.packet.id → Steadily y → ComesUnder host router delay last_at.under the_ask.ask.time y
+    comes_under y i cs =
+        let a = in_at last_at.under y.packet.id i in
+        let it = cs.in_time in
+        let d =
+        one_deal (begin_so ++ a.before) a.time a.packet (a.after ++ from_it) it.before it.sent it.packet it.after
+        (place_so a.before (Prepared a.time a.packet) a.after a.is) it.place (it.same ∙ sym a.same) in
+        let sent : a.time ≡ it.sent = d.1 in
+        let after_delay = it.from in
+        let within = it.until in
+        let came_is : grant_came seen [] it.before ≡ Some the_ask.ask.time =
+        ap (grant_came seen []) (sym d.0) ∙ came_so a.before (each_front IsNoGrant a.before (Prepared a.time a.packet ∷ a.after)
+        (subst (AllByRecursion IsNoGrant) a.is last_at.none)) in
+        record {
+          in_time = record {
+            before = a.before;
+            sent = a.time;
+            packet = a.packet;
+            after = a.after;
+            place = a.is;
+            same = a.same;
+            from = omega (arith, sent, after_delay);
+            until = omega (arith, sent, within);
+          };
+          behind = subst (λ (o : Option ℕ). IfSome o (λ came. came ≤ y.time)) came_is cs.behind;
+          minted = subst (λ (o : Option ℕ). IfSome o (λ came. ShowsMinted (in_force router y.time) y.packet y.packet.carried came))
+              came_is cs.minted;
+        }
+
+    each_so : AllByRecursion (ComesUnder host router delay last_at.under the_ask.ask.time) (charged_since second_so boot)
+    each_so =
+        subst (AllByRecursion (ComesUnder host router delay last_at.under the_ask.ask.time)) (sym recent_is)
+        (each_passing (ComesUnder host router delay last_at.under the_ask.ask.time) (λ (y : Coming). is_charged_since second_so y.charge) news
+        (each_with (λ (y : Coming). In last_at.under y.packet.id) Steadily (ComesUnder host router delay last_at.under the_ask.ask.time) comes_under
+        news (matches_in last_at.under news parts.back)
+        (each-behind Steadily olds news (subst (AllByRecursion Steadily) (since_charged 0 boot ∙ parts.is) each_charged))))
+
+    order_so : AreRising (map (λ (y : Coming). y.packet.id.ordinal) (charged_since second_so boot ++ last ∷ []))
+    order_so =
+        let p : Coming → Bool = λ (y : Coming). is_charged_since second_so y.charge in
+        subst (λ (ys : List Coming). AreRising (map (λ (y : Coming). y.packet.id.ordinal) (ys ++ last ∷ []))) (sym (since_all second_so boot))
+        (rising_from (map come_key (filter p (paid all_charged) ++ last ∷ []))
+        (subst Rises (sym (keys_push (filter p (paid all_charged)) last))
+        (rises-push (map come_key (filter p (paid all_charged))) (come_key last) (rises_passing p (paid all_charged) rising.0)
+        (keys_passing (λ n. n < come_key last) p (paid all_charged) rising.1))))
+
+    stage_so : Stage way miles_before.miles
+    stage_so =
+        walk way planned.retry.0 [] miles_before.miles (none way) miles_before.are
+        (subst (AreNext host.margin host.retry host.version []) (sym miles_before.contacts_are)
+        (front host.margin host.retry host.version [] (map contact_of before_it) (contact_of (Prepared near.sent near.packet))
+        (played_to before_it near.sent near.packet near.after near.place)).front)
+
+    holds_so : Holds way miles_before.miles
+    holds_so = elim stage_so [
+      | inl f ↦
+          absurd (let some = last_rights_are [] before_it ∙ regular_so.granted in
+          let nothing : last_taking [] (map contact_of before_it) ≡ None = ap (last_taking []) (sym miles_before.contacts_are) ∙ f.taking in
+          let none = ap (option_map (λ (t : Taking). t.rights)) nothing in cc)
+      | inr k ↦ k
+    ]
+
+    same_second : router_second router.clock_offset holds_so.came ≡ second_so
+    same_second =
+        ap (router_second router.clock_offset) (some_same holds_so.came the_ask.ask.time
+        (sym holds_so.came_is ∙ (miles_before.came ∙ came_is_so)))
+
+    paid_so : AllByRecursion (WasCharged (charged_since second_so boot)) last_at.under
+    paid_so =
+        let g : Grant = grant_at way holds_so.rights holds_so.came in
+        let is_under : since_granted [] before_it ≡ last_at.under =
+        ap (since_granted []) split_so ∙ (since_under begin_so last_at.under last_at.none
+        ∙ ap (λ (ds : List Deal). ds ++ last_at.under) (since_grant [] last_at.first last_at.rights last_at.caps)) in
+        let each : AllByRecursion (λ (c : Charge). c.grant ≡ g) (charges_in (since_got [] miles_before.miles)) =
+        subst (λ (ms : List Mile). AllByRecursion (λ (c : Charge). c.grant ≡ g) (charges_in ms)) (sym holds_so.since_is)
+        (holds_so.all.grants (inr (subst AreAuthorised holds_so.since_is is_narrow.authorised))) in
+        let all : AllByRecursion (WasCharged (charged_since second_so all_charged)) (since_granted [] before_it) =
+        since_known second_so g (le-leb second_so g.second (omega (arith, same_second))) all_charged (since_granted [] before_it)
+        (since_got [] miles_before.miles) miles_before.beside each
+        (each-weaker (WasCharged boot) (WasCharged all_charged) (λ d was. was_since boot d was) (since_granted [] before_it) narrow.paid) in
+        subst (λ (ys : List Coming). AllByRecursion (WasCharged ys) last_at.under) (sym (since_each second_so boot))
+        (subst (AllByRecursion (WasCharged (charged_since second_so all_charged))) is_under all)
+
+    held_so : shows_nonce packet.carried ≡ true → IfSome (holder held packet.flow) (λ c. second_so ≤ c.grant.second)
+    held_so e =
+        let g : Grant =
+        record { flow = packet.flow; rights = regular_so.rights; second = router_second router.clock_offset regular_so.came } in
+        let cl =
+        claim_at to router to_plan until (log_at logs node) keeps past input on packet fate onward rest here g regular_so.charge in
+        let came_same : regular_so.came ≡ the_ask.ask.time = some_same regular_so.came the_ask.ask.time (sym came_before ∙ came_is_so) in
+        let late : router_second router.clock_offset regular_so.came ≡ second_so = ap (router_second router.clock_offset) came_same in
+        held_by (holder held packet.flow) g second_so late (held_nonce ruling held (arrival now on packet) packet.carried g cl e)
+      where
+        held_by : (o : Option Charge) (g : Grant) (n : ℕ) → g.second ≡ n → IfSome o (λ c. c.grant ≡ g) → IfSome o (λ c. n ≤ c.grant.second)
+        held_by None g n same k = tt
+        held_by (Some c) g n same k = (let second : c.grant.second ≡ g.second = ap (λ (z : Grant). z.second) k in omega (arith, second, same))
+
+    pub wider : IsSteadyPath host router delay own seen held last
+    wider = record {
+      last = narrow.last;
+      grant = grant_so;
+      each = each_so;
+      order = order_so;
+      known = λ e. record { paid = each_since (WasCharged (charged_since second_so boot)) last_at.under paid_so; last = held_so e };
+      room = narrow.room;
+    }
 
 -- so it is in each run
 pub honest_regular : (config : Config) (rows : List Row) (until : ℕ) (logs : Logs) → IsConfig config → AreGiven config rows until logs
     → IsRunTo config rows until logs → AreHonestRegular config logs
 honest_regular config rows until logs valid given run sender node from to host router is_from from_plan is_to to_plan
-    past input on packet fate onward rest here unmarked below shown delay =
-    both_regular config rows until logs valid given run sender node from to host router is_from from_plan is_to to_plan
-    past input on packet fate onward rest here unmarked below shown delay
+    past input on packet fate onward rest here unmarked below shown delay steady =
+    regular config rows until logs valid given run sender node from to host router is_from from_plan is_to to_plan
+    past input on packet fate onward rest here unmarked below shown delay steady
+
+-- and what the narrower words call steady is steady
+pub narrow_steady : (config : Config) (rows : List Row) (until : ℕ) (logs : Logs) → IsConfig config → AreGiven config rows until logs
+    → IsRunTo config rows until logs → AreNarrowSteady config logs
+narrow_steady config rows until logs valid given run sender node from to host router is_from from_plan is_to to_plan
+    past input on packet fate onward rest here unmarked below shown delay narrow =
+    wider config rows until logs valid given run sender node from to host router is_from from_plan is_to to_plan
+    past input on packet fate onward rest here unmarked below shown delay narrow

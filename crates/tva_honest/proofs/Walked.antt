@@ -1,5 +1,5 @@
 -- The paths of the worked walk are steady: up to its list, its nonce alone and its renewal.
-use Rattle.std.proofs.Common.{◌≡◌, ◌<◌, ℕ, List, [], ◌∷◌, ◌++◌, Some, None, refl, arith}
+use Rattle.std.proofs.Common.{◌<◌, List, [], ◌∷◌, ◌++◌, Some, None, refl, arith}
 use Rattle.std.proofs.lemmas.List.Elements.{All-nil, All-from_recursion}
 use Rattle.tva_base.specs.declared.packet.Class.TheVariants.{Regular, Legacy}
 use Rattle.tva_base.specs.Changes.{in_force}

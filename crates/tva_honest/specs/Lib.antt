@@ -1,5 +1,6 @@
 pub mod Deals
 pub mod Paths
+pub mod Narrow
 pub mod Walk
 pub mod Miles
 pub mod SteadyMiles

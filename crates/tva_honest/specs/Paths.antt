@@ -242,26 +242,6 @@ pub record IsSteadyPath (host : HostPlan) (router : RouterPlan) (delay : ℕ) (o
       (holder charged x.packet.flow)
   pub room : lives charged x.packet.flow x.time ≡ false → living_count charged x.time < router.slots
 
--- those that were charged
-abbrev pub those_charged : List Coming → List Coming
-those_charged seen = filter (λ x. is_some x.charge) seen
-
--- The path is steady in narrower words, those of all that host and router had to do with one another. The packet comes
--- steadily, and so did all packets of its flow that were charged in its boot, in the order in which the host numbered
--- them. Of each grant that was taken before it was prepared the last ask came in time, in whatever boot. All packets
--- that were prepared before it under its grant and show it were charged in its boot. And where the flow doesn't live,
--- by the charges of the boot, the cache has room.
-pub record IsNarrowPath (host : HostPlan) (router : RouterPlan) (delay : ℕ) (own : List Deal) (seen : List Coming)
-    (charged : List Charge) (x : Coming) : Type 0 where
-  pub each : AllByRecursion (ComesSteadily host router delay own seen) (those_charged (comings_at router x.time seen))
-  pub last : ComesSteadily host router delay own seen x
-  pub order : AreRising (map (λ y. y.packet.id.ordinal) (those_charged (comings_at router x.time seen) ++ x ∷ []))
-  pub asked : (before : List Deal) (rights : Rights) (caps : List ℕ) (after : List Deal)
-      → last.in_time.before ≡ before ++ Granted rights caps ∷ after
-      → IsSomeAnd (ask_coming seen before) (ComesInTime host delay own)
-  pub paid : AllByRecursion (WasCharged (comings_at router x.time seen)) (since_granted [] last.in_time.before)
-  pub room : lives charged x.packet.flow x.time ≡ false → living_count charged x.time < router.slots
-
 -- of these deals each packet that shows a grant is among those that came, in the boot that the time is in, and was
 -- charged there
 abbrev pub LieInBoot : RouterPlan → List Coming → ℕ → List Deal → Type 0
@@ -284,8 +264,7 @@ pub record IsTakenByLast (router : RouterPlan) (flow : Flow) (seen : List Coming
   pub class : fate.class ≡ Regular
 
 -- Each packet that comes to a router unmarked and below the hop limit, and shows a grant, is charged to the last grant
--- that its host took before it was prepared, and goes on as regular, where the path from that host is steady up to it,
--- in the wider words or in the narrower ones.
+-- that its host took before it was prepared, and goes on as regular, where the path from that host is steady up to it.
 abbrev pub AreHonestRegular : Config → Logs → Type 0
 AreHonestRegular config logs =
     (sender node : ℕ) (from to : Site) (host : HostPlan) (router : RouterPlan)
@@ -296,9 +275,6 @@ AreHonestRegular config logs =
     → log_at logs node ≡ before ++ Took input (Arrived on packet fate onward) ∷ rest
     → is_marked packet.carried ≡ false → packet.hops < 32 → shows packet.carried ≡ true
     → (delay : ℕ)
-    → ((steady : IsSteadyPath host router delay (deals packet.flow.dst (log_at logs sender))
-    (comings packet.flow before) (charges_at router (input_time input) (charges before)) (coming input packet fate))
-    → IsTakenByLast router packet.flow (comings packet.flow before) steady.last.in_time.before fate)
-    × ((narrow : IsNarrowPath host router delay (deals packet.flow.dst (log_at logs sender))
-    (comings packet.flow before) (charges_at router (input_time input) (charges before)) (coming input packet fate))
-    → IsTakenByLast router packet.flow (comings packet.flow before) narrow.last.in_time.before fate)
+    (steady : IsSteadyPath host router delay (deals packet.flow.dst (log_at logs sender)) (comings packet.flow before)
+    (charges_at router (input_time input) (charges before)) (coming input packet fate))
+    → IsTakenByLast router packet.flow (comings packet.flow before) steady.last.in_time.before fate

@@ -14,6 +14,7 @@ ghost use Rattle.tva_run.specs.Run.{IsRunTo};
 ghost use Rattle.tva_honest.specs.Deals.{Deal, Coming};
 ghost use Rattle.tva_honest.specs.Paths.{AreHonestRegular, IsSteadyPath, LieInBoot, charged_since, comings_at};
 ghost use Rattle.tva_honest.specs.Paths.{shows_nonce, since_noticed};
+ghost use Rattle.tva_honest.specs.Narrow.{AreNarrowSteady};
 ghost use Rattle.tva_honest.specs.Walk.{walk_before_list, walk_before_nonce, walk_before_renewal, walk_cap, walk_config};
 ghost use Rattle.tva_honest.specs.Walk.{walk_flow, walk_list, walk_list_comes, walk_logs, walk_nonce, walk_nonce_comes};
 ghost use Rattle.tva_honest.specs.Walk.{walk_precap, walk_renewal, walk_renewal_comes, walk_rows, walk_until};
@@ -40,6 +41,14 @@ pub fn honest_senders_are_authorised()
 pub fn honest_senders_are_regular()
     ensures { (config : Config) (rows : List Row) (until : ℕ) (logs : Logs) → IsConfig config
         → AreTraceRows config rows → IsRunTo config rows until logs → AreHonestRegular config logs }
+{}
+
+/// In each such run what is steady in narrower words is steady: where each packet that was charged in the boot came as
+/// the path asks of those under the last grant, the asks of all grants came in time, and all that shows the last one was
+/// charged. In these words the promise was made first. Times are in nanoseconds.
+pub fn narrow_paths_are_steady()
+    ensures { (config : Config) (rows : List Row) (until : ℕ) (logs : Logs) → IsConfig config
+        → AreTraceRows config rows → IsRunTo config rows until logs → AreNarrowSteady config logs }
 {}
 
 /// A restart ends a path for nonces alone: where it is steady up to one, all packets that were prepared before it since
