@@ -12,9 +12,7 @@ use Rattle.tva.specs.Command.{audit}
 use Rattle.tva.specs.Expected.{Expected, Sought, IsText, audits, comes_to, file_at, followed, plan_at, refuses, report_at, trace_at, ◌>>=◌}
 use Rattle.tva.specs.Answer.{Answers, Just, OfCommand}
 use Rattle.tva.specs.Given.{AgreeSince}
-use Rattle.tva_audit.specs.declared.audits.AuditError.{AuditError}
-use Rattle.tva_audit.specs.declared.audits.AuditError.TheVariants as error
-use Rattle.tva.specs.Parts.{refused_by, EndsAudited, IsAudited, IsAuditText, IsFound, IsNotFound}
+use Rattle.tva.specs.Parts.{EndsAudited, IsAudited, IsAuditText, IsFound, IsNotFound}
 use Rattle.tva.specs.declared.status.Status as status
 use Rattle.tva.specs.declared.status.Status.TheVariants.{Done, Found as Differs, Usage, ReadFault, WriteFault, TooLarge, BadConfig, BadTrace, EventLimit, OutOfMemory, BadReport}
 use Rattle.tva.proofs.Replays.{answers_of_just, answers_of_missing}
@@ -39,12 +37,6 @@ module _ (plan : Config) (trace report : List ℕ) (rows : List Row) (are : AreR
   answers_of_ends w old new OutOfMemory (inl same) = inl same
   answers_of_ends w old new OutOfMemory (inr (text, is, cut)) = inr (text, text_of_audit text is, cut)
   answers_of_ends w old new (BadReport k) a = absurd a
-
--- an error of an audit is no fault of reading
-pub refused_apart : (e : AuditError) → refused_by e ≡ ReadFault → ⊥
-refused_apart (error.BadReport line) is = cc
-refused_apart (error.EventLimit most) is = cc
-refused_apart error.OutOfMemory is = cc
 
 -- a bad line, or none
 record IsBad (report : List ℕ) (old new : List ℕ) (s : status.Status) : Type 0 where

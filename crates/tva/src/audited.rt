@@ -26,7 +26,7 @@ use tva_rows::PackedRows;
 
 /// Audits a report of the rows under the plan. Where it is the report of the run, a line for each router
 /// is written, and how many lines the report has: all at once, and nothing where it isn't.
-#[tactic(auto, using(crate::proofs::Given::taken_none, crate::proofs::Given::no_fault, crate::proofs::Audits::refused_apart))]
+#[tactic(auto, using(crate::proofs::Given::taken_none, crate::proofs::Given::no_fault))]
 pub fn audit_rows<R: Threads + Sync, W: Sink, G: Gate>(
     rt: &R,
     alloc: Global,
@@ -60,7 +60,8 @@ pub fn audit_rows<R: Threads + Sync, W: Sink, G: Gate>(
 
 // How an audit ends that comes to nothing.
 fn status_of(error: AuditError) -> Status
-    ensures { result ≡ refused_by error }
+    ensures cause { result ≡ refused_by error }
+    ensures no_fault { ¬ result ≡ Status.ReadFault }
 {
     match error {
         AuditError::BadReport(line) => Status::BadReport(line),
