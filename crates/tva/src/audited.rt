@@ -21,8 +21,8 @@ use tva_base::Grant;
 use tva_outside::{Gate, Sink};
 use tva_plan::{Config, name_at};
 use tva_report::Pieces;
-use tva_sums::limit;
 use tva_rows::PackedRows;
+use tva_sums::limit;
 
 /// Audits a report of the rows under the plan. Where it is the report of the run, a line for each router
 /// is written, and how many lines the report has: all at once, and nothing where it isn't.

@@ -1,7 +1,7 @@
 // What comes to a node, and what a node sends.
 use tva_base::Time;
-use tva_shim::Packet;
 use tva_rows::Row;
+use tva_shim::Packet;
 
 /// What a node takes: a row of the trace at it, or a packet that arrives on the link of that number
 /// at a time, in nanoseconds.

@@ -33,8 +33,8 @@ use tva_base::{BackKind, Happened, Outcome, PacketId, ReplyLine, ShapeKind, Time
 use tva_host::{Made, Receipt};
 use tva_port::{Hand, HandPort, Next, id_in, length_in};
 use tva_router::{HandRouter, outcome_of};
-use tva_shim::{Carried, Packet, ReturnInfo, class_of, length, queue_key};
 use tva_rows::{Row, RowWhat};
+use tva_shim::{Carried, Packet, ReturnInfo, class_of, length, queue_key};
 use tva_transfer::{Courier, Landed};
 use tva_waiting::Flight;
 

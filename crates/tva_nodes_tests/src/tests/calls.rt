@@ -14,8 +14,8 @@ use tva_base::{Address, Flow, Happened, Listed, Name, PacketId, RouterPlan, Time
 use tva_log::Input;
 use tva_node::Node;
 use tva_plan::NodePlan;
-use tva_shim::{Carried, Packet};
 use tva_rows::{Row, RowWhat};
+use tva_shim::{Carried, Packet};
 use tva_trace::read_trace;
 
 const EDGE: &str =

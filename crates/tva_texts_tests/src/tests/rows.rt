@@ -8,8 +8,8 @@ use std::alloc::{AllocError, Global};
 use std::process::Abort;
 use std::test::Fail;
 use tva_plan::Config;
-use tva_shim::{Carried, encode};
 use tva_rows::{PackedRows, Row, RowWhat};
+use tva_shim::{Carried, encode};
 use tva_trace::read_trace;
 
 // A router between two hosts.
