@@ -1,18 +1,21 @@
 -- Kit: what is known of capabilities that were checked.
-use Rattle.std.specs.Prelude.{◌≡◌, ℕ, ◌≤◌, List, Option, Some, None}
+use Rattle.std.specs.Prelude.{◌≡◌, ℕ, ◌==◌, Bool, true, List, Option, Some, None}
+use Rattle.tva_base.specs.declared.packet.Grant.{Grant}
 use Rattle.tva_caps.specs.Formula.{capability_of, precap_of}
 use Rattle.tva_caps.specs.declared.known.Good.{Good}
-use Rattle.tva_caps.specs.declared.known.Noted.{Noted}
 
--- a router with this master takes the capability
-abbrev pub IsGood : List ℕ → Good → Type 0
-IsGood master good = good.cap ≡ capability_of (precap_of master good.flow good.second) good.rights
+-- a router with this master takes the capability for that grant
+abbrev pub is_good : List ℕ → Grant → ℕ → Bool
+is_good master grant cap = cap == capability_of (precap_of master grant.flow grant.second) grant.rights
 
+-- what is known, if anything, is good under this master
 abbrev pub IsGoodOrNone : List ℕ → Option Good → Type 0
 IsGoodOrNone master None = Unit {0}
-IsGoodOrNone master (Some good) = IsGood master good
+IsGoodOrNone master (Some good) = is_good master good.grant good.cap ≡ true
 
--- what was noted in this boot is good under its master, and nothing was noted in a later one
-abbrev pub IsNoted : List ℕ → ℕ → Option Noted → Type 0
-IsNoted master boot None = Unit {0}
-IsNoted master boot (Some noted) = (noted.boot ≤ boot) × (noted.boot ≡ boot → IsGood master noted.good)
+-- what is known of a grant tells of each capability that is shown for that grant whether it is good, and of no
+-- other
+abbrev pub IsTold : Option Good → Good → Option Bool → Type 0
+IsTold None shown told = told ≡ None
+IsTold (Some good) shown None = good.grant ≡ shown.grant → ⊥
+IsTold (Some good) shown (Some is) = (good.grant ≡ shown.grant) × (is ≡ (good.cap == shown.cap))

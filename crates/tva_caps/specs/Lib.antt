@@ -1,5 +1,5 @@
 pub mod Check
 pub mod Formula
+pub mod Known
 pub mod Kept
 pub mod Minting
-pub mod Known

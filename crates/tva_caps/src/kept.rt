@@ -6,7 +6,7 @@ ghost use Rattle.tva_caps.specs.Formula.{capability_of, precap_of};
 use crate::formulas::{EPOCH, capability, precap_with, secret_at};
 use crate::known::Good;
 use std::marker::Model;
-use tva_base::{Flow, Rights};
+use tva_base::{Flow, Grant, Rights};
 
 /// The secret of a master in an epoch, so that pre-capabilities of the same master and epoch hash it
 /// once, and the last capability that was made of one, so that the same isn't made again. Contracts see
@@ -74,21 +74,20 @@ impl KeptSecret {
         requires rights { AreSomeRights rights }
         ensures { result ≡ capability_of (precap_of master.now flow second) rights }
     {
+        let grant = Grant {
+            flow,
+            rights,
+            second,
+        };
         if let Some(good) = self.last {
-            let is_same = good.second == second && good.flow == flow && good.rights == rights;
-            if is_same && self.master == *master {
+            if good.grant == grant && self.master == *master {
                 return good.cap;
             }
         }
         let cap = capability(self.precap_at(master, second, flow), rights);
         // It is: `precap_at` keeps this master, which its contract doesn't tell.
         if self.master == *master {
-            self.last = Some(Good {
-                flow,
-                rights,
-                second,
-                cap,
-            });
+            self.last = Some(Good { grant, cap });
         }
         cap
     }

@@ -13,6 +13,6 @@ mod secrets;
 
 pub use formulas::{capability, precap_at};
 pub use kept::KeptSecret;
-pub use known::Known;
+pub use known::Good;
 pub use laws::capability_lasts;
 pub use minters::{Checked, Minter};

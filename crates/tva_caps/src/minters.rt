@@ -1,11 +1,12 @@
 // The minter of a router: it mints pre-capabilities and checks what is shown.
-ghost use Rattle.std.specs.Prelude.{◌≡◌, ◌≤◌, ◌<◌, ◌+◌, ◌==◌};
+ghost use Rattle.std.specs.Prelude.{◌≡◌, ◌≤◌, ◌<◌, ◌+◌, true};
 ghost use Rattle.tva_base.specs.Versions.{AreSomeRights};
-ghost use Rattle.tva_caps.specs.Formula.{age_of, capability_of, precap_of};
+ghost use Rattle.tva_caps.specs.Formula.{age_of, precap_of};
+ghost use Rattle.tva_caps.specs.Known.{is_good, IsGoodOrNone};
 ghost use Rattle.tva_caps.specs.Minting.{MayCall, second_at};
 
 use crate::formulas::{EPOCH, capability, precap_with, stamp_shown};
-use crate::known::{Good, Known};
+use crate::known::{Good, told_by};
 use crate::secrets::Secrets;
 use std::marker::Model;
 use tva_base::{Flow, Grant, Rights, SECOND, Time};
@@ -83,49 +84,29 @@ impl Minter {
         ensures bounded { IfValid result (λ g. g.second ≤ 2000000) }
         ensures after { self.new ≡ record self.old { last = now.0 } }
     {
-        self.check_with(now, flow, cap, rights, None, 0)
+        self.check_known(now, flow, cap, rights, None)
     }
 
-    /// The same, where what is known at that place to be good isn't hashed again, and what is found good becomes
-    /// known there.
+    /// The same, where a capability is known that is good under the router's master: whether another one of that
+    /// grant is good is told by it, and nothing is hashed.
+    #[tactic(auto, unfolding(crate::specs::Check::check_of, crate::specs::Check::checked_at))]
     pub fn check_known(
         &mut self,
         now: Time,
         flow: Flow,
         cap: u64,
         rights: Rights,
-        known: &mut Known,
-        place: usize,
+        known: Option<Good>,
     ) -> Checked
         requires time { MayCall self.old now.0 }
         requires granted { AreSomeRights rights }
+        requires known { IsGoodOrNone self.old.master known }
         ensures answer { result ≡ check_of self.old.master (second_at self.old now.0) flow cap rights }
         ensures grant { IfValid result (λ g. (g.flow ≡ flow) × (g.rights ≡ rights)) }
         ensures seconds { IfValid result (λ g. IsSecondOf g (second_at self.old now.0)) }
         ensures bounded { IfValid result (λ g. g.second ≤ 2000000) }
         ensures after { self.new ≡ record self.old { last = now.0 } }
-    {
-        self.check_with(now, flow, cap, rights, Some(known), place)
-    }
-
-    // Checks a capability, by what is known at that place where that is handed in.
-    #[tactic(auto, unfolding(crate::specs::Check::check_of, crate::specs::Check::checked_at))]
-    fn check_with(
-        &mut self,
-        now: Time,
-        flow: Flow,
-        cap: u64,
-        rights: Rights,
-        known: Option<&mut Known>,
-        place: usize,
-    ) -> Checked
-        requires time { MayCall self.old now.0 }
-        requires granted { AreSomeRights rights }
-        ensures answer { result ≡ check_of self.old.master (second_at self.old now.0) flow cap rights }
-        ensures grant { IfValid result (λ g. (g.flow ≡ flow) × (g.rights ≡ rights)) }
-        ensures seconds { IfValid result (λ g. IsSecondOf g (second_at self.old now.0)) }
-        ensures bounded { IfValid result (λ g. g.second ≤ 2000000) }
-        ensures after { self.new ≡ record self.old { last = now.0 } }
+        ensures good { IfValid result (λ g. is_good self.old.master g cap ≡ true) }
     {
         let second = self.turn_to(now);
         let age = age_in(second, cap);
@@ -135,51 +116,40 @@ impl Minter {
         if second < age {
             return Checked::BadHash;
         }
-        let minted = second - age;
-        let good = Good {
+        let grant = Grant {
             flow,
             rights,
-            second: minted,
-            cap,
+            second: second - age,
         };
-        if self.is_good(&good, known, place) {
-            return Checked::Valid(Grant {
-                flow,
-                rights,
-                second: minted,
-            });
+        if self.is_good(&Good { grant, cap }, &known) {
+            return Checked::Valid(grant);
         }
         Checked::BadHash
     }
 
     // Whether a capability is good, by what is known or by its digests.
-    fn is_good(&self, good: &Good, known: Option<&mut Known>, place: usize) -> bool
-        requires past { good.now.second ≤ second_at self.now self.now.last }
-        requires recent { second_at self.now self.now.last < good.now.second + 128 }
-        requires rights { AreSomeRights good.now.rights }
-        ensures { result ≡ (good.now.cap == capability_of (precap_of self.now.master good.now.flow good.now.second) good.now.rights) }
+    fn is_good(&self, shown: &Good, known: &Option<Good>) -> bool
+        requires past { shown.now.grant.second ≤ second_at self.now self.now.last }
+        requires recent { second_at self.now self.now.last < shown.now.grant.second + 128 }
+        requires rights { AreSomeRights shown.now.grant.rights }
+        requires known { IsGoodOrNone self.now.master known.now }
+        ensures { result ≡ is_good self.now.master shown.now.grant shown.now.cap }
     {
-        let Some(known) = known else {
-            return self.has_its_digests(good);
-        };
-        if known.has(&self.master, place, good) {
-            return true;
+        match told_by(known, shown) {
+            Some(is_good) => is_good,
+            None => self.has_its_digests(shown),
         }
-        let is_good = self.has_its_digests(good);
-        if is_good {
-            known.note(&self.master, place, *good);
-        }
-        is_good
     }
 
     // Whether a capability is the one of its pre-capability.
-    fn has_its_digests(&self, good: &Good) -> bool
-        requires past { good.now.second ≤ second_at self.now self.now.last }
-        requires recent { second_at self.now self.now.last < good.now.second + 128 }
-        requires rights { AreSomeRights good.now.rights }
-        ensures { result ≡ (good.now.cap == capability_of (precap_of self.now.master good.now.flow good.now.second) good.now.rights) }
+    fn has_its_digests(&self, shown: &Good) -> bool
+        requires past { shown.now.grant.second ≤ second_at self.now self.now.last }
+        requires recent { second_at self.now self.now.last < shown.now.grant.second + 128 }
+        requires rights { AreSomeRights shown.now.grant.rights }
+        ensures { result ≡ is_good self.now.master shown.now.grant shown.now.cap }
     {
-        good.cap == capability(self.precap_kept(good.second, good.flow), good.rights)
+        let grant = &shown.grant;
+        shown.cap == capability(self.precap_kept(grant.second, grant.flow), grant.rights)
     }
 
     // Takes the secrets of the epoch of that time, and answers its router second.

@@ -48,15 +48,15 @@ bytes_at s o last now es h i e g len v l n q k a t =
     let p = some_last (of_flow g.flow h) now (omega (arith, w.end)) in
     sym (bytes_known (of_flow g.flow h) e p.0 g w (rising s o h v.charges g.flow) p.1 (living_rows e g len t).0)
 
-pub admits-renewed : (s o last now : ℕ) (es : List Entry) (h : List Charge) (i : ℕ) (e : Entry) (g : Grant) (nonce len : ℕ) → StandsFor (cache s o last es) h → last ≤ now → i < length es → e ≡ get_or es i e → e.grant.flow ≡ g.flow → now < e.end
-    → living_verdict e g len ≡ Authorised g → IsChargeable g len → Admits s o h now nonce len (list_verdict s h now g len) (Authorised g) (set es i (renewed e g nonce len))
-admits-renewed s o last now es h i e g nonce len v l n q k a t m =
+pub admits-renewed : (s o last now : ℕ) (es : List Entry) (h : List Charge) (i : ℕ) (e : Entry) (g : Grant) (cap nonce len : ℕ) → StandsFor (cache s o last es) h → last ≤ now → i < length es → e ≡ get_or es i e → e.grant.flow ≡ g.flow → now < e.end
+    → living_verdict e g len ≡ Authorised g → IsChargeable g len → Admits s o h now nonce len (list_verdict s h now g len) (Authorised g) (set es i (renewed e g cap nonce len))
+admits-renewed s o last now es h i e g cap nonce len v l n q k a t m =
     let w = holds_now (of_flow g.flow h) last now e l (kept_at s o last es h g.flow i e v n q k) a in
     let j = verdict_at s o last now es h i e g len v l n q k a ∙ t in
     let b = bytes_at s o last now es h i e g len v l n q k a t in (
       sym j,
-      stands-set s o last es h (charge now g nonce len) i e (renewed e g nonce len) v l n q refl (inl k)
-          (holds-more (of_flow g.flow h) now e g nonce len (counted e g + len) w a (ap (λ x. x + len) b)) (inl j) m,
+      stands-set s o last es h (charge now g nonce len) i e (renewed e g cap nonce len) v l n q refl (inl k)
+          (holds-more (of_flow g.flow h) now e g cap nonce len (counted e g + len) w a (ap (λ x. x + len) b)) (inl j) m,
     )
 
 -- a flow that doesn't live, where the cache has room
@@ -72,29 +72,29 @@ opening_over s count g len h = grind (arith, nat_tests)
 count_at : (s o last now : ℕ) (es : List Entry) (h : List Charge) → StandsFor (cache s o last es) h → last ≤ now → living_count h now ≡ length (live_flows now es)
 count_at s o last now es h v l = living_count_is s o now es h (stands-later s o last now es h v l)
 
-pub admits-opened_own : (s o last now : ℕ) (es : List Entry) (h : List Charge) (i : ℕ) (e : Entry) (g : Grant) (nonce len : ℕ) → StandsFor (cache s o last es) h → last ≤ now → i < length es → e ≡ get_or es i e → e.grant.flow ≡ g.flow → e.end ≤ now
-    → len ≤ 1024 * g.rights.n → IsChargeable g len → Admits s o h now nonce len (list_verdict s h now g len) (Authorised g) (set es i (opened now g nonce len))
-admits-opened_own s o last now es h i e g nonce len v l n q k a t m =
+pub admits-opened_own : (s o last now : ℕ) (es : List Entry) (h : List Charge) (i : ℕ) (e : Entry) (g : Grant) (cap nonce len : ℕ) → StandsFor (cache s o last es) h → last ≤ now → i < length es → e ≡ get_or es i e → e.grant.flow ≡ g.flow → e.end ≤ now
+    → len ≤ 1024 * g.rights.n → IsChargeable g len → Admits s o h now nonce len (list_verdict s h now g len) (Authorised g) (set es i (opened now g cap nonce len))
+admits-opened_own s o last now es h i e g cap nonce len v l n q k a t m =
     let d = dead_now (of_flow g.flow h) last now e l (kept_at s o last es h g.flow i e v n q k) a in
     let j = verdict-opening s h now g len (not_living (of_flow g.flow h) now d) ∙ opening_row s (living_count h now) g len t (omega (arith, count_at s o last now es h v l, length-live_flows-lt now es i e n q a, v.few)) in
-    (sym j, stands-set s o last es h (charge now g nonce len) i e (opened now g nonce len) v l n q refl (inl k) (holds-new (of_flow g.flow h) now g nonce len d) (inl j) m)
+    (sym j, stands-set s o last es h (charge now g nonce len) i e (opened now g cap nonce len) v l n q refl (inl k) (holds-new (of_flow g.flow h) now g cap nonce len d) (inl j) m)
 
 none_dead : (s o last now : ℕ) (es : List Entry) (h : List Charge) (f : Flow) → StandsFor (cache s o last es) h → last ≤ now → entry_of f es ≡ None → end_of (of_flow f h) ≤ now
 none_dead s o last now es h f v l n = let k = end_from_dead (of_flow f h) last (subst (λ z. IsKept z (of_flow f h) last) n (v.kept f)) in omega arith
 
-pub admits-opened_over : (s o last now : ℕ) (es : List Entry) (h : List Charge) (i : ℕ) (e : Entry) (g : Grant) (nonce len : ℕ) → StandsFor (cache s o last es) h → last ≤ now → i < length es → e ≡ get_or es i e → entry_of g.flow es ≡ None → e.end ≤ now
-    → len ≤ 1024 * g.rights.n → IsChargeable g len → Admits s o h now nonce len (list_verdict s h now g len) (Authorised g) (set es i (opened now g nonce len))
-admits-opened_over s o last now es h i e g nonce len v l n q k a t m =
+pub admits-opened_over : (s o last now : ℕ) (es : List Entry) (h : List Charge) (i : ℕ) (e : Entry) (g : Grant) (cap nonce len : ℕ) → StandsFor (cache s o last es) h → last ≤ now → i < length es → e ≡ get_or es i e → entry_of g.flow es ≡ None → e.end ≤ now
+    → len ≤ 1024 * g.rights.n → IsChargeable g len → Admits s o h now nonce len (list_verdict s h now g len) (Authorised g) (set es i (opened now g cap nonce len))
+admits-opened_over s o last now es h i e g cap nonce len v l n q k a t m =
     let d = none_dead s o last now es h g.flow v l k in
     let j = verdict-opening s h now g len (not_living (of_flow g.flow h) now d) ∙ opening_row s (living_count h now) g len t (omega (arith, count_at s o last now es h v l, length-live_flows-lt now es i e n q a, v.few)) in
-    (sym j, stands-set s o last es h (charge now g nonce len) i e (opened now g nonce len) v l n q refl (inr (a, k)) (holds-new (of_flow g.flow h) now g nonce len d) (inl j) m)
+    (sym j, stands-set s o last es h (charge now g nonce len) i e (opened now g cap nonce len) v l n q refl (inr (a, k)) (holds-new (of_flow g.flow h) now g cap nonce len d) (inl j) m)
 
-pub admits-opened_next : (s o last now : ℕ) (es : List Entry) (h : List Charge) (g : Grant) (nonce len : ℕ) → StandsFor (cache s o last es) h → last ≤ now → length es < s → entry_of g.flow es ≡ None
-    → len ≤ 1024 * g.rights.n → IsChargeable g len → Admits s o h now nonce len (list_verdict s h now g len) (Authorised g) (es ++ opened now g nonce len ∷ [])
-admits-opened_next s o last now es h g nonce len v l n k t m =
+pub admits-opened_next : (s o last now : ℕ) (es : List Entry) (h : List Charge) (g : Grant) (cap nonce len : ℕ) → StandsFor (cache s o last es) h → last ≤ now → length es < s → entry_of g.flow es ≡ None
+    → len ≤ 1024 * g.rights.n → IsChargeable g len → Admits s o h now nonce len (list_verdict s h now g len) (Authorised g) (es ++ opened now g cap nonce len ∷ [])
+admits-opened_next s o last now es h g cap nonce len v l n k t m =
     let d = none_dead s o last now es h g.flow v l k in
     let j = verdict-opening s h now g len (not_living (of_flow g.flow h) now d) ∙ opening_row s (living_count h now) g len t (omega (arith, count_at s o last now es h v l, length-live_flows-le now es)) in
-    (sym j, stands-push s o last es h (charge now g nonce len) (opened now g nonce len) v l n refl k (holds-new (of_flow g.flow h) now g nonce len d) (inl j) m)
+    (sym j, stands-push s o last es h (charge now g nonce len) (opened now g cap nonce len) v l n refl k (holds-new (of_flow g.flow h) now g cap nonce len d) (inl j) m)
 
 pub admits-full : (s o last now : ℕ) (es : List Entry) (h : List Charge) (g : Grant) (nonce len : ℕ) → StandsFor (cache s o last es) h → last ≤ now → s ≤ length es → All (λ e. now < e.end) es → entry_of g.flow es ≡ None
     → len ≤ 1024 * g.rights.n → Admits s o h now nonce len (list_verdict s h now g len) CacheFull es
@@ -119,11 +119,11 @@ authorised_is e g len = three (blocks e g) (ltb (1024 * g.rights.n) (counted e g
 pub judged : (e : Entry) (g : Grant) (len : ℕ) (r : Verdict) → r ≡ living_verdict e g len → is_authorised r ≡ true → living_verdict e g len ≡ Authorised g
 judged e g len r t a = authorised_is e g len (subst (λ z. is_authorised z ≡ true) t a)
 
-pub answers-renewed : (now : ℕ) (es : List Entry) (i : ℕ) (e : Entry) (g : Grant) (nonce len : ℕ) (r : Verdict) → i < length es → e ≡ get_or es i e → (e.grant.flow ≡ g.flow) × (now < e.end) → r ≡ living_verdict e g len → is_authorised r ≡ true → IsChargeable g len
-    → (s o last : ℕ) (h : List Charge) → last ≤ now → StandsFor (cache s o last es) h → Admits s o h now nonce len (list_verdict s h now g len) r (set es i (renewed e g nonce len))
-answers-renewed now es i e g nonce len r n q k t a m s o last h l v =
+pub answers-renewed : (now : ℕ) (es : List Entry) (i : ℕ) (e : Entry) (g : Grant) (cap nonce len : ℕ) (r : Verdict) → i < length es → e ≡ get_or es i e → (e.grant.flow ≡ g.flow) × (now < e.end) → r ≡ living_verdict e g len → is_authorised r ≡ true → IsChargeable g len
+    → (s o last : ℕ) (h : List Charge) → last ≤ now → StandsFor (cache s o last es) h → Admits s o h now nonce len (list_verdict s h now g len) r (set es i (renewed e g cap nonce len))
+answers-renewed now es i e g cap nonce len r n q k t a m s o last h l v =
     let j = judged e g len r t a in
-    subst (λ z. Admits s o h now nonce len (list_verdict s h now g len) z (set es i (renewed e g nonce len))) (sym (t ∙ j)) (admits-renewed s o last now es h i e g nonce len v l n q k.0 k.1 j m)
+    subst (λ z. Admits s o h now nonce len (list_verdict s h now g len) z (set es i (renewed e g cap nonce len))) (sym (t ∙ j)) (admits-renewed s o last now es h i e g cap nonce len v l n q k.0 k.1 j m)
 
 pub answers-denied : (now : ℕ) (es : List Entry) (i : ℕ) (e : Entry) (g : Grant) (nonce len : ℕ) (r : Verdict) → i < length es → e ≡ get_or es i e → (e.grant.flow ≡ g.flow) × (now < e.end) → r ≡ living_verdict e g len → is_authorised r ≡ false
     → (s o last : ℕ) (h : List Charge) → last ≤ now → StandsFor (cache s o last es) h → Admits s o h now nonce len (list_verdict s h now g len) r es
@@ -150,13 +150,13 @@ nonce_at s o last now es h i e nonce bytes v l n q a =
     nonce-living o h now e.grant.flow e nonce bytes (holds_now (of_flow e.grant.flow h) last now e l (kept_at s o last es h e.grant.flow i e v n q refl) a) refl a
 
 admits-held : (s o last now : ℕ) (es : List Entry) (h : List Charge) (i : ℕ) (e : Entry) (nonce bytes : ℕ) → StandsFor (cache s o last es) h → last ≤ now → i < length es → e ≡ get_or es i e → now < e.end
-    → held_verdict (router_second o now) e nonce bytes ≡ Authorised e.grant → IsChargeable e.grant bytes → Admits s o h now nonce bytes (nonce_verdict o h now e.grant.flow nonce bytes) (Authorised e.grant) (set es i (renewed e e.grant nonce bytes))
+    → held_verdict (router_second o now) e nonce bytes ≡ Authorised e.grant → IsChargeable e.grant bytes → Admits s o h now nonce bytes (nonce_verdict o h now e.grant.flow nonce bytes) (Authorised e.grant) (set es i (renewed e e.grant e.cap nonce bytes))
 admits-held s o last now es h i e nonce bytes v l n q a t m =
     let w = holds_now (of_flow e.grant.flow h) last now e l (kept_at s o last es h e.grant.flow i e v n q refl) a in
     let j = nonce_at s o last now es h i e nonce bytes v l n q a ∙ t in (
       sym j,
-      stands-set s o last es h (charge now e.grant nonce bytes) i e (renewed e e.grant nonce bytes) v l n q refl (inl refl)
-          (holds-more (of_flow e.grant.flow h) now e e.grant nonce bytes (counted e e.grant + bytes) w a (ap (λ x. x + bytes) (own_counted e ∙ w.used))) (inr j) m,
+      stands-set s o last es h (charge now e.grant nonce bytes) i e (renewed e e.grant e.cap nonce bytes) v l n q refl (inl refl)
+          (holds-more (of_flow e.grant.flow h) now e e.grant e.cap nonce bytes (counted e e.grant + bytes) w a (ap (λ x. x + bytes) (own_counted e ∙ w.used))) (inr j) m,
     )
 
 held_three : (a b d : Bool) (g : Grant) → is_authorised (cond a UnknownNonce (cond b Expired (cond d OverN (Authorised g)))) ≡ true → cond a UnknownNonce (cond b Expired (cond d OverN (Authorised g))) ≡ Authorised g
@@ -170,11 +170,11 @@ held_judged second e nonce bytes r t a =
     held_three (not (eqb e.nonce nonce)) (leb (e.grant.second + e.grant.rights.t) second) (ltb (1024 * e.grant.rights.n) (e.used + bytes)) e.grant (subst (λ z. is_authorised z ≡ true) t a)
 
 pub answers-held : (now second : ℕ) (es : List Entry) (i : ℕ) (e : Entry) (nonce bytes : ℕ) (r : Verdict) → i < length es → e ≡ get_or es i e → now < e.end → r ≡ held_verdict second e nonce bytes → is_authorised r ≡ true → IsChargeable e.grant bytes
-    → (f : Flow) (s o last : ℕ) (h : List Charge) → e.grant.flow ≡ f → second ≡ router_second o now → last ≤ now → StandsFor (cache s o last es) h → Admits s o h now nonce bytes (nonce_verdict o h now f nonce bytes) r (set es i (renewed e e.grant nonce bytes))
+    → (f : Flow) (s o last : ℕ) (h : List Charge) → e.grant.flow ≡ f → second ≡ router_second o now → last ≤ now → StandsFor (cache s o last es) h → Admits s o h now nonce bytes (nonce_verdict o h now f nonce bytes) r (set es i (renewed e e.grant e.cap nonce bytes))
 answers-held now second es i e nonce bytes r n q a t b m f s o last h k c l v =
     let j = held_judged second e nonce bytes r t b in
-    subst (λ z. Admits s o h now nonce bytes (nonce_verdict o h now z nonce bytes) r (set es i (renewed e e.grant nonce bytes))) k
-    (subst (λ z. Admits s o h now nonce bytes (nonce_verdict o h now e.grant.flow nonce bytes) z (set es i (renewed e e.grant nonce bytes))) (sym (t ∙ j))
+    subst (λ z. Admits s o h now nonce bytes (nonce_verdict o h now z nonce bytes) r (set es i (renewed e e.grant e.cap nonce bytes))) k
+    (subst (λ z. Admits s o h now nonce bytes (nonce_verdict o h now e.grant.flow nonce bytes) z (set es i (renewed e e.grant e.cap nonce bytes))) (sym (t ∙ j))
     (admits-held s o last now es h i e nonce bytes v l n q a (subst (λ z. held_verdict z e nonce bytes ≡ Authorised e.grant) c j) m))
 
 pub answers-unheld : (now second : ℕ) (es : List Entry) (i : ℕ) (e : Entry) (nonce bytes : ℕ) (r : Verdict) → i < length es → e ≡ get_or es i e → now < e.end → r ≡ held_verdict second e nonce bytes → is_authorised r ≡ false

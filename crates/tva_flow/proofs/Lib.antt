@@ -11,6 +11,7 @@ pub mod Counting
 pub mod ByEntry
 pub mod Admit
 pub mod Near
+pub mod Shown
 pub mod Timely
 pub mod Places
 pub mod Few

@@ -59,17 +59,17 @@ pub run_more : (cs : List Charge) (x : Charge) → is_living cs x.time ≡ true 
 run_more cs x h = run-push [] cs x ∙ ap (λ b. cond b (run [] cs ++ x ∷ []) (x ∷ [])) h
 
 -- the first charge of a run
-pub holds-new : (cs : List Charge) (now : ℕ) (g : Grant) (nonce length : ℕ) → end_of cs ≤ now → Holds (cs ++ charge now g nonce length ∷ []) (entry g nonce length (now + credit_of length g.rights))
-holds-new cs now g nonce length d = record {
+pub holds-new : (cs : List Charge) (now : ℕ) (g : Grant) (cap nonce length : ℕ) → end_of cs ≤ now → Holds (cs ++ charge now g nonce length ∷ []) (entry g cap nonce length (now + credit_of length g.rights))
+holds-new cs now g cap nonce length d = record {
   end = omega (arith, end_of-push cs (charge now g nonce length));
   holder = λ c h. let e = same_last cs (charge now g nonce length) c h in (ap (λ (x : Charge). x.grant) (sym e), ap (λ (x : Charge). x.nonce) (sym e));
   used = rw (run_new cs (charge now g nonce length) (not_living cs now d)) (omega (arith, bytes_under-own g now nonce length, sum_by-cons (bytes_under g) (charge now g nonce length) []));
 }
 
 -- one more charge of a run
-pub holds-more : (cs : List Charge) (now : ℕ) (e : Entry) (g : Grant) (nonce length used : ℕ) → Holds cs e → now < e.end → used ≡ bytes_of g (run [] cs) + length
-    → Holds (cs ++ charge now g nonce length ∷ []) (entry g nonce used (e.end + credit_of length g.rights))
-holds-more cs now e g nonce length used h n u = record {
+pub holds-more : (cs : List Charge) (now : ℕ) (e : Entry) (g : Grant) (cap nonce length used : ℕ) → Holds cs e → now < e.end → used ≡ bytes_of g (run [] cs) + length
+    → Holds (cs ++ charge now g nonce length ∷ []) (entry g cap nonce used (e.end + credit_of length g.rights))
+holds-more cs now e g cap nonce length used h n u = record {
   end = omega (arith, end_of-push cs (charge now g nonce length), h.end);
   holder = λ c k. let e = same_last cs (charge now g nonce length) c k in (ap (λ (x : Charge). x.grant) (sym e), ap (λ (x : Charge). x.nonce) (sym e));
   used = rw (run_more cs (charge now g nonce length) (living cs now (omega (arith, h.end)))) (omega (arith, u, bytes_under-own g now nonce length, sum_by_push (bytes_under g) (run [] cs) (charge now g nonce length)));

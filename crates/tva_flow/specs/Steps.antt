@@ -11,12 +11,15 @@ use Rattle.tva_flow.specs.Charges.{Charge, same_grant}
 use Rattle.tva_flow.specs.Verdicts.{charged}
 use Rattle.tva_flow.specs.Stands.{cache, StandsFor}
 
--- Why an end stays far inside 128 bits. A credit is at most 2^38 for each byte, as T is below 2^8 and
--- 10^9 below 2^30, and a grant has at most 2^42 bytes in a life. So the credits under one grant are at
--- most 2^80. In a life the grants' seconds only rise, so the life ends at most 2^80 past the last time
--- for each second, and 2^38 for each byte of the holder's: below 2^102.
+-- Why an end stays inside 64 bits. A packet has at least 20 bytes, so it is credited its bytes' part of the
+-- grant's T seconds and at most 1/20 ns for each byte to round that up: of used bytes all packets together get at
+-- most used * (20 * 10^9 T + 1024 N) / (20 * 1024 N) ns. A grant has at most 1024 N bytes in a life, T is below 2^8
+-- and N below 2^32: so that is at most 2^39 ns under one grant. In a life the grants' seconds only rise, so the
+-- life ends at most 2^39 ns past the last time for each second and for the holder: below 2^61.
 pub record IsNear (last : ℕ) (e : Entry) : Type 0 where
-  pub end : e.end ≤ last + e.grant.second * 2 ^ 80 + e.used * 2 ^ 38
+  pub end : e.end * (20480 * e.grant.rights.n)
+      ≤ (last + e.grant.second * 2 ^ 39) * (20480 * e.grant.rights.n)
+      + e.used * (20000000000 * e.grant.rights.t + 1024 * e.grant.rights.n)
   pub used : e.used ≤ 1024 * e.grant.rights.n
   pub units : e.grant.rights.n < 2 ^ 32
   pub some : 1 ≤ e.grant.rights.n
@@ -27,8 +30,8 @@ abbrev pub AreNear : ℕ → List Entry → Type 0
 AreNear last [] = Unit {0}
 AreNear last (e ∷ es) = IsNear last e × AreNear last es
 
-abbrev pub entry : Grant → ℕ → ℕ → ℕ → Entry
-entry grant nonce used end = record { grant = grant; nonce = nonce; used = used; end = end }
+abbrev pub entry : Grant → ℕ → ℕ → ℕ → ℕ → Entry
+entry grant cap nonce used end = record { grant = grant; cap = cap; nonce = nonce; used = used; end = end }
 
 -- the entry's holder keeps the grant out
 abbrev pub blocks : Entry → Grant → Bool
@@ -58,12 +61,12 @@ opening_verdict slots count g length =
     else (if nat_le slots count then CacheFull else Authorised g)
 
 -- the entry after one more packet
-abbrev pub renewed : Entry → Grant → ℕ → ℕ → Entry
-renewed e g nonce length = entry g nonce (counted e g + length) (e.end + credit_of length g.rights)
+abbrev pub renewed : Entry → Grant → ℕ → ℕ → ℕ → Entry
+renewed e g cap nonce length = entry g cap nonce (counted e g + length) (e.end + credit_of length g.rights)
 
 -- the first entry of a run
-abbrev pub opened : ℕ → Grant → ℕ → ℕ → Entry
-opened now g nonce length = entry g nonce length (now + credit_of length g.rights)
+abbrev pub opened : ℕ → Grant → ℕ → ℕ → ℕ → Entry
+opened now g cap nonce length = entry g cap nonce length (now + credit_of length g.rights)
 
 -- the answer is the verdict that is wanted, and the entries that it leaves stand for what it added
 abbrev pub Admits : ℕ → ℕ → List Charge → ℕ → ℕ → ℕ → Verdict → Verdict → List Entry → Type 0

@@ -1,12 +1,12 @@
 // The cache of a router's living flows.
-ghost use Rattle.std.specs.Prelude.{◌≡◌, ℕ, ◌≤◌, ◌<◌, false, List, [], ◌++◌, length, slice_index_or, None, MatchOption, IfOk};
-ghost use Rattle.std.specs.Option.{unwrap_or};
+ghost use Rattle.std.specs.Prelude.{◌≡◌, ℕ, ◌≤◌, ◌<◌, Bool, true, false, List, [], ◌++◌, length, slice_index_or, None, MatchOption, IfOk, IfSome};
 ghost use Rattle.tva_base.specs.Clock.{router_second};
 ghost use Rattle.tva_flow.specs.declared.kept.Entry.{Entry};
 ghost use Rattle.tva_flow.specs.Charges.{Charge, living_count};
 ghost use Rattle.tva_flow.specs.Verdicts.{list_verdict, nonce_verdict, charged, is_authorised};
 ghost use Rattle.tva_flow.specs.Stands.{cache, keyed, entry_of, IsChargeable, StandsFor};
-ghost use Rattle.tva_flow.specs.Places.{IsPlaceOf};
+ghost use Rattle.tva_base.specs.declared.packet.Grant.{Grant};
+ghost use Rattle.tva_flow.specs.Places.{AreShown, IsPlaceOf, IsShown, IsShownAt};
 ghost use Rattle.tva_flow.specs.Budget.{IsWithinSeconds, AreTimely, IsWithinBudget};
 ghost use Rattle.tva_flow.specs.Steps.{AreNear, Admits};
 
@@ -45,11 +45,13 @@ impl Model for FlowCache {
         × (a.clock_offset ≤ 1000000000000000) };
 }
 
-/// The router second of a time. Any time has one, so it is computed in 128 bits.
-fn second_of(clock_offset: u64, now: u64) -> u128
+/// The router second of a time.
+fn second_of(clock_offset: u64, now: u64) -> u64
+    requires offset { clock_offset ≤ 1000000000000000 }
+    requires horizon { now ≤ 1000000000000000 }
     ensures { result ≡ router_second clock_offset now }
 {
-    (u128::from(now) + u128::from(clock_offset)) / u128::from(SECOND)
+    (now + clock_offset) / SECOND
 }
 
 /// Admits a packet that shows a grant of a flow whose entry lives, or refuses it.
@@ -58,9 +60,11 @@ fn renew(
     at: usize,
     now: u64,
     grant: Grant,
+    cap: u64,
     nonce: u64,
     bytes: u32,
 ) -> Verdict
+    requires time { now ≤ 1000000000000000 }
     requires place { at < length entries.old.items }
     requires live { (e : Entry) → e ≡ slice_index_or entries.old.items at e
         → (e.grant.flow ≡ grant.flow) × (now < e.end) }
@@ -73,11 +77,14 @@ fn renew(
     ensures same { (length entries.new.items ≡ length entries.old.items)
         × (entries.new.slots ≡ entries.old.slots) × (entries.new.key ≡ entries.old.key) }
     ensures refused { is_authorised result ≡ false → entries.new.items ≡ entries.old.items }
+    ensures noted { is_authorised result ≡ true → IsShown grant cap entries.new.items }
+    ensures shown { (test : Grant → ℕ → Bool) → AreShown test entries.old.items → test grant cap ≡ true
+        → AreShown test entries.new.items }
 {
     let entry = entries.get(at);
     let verdict = judge(&entry, &grant, bytes);
     if verdict.is_authorised() {
-        entries.rewrite(at, extended(&entry, grant, nonce, bytes));
+        entries.rewrite(at, extended(&entry, grant, cap, nonce, bytes));
     }
     verdict
 }
@@ -88,10 +95,11 @@ fn renew_held(
     entries: &mut Entries,
     at: usize,
     now: u64,
-    second: u128,
+    second: u64,
     nonce: u64,
     bytes: u32,
 ) -> Verdict
+    requires time { now ≤ 1000000000000000 }
     requires place { at < length entries.old.items }
     requires live { (e : Entry) → e ≡ slice_index_or entries.old.items at e → now < e.end }
     requires near { AreNear now entries.old.items }
@@ -105,11 +113,14 @@ fn renew_held(
     ensures same { (length entries.new.items ≡ length entries.old.items)
         × (entries.new.slots ≡ entries.old.slots) × (entries.new.key ≡ entries.old.key) }
     ensures refused { is_authorised result ≡ false → entries.new.items ≡ entries.old.items }
+    ensures shown { (test : Grant → ℕ → Bool) → AreShown test entries.old.items
+        → AreShown test entries.new.items }
 {
     let entry = entries.get(at);
     let verdict = judge_nonce(&entry, second, nonce, bytes);
     if verdict.is_authorised() {
-        entries.rewrite(at, extended(&entry, entry.grant, nonce, bytes));
+        let renewed = extended(&entry, entry.grant, entry.cap, nonce, bytes);
+        entries.rewrite(at, renewed);
     }
     verdict
 }
@@ -121,9 +132,11 @@ fn open(
     at: Option<usize>,
     now: u64,
     grant: Grant,
+    cap: u64,
     nonce: u64,
     bytes: u32,
 ) -> Verdict
+    requires time { now ≤ 1000000000000000 }
     requires place { MatchOption at (entry_of grant.flow entries.old.items ≡ None) (λ i.
         (i < length entries.old.items)
         × ((e : Entry) → e ≡ slice_index_or entries.old.items i e
@@ -139,11 +152,14 @@ fn open(
     ensures room { (length entries.new.items ≤ entries.new.slots)
         × (entries.new.slots ≡ entries.old.slots) × (entries.new.key ≡ entries.old.key) }
     ensures refused { is_authorised result ≡ false → entries.new.items ≡ entries.old.items }
+    ensures noted { is_authorised result ≡ true → IsShown grant cap entries.new.items }
+    ensures shown { (test : Grant → ℕ → Bool) → AreShown test entries.old.items → test grant cap ≡ true
+        → AreShown test entries.new.items }
 {
     if is_over(grant.rights, 0, bytes) {
         return Verdict::OverN;
     }
-    let entry = fresh(now, grant, nonce, bytes);
+    let entry = fresh(now, grant, cap, nonce, bytes);
     if let Some(at) = at {
         entries.rewrite(at, entry);
         return Verdict::Authorised(grant);
@@ -201,6 +217,7 @@ impl FlowCache {
     /// and the third of them, are this project's own.
     pub fn admit_list(&mut self, now: Time, grant: Grant, nonce: u64, length: u32) -> Verdict
         requires time { self.old.last ≤ now.0 }
+        requires horizon { now.0 ≤ 1000000000000000 }
         requires packet { IsChargeable grant length }
         ensures verdict { (h : List Charge) → StandsFor self.old h
             → result ≡ list_verdict self.old.slots h now.0 grant length }
@@ -215,38 +232,40 @@ impl FlowCache {
         ensures refused { is_authorised result ≡ false → self.new.entries ≡ self.old.entries }
     {
         let at = self.place(&grant.flow);
-        self.admit_list_at(now, at, grant, nonce, length)
+        self.admit_list_at(now, at, grant, 0, nonce, length)
     }
 
-    /// Where the flow's entry stands: what `admit_list_at` asks for, so that other memory can be waited for
-    /// at once.
+    /// Where the flow's entry stands: what `shown_at` and `admit_list_at` ask for.
     pub fn place(&self, flow: &Flow) -> Option<usize>
-        ensures { IsPlaceOf self.now.entries flow.now result }
+        ensures place { IsPlaceOf self.now.entries flow.now result }
+        ensures within { IfSome result (λ place. place < length self.now.entries) }
     {
         self.entries.find(flow)
     }
 
-    /// The place of a flow whose entry stands there; of one without an entry, that of a further entry, which is
-    /// none of the slots where all of them have one.
-    pub fn place_or_next(&self, at: Option<usize>) -> usize
-        ensures { result ≡ unwrap_or at (length self.now.entries) }
+    /// The grant that holds the flow whose entry stands there, and the capability that was shown for it.
+    pub fn shown_at(&self, at: Option<usize>) -> Option<(Grant, u64)>
+        requires { IfSome at (λ place. place < length self.now.entries) }
+        ensures { IsShownAt self.now.entries at result }
     {
-        match at {
-            Some(place) => place,
-            None => self.entries.len(),
-        }
+        let entry = self.entries.get(at?);
+        Some((entry.grant, entry.cap))
     }
 
-    /// The same as `admit_list` does, of a flow whose entry stands there.
+    /// The same as `admit_list` does, of a flow whose entry stands there. The capability that was shown for the
+    /// grant of an authorised packet stands in the flow's entry from then on, until another list is authorised
+    /// that shows one of the flow.
     pub fn admit_list_at(
         &mut self,
         now: Time,
         at: Option<usize>,
         grant: Grant,
+        cap: u64,
         nonce: u64,
         length: u32,
     ) -> Verdict
         requires time { self.old.last ≤ now.0 }
+        requires horizon { now.0 ≤ 1000000000000000 }
         requires packet { IsChargeable grant length }
         requires place { IsPlaceOf self.old.entries grant.flow at }
         ensures verdict { (h : List Charge) → StandsFor self.old h
@@ -260,13 +279,16 @@ impl FlowCache {
         ensures same { (self.new.slots ≡ self.old.slots) × (self.new.offset ≡ self.old.offset) }
         ensures key { self.new.key ≡ self.old.key }
         ensures refused { is_authorised result ≡ false → self.new.entries ≡ self.old.entries }
+        ensures noted { is_authorised result ≡ true → IsShown grant cap self.new.entries }
+        ensures shown { (test : Grant → ℕ → Bool) → AreShown test self.old.entries → test grant cap ≡ true
+            → AreShown test self.new.entries }
     {
         self.last = now.0;
         match at {
             Some(place) if is_live(&self.entries.get(place), now.0) => {
-                renew(&mut self.entries, place, now.0, grant, nonce, length)
+                renew(&mut self.entries, place, now.0, grant, cap, nonce, length)
             }
-            _ => open(&mut self.entries, at, now.0, grant, nonce, length),
+            _ => open(&mut self.entries, at, now.0, grant, cap, nonce, length),
         }
     }
 
@@ -277,6 +299,7 @@ impl FlowCache {
     /// capabilities is TVA's.
     pub fn admit_nonce(&mut self, now: Time, flow: Flow, nonce: u64, length: u32) -> Verdict
         requires time { self.old.last ≤ now.0 }
+        requires horizon { now.0 ≤ 1000000000000000 }
         requires packet { (20 ≤ length) × (length ≤ 2048) }
         ensures verdict { (h : List Charge) → StandsFor self.old h
             → result ≡ nonce_verdict self.old.offset h now.0 flow nonce length }
@@ -288,6 +311,8 @@ impl FlowCache {
         ensures same { (self.new.slots ≡ self.old.slots) × (self.new.offset ≡ self.old.offset) }
         ensures key { self.new.key ≡ self.old.key }
         ensures refused { is_authorised result ≡ false → self.new.entries ≡ self.old.entries }
+        ensures shown { (test : Grant → ℕ → Bool) → AreShown test self.old.entries
+            → AreShown test self.new.entries }
     {
         self.last = now.0;
         let second = second_of(self.clock_offset, now.0);

@@ -6,21 +6,25 @@ ghost use Rattle.tva_flow.specs.Steps.{living_verdict, held_verdict, counted, re
 use crate::verdicts::Verdict;
 use tva_base::{Flow, Grant, Rights, UNIT, credit};
 
-/// What is kept of a flow: its holder, the bytes of the holder's grant in this run, and the end of
-/// its life in nanoseconds.
+/// What is kept of a flow: its holder, the capability that was shown for the holder's grant, the bytes of
+/// that grant in this run, and the end of the flow's life in nanoseconds.
 #[derive(Clone, Copy, Debug, PartialEq, Eq)]
 pub struct Entry {
     pub grant: Grant,
+    pub cap: u64,
     pub nonce: u64,
     pub used: u64,
-    pub end: u128,
+    pub end: u64,
 }
+
+// A look waits for the memory of one entry, and there is one for each slot.
+const _: () = prove!(size_of::<Entry>() <= 56);
 
 /// Whether the flow of the entry lives. At the very end of its life it doesn't.
 pub(crate) fn is_live(entry: &Entry, now: u64) -> bool
     ensures { result ≡ nat_lt now entry.now.end }
 {
-    entry.end > u128::from(now)
+    entry.end > now
 }
 
 /// Whether the flows are one.
@@ -72,7 +76,7 @@ pub(crate) fn judge(entry: &Entry, grant: &Grant, length: u32) -> Verdict
 }
 
 /// The verdict on a packet that shows a nonce of the flow, whose entry lives, in that router second.
-pub(crate) fn judge_nonce(entry: &Entry, second: u128, nonce: u64, length: u32) -> Verdict
+pub(crate) fn judge_nonce(entry: &Entry, second: u64, nonce: u64, length: u32) -> Verdict
     requires { (entry.now.used ≤ 2 ^ 42) × (entry.now.grant.second ≤ 2000000) }
     ensures { result ≡ held_verdict second entry.now nonce length }
 {
@@ -80,7 +84,7 @@ pub(crate) fn judge_nonce(entry: &Entry, second: u128, nonce: u64, length: u32) 
         return Verdict::UnknownNonce;
     }
     let grant = &entry.grant;
-    if u128::from(grant.second) + u128::from(grant.rights.t) <= second {
+    if grant.second + u64::from(grant.rights.t) <= second {
         Verdict::Expired
     } else if is_over(grant.rights, entry.used, length) {
         Verdict::OverN
@@ -90,30 +94,33 @@ pub(crate) fn judge_nonce(entry: &Entry, second: u128, nonce: u64, length: u32) 
 }
 
 /// The entry after one more packet. A newer grant keeps the life that remains, and counts anew.
-pub(crate) fn extended(entry: &Entry, grant: Grant, nonce: u64, length: u32) -> Entry
-    requires near { (entry.now.end < 2 ^ 127) × (entry.now.used ≤ 2 ^ 42) }
+pub(crate) fn extended(entry: &Entry, grant: Grant, cap: u64, nonce: u64, length: u32) -> Entry
+    requires near { (entry.now.end < 2 ^ 61) × (entry.now.used ≤ 2 ^ 42) }
     requires packet { (length ≤ 2048) × (1 ≤ grant.rights.n) }
-    ensures value { result ≡ renewed entry.now grant nonce length }
+    ensures value { result ≡ renewed entry.now grant cap nonce length }
     ensures ranges { (grant.rights.n < 2 ^ 32) × (grant.rights.t < 2 ^ 8) }
 {
     Entry {
         grant,
+        cap,
         nonce,
         used: counted_bytes(entry, &grant) + u64::from(length),
-        end: entry.end + u128::from(credit(length, grant.rights)),
+        end: entry.end + credit(length, grant.rights),
     }
 }
 
 /// The first entry of a run.
-pub(crate) fn fresh(now: u64, grant: Grant, nonce: u64, length: u32) -> Entry
+pub(crate) fn fresh(now: u64, grant: Grant, cap: u64, nonce: u64, length: u32) -> Entry
+    requires time { now ≤ 1000000000000000 }
     requires packet { (length ≤ 2048) × (1 ≤ grant.rights.n) }
-    ensures value { result ≡ opened now grant nonce length }
+    ensures value { result ≡ opened now grant cap nonce length }
     ensures ranges { (grant.rights.n < 2 ^ 32) × (grant.rights.t < 2 ^ 8) }
 {
     Entry {
         grant,
+        cap,
         nonce,
         used: u64::from(length),
-        end: u128::from(now) + u128::from(credit(length, grant.rights)),
+        end: now + credit(length, grant.rights),
     }
 }

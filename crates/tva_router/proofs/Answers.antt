@@ -1,17 +1,24 @@
 -- What the answers to arrivals leave.
-use Rattle.std.proofs.Common.{◌≡◌, ℕ, ◌≤◌, List, ◌++◌, None, refl, sym, subst, arith, append-nil}
+use Rattle.std.proofs.Common.{◌≡◌, ℕ, ◌<◌, ◌≤◌, List, ◌++◌, length, Option, Some, None, refl, sym, subst, arith, append-nil}
+use Rattle.std.specs.Option.{IfSome}
 use Rattle.tva_base.specs.declared.plan.RouterPlan.{RouterPlan}
 use Rattle.tva_flow.specs.declared.verdicts.Verdict.{Verdict}
 use Rattle.tva_flow.specs.declared.verdicts.Verdict.TheVariants as verdict
 use Rattle.tva_flow.specs.Charges.{Charge}
 use Rattle.tva_flow.specs.Verdicts.{charged}
 use Rattle.tva_flow.specs.Budget.{AreTimely}
+use Rattle.tva_caps.specs.Known.{is_good, IsGoodOrNone}
+use Rattle.tva_caps.specs.declared.known.Good.{Good}
+use Rattle.tva_flow.specs.declared.kept.Entry.{Entry}
+use Rattle.tva_flow.specs.Places.{AreShown}
 use Rattle.tva_flow.specs.Stands.{Cache, StandsFor}
+use Rattle.tva_flow.proofs.Indexed.{some_place}
+use Rattle.tva_flow.proofs.Shown.{shown-get}
 use Rattle.tva_router.specs.declared.judged.Arrival.{Arrival}
 use Rattle.tva_router.specs.declared.guard.Guard.{Guard}
 use Rattle.tva_router.specs.Judging.{answer_of}
 use Rattle.tva_router.specs.Handling.{charged_by}
-use Rattle.tva_router.specs.Steps.{IsGuard, Keeps, grant_in}
+use Rattle.tva_router.specs.Steps.{IsGuard, IsKnownAt, Keeps, grant_in}
 
 pub guard-later : (plan : RouterPlan) (last now : ℕ) (g : Guard) → last ≤ now → IsGuard plan last g → IsGuard plan now g
 guard-later plan last now g le k = record {
@@ -22,6 +29,7 @@ guard-later plan last now g le k = record {
   offset = k.offset;
   minted = omega (arith, le, k.minted);
   charged = omega (arith, le, k.charged);
+  known = k.known;
   incoming = k.incoming;
 }
 
@@ -52,3 +60,10 @@ keeps-verdict plan a nonce v old new clock stands timely = record {
       subst (λ (z : List Charge). AreTimely plan.clock_offset (h ++ z)) (charged-answer v a.time.0 nonce a.bytes)
       (subst (λ (o : ℕ). AreTimely o (h ++ charged v a.time.0 nonce a.bytes)) clock (timely h s (subst (λ (o : ℕ). AreTimely o h) (sym clock) t)));
 }
+
+-- what is known at a place is good, where each entry has what is good for its grant
+pub known_good : (master : List ℕ) (es : List Entry) (at : Option ℕ) (known : Option Good) → IfSome at (λ i. i < length es) → IsKnownAt es at known → AreShown (is_good master) es → IsGoodOrNone master known
+known_good master es None known l k a = subst (λ (z : Option Good). IsGoodOrNone master z) (sym k) tt
+known_good master es (Some i) known l k a =
+    let e = some_place es i l in
+    subst (λ (z : Option Good). IsGoodOrNone master z) (sym (k e.0 e.1)) (shown-get (is_good master) es i e.0 a l e.1)

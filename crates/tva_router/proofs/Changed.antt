@@ -70,6 +70,7 @@ guard_kept plan last g routes k = record {
   offset = k.offset;
   minted = k.minted;
   charged = k.charged;
+  known = k.known;
   incoming = k.incoming;
 }
 

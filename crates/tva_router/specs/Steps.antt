@@ -1,5 +1,5 @@
 -- Kit: the parts of a router by its plan, and what they owe.
-use Rattle.std.specs.Prelude.{◌≡◌, ℕ, ◌≤◌, List, [], ◌∷◌, ◌++◌, Option, Some, None, Ok, Err}
+use Rattle.std.specs.Prelude.{◌≡◌, ℕ, ◌≤◌, List, [], ◌∷◌, ◌++◌, slice_index_or, Option, Some, None, MatchOption, Ok, Err}
 use Rattle.tva_base.specs.Plan.{IsRouterPlan}
 use Rattle.tva_base.specs.Changes.{changed_plan}
 use Rattle.tva_base.specs.declared.limits.LinkLimits.{LinkLimits}
@@ -8,8 +8,12 @@ use Rattle.tva_base.specs.declared.packet.Class.{Class}
 use Rattle.tva_base.specs.declared.packet.Grant.{Grant}
 use Rattle.tva_base.specs.declared.plan.RouterPlan.{RouterPlan}
 use Rattle.tva_shim.specs.declared.packets.Carried.{Carried}
+use Rattle.tva_caps.specs.Known.{is_good}
+use Rattle.tva_caps.specs.declared.known.Good.{Good}
 use Rattle.tva_flow.specs.Charges.{Charge}
 use Rattle.tva_flow.specs.Budget.{AreTimely}
+use Rattle.tva_flow.specs.declared.kept.Entry.{Entry}
+use Rattle.tva_flow.specs.Places.{AreShown}
 use Rattle.tva_flow.specs.Stands as flows
 use Rattle.tva_port.specs.Stands as port
 use Rattle.tva_router.specs.declared.judged.Arrival.{Arrival}
@@ -22,8 +26,8 @@ use Rattle.tva_router.specs.Tables.{ArePlaces, AreWays}
 use Rattle.tva_router.specs.Judging.{Answer, judged}
 use Rattle.tva_router.specs.Handling.{charged_by}
 
--- the minter and the cache are the plan's, and were called no later than that, and the places are those of
--- its incoming links
+-- the minter and the cache are the plan's, and were called no later than that, each entry of the cache has the
+-- capability that is good for its grant under the plan's master, and the places are those of its incoming links
 pub record IsGuard (plan : RouterPlan) (last : ℕ) (g : Guard) : Type 0 where
   pub master : g.minter.master ≡ plan.master
   pub clock : g.minter.clock_offset ≡ plan.clock_offset
@@ -32,7 +36,13 @@ pub record IsGuard (plan : RouterPlan) (last : ℕ) (g : Guard) : Type 0 where
   pub offset : g.cache.offset ≡ plan.clock_offset
   pub minted : g.minter.last ≤ last
   pub charged : g.cache.last ≤ last
+  pub known : AreShown (is_good plan.master) g.cache.entries
   pub incoming : ArePlaces plan.incoming g.incoming
+
+-- what is known at that place: the grant of the entry there, with its capability; nothing where there is no place
+abbrev pub IsKnownAt : List Entry → Option ℕ → Option Good → Type 0
+IsKnownAt entries at known = MatchOption at (known ≡ None) (λ i.
+    (e : Entry) → e ≡ slice_index_or entries i e → known ≡ Some (record { grant = e.grant; cap = e.cap }))
 
 -- a guard of the plan may judge such an arrival
 pub record MayJudge (plan : RouterPlan) (g : Guard) (a : Arrival) : Type 0 where

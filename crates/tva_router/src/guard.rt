@@ -1,5 +1,5 @@
 // What a router makes of the packets that arrive.
-ghost use Rattle.std.specs.Prelude.{◌≡◌, ◌≤◌, ◌<◌, ◌==◌, ℕ, List, [], length, slice_get, IfOk, IfSome, Some, None};
+ghost use Rattle.std.specs.Prelude.{◌≡◌, ◌≤◌, ◌<◌, ◌==◌, ℕ, true, List, [], length, slice_get, IfOk, IfSome, Some, None};
 ghost use Rattle.std.specs.List.{find};
 ghost use Rattle.std.specs.Option.{option_map_or};
 ghost use Rattle.tva_base.specs.Plan.{IsRouterPlan};
@@ -8,12 +8,13 @@ ghost use Rattle.tva_base.specs.Versions.{AreSomeRights};
 ghost use Rattle.tva_shim.specs.Changes.{IsRequest, PointsAtOne, with_next_pointer, with_fresh, with_mark};
 ghost use Rattle.tva_shim.specs.Packets.{IsCarried};
 ghost use Rattle.tva_caps.specs.Check.{IfValid, IsSecondOf};
+ghost use Rattle.tva_caps.specs.Known.{is_good};
 ghost use Rattle.tva_flow.specs.Charges.{Charge};
 ghost use Rattle.tva_flow.specs.Stands.{StandsFor};
 ghost use Rattle.tva_flow.specs.Places.{IsPlaceOf};
 ghost use Rattle.tva_router.specs.Judging.{tag_of, second_of, fresh_for, answer_of, answer_to_checked, answer_to_shown, answer_to_nonce, judged_by, judged_request, judged_shim, judge};
 ghost use Rattle.tva_shim.specs.Shows.{kind_nonce, nonce_in};
-ghost use Rattle.tva_router.specs.Steps.{IsGuard, MayJudge, Keeps, grant_in, judgement, judged_with};
+ghost use Rattle.tva_router.specs.Steps.{IsGuard, IsKnownAt, MayJudge, Keeps, grant_in, judgement, judged_with};
 ghost use Rattle.tva_router.specs.Tables.{ArePlaces};
 
 use crate::judged::{Arrival, Judgement};
@@ -22,16 +23,15 @@ use crate::places::{place_of, places_of};
 use std::alloc::{AllocError, Global};
 use std::collections::HashMap;
 use tva_base::{Cause, Class, Grant, RouterPlan};
-use tva_caps::{Checked, Known, Minter};
+use tva_caps::{Checked, Good, Minter};
 use tva_flow::{FlowCache, Verdict};
 use tva_shim::{Carried, Entry, Kind, Shim, Shown};
 
-/// What a router judges packets with: what mints and checks, the capabilities that it knows to be good, one for
-/// each place of its cache, that cache, and the places of its incoming links.
+/// What a router judges packets with: what mints and checks, its cache, each of whose entries has the capability
+/// that is good for its grant, and the places of its incoming links.
 #[derive(Drop)]
 pub(crate) struct Guard {
     pub minter: Minter,
-    pub known: Known,
     pub cache: FlowCache,
     pub incoming: HashMap<u16, usize>,
 }
@@ -46,13 +46,13 @@ impl Guard {
         let key = flow_key(&plan.master);
         Ok(Guard {
             minter: Minter::new(plan.master, plan.clock_offset),
-            known: Known::with_places(alloc, plan.master, plan.slots)?,
             cache: FlowCache::with_slots_keyed(alloc, plan.slots, plan.clock_offset, key)?,
             incoming: places_of(alloc, plan.incoming.as_slice())?,
         })
     }
 
-    /// Starts again with another master: with a new minter, and without charges, under that master's key.
+    /// Starts again with another master: with a new minter, and without charges, under that master's key. What was
+    /// known of capabilities goes with the entries.
     pub fn restart(&mut self, plan: &RouterPlan, master: [u8; 32])
         requires { IsRouterPlan plan.now }
         ensures guard { (last : ℕ) → IsGuard plan.now last self.old
@@ -60,7 +60,6 @@ impl Guard {
         ensures stands { StandsFor self.new.cache [] }
     {
         self.minter = Minter::new(master, plan.clock_offset);
-        self.known.restart(master);
         self.cache.clear_keyed(flow_key(&master));
     }
 
@@ -180,18 +179,13 @@ impl Guard {
     {
         match cap_at(shown) {
             Some(cap) => {
-                // What is known stands where the entry does: the place is asked for once, and before any hash.
+                // What is known stands in the entry: its place is asked for once, and before any hash.
                 let at = self.cache.place(&arrival.flow);
-                let place = self.cache.place_or_next(at);
-                let checked = self.minter.check_known(
-                    arrival.time,
-                    arrival.flow,
-                    cap,
-                    shown.rights,
-                    &mut self.known,
-                    place,
-                );
-                self.answer_to_checked(plan, arrival, at, checked, shown.nonce)
+                let known = known_at(&self.cache, at);
+                let checked = self
+                    .minter
+                    .check_known(arrival.time, arrival.flow, cap, shown.rights, known);
+                self.answer_to_checked(plan, arrival, at, checked, cap, shown.nonce)
             }
             None => Err(Cause::NoCapability),
         }
@@ -204,6 +198,7 @@ impl Guard {
         arrival: &Arrival,
         at: Option<usize>,
         checked: Checked,
+        cap: u64,
         nonce: u64,
     ) -> Result<Grant, Cause>
         requires may { MayJudge plan.now self.old arrival.now }
@@ -211,6 +206,7 @@ impl Guard {
         requires flow { IfValid checked (λ g. g.flow ≡ arrival.now.flow) }
         requires second { IfValid checked (λ g. IsSecondOf g (second_of plan.now arrival.now)) }
         requires bounded { IfValid checked (λ g. g.second ≤ 2000000) }
+        requires good { IfValid checked (λ g. is_good plan.now.master g cap ≡ true) }
         ensures guard { IsGuard plan.now arrival.now.time.0 self.new }
         ensures answer { (h : List Charge) → StandsFor self.old.cache h
             → result ≡ answer_to_checked plan.now h arrival.now checked }
@@ -219,7 +215,7 @@ impl Guard {
         match checked {
             Checked::Valid(grant) => answer_of(
                 self.cache
-                    .admit_list_at(arrival.time, at, grant, nonce, arrival.bytes),
+                    .admit_list_at(arrival.time, at, grant, cap, nonce, arrival.bytes),
             ),
             Checked::Expired => Err(Cause::Expired),
             Checked::BadHash => Err(Cause::BadHash),
@@ -245,6 +241,15 @@ impl Guard {
                 .admit_nonce(arrival.time, arrival.flow, nonce, arrival.bytes),
         )
     }
+}
+
+// What is known of the flow whose entry stands there.
+fn known_at(cache: &FlowCache, at: Option<usize>) -> Option<Good>
+    requires { IfSome at (λ place. place < length cache.now.entries) }
+    ensures { IsKnownAt cache.now.entries at result }
+{
+    let (grant, cap) = cache.shown_at(at)?;
+    Some(Good { grant, cap })
 }
 
 // An authorised list goes on with its next capability.

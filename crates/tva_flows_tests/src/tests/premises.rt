@@ -302,6 +302,7 @@ impl Router {
     /// What becomes of a packet that shows a nonce alone.
     fn name(&mut self, rt: &impl Abort, now: u64, nonce: u64, bytes: u32) -> Told {
         assert!(rt; self.last <= now);
+        assert!(rt; now <= 1_000_000_000_000_000);
         assert!(rt; 20 <= bytes && bytes <= 2048);
         self.last = now;
         told_of(self.cache.admit_nonce(Time(now), FLOW, nonce, bytes))

@@ -87,7 +87,7 @@ impl Played {
         nonce: u64,
         length: u32,
     ) -> (Verdict, u32) {
-        assert!(rt; self.last <= now);
+        assert!(rt; self.last <= now && now <= TIME_MAX);
         assert!(rt; 1 <= grant.rights.t && grant.second <= 2_000_000);
         assert!(rt; 20 <= length && length <= 2048);
         self.last = now;
@@ -104,11 +104,26 @@ impl Played {
         nonce: u64,
         length: u32,
     ) -> (Verdict, u32) {
-        assert!(rt; self.last <= now);
+        assert!(rt; self.last <= now && now <= TIME_MAX);
         assert!(rt; 20 <= length && length <= 2048);
         self.last = now;
         let verdict = self.cache.admit_nonce(Time(now), flow, nonce, length);
         (verdict, self.cache.living(Time(now)))
+    }
+
+    /// The verdict on a packet that shows a capability of the grant.
+    fn show(&mut self, rt: &impl Abort, now: u64, grant: Grant, cap: u64) -> Verdict {
+        assert!(rt; self.last <= now && now <= TIME_MAX);
+        assert!(rt; 1 <= grant.rights.t && grant.second <= 2_000_000);
+        self.last = now;
+        let at = self.cache.place(&grant.flow);
+        self.cache.admit_list_at(Time(now), at, grant, cap, 1, 100)
+    }
+
+    /// What was shown for the grant that holds a flow.
+    fn shown(&self, flow: &Flow) -> Option<(Grant, u64)> {
+        let at = self.cache.place(flow);
+        self.cache.shown_at(at)
     }
 }
 
@@ -221,6 +236,35 @@ fn cleared_and_full_again(rt: HostRuntime) -> Result<(), Fail> {
     }
     let (verdict, living) = half_of_a_unit(&rt, &mut cache, 1_000_000_010, 100);
     assert!(rt; matches!(verdict, Verdict::Authorised(_)) && living == 81);
+    Ok(())
+}
+
+/// What was shown for a grant stands in its flow's entry until a capability of a newer grant is authorised,
+/// whatever nonces and superseded capabilities come between. Behind a restart there is none.
+#[test]
+fn capabilities_stand_in_entries(rt: HostRuntime) -> Result<(), Fail> {
+    let mut cache = cache_of(rt.alloc(), 8, 0)?;
+    let flow = Flow {
+        src: Address(1),
+        dst: Address(2),
+    };
+    let rights = Rights { n: 1, t: 10 };
+    let older = Grant {
+        flow,
+        rights,
+        second: 0,
+    };
+    let newer = Grant { second: 1, ..older };
+    assert_eq!(rt; cache.shown(&flow), None);
+    assert_eq!(rt; cache.show(&rt, 0, older, 70), Verdict::Authorised(older));
+    assert_eq!(rt; cache.shown(&flow), Some((older, 70)));
+    assert_eq!(rt; cache.show(&rt, 1, newer, 90), Verdict::Authorised(newer));
+    assert_eq!(rt; cache.show(&rt, 2, older, 70), Verdict::Superseded);
+    assert_eq!(rt; cache.shown(&flow), Some((newer, 90)));
+    assert_eq!(rt; cache.nonce(&rt, 3, flow, 1, 100).0, Verdict::Authorised(newer));
+    assert_eq!(rt; cache.shown(&flow), Some((newer, 90)));
+    cache.cache.clear();
+    assert_eq!(rt; cache.shown(&flow), None);
     Ok(())
 }
 

@@ -7,7 +7,7 @@
 //                   and else p[:1] + sha(p + be(2, 1) + be(n, 4) + be(t, 1))[:7]
 use std::process::Abort;
 use tva_base::{Address, Flow, Grant, Rights, SECOND, TIME_MAX, Time, carries};
-use tva_caps::{Checked, KeptSecret, Minter, capability, precap_at};
+use tva_caps::{Checked, Good, KeptSecret, Minter, capability, precap_at};
 
 const COUNTING: [u8; 32] = [
     0x00, 0x01, 0x02, 0x03, 0x04, 0x05, 0x06, 0x07, 0x08, 0x09, 0x0a, 0x0b, 0x0c, 0x0d, 0x0e, 0x0f,
@@ -343,6 +343,32 @@ fn one_minter_over_changes_of_the_secret(rt: HostRuntime) {
     // a first call in epoch 3
     let mut late = Minter::new(COUNTING, 0);
     assert_eq!(rt; late.mint(Time(400 * SECOND), flow), 0x90092dc2a9cb9355);
+}
+
+/// A capability that was found good is good again where it is known, and no other one is. Under another master
+/// nothing is known, and it is bad.
+#[test]
+fn known_capabilities_change_no_answer(rt: HostRuntime) {
+    let flow = flow(HERE, THERE);
+    let rights = Rights { n: 1, t: 10 };
+    let cap = 0x7f5b095cc11fa77a;
+    let mut minter = Minter::new(COUNTING, 0);
+    let found = minter.check_known(Time(128 * SECOND), flow, cap, rights, None);
+    let Checked::Valid(grant) = found else {
+        assert!(rt; false);
+        return;
+    };
+    let known = Some(Good { grant, cap });
+    let again = minter.check_known(Time(130 * SECOND), flow, cap, rights, known);
+    assert_eq!(rt; again, found);
+    let changed = minter.check_known(Time(130 * SECOND), flow, cap ^ 1, rights, known);
+    assert_eq!(rt; changed, Checked::BadHash);
+    let more = Rights { n: 2, t: 10 };
+    let other = minter.check_known(Time(130 * SECOND), flow, cap, more, known);
+    assert_eq!(rt; other, Checked::BadHash);
+    let mut restarted = Minter::new([0xff; 32], 0);
+    let anew = restarted.check_known(Time(130 * SECOND), flow, cap, rights, None);
+    assert_eq!(rt; anew, Checked::BadHash);
 }
 
 fn crosses<T: Send + Sync>() {}

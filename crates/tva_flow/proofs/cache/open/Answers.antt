@@ -4,6 +4,7 @@ use Rattle.tva_flow.specs.Steps.{opened}
 use Rattle.tva_flow.proofs.Admit.{admits-over_at, admits-full, admits-opened_own, admits-opened_over, admits-opened_next}
 use Rattle.tva_flow.proofs.Near.{near-set, near-push, near-opened}
 use Rattle.tva_flow.proofs.Indexed.{some_place}
+use Rattle.tva_flow.proofs.Shown.{shown-set, shown-push, is_shown-set, is_shown-push}
 use Rattle.tva_flow.proofs.cache.open.Goals as goal
 
 over : (units bytes : ℕ) (t : Bool) → t ≡ ltb units (0 + bytes) → t ≡ true → units < bytes
@@ -37,22 +38,22 @@ returns-in-Some-clause-answer c o last h l v =
     let p = rw c.in-Some.is at c.requires.place in
     let r = some_place c.args.entries.now.items c.in-Some.at p.0 in
     let e = p.1 r.0 r.1 in
-    rw (c.rewrite.ensures, c.fresh-entry.ensures.value) (admits-opened_own c.args.entries.now.slots o last c.args.now c.args.entries.now.items h c.in-Some.at r.0 c.args.grant c.args.nonce c.args.bytes v l p.0 r.1 e.0 e.1 (fits _ _ _ c.is_over.ensures c.if-is_over.false) c.requires.packet)
+    rw (c.rewrite.ensures, c.fresh-entry.ensures.value) (admits-opened_own c.args.entries.now.slots o last c.args.now c.args.entries.now.items h c.in-Some.at r.0 c.args.grant c.args.cap c.args.nonce c.args.bytes v l p.0 r.1 e.0 e.1 (fits _ _ _ c.is_over.ensures c.if-is_over.false) c.requires.packet)
 
 pub returns-in-Some-clause-near : goal.returns-in-Some-clause-near
 returns-in-Some-clause-near c =
     let r = c.fresh-entry.ensures.ranges in
-    rw (c.rewrite.ensures, c.fresh-entry.ensures.value) (near-set c.args.now c.args.entries.now.items c.in-Some.at (opened c.args.now c.args.grant c.args.nonce c.args.bytes) c.requires.near (near-opened c.args.now c.args.grant c.args.nonce c.args.bytes c.requires.packet r.0 r.1 (fits _ _ _ c.is_over.ensures c.if-is_over.false)))
+    rw (c.rewrite.ensures, c.fresh-entry.ensures.value) (near-set c.args.now c.args.entries.now.items c.in-Some.at (opened c.args.now c.args.grant c.args.cap c.args.nonce c.args.bytes) c.requires.near (near-opened c.args.now c.args.grant c.args.cap c.args.nonce c.args.bytes c.requires.packet r.0 r.1 (fits _ _ _ c.is_over.ensures c.if-is_over.false)))
 
 pub returns-then-not-is_full-clause-answer : goal.returns-then-not-is_full-clause-answer
 returns-then-not-is_full-clause-answer c o last h l v =
     let p = rw c.in_default.is at c.requires.place in
-    rw (c.push.ensures, c.fresh-entry.ensures.value) (admits-opened_next c.args.entries.now.slots o last c.args.now c.args.entries.now.items h c.args.grant c.args.nonce c.args.bytes v l (room _ _ _ c.is_full.ensures c.if-not-is_full.true) p (fits _ _ _ c.is_over.ensures c.if-is_over.false) c.requires.packet)
+    rw (c.push.ensures, c.fresh-entry.ensures.value) (admits-opened_next c.args.entries.now.slots o last c.args.now c.args.entries.now.items h c.args.grant c.args.cap c.args.nonce c.args.bytes v l (room _ _ _ c.is_full.ensures c.if-not-is_full.true) p (fits _ _ _ c.is_over.ensures c.if-is_over.false) c.requires.packet)
 
 pub returns-then-not-is_full-clause-near : goal.returns-then-not-is_full-clause-near
 returns-then-not-is_full-clause-near c =
     let r = c.fresh-entry.ensures.ranges in
-    rw (c.push.ensures, c.fresh-entry.ensures.value) (near-push c.args.now c.args.entries.now.items (opened c.args.now c.args.grant c.args.nonce c.args.bytes) c.requires.near (near-opened c.args.now c.args.grant c.args.nonce c.args.bytes c.requires.packet r.0 r.1 (fits _ _ _ c.is_over.ensures c.if-is_over.false)))
+    rw (c.push.ensures, c.fresh-entry.ensures.value) (near-push c.args.now c.args.entries.now.items (opened c.args.now c.args.grant c.args.cap c.args.nonce c.args.bytes) c.requires.near (near-opened c.args.now c.args.grant c.args.cap c.args.nonce c.args.bytes c.requires.packet r.0 r.1 (fits _ _ _ c.is_over.ensures c.if-is_over.false)))
 
 pub returns-in_default-ended-clause-answer : goal.returns-in_default-ended-clause-answer
 returns-in_default-ended-clause-answer c o last h l v =
@@ -64,9 +65,34 @@ returns-clause-answer c o last h l v =
     let p = rw c.in_default.is at c.requires.place in
     let d = c.in-Some-ended.ensures.place in
     let r = some_place c.args.entries.now.items c.in-Some-ended.other d.0 in
-    rw (c.replace.ensures, c.in-Some-ended.ensures.same, c.fresh-entry.ensures.value) (admits-opened_over c.args.entries.now.slots o last c.args.now c.args.entries.now.items h c.in-Some-ended.other r.0 c.args.grant c.args.nonce c.args.bytes v l d.0 r.1 p (d.1 r.0 r.1) (fits _ _ _ c.is_over.ensures c.if-is_over.false) c.requires.packet)
+    rw (c.replace.ensures, c.in-Some-ended.ensures.same, c.fresh-entry.ensures.value) (admits-opened_over c.args.entries.now.slots o last c.args.now c.args.entries.now.items h c.in-Some-ended.other r.0 c.args.grant c.args.cap c.args.nonce c.args.bytes v l d.0 r.1 p (d.1 r.0 r.1) (fits _ _ _ c.is_over.ensures c.if-is_over.false) c.requires.packet)
 
 pub returns-clause-near : goal.returns-clause-near
 returns-clause-near c =
     let r = c.fresh-entry.ensures.ranges in
-    rw (c.replace.ensures, c.in-Some-ended.ensures.same, c.fresh-entry.ensures.value) (near-set c.args.now c.args.entries.now.items c.in-Some-ended.other (opened c.args.now c.args.grant c.args.nonce c.args.bytes) c.requires.near (near-opened c.args.now c.args.grant c.args.nonce c.args.bytes c.requires.packet r.0 r.1 (fits _ _ _ c.is_over.ensures c.if-is_over.false)))
+    rw (c.replace.ensures, c.in-Some-ended.ensures.same, c.fresh-entry.ensures.value) (near-set c.args.now c.args.entries.now.items c.in-Some-ended.other (opened c.args.now c.args.grant c.args.cap c.args.nonce c.args.bytes) c.requires.near (near-opened c.args.now c.args.grant c.args.cap c.args.nonce c.args.bytes c.requires.packet r.0 r.1 (fits _ _ _ c.is_over.ensures c.if-is_over.false)))
+
+pub returns-in-Some-clause-shown : goal.returns-in-Some-clause-shown
+returns-in-Some-clause-shown c test a g =
+    rw (c.rewrite.ensures, c.fresh-entry.ensures.value) (shown-set test c.args.entries.now.items c.in-Some.at (opened c.args.now c.args.grant c.args.cap c.args.nonce c.args.bytes) a g)
+
+pub returns-then-not-is_full-clause-shown : goal.returns-then-not-is_full-clause-shown
+returns-then-not-is_full-clause-shown c test a g =
+    rw (c.push.ensures, c.fresh-entry.ensures.value) (shown-push test c.args.entries.now.items (opened c.args.now c.args.grant c.args.cap c.args.nonce c.args.bytes) a g)
+
+pub returns-clause-shown : goal.returns-clause-shown
+returns-clause-shown c test a g =
+    rw (c.replace.ensures, c.in-Some-ended.ensures.same, c.fresh-entry.ensures.value) (shown-set test c.args.entries.now.items c.in-Some-ended.other (opened c.args.now c.args.grant c.args.cap c.args.nonce c.args.bytes) a g)
+
+pub returns-in-Some-clause-noted : goal.returns-in-Some-clause-noted
+returns-in-Some-clause-noted c a =
+    let p = rw c.in-Some.is at c.requires.place in
+    rw (c.rewrite.ensures, c.fresh-entry.ensures.value) (is_shown-set c.args.entries.now.items c.in-Some.at (opened c.args.now c.args.grant c.args.cap c.args.nonce c.args.bytes) p.0)
+
+pub returns-then-not-is_full-clause-noted : goal.returns-then-not-is_full-clause-noted
+returns-then-not-is_full-clause-noted c a =
+    rw (c.push.ensures, c.fresh-entry.ensures.value) (is_shown-push c.args.entries.now.items (opened c.args.now c.args.grant c.args.cap c.args.nonce c.args.bytes))
+
+pub returns-clause-noted : goal.returns-clause-noted
+returns-clause-noted c a =
+    rw (c.replace.ensures, c.in-Some-ended.ensures.same, c.fresh-entry.ensures.value) (is_shown-set c.args.entries.now.items c.in-Some-ended.other (opened c.args.now c.args.grant c.args.cap c.args.nonce c.args.bytes) c.in-Some-ended.ensures.place.0)

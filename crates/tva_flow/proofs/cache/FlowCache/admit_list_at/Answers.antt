@@ -1,5 +1,6 @@
 use Rattle.std.proofs.Common.{sym, ap, subst}
 use Rattle.tva_flow.specs.Stands.{Cache, StandsFor}
+use Rattle.tva_flow.specs.Places.{AreShown}
 use Rattle.tva_flow.proofs.Near.{near-later}
 use Rattle.tva_flow.proofs.Timely.{list-timely}
 use Rattle.tva_flow.proofs.cache.FlowCache.admit_list_at.Goals as goal
@@ -37,3 +38,9 @@ pub returns-in_default-clause-timely : goal.returns-in_default-clause-timely
 returns-in_default-clause-timely c h v t w =
     list-timely c.self.inside.entries.slots c.args.self.now.offset h c.args.now.0 c.args.grant c.args.nonce c.args.length c.open.result
     (c.open.ensures.answer c.self.inside.clock_offset c.self.inside.last h (rw (ap (λ (v : Cache). v.last) c.self.view_is) c.requires.time) (subst (λ (z : Cache). StandsFor z h) (sym c.self.view_is) v)).0 t w
+
+pub returns-in-Some-clause-shown : goal.returns-in-Some-clause-shown
+returns-in-Some-clause-shown c test a g = c.renew.ensures.shown test (subst (λ (z : Cache). AreShown test z.entries) (sym c.self.view_is) a) g
+
+pub returns-in_default-clause-shown : goal.returns-in_default-clause-shown
+returns-in_default-clause-shown c test a g = c.open.ensures.shown test (subst (λ (z : Cache). AreShown test z.entries) (sym c.self.view_is) a) g

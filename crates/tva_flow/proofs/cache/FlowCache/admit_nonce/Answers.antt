@@ -1,6 +1,7 @@
 use Rattle.std.proofs.Common.{◌≡◌, ℕ, ◌≤◌, Bool, false, ltb, sym, ap, subst, arith}
 use Rattle.std.proofs.lemmas.Bool.Decides.{nat_tests}
 use Rattle.tva_flow.specs.Stands.{Cache, StandsFor}
+use Rattle.tva_flow.specs.Places.{AreShown}
 use Rattle.tva_flow.proofs.Admit.{answers-none, answers-ended}
 use Rattle.tva_flow.proofs.Near.{near-later}
 use Rattle.tva_flow.proofs.Timely.{nonce-timely}
@@ -50,3 +51,6 @@ returns-in_default-2-clause-verdict c h v =
     let o = ap (λ (v : Cache). v.offset) c.self.view_is in
     rw (← o) (answers-none c.self.inside.entries.slots c.self.inside.clock_offset c.self.inside.last c.args.now.0 c.self.inside.entries.items h c.args.flow c.args.nonce c.args.length
     (subst (λ (z : Cache). StandsFor z h) (sym c.self.view_is) v) (rw (ap (λ (v : Cache). v.last) c.self.view_is) c.requires.time) c.in_default.ensures).0
+
+pub returns-in-Some-clause-shown : goal.returns-in-Some-clause-shown
+returns-in-Some-clause-shown c test a = c.renew_held.ensures.shown test (subst (λ (z : Cache). AreShown test z.entries) (sym c.self.view_is) a)

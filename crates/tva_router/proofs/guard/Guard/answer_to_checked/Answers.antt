@@ -1,4 +1,5 @@
-use Rattle.std.proofs.Common.{ℕ, sym, subst}
+use Rattle.std.proofs.Common.{ℕ, sym, ◌∙◌, subst, arith}
+use Rattle.tva_caps.specs.Known.{is_good}
 use Rattle.tva_flow.specs.Budget.{IsWithinSeconds}
 use Rattle.tva_router.proofs.Answers.{keeps-verdict}
 use Rattle.tva_router.proofs.guard.Guard.answer_to_checked.Goals as goal
@@ -10,3 +11,18 @@ returns-in-Valid-clause-keeps c =
     let within : IsWithinSeconds c.args.plan.now.clock_offset c.args.arrival.now.time.0 c.in-Valid.grant = record { from = second.from; until = second.until } in
     rw c.answer_of.ensures (keeps-verdict c.args.plan.now c.args.arrival.now c.args.nonce c.admit_list_at.result c.args.self.now.cache c.admit_list_at.new.self
     clock c.admit_list_at.ensures.stands (λ h s t. c.admit_list_at.ensures.timely h s t (subst (λ (o : ℕ). IsWithinSeconds o c.args.arrival.now.time.0 c.in-Valid.grant) (sym clock) within)))
+
+pub returns-in-Valid-clause-guard : goal.returns-in-Valid-clause-guard
+returns-in-Valid-clause-guard c =
+    let g = c.requires.may.guard in
+    record {
+      master = g.master;
+      clock = g.clock;
+      key = c.admit_list_at.ensures.key ∙ g.key;
+      slots = c.admit_list_at.ensures.same.0 ∙ g.slots;
+      offset = c.admit_list_at.ensures.same.1 ∙ g.offset;
+      minted = g.minted;
+      charged = omega (arith, c.admit_list_at.ensures.last);
+      known = c.admit_list_at.ensures.shown (is_good c.args.plan.now.master) g.known (rw c.in-Valid.is at c.requires.good);
+      incoming = g.incoming;
+    }

@@ -1,5 +1,9 @@
-use Rattle.std.proofs.Common.{ℕ, List, ap, ◌∙◌, subst, arith}
+use Rattle.std.proofs.Common.{◌≡◌, ℕ, true, List, sym, ap, ◌∙◌, subst, arith}
+use Rattle.std.proofs.lemmas.List.Elements.{All-nil}
 use Rattle.tva_caps.specs.Minting.{MinterState}
+use Rattle.tva_caps.specs.Known.{is_good}
+use Rattle.tva_flow.specs.declared.kept.Entry.{Entry}
+use Rattle.tva_flow.specs.Places.{AreShown}
 use Rattle.tva_flow.specs.Stands.{Cache}
 use Rattle.tva_router.specs.Tables.{ArePlaces}
 use Rattle.tva_router.proofs.guard.Guard.build.Goals as goal
@@ -13,5 +17,6 @@ returns-clause-guard c = record {
   offset = ap (λ (z : Cache). z.offset) c.in_ok-with_slots_keyed.ensures.value;
   minted = omega (arith, ap (λ (z : MinterState). z.last) c.new.ensures);
   charged = omega (arith, ap (λ (z : Cache). z.last) c.in_ok-with_slots_keyed.ensures.value);
+  known = subst (λ (z : Cache). AreShown (is_good c.args.plan.now.master) z.entries) (sym c.in_ok-with_slots_keyed.ensures.value) (All-nil (λ (e : Entry). is_good c.args.plan.now.master e.grant e.cap ≡ true));
   incoming = subst (λ (z : List (ℕ × ℕ)). ArePlaces z c.in_ok-places_of.field-0) c.as_slice.ensures c.in_ok-places_of.ensures;
 }

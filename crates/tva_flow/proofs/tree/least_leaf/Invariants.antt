@@ -1,0 +1,13 @@
+use Rattle.std.proofs.Common.{◌≡◌, ◌*◌, ◌-◌, ◌<◌, ◌≤◌, slice_index}
+use Rattle.tva_flow.proofs.tree.least_leaf.Given as goal
+
+-- this node has the root's number
+abbrev pub invariant-loop-at : goal.invariant-loop-at
+invariant-loop-at l = record {
+  from : 1 ≤ l.at;
+  until : l.at < 2 * l.places;
+  least : slice_index l.nodes.items l.at ≡ slice_index l.nodes.items 1;
+}
+
+abbrev pub decreases-loop-at : goal.decreases-loop-at
+decreases-loop-at l = 2 * l.places - l.at

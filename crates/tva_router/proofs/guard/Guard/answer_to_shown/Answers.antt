@@ -1,0 +1,15 @@
+use Rattle.std.proofs.Common.{◌≡◌, ℕ, true, List, sym, subst}
+use Rattle.tva_caps.specs.Check.{IfValid}
+use Rattle.tva_caps.specs.Known.{is_good, IsGoodOrNone}
+use Rattle.tva_router.proofs.Answers.{known_good}
+use Rattle.tva_router.proofs.guard.Guard.answer_to_shown.Goals as goal
+
+pub check_known-checked-requires-clause-known : goal.check_known-checked-requires-clause-known
+check_known-checked-requires-clause-known c =
+    let g = c.requires.may.guard in
+    subst (λ (m : List ℕ). IsGoodOrNone m c.known_at-known.result) (sym g.master) (known_good c.args.plan.now.master c.args.self.now.cache.entries c.place-at.result c.known_at-known.result
+    c.place-at.ensures.within c.known_at-known.ensures g.known)
+
+pub answer_to_checked-requires-clause-good : goal.answer_to_checked-requires-clause-good
+answer_to_checked-requires-clause-good c =
+    subst (λ (m : List ℕ). IfValid c.check_known-checked.result (λ g. is_good m g c.in-Some.cap ≡ true)) c.requires.may.guard.master c.check_known-checked.ensures.good
