@@ -26,17 +26,18 @@ use Rattle.tva_net.proofs.Windows as spans
 -- ## what is kept
 
 pub grows_same : (v : NodeState) → GrowsFrom v v
-grows_same v = record { events = begins_same v.events; sendings = begins_same v.sendings; keeps = refl }
+grows_same v = record { site = refl; events = begins_same v.events; sendings = begins_same v.sendings; keeps = refl }
 
 grows_more : (u v w : NodeState) → GrowsFrom u v → GrowsFrom v w → GrowsFrom u w
 grows_more u v w a b = record {
+  site = b.site ∙ a.site;
   events = begins_more u.events v.events w.events a.events b.events;
   sendings = begins_more u.sendings v.sendings w.sendings a.sendings b.sendings;
   keeps = b.keeps ∙ a.keeps;
 }
 
 posted_grows : (old new : NodeState) → KeepsWork old new → GrowsFrom old new
-posted_grows old new k = record { events = ([], k.events ∙ sym (append-nil old.events)); sendings = ([], k.sendings ∙ sym (append-nil old.sendings)); keeps = k.keeps }
+posted_grows old new k = record { site = k.site; events = ([], k.events ∙ sym (append-nil old.events)); sendings = ([], k.sendings ∙ sym (append-nil old.sendings)); keeps = k.keeps }
 
 pub told_same : (nodes : List NodeState) → AllZip GrowsFrom nodes nodes
 told_same nodes = zip_same GrowsFrom grows_same nodes
@@ -45,7 +46,7 @@ pub told_more : (a b c : List NodeState) → AllZip GrowsFrom a b → AllZip Gro
 told_more a b c h k = zip_both GrowsFrom GrowsFrom GrowsFrom grows_more a b c h k
 
 pub told_kept : (olds news : List NodeState) → AllZip Keeps olds news → AllZip GrowsFrom olds news
-told_kept olds news h = zip_weaker Keeps GrowsFrom (λ x y k. record { events = k.events; sendings = k.sendings; keeps = k.keeps }) olds news h
+told_kept olds news h = zip_weaker Keeps GrowsFrom (λ x y k. record { site = k.site; events = k.events; sendings = k.sendings; keeps = k.keeps }) olds news h
 
 pub told_posted : (olds news : List NodeState) → AllZip KeepsWork olds news → AllZip GrowsFrom olds news
 told_posted olds news h = zip_weaker KeepsWork GrowsFrom posted_grows olds news h

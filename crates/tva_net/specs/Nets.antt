@@ -25,8 +25,10 @@ use Rattle.tva_net.specs.Sums.{AreWithin}
 abbrev pub ByPlace : (ℕ → NodeState → Type 0) → List NodeState → Type 0
 ByPlace P nodes = (place : ℕ) (d : NodeState) → place < length nodes → P place (slice_index_or nodes place d)
 
--- a node's events begin with those that it had, and so does what it sent; and it keeps as much of them
+-- a node stays at its site; its events begin with those that it had, and so does what it sent; and it keeps as much of
+-- them
 pub record GrowsFrom (old new : NodeState) : Type 0 where
+  pub site : new.site ≡ old.site
   pub events : states.BeginsWith old.events new.events
   pub sendings : states.BeginsWith old.sendings new.sendings
   pub keeps : new.keeps ≡ old.keeps
