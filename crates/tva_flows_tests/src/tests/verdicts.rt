@@ -261,7 +261,10 @@ fn capabilities_stand_in_entries(rt: HostRuntime) -> Result<(), Fail> {
     assert_eq!(rt; cache.show(&rt, 1, newer, 90), Verdict::Authorised(newer));
     assert_eq!(rt; cache.show(&rt, 2, older, 70), Verdict::Superseded);
     assert_eq!(rt; cache.shown(&flow), Some((newer, 90)));
-    assert_eq!(rt; cache.nonce(&rt, 3, flow, 1, 100).0, Verdict::Authorised(newer));
+    assert_eq!(rt;
+        cache.nonce(&rt, 3, flow, 1, 100).0,
+        Verdict::Authorised(newer)
+    );
     assert_eq!(rt; cache.shown(&flow), Some((newer, 90)));
     cache.cache.clear();
     assert_eq!(rt; cache.shown(&flow), None);
