@@ -1,1 +1,2 @@
 mod Restart
+mod Lost
