@@ -15,7 +15,8 @@ use Rattle.tva_sender.specs.Contacts as contact
 use Rattle.tva_sender.specs.Contacts.{Contact, Ask, Taking, taking_in, last_taking, asks, asked_at, time}
 use Rattle.tva_flow.proofs.Same.{and_true}
 use Rattle.tva_honest.specs.Deals.{Deal, Prepared, Granted, Noticed, Coming}
-use Rattle.tva_honest.specs.Paths.{asks_kind, asks_in, ask_id, last_ask_id, same_id, come_as, ask_coming, ask_came, granted_by, grant_came, rights_in, last_rights, IsNoGrant}
+use Rattle.tva_honest.specs.Paths.{asks_kind, asks_in, ask_id, last_ask_id, same_id, come_as, ask_coming, IsNoGrant}
+use Rattle.tva_honest.specs.Narrow.{ask_came, granted_by, grant_came}
 use Rattle.tva_honest.proofs.Lists.{some_same}
 use Rattle.tva_honest.proofs.Dealt.{shape_of_kind, shape_in, contact_of}
 
@@ -241,6 +242,30 @@ coming_is seen ds came c =
     ap (option_and_then (come_as seen)) (last_id ds ∙ ap (option_map (λ (a : Asked). a.id)) c.last) ∙ c.found
 
 -- ## the rights of the last grant
+
+abbrev rights_in : Deal → Option Rights
+rights_in (Prepared time packet) = None
+rights_in (Granted rights caps) = Some rights
+rights_in Noticed = None
+
+abbrev pub last_rights : List Deal → Option Rights
+last_rights [] = None
+last_rights (d ∷ ds) = option_or (last_rights ds) (rights_in d)
+
+rights_other : (d : Deal) → IsNoGrant d → rights_in d ≡ None
+rights_other (Prepared time packet) k = refl
+rights_other (Granted rights caps) k = absurd k
+rights_other Noticed k = refl
+
+rights_none : (ds : List Deal) → AllByRecursion IsNoGrant ds → last_rights ds ≡ None
+rights_none [] k = refl
+rights_none (d ∷ ds) k = ap₂ option_or (rights_none ds k.1) (rights_other d k.0)
+
+-- where no other is behind it
+pub rights-under : (first : List Deal) (rights : Rights) (caps : List ℕ) (under : List Deal) → AllByRecursion IsNoGrant under
+    → last_rights (first ++ Granted rights caps ∷ under) ≡ Some rights
+rights-under [] rights caps under k = ap (λ (o : Option Rights). option_or o (Some rights)) (rights_none under k)
+rights-under (d ∷ ds) rights caps under k = ap (λ (o : Option Rights). option_or o (rights_in d)) (rights-under ds rights caps under k)
 
 rights_is : (before : List Contact) (d : Deal) (after : List Contact)
     → option_map (λ (t : Taking). t.rights) (taking_in before (contact_of d) after) ≡ rights_in d

@@ -150,24 +150,24 @@ each_passing P q (x ∷ xs) k = by (each_passing P q xs k.1) (q x)
 -- what counts for the life of a nonce alone lies in its boot
 pub in_boot : (host : HostPlan) (router : RouterPlan) (delay : ℕ) (own : List Deal) (seen : List Coming) (charged : List Charge)
     (x : Coming) (steady : IsSteadyPath host router delay own seen charged x) → shows_nonce x.packet.carried ≡ true
-    → LieInBoot router (charged_since (router_second router.clock_offset steady.grant.ask.time) (comings_at router x.time seen)) x.time
-    (since_noticed steady.grant.under)
+    → LieInBoot router (charged_since (router_second router.clock_offset steady.ask.time) (comings_at router x.time seen)) x.time
+    (since_noticed steady.last.in_time.before)
 in_boot host router delay own seen charged x steady alone before sent packet after place shown =
-    by (come_as (charged_since (router_second router.clock_offset steady.grant.ask.time) (comings_at router x.time seen)) packet.id) refl (was shown)
+    by (come_as (charged_since (router_second router.clock_offset steady.ask.time) (comings_at router x.time seen)) packet.id) refl (was shown)
   where
-    was : WasCharged (charged_since (router_second router.clock_offset steady.grant.ask.time) (comings_at router x.time seen)) (Prepared sent packet)
+    was : WasCharged (charged_since (router_second router.clock_offset steady.ask.time) (comings_at router x.time seen)) (Prepared sent packet)
     was =
-        at_place (WasCharged (charged_since (router_second router.clock_offset steady.grant.ask.time) (comings_at router x.time seen)))
-        (since_noticed steady.grant.under) before (Prepared sent packet) after place (steady.known alone).paid
+        at_place (WasCharged (charged_since (router_second router.clock_offset steady.ask.time) (comings_at router x.time seen)))
+        (since_noticed steady.last.in_time.before) before (Prepared sent packet) after place (steady.known alone).paid
 
-    by : (o : Option Coming) → come_as (charged_since (router_second router.clock_offset steady.grant.ask.time) (comings_at router x.time seen)) packet.id ≡ o
+    by : (o : Option Coming) → come_as (charged_since (router_second router.clock_offset steady.ask.time) (comings_at router x.time seen)) packet.id ≡ o
         → is_some (option_and_then (λ (y : Coming). y.charge) o) ≡ true
         → IsSomeAnd o (λ y. (boot_at router y.time ≡ boot_at router x.time) × (is_some y.charge ≡ true))
     by None e k = absurd (cc)
     by (Some y) e k =
         let p : Coming → Bool = λ y. boot_at router y.time == boot_at router x.time in
         let passes =
-        come_is (λ (y : Coming). p y ≡ true) (charged_since (router_second router.clock_offset steady.grant.ask.time) (comings_at router x.time seen)) packet.id y
-        (each_passing (λ (y : Coming). p y ≡ true) (λ (y : Coming). is_charged_since (router_second router.clock_offset steady.grant.ask.time) y.charge)
+        come_is (λ (y : Coming). p y ≡ true) (charged_since (router_second router.clock_offset steady.ask.time) (comings_at router x.time seen)) packet.id y
+        (each_passing (λ (y : Coming). p y ≡ true) (λ (y : Coming). is_charged_since (router_second router.clock_offset steady.ask.time) y.charge)
         (comings_at router x.time seen) (each-passes p seen)) e in
         (eqb-true (boot_at router y.time) (boot_at router x.time) passes.0, k)

@@ -25,7 +25,8 @@ use Rattle.tva_log.specs.Entries.{Entry}
 use Rattle.tva_honest.specs.Miles.{Mile, Went, Got, Told, contact_in, contacts, paid_in, charges_in, last_came, since_got, after_told, since_notified}
 use Rattle.tva_honest.specs.SteadyMiles.{Way, ComesIn, IsPaid, IsMile, AreMiles, AreAuthorised}
 use Rattle.tva_honest.specs.Deals.{Deal, Prepared, Granted, Noticed, Coming}
-use Rattle.tva_honest.specs.Paths.{shows, same_id, come_as, is_charged_since, charged_since, ask_came, grant_came, since_granted, after_noticed, since_noticed, IsNoGrant, WasCharged}
+use Rattle.tva_honest.specs.Paths.{shows, same_id, come_as, is_charged_since, charged_since, after_noticed, since_noticed, IsNoGrant, WasCharged}
+use Rattle.tva_honest.specs.Narrow.{ask_came, grant_came, since_granted}
 use Rattle.tva_honest.proofs.Pushes.{contacts-push, charges-push, came-got, came-same, since-got, since-went, since-told}
 use Rattle.tva_honest.proofs.Lists.{Rises, rises_rest, rises_front}
 use Rattle.tva_honest.proofs.Dealt.{shape_of_kind, shape_in, counted, contact_of}

@@ -5,6 +5,7 @@ use Rattle.std.specs.Option.{option_map, IfSome}
 use Rattle.std.specs.List.{AllByRecursion, filter_map, cons_option}
 use Rattle.std.proofs.lemmas.Bool.{eqb-true, le-leb}
 use Rattle.std.proofs.lemmas.List.Elements.{filter_map-append}
+use Rattle.tva_base.specs.declared.packet.Class.TheVariants as class
 use Rattle.tva_base.specs.declared.packet.Fate.{Fate}
 use Rattle.tva_base.specs.declared.packet.Flow.{Flow}
 use Rattle.tva_base.specs.declared.packet.Grant.{Grant}
@@ -63,8 +64,8 @@ use Rattle.tva_honest.specs.Miles.{Mile, contacts, charges_in, last_came, since_
 use Rattle.tva_honest.specs.SteadyMiles as kit
 use Rattle.tva_honest.specs.SteadyMiles.{Way, ComesIn, grant_at, AreAuthorised, IsPaid, is_since, IsSteady, IsNarrow, IsTaken}
 use Rattle.tva_honest.specs.Deals.{Deal, Prepared, Granted, Noticed, Coming, coming, deals, comings}
-use Rattle.tva_honest.specs.Paths.{shows, shows_nonce, ask_coming, ask_came, grant_came, since_granted, since_noticed, IsNoGrant, ShowsMinted, ComesInTime, ComesSteadily, ComesUnder, comings_at, is_charged_since, charged_since, WasCharged, HasLastGrant, IsSteadyPath, IsTakenByLast, AreHonestRegular}
-use Rattle.tva_honest.specs.Narrow.{IsNarrowPath, AreNarrowSteady}
+use Rattle.tva_honest.specs.Paths.{shows, shows_nonce, ask_coming, since_noticed, IsNoGrant, ShowsMinted, ComesInTime, ComesUnder, comings_at, is_charged_since, charged_since, WasCharged, IsSteadyPath, AreHonestRegular}
+use Rattle.tva_honest.specs.Narrow.{ask_came, grant_came, since_granted, ComesSteadily, IsNarrowPath, AreNarrowSteady}
 use Rattle.tva_honest.proofs.Given.{AreGiven}
 use Rattle.tva_honest.proofs.Lists.{some_same, Rises, rises-push, rises_from, rising_from, rises_rest, rises_front, rises_last, each_front, one_place}
 use Rattle.tva_honest.proofs.Dealt.{shape_in, counted, contact_of, played_front, map_place}
@@ -72,7 +73,7 @@ use Rattle.tva_honest.proofs.Hosts.{ordinal_of, made_at, entry_key, deal_key, ta
 use Rattle.tva_honest.proofs.Returns.{received_returns}
 use Rattle.tva_honest.proofs.Counts.{few_inputs}
 use Rattle.tva_honest.proofs.Matching.{In, come_key, keys, AreIn, Matches, in_place, in_append, in_behind, matched, matches_in, in_at, SplitMatch, split_match, keys_passing, rises_passing}
-use Rattle.tva_honest.proofs.Asks.{Asked, last_time, asked_place, come_id, came-granted, came-under, LastAt, split_last, ask_is, coming_is, last_rights_are}
+use Rattle.tva_honest.proofs.Asks.{Asked, last_time, asked_place, come_id, came-granted, came-under, LastAt, split_last, ask_is, coming_is, last_rights, last_rights_are, rights-under}
 use Rattle.tva_honest.proofs.Comings.{paid_of, paid, charge_parts, paying_all, claim, claim_at, flow_charges, CameAt, came_place, paid_only, paid_place, charged_is, since_charged, since_first, since_each, since_all, since_early, paid_all, was_since, since_paid, held_nonce}
 use Rattle.tva_honest.proofs.Authorised.{last-passes, each-behind, Front, front, none, honest, narrow-honest}
 use Rattle.tva_honest.proofs.Stages.{Holds, Stage}
@@ -167,6 +168,18 @@ same_behind (x ∷ xs) ys zs e = (let rest : xs ++ ys ≡ xs ++ zs = cc in same_
 passes_if : (f : Charge → ℕ) (n : ℕ) (o : Option Charge) → IfSome o (λ c. n ≤ f c) → IfSome o (λ c. leb n (f c) ≡ true)
 passes_if f n None k = tt
 passes_if f n (Some c) k = le-leb n (f c) k
+
+-- a packet of a flow is regular, and charged to the last grant among these deals: with its rights, and of the router
+-- second in which the last ask before it came
+pub record IsTakenByLast (router : RouterPlan) (flow : Flow) (seen : List Coming) (before : List Deal) (fate : Fate)
+    : Type 0 where
+  pub rights : Rights
+  pub came : ℕ
+  pub granted : last_rights before ≡ Some rights
+  pub asked : grant_came seen [] before ≡ Some came
+  pub charge : fate.charge ≡
+      Some (record { flow = flow; rights = rights; second = router_second router.clock_offset came })
+  pub class : fate.class ≡ class.Regular
 
 -- ## in a run
 
@@ -438,23 +451,41 @@ module _ (config : Config) (rows : List Row) (until : ℕ) (logs : Logs) (valid 
         (rises_from (map come_key (recent ++ last ∷ [])) order))
 
   module _ (steady : IsSteadyPath host router delay own seen held last) where
-    abbrev at : InTime last
-    at = steady.last.in_time
-
-    abbrev earlier : List Deal
-    earlier = at.before
-
-    abbrev tail : List Deal
-    tail = Prepared at.sent at.packet ∷ at.after
+    abbrev granted : Deal
+    granted = Granted steady.rights steady.caps
 
     abbrev begin : List Deal
-    begin = steady.grant.first ++ Granted steady.grant.rights steady.grant.caps ∷ []
+    begin = steady.first ++ granted ∷ []
 
     abbrev under : List Deal
-    under = steady.grant.under
+    under = steady.last.in_time.before
+
+    abbrev tail : List Deal
+    tail = Prepared steady.last.in_time.sent steady.last.in_time.packet ∷ steady.last.in_time.after
+
+    -- the deals before it, in all
+    abbrev earlier : List Deal
+    earlier = steady.first ++ granted ∷ under
+
+    place_here : own ≡ earlier ++ tail
+    place_here =
+        steady.place ∙ (ap (λ (ds : List Deal). steady.first ++ granted ∷ ds) steady.last.in_time.place
+        ∙ sym (append_assoc steady.first (granted ∷ under) tail))
+
+    abbrev at : InTime last
+    at = record {
+      before = earlier;
+      sent = steady.last.in_time.sent;
+      packet = steady.last.in_time.packet;
+      after = steady.last.in_time.after;
+      place = place_here;
+      same = steady.last.in_time.same;
+      from = steady.last.in_time.from;
+      until = steady.last.in_time.until;
+    }
 
     abbrev asked_time : ℕ
-    asked_time = steady.grant.ask.time
+    asked_time = steady.ask.time
 
     abbrev second : ℕ
     second = router_second router.clock_offset asked_time
@@ -463,20 +494,20 @@ module _ (config : Config) (rows : List Row) (until : ℕ) (logs : Logs) (valid 
     met = charged_since second boot
 
     split : earlier ≡ begin ++ under
-    split = steady.grant.place ∙ sym (append_assoc steady.grant.first (Granted steady.grant.rights steady.grant.caps ∷ []) under)
+    split = sym (append_assoc steady.first (granted ∷ []) under)
 
-    ask_is_known : ask_came seen steady.grant.first ≡ Some asked_time
-    ask_is_known = ap (option_map (λ (x : Coming). x.time)) steady.grant.came
+    ask_is_known : ask_came seen steady.first ≡ Some asked_time
+    ask_is_known = ap (option_map (λ (x : Coming). x.time)) steady.came
 
     came_behind : (ds : List Deal) → AllByRecursion IsNoGrant ds → grant_came seen [] (begin ++ ds) ≡ Some asked_time
     came_behind ds k =
         came-under seen begin ds k
-        ∙ came-granted seen [] steady.grant.first steady.grant.rights steady.grant.caps asked_time ask_is_known
+        ∙ came-granted seen [] steady.first steady.rights steady.caps asked_time ask_is_known
 
     place_under : (before : List Deal) (d : Deal) (after : List Deal) → under ≡ before ++ d ∷ after
         → own ≡ (begin ++ before) ++ d ∷ (after ++ tail)
     place_under before d after e =
-        at.place ∙ (ap (λ (ds : List Deal). ds ++ tail) (split ∙ ap (λ (ds : List Deal). begin ++ ds) e)
+        place_here ∙ (ap (λ (ds : List Deal). ds ++ tail) (split ∙ ap (λ (ds : List Deal). begin ++ ds) e)
         ∙ (append_assoc begin (before ++ d ∷ after) tail
         ∙ (ap (λ (ds : List Deal). begin ++ ds) (append_assoc before (d ∷ after) tail)
         ∙ sym (append_assoc begin before (d ∷ (after ++ tail))))))
@@ -487,7 +518,7 @@ module _ (config : Config) (rows : List Row) (until : ℕ) (logs : Logs) (valid 
         let it = u.in_time in
         let came_is : grant_came seen [] (begin ++ it.before) ≡ Some asked_time =
         came_behind it.before (each_front IsNoGrant it.before (Prepared it.sent it.packet ∷ it.after)
-        (subst (AllByRecursion IsNoGrant) it.place steady.grant.last)) in
+        (subst (AllByRecursion IsNoGrant) it.place steady.no_other)) in
         record {
           in_time = record {
             before = begin ++ it.before;
@@ -520,19 +551,18 @@ module _ (config : Config) (rows : List Row) (until : ℕ) (logs : Logs) (valid 
         at_place IsNoGrant under o.0 (Granted rights caps) after
         (same_behind begin under (o.0 ++ Granted rights caps ∷ after)
         (sym split ∙ (e ∙ (ap (λ (ds : List Deal). ds ++ Granted rights caps ∷ after) o.1
-        ∙ append_assoc begin o.0 (Granted rights caps ∷ after))))) steady.grant.last
+        ∙ append_assoc begin o.0 (Granted rights caps ∷ after))))) steady.no_other
 
-    fine : AllByRecursion (IsTrue (log_at logs sender)) (steady.grant.first ++ Granted steady.grant.rights steady.grant.caps ∷ under)
+    fine : AllByRecursion (IsTrue (log_at logs sender)) (steady.first ++ granted ∷ under)
     fine =
-        subst (AllByRecursion (IsTrue (log_at logs sender))) steady.grant.place
-        (each_front (IsTrue (log_at logs sender)) earlier tail
-        (subst (AllByRecursion (IsTrue (log_at logs sender))) at.place told_all.each))
+        each_front (IsTrue (log_at logs sender)) earlier tail
+        (subst (AllByRecursion (IsTrue (log_at logs sender))) place_here told_all.each)
 
     rises_under : Rises (keys under)
     rises_under =
         rises_front (keys under) (keys tail) (subst Rises (filter_map-append deal_key under tail)
         (rises_behind begin (under ++ tail) (subst (λ (ds : List Deal). Rises (keys ds))
-        (at.place ∙ (ap (λ (ds : List Deal). ds ++ tail) split ∙ append_assoc begin under tail)) rises)))
+        (place_here ∙ (ap (λ (ds : List Deal). ds ++ tail) split ∙ append_assoc begin under tail)) rises)))
 
     ins : AreIn under (paid met)
     ins =
@@ -544,49 +574,48 @@ module _ (config : Config) (rows : List Row) (until : ℕ) (logs : Logs) (valid 
     match : Matches under (paid met)
     match = matched under (paid met) rises_under (in_order second each steady.order).0 ins
 
-    bare : Bare way steady.grant.first
+    bare : Bare way steady.first
     bare =
-        bare_from way (log_at logs sender) [] steady.grant.first (bare_none way)
-        (each_front (IsTrue (log_at logs sender)) steady.grant.first (Granted steady.grant.rights steady.grant.caps ∷ under) fine)
+        bare_from way (log_at logs sender) [] steady.first (bare_none way)
+        (each_front (IsTrue (log_at logs sender)) steady.first (granted ∷ under) fine)
 
     comes_first : IfSome (asked_at (contacts bare.miles)) (λ (t : Time). ComesIn way t.0 asked_time)
     comes_first =
-        comes_for steady.grant.first (Granted steady.grant.rights steady.grant.caps ∷ (under ++ tail)) asked_time
-        (at.place ∙ (ap (λ (ds : List Deal). ds ++ tail) steady.grant.place
-        ∙ append_assoc steady.grant.first (Granted steady.grant.rights steady.grant.caps ∷ under) tail)) ask_is_known
-        (subst (λ (o : Option Coming). IsSomeAnd o InTime) (sym steady.grant.came) steady.grant.in_time)
+        comes_for steady.first (granted ∷ (under ++ tail)) asked_time
+        (place_here ∙ append_assoc steady.first (granted ∷ under) tail) ask_is_known
+        (subst (λ (o : Option Coming). IsSomeAnd o InTime) (sym steady.came) steady.in_time)
         bare.miles bare.contacts_are
 
     abbrev Miles : List Deal → List Coming → Type 0
     Miles before front =
-        Run way seen met (log_at logs sender) own earlier tail at.place rises (Unit {0}) open_at open_more
+        Run way seen met (log_at logs sender) own earlier tail place_here rises (Unit {0}) open_at open_more
         (λ before rights caps rest came o e. absurd (none_open before rights caps rest o e))
         (λ before rights caps rest o e. absurd (none_open before rights caps rest o e))
         (pays_for second each) (paying_all met) (since_charged second boot) before front
 
     miles : Miles earlier (paid met)
     miles =
-        miles_of way seen met (log_at logs sender) own earlier tail at.place rises (Unit {0}) open_at open_more
+        miles_of way seen met (log_at logs sender) own earlier tail place_here rises (Unit {0}) open_at open_more
         (λ before rights caps rest came o e. absurd (none_open before rights caps rest o e))
         (λ before rights caps rest o e. absurd (none_open before rights caps rest o e))
         (pays_for second each) (paying_all met) (since_charged second boot) begin under split ([], sym (append-nil begin))
-        (begun way seen met (log_at logs sender) own earlier tail at.place rises (Unit {0}) open_at open_more
+        (begun way seen met (log_at logs sender) own earlier tail place_here rises (Unit {0}) open_at open_more
         (λ before rights caps rest came o e. absurd (none_open before rights caps rest o e))
         (λ before rights caps rest o e. absurd (none_open before rights caps rest o e))
-        (pays_for second each) (paying_all met) (since_charged second boot) steady.grant.first steady.grant.rights steady.grant.caps asked_time bare ask_is_known
-        (at_place (IsTrue (log_at logs sender)) (steady.grant.first ++ Granted steady.grant.rights steady.grant.caps ∷ under)
-        steady.grant.first (Granted steady.grant.rights steady.grant.caps) under refl fine) comes_first)
+        (pays_for second each) (paying_all met) (since_charged second boot) steady.first steady.rights steady.caps asked_time bare ask_is_known
+        (at_place (IsTrue (log_at logs sender)) (steady.first ++ granted ∷ under)
+        steady.first granted under refl fine) comes_first)
         (each-behind (IsTrue (log_at logs sender)) begin under
-        (subst (AllByRecursion (IsTrue (log_at logs sender))) (sym (append_assoc steady.grant.first (Granted steady.grant.rights steady.grant.caps ∷ []) under)) fine))
+        (subst (AllByRecursion (IsTrue (log_at logs sender))) (sym (append_assoc steady.first (granted ∷ []) under)) fine))
         match
 
     came_last : last_came miles.miles ≡ Some asked_time
-    came_last = miles.came ∙ (ap (grant_came seen []) split ∙ came_behind under steady.grant.last)
+    came_last = miles.came ∙ (ap (grant_came seen []) split ∙ came_behind under steady.no_other)
 
     kept : Keeps at.packet packet
     kept =
         kept_at past input on packet fate onward rest here
-        at.before at.sent at.packet at.after at.place at.same
+        earlier at.sent at.packet at.after place_here at.same
 
     shims : AreShims at.packet.carried packet.carried
     shims = are_shims at.packet.carried packet.carried kept.carried unmarked shown
@@ -599,7 +628,7 @@ module _ (config : Config) (rows : List Row) (until : ℕ) (logs : Logs) (valid 
         subst (IsPlayed host.margin host.retry host.version)
         (ap₂ (λ (cs : List Contact) (n : ℕ). cs ++ contact.Prepared at.sent (shape_in q.carried) n ∷ [])
         (sym miles.contacts_are) size)
-        (played_to earlier at.sent q at.after at.place)
+        (played_to earlier at.sent q at.after place_here)
 
     charged_so : filter (λ (c : Charge). leb second c.grant.second) (of_flow packet.flow held) ≡ charges_in miles.miles
     charged_so =
@@ -610,8 +639,8 @@ module _ (config : Config) (rows : List Row) (until : ℕ) (logs : Logs) (valid 
 
     since_is : since_granted [] earlier ≡ under
     since_is =
-        ap (since_granted []) split ∙ (since_under begin under steady.grant.last
-        ∙ ap (λ (ds : List Deal). ds ++ under) (since_grant [] steady.grant.first steady.grant.rights steady.grant.caps))
+        ap (since_granted []) split ∙ (since_under begin under steady.no_other
+        ∙ ap (λ (ds : List Deal). ds ++ under) (since_grant [] steady.first steady.rights steady.caps))
 
     known : shows_nonce packet.carried ≡ true → IfSome (last_came miles.miles) (λ came. kit.IsKnown way held miles.miles came)
     known e =
@@ -635,7 +664,7 @@ module _ (config : Config) (rows : List Row) (until : ℕ) (logs : Logs) (valid 
       charges = subst (λ (o : Option ℕ). IfSome o (λ came. filter (is_since way came) (of_flow packet.flow held) ≡ charges_in miles.miles))
           (sym came_last) charged_so;
       comes = record { from = at.from; until = at.until };
-      behind = subst (λ (o : Option ℕ). IfSome o (λ u. u ≤ input_time input)) (sym miles.came) steady.last.behind;
+      behind = subst (λ (o : Option ℕ). IfSome o (λ u. u ≤ input_time input)) (sym came_last) steady.last.behind;
       nonce = of_nonce at.packet.carried packet.carried shims
           (IfSome (last_came miles.miles) (λ came. kit.IsKnown way held miles.miles came)) known;
       room = steady.room;
@@ -647,12 +676,31 @@ module _ (config : Config) (rows : List Row) (until : ℕ) (logs : Logs) (valid 
         at_router way ruling packet miles.miles held now refl refl (sym (force_clock router now)) (λ (z : Grant). leb second z.second)
         (λ d l k. ap last_charge (sym charged_so) ∙ last-passes (λ (c : Charge). leb second c.grant.second) (of_flow packet.flow held) d l k) in
         shows_as_made way ruling at.packet packet miles.miles held now a shims
-        (subst (λ (o : Option ℕ). IfSome o (λ u. ShowsMinted ruling packet packet.carried u)) (sym miles.came) steady.last.minted)
+        (subst (λ (o : Option ℕ). IfSome o (λ u. ShowsMinted ruling packet packet.carried u)) (sym came_last) steady.last.minted)
 
-    pub regular : IsTakenByLast router packet.flow seen steady.last.in_time.before fate
-    regular =
+    regular_here : IsTakenByLast router packet.flow seen earlier fate
+    regular_here =
         taken_regular earlier miles.miles miles.contacts_are miles.came (shape_in at.packet.carried)
         (honest way held miles.miles at.sent (shape_in at.packet.carried) (packet_length packet) now is_steady) shows_it
+
+    -- the last grant among them is that of the path
+    rights_here : regular_here.rights ≡ steady.rights
+    rights_here =
+        some_same regular_here.rights steady.rights (sym regular_here.granted
+        ∙ rights-under steady.first steady.rights steady.caps under steady.no_other)
+
+    came_here : regular_here.came ≡ asked_time
+    came_here =
+        some_same regular_here.came asked_time (sym regular_here.asked
+        ∙ (ap (grant_came seen []) split ∙ came_behind under steady.no_other))
+
+    abbrev grant_of : Rights → ℕ → Grant
+    grant_of rights came =
+        record { flow = packet.flow; rights = rights; second = router_second router.clock_offset came }
+
+    pub regular : (fate.charge ≡ Some (grant_of steady.rights asked_time)) × (fate.class ≡ class.Regular)
+    regular =
+        (regular_here.charge ∙ ap₂ (λ (r : Rights) (n : ℕ). Some (grant_of r n)) rights_here came_here, regular_here.class)
 
   -- ## in the narrower words
 
@@ -806,19 +854,6 @@ module _ (config : Config) (rows : List Row) (until : ℕ) (logs : Logs) (valid 
 
     abbrev second_so : ℕ
     second_so = router_second router.clock_offset the_ask.ask.time
-
-    abbrev grant_so : HasLastGrant host delay own seen before_it
-    grant_so = record {
-      first = last_at.first;
-      rights = last_at.rights;
-      caps = last_at.caps;
-      under = last_at.under;
-      place = last_at.is;
-      last = last_at.none;
-      ask = the_ask.ask;
-      came = the_ask.came;
-      in_time = the_ask.in_time;
-    }
 
     asked_so : ask_came seen last_at.first ≡ Some the_ask.ask.time
     asked_so = ap (option_map (λ (x : Coming). x.time)) the_ask.came
@@ -1028,10 +1063,34 @@ module _ (config : Config) (rows : List Row) (until : ℕ) (logs : Logs) (valid 
         held_by None g n same k = tt
         held_by (Some c) g n same k = (let second : c.grant.second ≡ g.second = ap (λ (z : Grant). z.second) k in omega (arith, second, same))
 
+    abbrev last_so : ComesUnder host router delay (last_at.under ++ from_it) the_ask.ask.time last
+    last_so = record {
+      in_time = record {
+        before = last_at.under;
+        sent = near.sent;
+        packet = near.packet;
+        after = near.after;
+        place = refl;
+        same = near.same;
+        from = near.from;
+        until = near.until;
+      };
+      behind = subst (λ (o : Option ℕ). IfSome o (λ came. came ≤ now)) came_is_so narrow.last.behind;
+      minted = subst (λ (o : Option ℕ). IfSome o (λ came. ShowsMinted ruling packet packet.carried came)) came_is_so narrow.last.minted;
+    }
+
     pub wider : IsSteadyPath host router delay own seen held last
     wider = record {
-      last = narrow.last;
-      grant = grant_so;
+      first = last_at.first;
+      rights = last_at.rights;
+      caps = last_at.caps;
+      rest = last_at.under ++ from_it;
+      place = place_olds;
+      ask = the_ask.ask;
+      came = the_ask.came;
+      in_time = the_ask.in_time;
+      last = last_so;
+      no_other = last_at.none;
       each = each_so;
       order = order_so;
       known = λ e. record { paid = each_since (WasCharged (charged_since second_so boot)) last_at.under paid_so; last = held_so e };

@@ -6,9 +6,9 @@ use Rattle.tva_base.specs.Changes.{in_force}
 use Rattle.tva_base.specs.Credit.{credit_of}
 use Rattle.tva_shim.specs.Layout.{layout, two_bytes, six_bytes, eight_bytes, number_bytes}
 use Rattle.tva_log.specs.declared.kinds.Input.TheVariants.{FromTrace}
-use Rattle.tva_log.specs.Entries.{Arrived, Entry, Took, Started}
-use Rattle.tva_honest.specs.Deals.{Deal, Prepared, Granted, Coming, coming, comings, deals}
-use Rattle.tva_honest.specs.Paths.{ComesInTime, ComesSteadily}
+use Rattle.tva_log.specs.Entries.{Arrived, Took, Started}
+use Rattle.tva_honest.specs.Deals.{Deal, Prepared, Granted, Coming, coming, deals}
+use Rattle.tva_honest.specs.Paths.{ComesInTime, ComesUnder}
 use Rattle.tva_honest.specs.Walk.{walk_b, walk_flow, walk_rights, walk_router, walk_host_a, walk_cap, walk_precap, walk_grant, walk_fate, walk_request, walk_list, walk_bare, walk_spoofed, walk_nonce, walk_renewal, walk_passes, walk_before_list, walk_before_nonce, walk_before_renewal, walk_log_a, walk_list_comes, walk_nonce_comes, walk_renewal_comes, IsSteadyBehind}
 
 abbrev own : List Deal
@@ -16,9 +16,6 @@ own = deals walk_b walk_log_a
 
 abbrev InTime : Coming → Type 0
 InTime x = ComesInTime walk_host_a 1000520 own x
-
-abbrev Steadily : List Entry → Coming → Type 0
-Steadily before x = ComesSteadily walk_host_a walk_router 1000520 own (comings walk_flow before) x
 
 abbrev list_coming : Coming
 list_coming = coming walk_list_comes (walk_list 0 0) (walk_fate Regular (Some walk_grant) 2)
@@ -58,48 +55,15 @@ request_in_time = record {
   until = omega arith;
 }
 
-abbrev list_in_time : InTime list_coming
-list_in_time = record {
-  before = asked ∷ granted ∷ [];
-  sent = 4002900;
-  packet = walk_list 0 0;
-  after = named ∷ renewed ∷ [];
-  place = refl;
-  same = refl;
-  from = omega arith;
-  until = omega arith;
-}
-
-abbrev nonce_in_time : InTime nonce_coming
-nonce_in_time = record {
-  before = asked ∷ granted ∷ listed ∷ [];
-  sent = 10000000;
-  packet = walk_nonce 0;
-  after = renewed ∷ [];
-  place = refl;
-  same = refl;
-  from = omega arith;
-  until = omega arith;
-}
-
-abbrev renewal_in_time : InTime renewal_coming
-renewal_in_time = record {
-  before = asked ∷ granted ∷ listed ∷ named ∷ [];
-  sent = 6000000000;
-  packet = walk_renewal 0 0 (walk_cap walk_flow);
-  after = [];
-  place = refl;
-  same = refl;
-  from = omega arith;
-  until = omega arith;
-}
-
 -- ## the grant under which they were prepared
 
 abbrev request_coming : Coming
 request_coming = record { time = 1001000; packet = walk_request 0 []; charge = None }
 
--- the list and the nonce alone, among the deals since the grant
+-- the list, the nonce alone and the renewal, among the deals since the grant
+abbrev dealt : List Deal
+dealt = listed ∷ named ∷ renewed ∷ []
+
 abbrev list_under : (ds : List Deal) → ComesInTime walk_host_a 1000520 (listed ∷ ds) list_coming
 list_under ds = record {
   before = [];
@@ -112,11 +76,23 @@ list_under ds = record {
   until = omega arith;
 }
 
-abbrev nonce_under : ComesInTime walk_host_a 1000520 (listed ∷ named ∷ []) nonce_coming
-nonce_under = record {
+abbrev nonce_under : (ds : List Deal) → ComesInTime walk_host_a 1000520 (listed ∷ named ∷ ds) nonce_coming
+nonce_under ds = record {
   before = listed ∷ [];
   sent = 10000000;
   packet = walk_nonce 0;
+  after = ds;
+  place = refl;
+  same = refl;
+  from = omega arith;
+  until = omega arith;
+}
+
+abbrev renewal_under : ComesInTime walk_host_a 1000520 dealt renewal_coming
+renewal_under = record {
+  before = listed ∷ named ∷ [];
+  sent = 6000000000;
+  packet = walk_renewal 0 0 (walk_cap walk_flow);
   after = [];
   place = refl;
   same = refl;
@@ -126,9 +102,12 @@ nonce_under = record {
 
 -- ## the paths
 
-list_comes : Steadily walk_before_list list_coming
+abbrev Under : Coming → Type 0
+Under x = ComesUnder walk_host_a walk_router 1000520 dealt 1001000 x
+
+list_comes : Under list_coming
 unfolding in_force
-list_comes = record { in_time = list_in_time; behind = omega arith; minted = refl }
+list_comes = record { in_time = list_under (named ∷ renewed ∷ []); behind = omega arith; minted = refl }
 
 pub steady_list : IsSteadyBehind walk_before_list walk_list_comes (walk_list 0 0) (walk_list 1 1)
 unfolding list_comes
@@ -141,18 +120,16 @@ steady_list = record {
       (walk_renewal 1 1 (walk_precap walk_flow 6));
   here = refl;
   steady = record {
+    first = asked ∷ [];
+    rights = walk_rights;
+    caps = walk_cap walk_flow ∷ [];
+    rest = dealt;
+    place = refl;
+    ask = request_coming;
+    came = refl;
+    in_time = request_in_time;
     last = list_comes;
-    grant = record {
-      first = asked ∷ [];
-      rights = walk_rights;
-      caps = walk_cap walk_flow ∷ [];
-      under = [];
-      place = refl;
-      last = tt;
-      ask = request_coming;
-      came = refl;
-      in_time = request_in_time;
-    };
+    no_other = tt;
     each = tt;
     order = (All-nil (λ n. 2 < n), tt);
     known = λ e. absurd (cc);
@@ -160,8 +137,8 @@ steady_list = record {
   };
 }
 
-nonce_comes : Steadily walk_before_nonce nonce_coming
-nonce_comes = record { in_time = nonce_in_time; behind = omega arith; minted = tt }
+nonce_comes : Under nonce_coming
+nonce_comes = record { in_time = nonce_under (renewed ∷ []); behind = omega arith; minted = tt }
 
 pub steady_nonce : IsSteadyBehind walk_before_nonce walk_nonce_comes (walk_nonce 0) (walk_nonce 1)
 unfolding nonce_comes in_force layout two_bytes six_bytes eight_bytes number_bytes credit_of
@@ -171,18 +148,16 @@ steady_nonce = record {
       (walk_renewal 1 1 (walk_precap walk_flow 6));
   here = refl;
   steady = record {
+    first = asked ∷ [];
+    rights = walk_rights;
+    caps = walk_cap walk_flow ∷ [];
+    rest = dealt;
+    place = refl;
+    ask = request_coming;
+    came = refl;
+    in_time = request_in_time;
     last = nonce_comes;
-    grant = record {
-      first = asked ∷ [];
-      rights = walk_rights;
-      caps = walk_cap walk_flow ∷ [];
-      under = listed ∷ [];
-      place = refl;
-      last = (tt, tt);
-      ask = request_coming;
-      came = refl;
-      in_time = request_in_time;
-    };
+    no_other = (tt, tt);
     each = (record { in_time = list_under []; behind = omega arith; minted = refl }, tt);
     order = (All-from_recursion (λ n. 2 < n) (3 ∷ []) (omega arith, tt), (All-nil (λ n. 3 < n), tt));
     known = λ e. record { paid = (λ e. refl, tt); last = omega arith };
@@ -190,9 +165,9 @@ steady_nonce = record {
   };
 }
 
-renewal_comes : Steadily walk_before_renewal renewal_coming
+renewal_comes : Under renewal_coming
 unfolding in_force
-renewal_comes = record { in_time = renewal_in_time; behind = omega arith; minted = refl }
+renewal_comes = record { in_time = renewal_under; behind = omega arith; minted = refl }
 
 pub steady_renewal : IsSteadyBehind walk_before_renewal walk_renewal_comes (walk_renewal 0 0 (walk_cap walk_flow))
     (walk_renewal 1 1 (walk_precap walk_flow 6))
@@ -201,21 +176,19 @@ steady_renewal = record {
   rest = Started 6001010400 2 Regular (walk_renewal 1 1 (walk_precap walk_flow 6)) ∷ [];
   here = refl;
   steady = record {
+    first = asked ∷ [];
+    rights = walk_rights;
+    caps = walk_cap walk_flow ∷ [];
+    rest = dealt;
+    place = refl;
+    ask = request_coming;
+    came = refl;
+    in_time = request_in_time;
     last = renewal_comes;
-    grant = record {
-      first = asked ∷ [];
-      rights = walk_rights;
-      caps = walk_cap walk_flow ∷ [];
-      under = listed ∷ named ∷ [];
-      place = refl;
-      last = (tt, (tt, tt));
-      ask = request_coming;
-      came = refl;
-      in_time = request_in_time;
-    };
+    no_other = (tt, (tt, tt));
     each = (
       record { in_time = list_under (named ∷ []); behind = omega arith; minted = refl },
-      (record { in_time = nonce_under; behind = omega arith; minted = tt }, tt),
+      (record { in_time = nonce_under []; behind = omega arith; minted = tt }, tt),
     );
     order = (
       All-from_recursion (λ n. 2 < n) (3 ∷ 4 ∷ []) (omega arith, (omega arith, tt)),

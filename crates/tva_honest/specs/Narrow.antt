@@ -1,11 +1,14 @@
 -- Crate: the narrower words in which a path is steady, those of all that host and router had to do with one another: a
 -- changed route ends all paths there for good, and a lost packet those of its grant.
-use Rattle.std.specs.Prelude.{◌≡◌, ℕ, ◌<◌, true, false, List, [], ◌∷◌, ◌++◌, filter, map, is_some, Option, Some, IsSomeAnd}
+use Rattle.std.specs.Prelude.{◌≡◌, ℕ, ◌<◌, ◌≤◌, true, false, List, [], ◌∷◌, ◌++◌, filter, map, is_some, Option, Some, None, IfSome}
+use Rattle.std.specs.Prelude.{IsSomeAnd}
+use Rattle.std.specs.Option.{option_or, option_map}
 use Rattle.std.specs.List.{AllByRecursion}
 use Rattle.tva_base.specs.declared.packet.Fate.{Fate}
 use Rattle.tva_base.specs.declared.packet.Rights.{Rights}
 use Rattle.tva_base.specs.declared.plan.HostPlan.{HostPlan}
 use Rattle.tva_base.specs.declared.plan.RouterPlan.{RouterPlan}
+use Rattle.tva_base.specs.Changes.{in_force}
 use Rattle.tva_shim.specs.Packets.{PacketData}
 use Rattle.tva_flow.specs.Charges.{Charge, lives, living_count}
 use Rattle.tva_port.specs.Keeps.{AreRising}
@@ -18,8 +21,37 @@ use Rattle.tva_log.specs.Sites.{Site}
 use Rattle.tva_log.specs.Entries.{Entry, Arrived, Took, input_time}
 use Rattle.tva_log.specs.Parts.{charges}
 use Rattle.tva_run.specs.Reaching.{Logs, log_at, site_at}
-use Rattle.tva_honest.specs.Deals.{Deal, Granted, Coming, coming, deals, comings}
-use Rattle.tva_honest.specs.Paths.{ask_coming, since_granted, shows, ComesInTime, ComesSteadily, comings_at, WasCharged, IsSteadyPath}
+use Rattle.tva_honest.specs.Deals.{Deal, Prepared, Granted, Noticed, Coming, coming, deals, comings}
+use Rattle.tva_honest.specs.Paths.{ask_coming, shows, ShowsMinted, ComesInTime, comings_at, WasCharged, IsSteadyPath}
+
+-- when the last ask among these deals came to the router
+abbrev pub ask_came : List Coming → List Deal → Option ℕ
+ask_came seen before = option_map (λ x. x.time) (ask_coming seen before)
+
+abbrev pub granted_by : List Coming → List Deal → Deal → Option ℕ
+granted_by seen before (Granted rights caps) = ask_came seen before
+granted_by seen before _ = None
+
+-- when the last ask before the last grant did; the deals before those are the first
+abbrev pub grant_came : List Coming → List Deal → List Deal → Option ℕ
+grant_came seen before [] = None
+grant_came seen before (d ∷ ds) = option_or (grant_came seen (before ++ d ∷ []) ds) (granted_by seen before d)
+
+-- the deals since the last grant, of which those are the first
+abbrev pub since_granted : List Deal → List Deal → List Deal
+since_granted own [] = own
+since_granted own (Prepared time packet ∷ ds) = since_granted (own ++ Prepared time packet ∷ []) ds
+since_granted own (Granted rights caps ∷ ds) = since_granted [] ds
+since_granted own (Noticed ∷ ds) = since_granted (own ++ Noticed ∷ []) ds
+
+-- a packet that shows a grant came in time, behind the last ask before the last grant, and a capability that it points at
+-- is the one minted for that ask with the master that is in force as it comes
+pub record ComesSteadily (host : HostPlan) (router : RouterPlan) (delay : ℕ) (own : List Deal) (seen : List Coming)
+    (x : Coming) : Type 0 where
+  pub in_time : ComesInTime host delay own x
+  pub behind : IfSome (grant_came seen [] in_time.before) (λ came. came ≤ x.time)
+  pub minted : IfSome (grant_came seen [] in_time.before)
+      (λ came. ShowsMinted (in_force router x.time) x.packet x.packet.carried came)
 
 -- those that were charged
 abbrev pub those_charged : List Coming → List Coming

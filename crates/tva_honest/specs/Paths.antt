@@ -2,11 +2,10 @@
 -- and router.
 use Rattle.std.specs.Prelude.{◌≡◌, ℕ, ◌+◌, ◌<◌, ◌≤◌, nat_le, ◌==◌, Bool, true, false, ◌&&◌, if◌then◌else◌, List, [], ◌∷◌, ◌++◌}
 use Rattle.std.specs.Prelude.{filter, map, slice_get, is_some, unwrap_or, Option, Some, None, IfSome, IsSomeAnd}
-use Rattle.std.specs.Option.{option_or, option_map, option_and_then}
+use Rattle.std.specs.Option.{option_or, option_map_or, option_and_then}
 use Rattle.std.specs.List.{AllByRecursion, find}
 use Rattle.tva_base.specs.declared.packet.Class.TheVariants.{Regular}
 use Rattle.tva_base.specs.declared.packet.Fate.{Fate}
-use Rattle.tva_base.specs.declared.packet.Flow.{Flow}
 use Rattle.tva_base.specs.declared.packet.Grant.{Grant}
 use Rattle.tva_base.specs.declared.packet.PacketId.{PacketId}
 use Rattle.tva_base.specs.declared.packet.Rights.{Rights}
@@ -40,21 +39,18 @@ use Rattle.tva_honest.specs.Deals.{Deal, Prepared, Granted, Noticed, Coming, com
 -- a request or a renewal asks
 abbrev pub asks_kind : Kind → Bool
 asks_kind (kinds.Request entries) = true
-asks_kind (kinds.List shown) = false
-asks_kind (kinds.Nonce nonce) = false
 asks_kind (kinds.Renewal shown) = true
+asks_kind _ = false
 
 -- where it isn't marked
 abbrev pub asks_in : Carried → Bool
-asks_in carried.Nothing = false
 asks_in (carried.Shim shim) = if shim.demoted then false else asks_kind shim.kind
-asks_in (carried.Malformed size) = false
+asks_in _ = false
 
 -- the identity of an ask, and that of the last one among these deals
 abbrev pub ask_id : Deal → Option PacketId
 ask_id (Prepared time packet) = if asks_in packet.carried then Some packet.id else None
-ask_id (Granted rights caps) = None
-ask_id Noticed = None
+ask_id _ = None
 
 abbrev pub last_ask_id : List Deal → Option PacketId
 last_ask_id [] = None
@@ -67,76 +63,40 @@ same_id a b = (a.node == b.node) && (a.ordinal == b.ordinal)
 abbrev pub come_as : List Coming → PacketId → Option Coming
 come_as seen id = find (λ x. same_id x.packet.id id) seen
 
--- how the last ask among these deals came to the router, and when
+-- how the last ask among these deals came to the router
 abbrev pub ask_coming : List Coming → List Deal → Option Coming
 ask_coming seen before = option_and_then (come_as seen) (last_ask_id before)
-
-abbrev pub ask_came : List Coming → List Deal → Option ℕ
-ask_came seen before = option_map (λ x. x.time) (ask_coming seen before)
-
-abbrev pub granted_by : List Coming → List Deal → Deal → Option ℕ
-granted_by seen before (Prepared time packet) = None
-granted_by seen before (Granted rights caps) = ask_came seen before
-granted_by seen before Noticed = None
-
--- when the last ask before the last grant came to the router; the deals before those are the first
-abbrev pub grant_came : List Coming → List Deal → List Deal → Option ℕ
-grant_came seen before [] = None
-grant_came seen before (d ∷ ds) = option_or (grant_came seen (before ++ d ∷ []) ds) (granted_by seen before d)
-
--- the rights of a grant, and those of the last one among these deals
-abbrev pub rights_in : Deal → Option Rights
-rights_in (Prepared time packet) = None
-rights_in (Granted rights caps) = Some rights
-rights_in Noticed = None
-
-abbrev pub last_rights : List Deal → Option Rights
-last_rights [] = None
-last_rights (d ∷ ds) = option_or (last_rights ds) (rights_in d)
-
--- the deals since the last grant, of which those are the first
-abbrev pub since_granted : List Deal → List Deal → List Deal
-since_granted own [] = own
-since_granted own (Prepared time packet ∷ ds) = since_granted (own ++ Prepared time packet ∷ []) ds
-since_granted own (Granted rights caps ∷ ds) = since_granted [] ds
-since_granted own (Noticed ∷ ds) = since_granted (own ++ Noticed ∷ []) ds
 
 -- the deals behind the first notice among these, and those that count for the life of a grant: all, or those since a
 -- notice
 abbrev pub after_noticed : List Deal → Option (List Deal)
 after_noticed [] = None
-after_noticed (Prepared time packet ∷ ds) = after_noticed ds
-after_noticed (Granted rights caps ∷ ds) = after_noticed ds
 after_noticed (Noticed ∷ ds) = Some ds
+after_noticed (_ ∷ ds) = after_noticed ds
 
 abbrev pub since_noticed : List Deal → List Deal
 since_noticed ds = unwrap_or (after_noticed ds) ds
 
 -- no grant was taken
 abbrev pub IsNoGrant : Deal → Type 0
-IsNoGrant (Prepared time packet) = Unit {0}
 IsNoGrant (Granted rights caps) = ⊥
-IsNoGrant Noticed = Unit {0}
+IsNoGrant _ = Unit {0}
 
 -- ## what comes
 
 -- a list, a nonce alone or a renewal
 abbrev pub shows : Carried → Bool
-shows carried.Nothing = false
 shows (carried.Shim shim) = shows_grant shim.kind
-shows (carried.Malformed size) = false
+shows _ = false
 
 -- a nonce alone
 abbrev pub is_nonce : Kind → Bool
-is_nonce (kinds.Request entries) = false
-is_nonce (kinds.List shown) = false
 is_nonce (kinds.Nonce nonce) = true
-is_nonce (kinds.Renewal shown) = false
+is_nonce _ = false
 
 abbrev pub shows_nonce : Carried → Bool
-shows_nonce carried.Nothing = false
 shows_nonce (carried.Shim shim) = is_nonce shim.kind
-shows_nonce (carried.Malformed size) = false
+shows_nonce _ = false
 
 -- the capability at the pointer is that of the pre-capability that the router minted at a time
 abbrev pub IsMinted : RouterPlan → PacketData → Shown → ℕ → Type 0
@@ -145,15 +105,13 @@ IsMinted router packet shown came = slice_get shown.caps shown.pointer ≡
 
 -- where capabilities are shown
 abbrev pub ShowsMintedKind : RouterPlan → PacketData → Kind → ℕ → Type 0
-ShowsMintedKind router packet (kinds.Request entries) came = Unit {0}
 ShowsMintedKind router packet (kinds.List shown) came = IsMinted router packet shown came
-ShowsMintedKind router packet (kinds.Nonce nonce) came = Unit {0}
 ShowsMintedKind router packet (kinds.Renewal shown) came = IsMinted router packet shown came
+ShowsMintedKind router packet _ came = Unit {0}
 
 abbrev pub ShowsMinted : RouterPlan → PacketData → Carried → ℕ → Type 0
-ShowsMinted router packet carried.Nothing came = Unit {0}
 ShowsMinted router packet (carried.Shim shim) came = ShowsMintedKind router packet shim.kind came
-ShowsMinted router packet (carried.Malformed size) came = Unit {0}
+ShowsMinted router packet _ came = Unit {0}
 
 -- a packet that came was prepared at a place of these deals, by its identity, and came by the delay later, or up to the
 -- margin after that
@@ -167,23 +125,13 @@ pub record ComesInTime (host : HostPlan) (delay : ℕ) (own : List Deal) (x : Co
   pub from : sent + delay ≤ x.time
   pub until : x.time ≤ sent + delay + host.margin
 
--- so came one that shows a grant, behind the last ask before the last grant, and a capability that it points at is the
--- one minted for that ask with the master that is in force as it comes
-pub record ComesSteadily (host : HostPlan) (router : RouterPlan) (delay : ℕ) (own : List Deal) (seen : List Coming)
-    (x : Coming) : Type 0 where
-  pub in_time : ComesInTime host delay own x
-  pub behind : IfSome (grant_came seen [] in_time.before) (λ came. came ≤ x.time)
-  pub minted : IfSome (grant_came seen [] in_time.before)
-      (λ came. ShowsMinted (in_force router x.time) x.packet x.packet.carried came)
-
 -- those that came in the boot of the router that a time is in
 abbrev pub comings_at : RouterPlan → ℕ → List Coming → List Coming
 comings_at router now seen = filter (λ x. boot_at router x.time == boot_at router now) seen
 
 -- those that were charged to grants of no earlier second
 abbrev pub is_charged_since : ℕ → Option Grant → Bool
-is_charged_since second None = false
-is_charged_since second (Some g) = nat_le second g.second
+is_charged_since second charge = option_map_or (λ g. nat_le second g.second) charge false
 
 abbrev pub charged_since : ℕ → List Coming → List Coming
 charged_since second seen = filter (λ x. is_charged_since second x.charge) seen
@@ -192,22 +140,7 @@ charged_since second seen = filter (λ x. is_charged_since second x.charge) seen
 abbrev pub WasCharged : List Coming → Deal → Type 0
 WasCharged seen (Prepared time packet) =
     shows packet.carried ≡ true → is_some (option_and_then (λ x. x.charge) (come_as seen packet.id)) ≡ true
-WasCharged seen (Granted rights caps) = Unit {0}
-WasCharged seen Noticed = Unit {0}
-
--- the last grant that was taken among these deals, with those before and after it; its last ask came to the router in
--- time
-pub record HasLastGrant (host : HostPlan) (delay : ℕ) (own : List Deal) (seen : List Coming) (before : List Deal)
-    : Type 0 where
-  pub first : List Deal
-  pub rights : Rights
-  pub caps : List ℕ
-  pub under : List Deal
-  pub place : before ≡ first ++ Granted rights caps ∷ under
-  pub last : AllByRecursion IsNoGrant under
-  pub ask : Coming
-  pub came : ask_coming seen first ≡ Some ask
-  pub in_time : ComesInTime host delay own ask
+WasCharged seen _ = Unit {0}
 
 -- what came was prepared among these deals, under a grant, and came in time, behind the ask of the grant, which came to
 -- the router at a time; a capability that it points at is the one minted for that ask
@@ -223,22 +156,31 @@ pub record IsKnown (second : ℕ) (under : List Deal) (met : List Coming) (held 
   pub paid : AllByRecursion (WasCharged (charged_since second met)) (since_noticed under)
   pub last : IfSome held (λ c. second ≤ c.grant.second)
 
--- The path is steady up to a packet that shows a grant. It comes steadily, under a grant whose last ask came in time.
--- What its flow was charged in its boot was charged to grants of earlier seconds than the one in which that ask came,
--- or was prepared under the same grant and came so too, in the order in which the host numbered it. Where it shows a
+-- The path is steady up to a packet that shows a grant. It is told by a grant that the host took: the last ask before
+-- that came in time, and the packet comes under that grant, the last one that was taken before it was prepared. What its
+-- flow was charged in its boot was charged to grants of earlier seconds than the one in which that ask came, or was
+-- prepared under the same grant before it and came so too, in the order in which the host numbered it. Where it shows a
 -- nonce alone, that is known. And where the flow doesn't live, by the charges of the boot, the cache has room. So what
 -- was lost, came late or came another way before the grant was asked for ends no path, and no more does what was lost
 -- under it, but for nonces alone.
 pub record IsSteadyPath (host : HostPlan) (router : RouterPlan) (delay : ℕ) (own : List Deal) (seen : List Coming)
     (charged : List Charge) (x : Coming) : Type 0 where
-  pub last : ComesSteadily host router delay own seen x
-  pub grant : HasLastGrant host delay own seen last.in_time.before
-  pub each : AllByRecursion (ComesUnder host router delay grant.under grant.ask.time)
-      (charged_since (router_second router.clock_offset grant.ask.time) (comings_at router x.time seen))
+  pub first : List Deal
+  pub rights : Rights
+  pub caps : List ℕ
+  pub rest : List Deal
+  pub place : own ≡ first ++ Granted rights caps ∷ rest
+  pub ask : Coming
+  pub came : ask_coming seen first ≡ Some ask
+  pub in_time : ComesInTime host delay own ask
+  pub last : ComesUnder host router delay rest ask.time x
+  pub no_other : AllByRecursion IsNoGrant last.in_time.before
+  pub each : AllByRecursion (ComesUnder host router delay last.in_time.before ask.time)
+      (charged_since (router_second router.clock_offset ask.time) (comings_at router x.time seen))
   pub order : AreRising (map (λ y. y.packet.id.ordinal)
-      (charged_since (router_second router.clock_offset grant.ask.time) (comings_at router x.time seen) ++ x ∷ []))
+      (charged_since (router_second router.clock_offset ask.time) (comings_at router x.time seen) ++ x ∷ []))
   pub known : shows_nonce x.packet.carried ≡ true
-      → IsKnown (router_second router.clock_offset grant.ask.time) grant.under (comings_at router x.time seen)
+      → IsKnown (router_second router.clock_offset ask.time) last.in_time.before (comings_at router x.time seen)
       (holder charged x.packet.flow)
   pub room : lives charged x.packet.flow x.time ≡ false → living_count charged x.time < router.slots
 
@@ -251,20 +193,9 @@ LieInBoot router met now own = (before : List Deal) (sent : ℕ) (packet : Packe
 
 -- ## in a run
 
--- a packet of a flow is regular, and charged to the last grant among these deals: with its rights, and of the router
--- second in which the last ask before it came
-pub record IsTakenByLast (router : RouterPlan) (flow : Flow) (seen : List Coming) (before : List Deal) (fate : Fate)
-    : Type 0 where
-  pub rights : Rights
-  pub came : ℕ
-  pub granted : last_rights before ≡ Some rights
-  pub asked : grant_came seen [] before ≡ Some came
-  pub charge : fate.charge ≡
-      Some (record { flow = flow; rights = rights; second = router_second router.clock_offset came })
-  pub class : fate.class ≡ Regular
-
--- Each packet that comes to a router unmarked and below the hop limit, and shows a grant, is charged to the last grant
--- that its host took before it was prepared, and goes on as regular, where the path from that host is steady up to it.
+-- Each packet that comes to a router unmarked and below the hop limit, and shows a grant, goes on as regular where the
+-- path from its host is steady up to it, and is charged to the grant by which it is: with its rights, and of the router
+-- second in which its ask came.
 abbrev pub AreHonestRegular : Config → Logs → Type 0
 AreHonestRegular config logs =
     (sender node : ℕ) (from to : Site) (host : HostPlan) (router : RouterPlan)
@@ -277,4 +208,8 @@ AreHonestRegular config logs =
     → (delay : ℕ)
     (steady : IsSteadyPath host router delay (deals packet.flow.dst (log_at logs sender)) (comings packet.flow before)
     (charges_at router (input_time input) (charges before)) (coming input packet fate))
-    → IsTakenByLast router packet.flow (comings packet.flow before) steady.last.in_time.before fate
+    → (fate.charge ≡ Some (record {
+      flow = packet.flow;
+      rights = steady.rights;
+      second = router_second router.clock_offset steady.ask.time;
+    })) × (fate.class ≡ Regular)

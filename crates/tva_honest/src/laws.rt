@@ -58,8 +58,8 @@ pub fn paths_lie_in_a_boot()
     ensures { (host : HostPlan) (router : RouterPlan) (delay : ℕ) (own : List Deal) (seen : List Coming) (charged : List Charge)
         (x : Coming) (steady : IsSteadyPath host router delay own seen charged x) → shows_nonce x.packet.carried ≡ true
         → LieInBoot router
-        (charged_since (router_second router.clock_offset steady.grant.ask.time) (comings_at router x.time seen)) x.time
-        (since_noticed steady.grant.under) }
+        (charged_since (router_second router.clock_offset steady.ask.time) (comings_at router x.time seen)) x.time
+        (since_noticed steady.last.in_time.before) }
 {}
 
 /// The logs of a worked walk, in nanoseconds, are a run: of the network of `examples/walk.toml` with a horizon of

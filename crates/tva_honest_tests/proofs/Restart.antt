@@ -1,5 +1,5 @@
 -- Where the third packet of a walk was prepared, and why no path is steady up to it.
-use Rattle.std.proofs.Common.{◌≡◌, ℕ, true, false, List, [], ◌∷◌, ◌++◌, refl, ap, sym, subst, ◌∙◌, arith}
+use Rattle.std.proofs.Common.{◌≡◌, ℕ, true, false, List, [], ◌∷◌, ◌++◌, refl, ap, sym, subst, ◌∙◌, arith, append_assoc}
 use Rattle.std.specs.List.{AllByRecursion}
 use Rattle.tva_base.specs.declared.packet.PacketId.{PacketId}
 use Rattle.tva_base.specs.declared.packet.Rights.{Rights}
@@ -70,16 +70,21 @@ pub no_path : (delay : ℕ) → IsSteadyPath walk_host_a restarting_router delay
     (charges_at restarting_router (input_time walk_nonce_comes) (charges restart_log_router))
     (coming walk_nonce_comes (walk_nonce 0) restart_fate) → ⊥
 no_path delay s =
-    let second : ℕ = router_second restarting_router.clock_offset s.grant.ask.time in
-    let was : Paid second s.last.in_time.before = record {
-      first = s.grant.first;
-      rights = s.grant.rights;
-      caps = s.grant.caps;
-      under = s.grant.under;
-      place = s.grant.place;
+    let second : ℕ = router_second restarting_router.clock_offset s.ask.time in
+    let earlier : List Deal = s.first ++ Granted s.rights s.caps ∷ s.last.in_time.before in
+    let from_it : List Deal = Prepared s.last.in_time.sent s.last.in_time.packet ∷ s.last.in_time.after in
+    let place : deals walk_b restart_log_a ≡ earlier ++ from_it =
+    s.place ∙ (ap (λ (ds : List Deal). s.first ++ Granted s.rights s.caps ∷ ds) s.last.in_time.place
+    ∙ sym (append_assoc s.first (Granted s.rights s.caps ∷ s.last.in_time.before) from_it)) in
+    let was : Paid second earlier = record {
+      first = s.first;
+      rights = s.rights;
+      caps = s.caps;
+      under = s.last.in_time.before;
+      place = refl;
       paid = (s.known refl).paid;
     } in
     not_paid second
     (place_of (Paid second) 0 4002900 10000000 (walk_request 0 []) (walk_list 0 0) (walk_nonce 0) walk_rights (walk_cap walk_flow ∷ [])
     (λ e. omega (arith, e)) (λ e. omega (arith, e))
-    s.last.in_time.before s.last.in_time.sent s.last.in_time.packet s.last.in_time.after s.last.in_time.place s.last.in_time.same was)
+    earlier s.last.in_time.sent s.last.in_time.packet s.last.in_time.after place s.last.in_time.same was)
