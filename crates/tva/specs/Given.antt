@@ -1,10 +1,10 @@
 -- Product: of which files a call may be said to have read.
-use Rattle.std.specs.Prelude.{◌≡◌, ◌⊎◌, ℕ, List, [], ◌∷◌, ◌++◌, map, take, IfSome, IsSomeAnd, None, Some}
+use Rattle.std.specs.Prelude.{◌≡◌, ◌⊎◌, ℕ, List, [], ◌∷◌, ◌++◌, map, take, IfSome, IsSomeAnd, Some}
 use Rattle.std.specs.declared.option.Option.{Option}
 use Rattle.std.specs.Io.KnownBytes.{append_known}
 use Rattle.tva_outside.specs.Held.{HeldByName}
 use Rattle.tva_outside.specs.Loads.{Agrees, Load}
-use Rattle.tva.specs.Command.{Command, replay, check, shim, gen, audit}
+use Rattle.tva.specs.Command.{Command, replay, check, gen, audit}
 use Rattle.tva.specs.declared.status.Status as status
 use Rattle.tva.specs.declared.status.Status.TheVariants.{ReadFault}
 
@@ -18,12 +18,11 @@ OfFiles old new holds = (files : HeldByName) → AgreeSince old new files → ho
 
 -- the files of a command, in the order in which they are read
 abbrev pub files_of : Option Command → List (List ℕ)
-files_of None = []
 files_of (Some (replay config trace)) = config ∷ trace ∷ []
 files_of (Some (check config)) = config ∷ []
-files_of (Some (shim bytes)) = []
 files_of (Some (gen seed count config)) = config ∷ []
 files_of (Some (audit config trace report)) = config ∷ trace ∷ report ∷ []
+files_of _ = []
 
 -- the first of these names were asked for since, all or some or none, each once and in order
 abbrev pub WereAsked : List Load → List Load → List (List ℕ) → Type 0

@@ -16,7 +16,7 @@ use Rattle.tva_transfer.specs.declared.transfers.Transfer.{Transfer}
 use Rattle.tva_transfer.specs.Couriers.{Follow, to_from}
 use Rattle.tva_log.specs.declared.kinds.Input.{Input}
 use Rattle.tva_log.specs.Sites.{Site}
-use Rattle.tva_log.specs.Entries.{Content, Arrived, Sent, Ticked, Received, Entry, Took, Started, entry_time}
+use Rattle.tva_log.specs.Entries.{Content, Received, Entry, Took, Started, entry_time}
 use Rattle.tva_log.specs.Parts.{files}
 use Rattle.tva_run.specs.Reaching.{Logs, log_at, site_at}
 use Rattle.tva_run.specs.Run.{logs_before}
@@ -28,11 +28,9 @@ range_by source transfer packet r =
     if (packet.flow.src.0 == source.0) && (r.transfer == transfer) then Some r else None
 
 abbrev pub range_in : Address → ℕ → Content → Option DataLine
-range_in source transfer (Arrived from packet fate onward) = None
-range_in source transfer (Sent made outcome) = None
-range_in source transfer Ticked = None
 range_in source transfer (Received from packet receipt went range) =
     option_and_then (range_by source transfer packet) range
+range_in source transfer _ = None
 
 abbrev pub range_at : Address → ℕ → Entry → Option DataLine
 range_at source transfer (Took input content) = range_in source transfer content

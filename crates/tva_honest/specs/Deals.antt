@@ -20,7 +20,7 @@ use Rattle.tva_rows.specs.declared.rows.RowWhat.{RowWhat}
 use Rattle.tva_rows.specs.declared.rows.RowWhat.TheVariants.{Send, Inject, File, Tick}
 use Rattle.tva_log.specs.declared.kinds.Input.{Input}
 use Rattle.tva_log.specs.declared.kinds.Input.TheVariants.{FromTrace, Arrival}
-use Rattle.tva_log.specs.Entries.{Content, Arrived, Sent, Ticked, Received, Entry, Took, Started, input_time}
+use Rattle.tva_log.specs.Entries.{Content, Arrived, Sent, Received, Entry, Took, Started, input_time}
 
 -- ## at a host
 
@@ -44,15 +44,13 @@ sent_at peer (Arrival time link other) packet = []
 
 -- what return info brought: a grant that was taken, or a notice
 abbrev pub granted_in : ReturnInfo → List Deal
-granted_in backs.Nothing = []
-granted_in backs.Notice = []
 granted_in (backs.Grant rights caps) = Granted rights caps ∷ []
+granted_in _ = []
 
 abbrev pub brought : BackKind → ReturnInfo → List Deal
-brought became.Nothing back = []
 brought became.Notice back = Noticed ∷ []
 brought became.Grant back = granted_in back
-brought became.Ignored back = []
+brought _ back = []
 
 abbrev pub replied : ℕ → Option Made → List Deal
 replied time None = []
@@ -60,13 +58,12 @@ replied time (Some made) = Prepared time made.packet ∷ []
 
 -- a receipt brings return info, and then the reply is prepared
 abbrev pub dealt_in : Address → Input → Content → List Deal
-dealt_in peer input (Arrived from packet fate onward) = []
 dealt_in peer input (Sent made outcome) = sent_at peer input made.packet
-dealt_in peer input Ticked = []
 dealt_in peer input (Received from packet receipt went range) =
     if peer.0 == packet.flow.src.0
     then brought receipt.back (back_in packet.carried) ++ replied (input_time input) receipt.reply
     else []
+dealt_in peer input _ = []
 
 abbrev pub dealt_at : Address → Entry → List Deal
 dealt_at peer (Took input content) = dealt_in peer input content
@@ -90,9 +87,7 @@ coming input packet fate = record { time = input_time input; packet = packet; ch
 abbrev pub came_in : Flow → Input → Content → Option Coming
 came_in flow input (Arrived from packet fate onward) =
     if same_flow packet.flow flow && not (is_marked packet.carried) then Some (coming input packet fate) else None
-came_in flow input (Sent made outcome) = None
-came_in flow input Ticked = None
-came_in flow input (Received from packet receipt went range) = None
+came_in flow input _ = None
 
 abbrev pub came_at : Flow → Entry → Option Coming
 came_at flow (Took input content) = came_in flow input content
