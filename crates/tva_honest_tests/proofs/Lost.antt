@@ -33,9 +33,26 @@ pub steady : IsSteadyPath walk_host_a walk_router 1000520 (deals walk_b walk_log
     (coming walk_renewal_comes (walk_renewal 0 0 (walk_cap walk_flow)) (walk_fate Regular (Some walk_grant) 2))
 unfolding in_force layout two_bytes six_bytes eight_bytes number_bytes credit_of
 steady = record {
+  first = asked ∷ [];
+  rights = walk_rights;
+  caps = walk_cap walk_flow ∷ [];
+  rest = listed ∷ named ∷ renewed ∷ [];
+  place = refl;
+  ask = record { time = 1001000; packet = walk_request 0 []; charge = None };
+  came = refl;
+  in_time = record {
+    before = [];
+    sent = 0;
+    packet = walk_request 0 [];
+    after = granted ∷ listed ∷ named ∷ renewed ∷ [];
+    place = refl;
+    same = refl;
+    from = omega arith;
+    until = omega arith;
+  };
   last = record {
     in_time = record {
-      before = asked ∷ granted ∷ listed ∷ named ∷ [];
+      before = listed ∷ named ∷ [];
       sent = 6000000000;
       packet = walk_renewal 0 0 (walk_cap walk_flow);
       after = [];
@@ -47,26 +64,7 @@ steady = record {
     behind = omega arith;
     minted = refl;
   };
-  grant = record {
-    first = asked ∷ [];
-    rights = walk_rights;
-    caps = walk_cap walk_flow ∷ [];
-    under = listed ∷ named ∷ [];
-    place = refl;
-    last = (tt, (tt, tt));
-    ask = record { time = 1001000; packet = walk_request 0 []; charge = None };
-    came = refl;
-    in_time = record {
-      before = [];
-      sent = 0;
-      packet = walk_request 0 [];
-      after = granted ∷ listed ∷ named ∷ renewed ∷ [];
-      place = refl;
-      same = refl;
-      from = omega arith;
-      until = omega arith;
-    };
-  };
+  no_other = (tt, (tt, tt));
   each = (
     record {
       in_time = record {
