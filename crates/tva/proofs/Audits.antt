@@ -12,7 +12,7 @@ use Rattle.tva.specs.Command.{audit}
 use Rattle.tva.specs.Expected.{Expected, Sought, IsText, audits, comes_to, file_at, followed, plan_at, refuses, report_at, trace_at, ◌>>=◌}
 use Rattle.tva.specs.Answer.{Answers, Just, OfCommand}
 use Rattle.tva.specs.Given.{AgreeSince}
-use Rattle.tva.specs.Parts.{EndsAudited, IsAudited, IsAuditText, IsFound, IsNotFound}
+use Rattle.tva.specs.Parts.{EndsAudited, IsAudited, IsAuditText, IsFound, IsNotFound, IsWritten}
 use Rattle.tva.specs.declared.status.Status as status
 use Rattle.tva.specs.declared.status.Status.TheVariants.{Done, Found as Differs, Usage, ReadFault, WriteFault, TooLarge, BadConfig, BadTrace, EventLimit, OutOfMemory, BadReport}
 use Rattle.tva.proofs.Replays.{answers_of_just, answers_of_missing}
@@ -37,6 +37,21 @@ module _ (plan : Config) (trace report : List ℕ) (rows : List Row) (are : AreR
   answers_of_ends w old new OutOfMemory (inl same) = inl same
   answers_of_ends w old new OutOfMemory (inr (text, is, cut)) = inr (text, text_of_audit text is, cut)
   answers_of_ends w old new (BadReport k) a = absurd a
+
+-- how writing the text of an audit ends is how the audit ends
+pub audited_of_written : (plan : Config) (rows : List Row) (report old new : List ℕ) (w : Type 0) (text : List ℕ) (s : status.Status)
+    → first_bad report ≡ None → IsAuditText plan rows report text → IsWritten old new w text s → IsAudited plan rows report old new w s
+audited_of_written plan rows report old new w text Done good is a = (good, (text, is, a))
+audited_of_written plan rows report old new w text WriteFault good is a = (good, (a.0, (text, is, a.1)))
+audited_of_written plan rows report old new w text OutOfMemory good is a = (good, inr (text, is, a))
+audited_of_written plan rows report old new w text Usage good is a = absurd a
+audited_of_written plan rows report old new w text (Differs f) good is a = absurd a
+audited_of_written plan rows report old new w text (BadReport k) good is a = absurd a
+audited_of_written plan rows report old new w text ReadFault good is a = absurd a
+audited_of_written plan rows report old new w text (TooLarge k) good is a = absurd a
+audited_of_written plan rows report old new w text (BadConfig f) good is a = absurd a
+audited_of_written plan rows report old new w text (BadTrace f) good is a = absurd a
+audited_of_written plan rows report old new w text (EventLimit m) good is a = absurd a
 
 -- a bad line, or none
 record IsBad (report : List ℕ) (old new : List ℕ) (s : status.Status) : Type 0 where
