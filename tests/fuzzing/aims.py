@@ -501,7 +501,13 @@ def many_files(rng):
     return ["replay", "config", "trace"], {"config": bare_hosts(rng), "trace": trace_of(rows)}
 
 
-TEXTS = {"pointer": pointers, "counts": counts, "times": two_changes, "file-size": full_file, "characters": long_words}
+def wide_segments(rng):
+    """A file in segments that are as long as they may be, or longer."""
+    row = b"0,A,file,,1.1.1.1,%d,9000\n" % rng.choice([1_500, 1_501, 1_600, 1_601])
+    return ["replay", "config", "trace"], {"config": bare_hosts(rng), "trace": trace_of([row])}
+
+
+TEXTS = {"pointer": pointers, "counts": counts, "times": two_changes, "file-size": full_file, "characters": long_words, "segment-most": wide_segments}
 LARGE = {"rows": many_rows, "files": many_files}
 TEXTS |= LARGE
 

@@ -190,7 +190,7 @@ def _(config, kind, node, before):
     return right_is_kind(config, kind, node, before) and (kind != b"file" or before.files[node] < trace.FILES_MOST - 1)
 
 
-@reading("segment-most", "a segment has up to 1,600 bytes", trace, "payload_of")
+@reading("segment-most", "a segment has up to 1,600 bytes", trace, "payload_of", aim="segment-most")
 def _(kind, text):
     return (texts.decimal(text, trace.PAYLOAD_MOST) or None) if kind == b"file" else right_payload(kind, text)
 
