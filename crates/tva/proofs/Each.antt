@@ -6,12 +6,12 @@ use Rattle.tva_plan.specs.Valid.{IsConfig}
 use Rattle.tva_report.specs.Lines.{first_bad}
 use Rattle.tva_trace.specs.declared.said.SaidRow.{SaidRow}
 use Rattle.tva_trace.specs.Rows.{rows_of}
-use Rattle.tva.specs.Answer.{WroteAll, WrotePart}
+use Rattle.tva_commands.specs.Answer.{WroteAll, WrotePart}
 use Rattle.tva.specs.Each.{BeginsEach, WroteEach}
-use Rattle.tva.specs.Expected.{Expected, audits, replays}
-use Rattle.tva.specs.Parts.{IsCut}
+use Rattle.tva_commands.specs.Expected.{Expected, audits, replays}
+use Rattle.tva_commands.specs.Parts.{IsCut}
 use Rattle.tva.specs.Wanted.{wanted}
-use Rattle.tva.proofs.Replays.{cut_of_nothing, of_rows, same_report}
+use Rattle.tva_commands.proofs.Replays.{cut_of_nothing, of_rows, same_report}
 use Rattle.tva.proofs.Wants.{HoldsOfEach, of_wanted}
 
 module _ (old new : List ℕ) where

@@ -1,13 +1,5 @@
-pub mod Given
-pub mod Found
 pub mod Fronts
-pub mod Pieces
-pub mod Replays
 pub mod Settled
-pub mod HexWords
-pub mod Windowed
 pub mod Reported
-pub mod SumLines
 pub mod Wants
-pub mod Audits
 pub mod Each

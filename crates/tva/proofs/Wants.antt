@@ -38,15 +38,15 @@ use Rattle.tva_audit.specs.Audit.{IsDifference}
 use Rattle.tva_audit.specs.Sums.{IsBelowLimit}
 use Rattle.tva_audit.proofs.Budgets.{sums_below}
 use Rattle.tva_gen.specs.Text.{generated}
-use Rattle.tva.specs.Check.{check_line}
-use Rattle.tva.specs.Command.{Command, command_of, replay, check, shim, gen, audit}
-use Rattle.tva.specs.Expected.{Expected, writes, shows, replays, audits, refuses, Sought, followed, ◌>>=◌, within_limit, plan_at, trace_at, report_at, comes_to, Ends, EndsAudit, EndsReplay}
+use Rattle.tva_commands.specs.Check.{check_line}
+use Rattle.tva_commands.specs.Command.{Command, command_of, replay, check, shim, gen, audit}
+use Rattle.tva_commands.specs.Expected.{Expected, writes, shows, replays, audits, refuses, Sought, followed, ◌>>=◌, within_limit, plan_at, trace_at, report_at, comes_to, Ends, EndsAudit, EndsReplay}
 use Rattle.tva.specs.Network.{OfRows, EachKeepsPromises, EachTakesHonest, EachKeepsFiles, AreSumsBelow}
 use Rattle.tva_run.specs.Shown.{HasReport, IsPastLimit, IsWithinLimit}
 use Rattle.tva.specs.Wanted.{wanted, HasOneEnd}
 use Rattle.tva.proofs.Reported.{ends_report, one_report, some_is_there, some_same, text_of_same}
-use Rattle.tva.specs.declared.status.Status as status
-use Rattle.tva.specs.declared.status.Status.TheVariants.{Done, Found as Differs, Usage, ReadFault, WriteFault, TooLarge, BadConfig, BadTrace, EventLimit, OutOfMemory, BadReport}
+use Rattle.tva_commands.specs.declared.status.Status as status
+use Rattle.tva_commands.specs.declared.status.Status.TheVariants.{Done, Found as Differs, Usage, ReadFault, WriteFault, TooLarge, BadConfig, BadTrace, EventLimit, OutOfMemory, BadReport}
 
 -- ## what holds of each
 

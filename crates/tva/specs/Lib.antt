@@ -1,12 +1,3 @@
-pub mod Answer
 pub mod Each
-pub mod Audit
-pub mod Check
-pub mod Command
-pub mod Expected
-pub mod Given
 pub mod Network
-pub mod Parts
-pub mod Status
 pub mod Wanted
-pub mod Asked

@@ -12,7 +12,7 @@ use Rattle.tva_delivery.specs.Delivery.{KeepsFiles}
 use Rattle.tva_audit.specs.Audit.{HasSums}
 use Rattle.tva_audit.specs.Sums.{IsBelowLimit}
 use Rattle.tva_audit.specs.declared.routers.RouterSum.{RouterSum}
-use Rattle.tva.specs.Expected.{Expected, replays, audits}
+use Rattle.tva_commands.specs.Expected.{Expected, replays, audits}
 
 -- it holds of the rows of a trace that is to be replayed, or whose report is to be audited
 abbrev pub OfRows : (Config → List Row → Type 0) → Expected → Type 0

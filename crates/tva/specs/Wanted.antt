@@ -1,14 +1,14 @@
 -- Product: what words come to, and what may then be said of a run.
-use Rattle.std.specs.Prelude.{◌≡◌, ◌⊎◌, ℕ, List, IfSome, None, Some}
+use Rattle.std.specs.Prelude.{◌≡◌, ◌⊎◌, ℕ, List, IfSome}
 use Rattle.std.specs.Option.{option_map}
 use Rattle.std.specs.declared.option.Option.{Option}
 use Rattle.tva_outside.specs.Held.{HeldByName}
 use Rattle.tva_outside.specs.Loads.{Load}
-use Rattle.tva.specs.Given.{OfFiles}
-use Rattle.tva.specs.Command.{Command, command_of, shim}
-use Rattle.tva.specs.Expected.{Expected, comes_to, refuses, Ends}
-use Rattle.tva.specs.declared.status.Status as status
-use Rattle.tva.specs.declared.status.Status.TheVariants.{Done, WriteFault, EventLimit, OutOfMemory}
+use Rattle.tva_commands.specs.Given.{OfFiles}
+use Rattle.tva_commands.specs.Command.{command_of}
+use Rattle.tva_commands.specs.Expected.{Expected, comes_to, refuses, Ends}
+use Rattle.tva_commands.specs.declared.status.Status as status
+use Rattle.tva_commands.specs.declared.status.Status.TheVariants.{OutOfMemory}
 
 -- what is to come of the words over files, where they are a command
 abbrev pub wanted : HeldByName → List (List ℕ) → Option Expected
@@ -17,20 +17,6 @@ wanted files words = option_map (λ command. comes_to command files) (command_of
 -- it holds of what is to come of the words, over any files that agree with what was given since
 abbrev pub OfWanted : List Load → List Load → List (List ℕ) → (Expected → Type 0) → Type 0
 OfWanted old new words holds = OfFiles old new (λ files. IfSome (wanted files words) holds)
-
--- words that need no file: they are no command, or that which shows a shim
-abbrev pub NeedsNoFile : Option Command → Type 0
-NeedsNoFile None = Unit {0}
-NeedsNoFile (Some (shim bytes)) = Unit {0}
-NeedsNoFile _ = ⊥
-
--- a status with which nothing is written
-abbrev pub IsRefusal : status.Status → Type 0
-IsRefusal Done = ⊥
-IsRefusal WriteFault = ⊥
-IsRefusal (EventLimit most) = ⊥
-IsRefusal OutOfMemory = ⊥
-IsRefusal _ = Unit {0}
 
 -- the run ends so, unless memory runs out
 abbrev pub Settles : status.Status → Expected → Type 0

@@ -6,34 +6,18 @@
 //! files keep. It audits reports by the same words.
 #![tactic(auto)]
 
-mod audited;
-mod check;
-mod command;
 mod laws;
-mod lines;
-mod parts;
-mod replay;
-mod status;
 #[cfg(test)]
 mod tests;
 mod top;
 
 use arrayvec::ArrayString;
-use status::{Status, status_text};
 use std::io::ErrorKind;
 use std::process::ExitCode;
 use std::{env, io};
 use top::run;
+use tva_commands::{Status, status_text};
 use tva_outside::{FileShelf, OpenGate, StdSink};
-
-/// The most bytes of a configuration, 1 MiB.
-const CONFIG_MAX: u64 = 1_048_576;
-
-/// The most bytes of a trace, 64 MiB.
-const TRACE_MAX: u64 = 67_108_864;
-
-/// The most bytes of a report, 1 GiB.
-const REPORT_MAX: u64 = 1_073_741_824;
 
 // The words after the program's name.
 fn words(rt: &(impl std::rt::Env + AllocGlobal)) -> io::Result<Vec<String>> {
