@@ -213,6 +213,22 @@ pub split_last : (ds : List Deal) → AllByRecursion IsNoGrant ds ⊎ LastAt ds
 split_last [] = inl tt
 split_last (d ∷ ds) = split_by d ds (split_last ds)
 
+-- what stands behind the last grant
+pub behind_last : (ds : List Deal) (l : LastAt ds) (tail : List Deal)
+    → ds ++ tail ≡ (l.first ++ Granted l.rights l.caps ∷ []) ++ (l.under ++ tail)
+behind_last ds l tail =
+    ap (λ (es : List Deal). es ++ tail) l.is
+    ∙ (append_assoc l.first (Granted l.rights l.caps ∷ l.under) tail
+    ∙ sym (append_assoc l.first (Granted l.rights l.caps ∷ []) (l.under ++ tail)))
+
+-- when its ask came
+pub came-last : (seen : List Coming) (ds : List Deal) (l : LastAt ds) (came : ℕ) → ask_came seen l.first ≡ Some came
+    → grant_came seen [] ds ≡ Some came
+came-last seen ds l came e =
+    ap (grant_came seen []) (l.is ∙ sym (append_assoc l.first (Granted l.rights l.caps ∷ []) l.under))
+    ∙ (came-under seen (l.first ++ Granted l.rights l.caps ∷ []) l.under l.none
+    ∙ came-granted seen [] l.first l.rights l.caps came e)
+
 -- when an ask came, what came for it
 pub record CameFor (seen : List Coming) (ds : List Deal) (came : ℕ) : Type 0 where
   pub asked : Asked
@@ -257,7 +273,7 @@ rights_other (Prepared time packet) k = refl
 rights_other (Granted rights caps) k = absurd k
 rights_other Noticed k = refl
 
-rights_none : (ds : List Deal) → AllByRecursion IsNoGrant ds → last_rights ds ≡ None
+pub rights_none : (ds : List Deal) → AllByRecursion IsNoGrant ds → last_rights ds ≡ None
 rights_none [] k = refl
 rights_none (d ∷ ds) k = ap₂ option_or (rights_none ds k.1) (rights_other d k.0)
 

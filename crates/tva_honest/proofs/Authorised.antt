@@ -1,5 +1,5 @@
 -- On a steady path the router authorises what shows a grant.
-use Rattle.std.proofs.Common.{◌≡◌, ◌≤◌, ◌<◌, ◌⊎◌, inl, inr, ℕ, ◌+◌, ◌*◌, Bool, true, false, not, ◌&&◌, ◌||◌, cond, ltb, leb, eqb, eq-eqb, List, [], ◌∷◌, ◌++◌, length, Option, Some, None, refl, ap, sym, subst, ◌∙◌, arith, append_assoc, append-nil, length-append}
+use Rattle.std.proofs.Common.{◌≡◌, ◌≤◌, ◌<◌, ◌⊎◌, inl, inr, ℕ, ◌+◌, ◌*◌, Bool, true, false, not, ◌&&◌, ◌||◌, cond, ltb, leb, eqb, eq-eqb, List, [], ◌∷◌, ◌++◌, Option, Some, None, refl, ap, sym, subst, ◌∙◌, arith, append_assoc, append-nil}
 use Rattle.std.specs.Prelude.{IsSomeAnd, filter, sum_by}
 use Rattle.std.specs.List.{AllByRecursion}
 use Rattle.std.specs.Option.{IfSome, option_map, unwrap_or}
@@ -19,6 +19,7 @@ use Rattle.tva_sender.specs.declared.shape.Shape.TheVariants as shape
 use Rattle.tva_sender.specs.Contacts.{Contact, Prepared, Taking, Use, uses_in, uses, after_notice, since_notice, first_nonce, life_of, asked_at, grant_held}
 use Rattle.tva_sender.specs.Shapes.{list_length, nonce_length, length_of, fits, is_alive, nonce_of, held, may_ask}
 use Rattle.tva_sender.specs.Played.{IsNext, AreNext, IsPrepared, IsPlayed}
+use Rattle.tva_log.proofs.Joins.{each-passes}
 use Rattle.tva_honest.specs.Miles.{Mile, Went, Got, Told, contacts, paid_in, charges_in, since_got, after_told, since_notified}
 use Rattle.tva_honest.specs.SteadyMiles.{Way, grant_at, IsPaid, AreMiles, AreAuthorised, is_since, IsKnown, IsSteady, IsNarrow, IsListTaken, IsNonceTaken, IsTaken}
 use Rattle.tva_honest.proofs.Shown.{Allows, allows, no-taking}
@@ -96,9 +97,11 @@ none-ends (c ∷ cs) e = absurd (cc)
 
 -- ## what the steady path says of the last grant
 
-no-front : (xs ys : List Charge) → xs ++ ys ≡ ys → xs ≡ []
-no-front [] ys e = refl
-no-front (x ∷ xs) ys e = absurd (let same = ap length e in omega (arith, same, length-append (x ∷ xs) ys))
+-- charges of earlier seconds are none of no earlier one
+none-earlier : (w : Way) (came : ℕ) (xs ys : List Charge) → AllByRecursion (λ c. c.grant.second < router_second w.offset came) xs
+    → AllByRecursion (λ c. is_since w came c ≡ true) (xs ++ ys) → xs ≡ []
+none-earlier w came [] ys a b = refl
+none-earlier w came (x ∷ xs) ys a b = absurd (let early = a.0 in let late = b.0 in grind (arith, nat_tests, early, late))
 
 record Facts (w : Way) (h : List Charge) (ms : List Mile) (k : Holds w ms) (at : ℕ) : Type 0 where
   behind : k.came ≤ at
@@ -107,10 +110,12 @@ record Facts (w : Way) (h : List Charge) (ms : List Mile) (k : Holds w ms) (at :
 
 facts : (w : Way) (h : List Charge) (ms : List Mile) (k : Holds w ms) (sent : ℕ) (s : Shape) (bytes at : ℕ) → IsSteady w h ms sent s bytes at → Facts w h ms k at
 facts w h ms k sent s bytes at st =
-    let own : charges_in ms ≡ charges_in k.own = st.under ∙ ap charges_in k.since_is in
-    let none : charges_in k.earlier ≡ [] = no-front (charges_in k.earlier) (charges_in k.own) (sym k.charges ∙ own) in
     let all : filter (is_since w k.came) (of_flow w.flow h) ≡ charges_in ms =
     subst (λ (o : Option ℕ). IfSome o (λ came. filter (is_since w came) (of_flow w.flow h) ≡ charges_in ms)) k.came_is st.charges in
+    let none : charges_in k.earlier ≡ [] =
+    none-earlier w k.came (charges_in k.earlier) (charges_in k.own) k.old
+    (subst (AllByRecursion (λ (c : Charge). is_since w k.came c ≡ true)) (all ∙ k.charges) (each-passes (is_since w k.came) (of_flow w.flow h))) in
+    let own : charges_in ms ≡ charges_in k.own = k.charges ∙ ap (λ (cs : List Charge). cs ++ charges_in k.own) none in
     record {
       behind = subst (λ (o : Option ℕ). IfSome o (λ came. came ≤ at)) k.came_is st.behind;
       mine = all ∙ own;

@@ -61,6 +61,14 @@ later_master plan a b l e =
     ap (λ (cs : List (Time × List ℕ)). last_of plan.master (map (λ (c : Time × List ℕ). c.1) cs))
     (filters_same p q more plan.restarts (length-filter p plan.restarts ∙ (e ∙ sym (length-filter q plan.restarts))))
 
+-- boots rise with time
+pub boots_rise : (plan : RouterPlan) (a b : ℕ) → a ≤ b → boot_at plan a ≤ boot_at plan b
+boots_rise plan a b l =
+    let p : Time × List ℕ → Bool = λ c. has_come a c.0 in
+    let q : Time × List ℕ → Bool = λ c. has_come b c.0 in
+    let some = fewer p q (λ c h. le-leb c.0.0 b (let k : c.0.0 ≤ a = leb-true c.0.0 a h in omega (arith, k, l))) plan.restarts in
+    omega (arith, some, length-filter p plan.restarts, length-filter q plan.restarts)
+
 -- in one boot one master is in force
 pub one_master : (plan : RouterPlan) (a b : ℕ) → boot_at plan a ≡ boot_at plan b → (in_force plan a).master ≡ (in_force plan b).master
 unfolding in_force

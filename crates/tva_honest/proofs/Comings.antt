@@ -28,7 +28,7 @@ use Rattle.tva_router.specs.Handling.{arrival}
 use Rattle.tva_router.specs.Marks.{is_marked}
 use Rattle.tva_host.specs.Receiving.{shows_grant}
 use Rattle.tva_plan.specs.declared.config.NodePlan.TheVariants as plans
-use Rattle.tva_log.proofs.Joins.{each-passes}
+use Rattle.tva_log.proofs.Joins.{each-passes, each-weaker, filter-all}
 use Rattle.tva_log.specs.declared.kinds.Input.{Input}
 use Rattle.tva_log.specs.Sites.{Site}
 use Rattle.tva_log.specs.Entries.{Arrived, Sent, Ticked, Received, Entry, Took, Started, input_time}
@@ -47,13 +47,6 @@ use Rattle.tva_honest.proofs.Lists.{some_same, place}
 -- the charge of what came
 abbrev pub paid_of : Coming → Option Charge
 paid_of x = option_map (charged x.time x.packet) x.charge
-
--- what was charged
-abbrev pub paid_coming : Coming → Option Coming
-paid_coming x = cond (is_some x.charge) (Some x) None
-
-abbrev pub paid : List Coming → List Coming
-paid seen = filter_map paid_coming seen
 
 valid_is : (a b c : Bool) (m g : Grant) → cond a checks.Expired (cond b checks.BadHash (cond c (checks.Valid m) checks.BadHash))
     ≡ checks.Valid g → m ≡ g
@@ -261,77 +254,6 @@ module _ (site : Site) (plan : RouterPlan) (is_router : site.plan ≡ plans.Rout
 
 -- ## those that were charged
 
--- only they count
-paid_here : (x : Coming) (cs : List Charge) (xs : List Coming) → cs ≡ filter_map paid_of xs
-    → cons_option (paid_of x) cs ≡ filter_map paid_of (cons_option (paid_coming x) xs)
-paid_here x cs xs e = by x.charge refl
-  where
-    by : (o : Option Grant) → x.charge ≡ o → cons_option (paid_of x) cs ≡ filter_map paid_of (cons_option (paid_coming x) xs)
-    by None k =
-        ap (λ (o : Option Grant). cons_option (option_map (charged x.time x.packet) o) cs) k ∙
-        (e ∙ sym (ap (λ (o : Option Grant). filter_map paid_of (cons_option (cond (is_some o) (Some x) None) xs)) k))
-    by (Some g) k =
-        ap (cons_option (paid_of x)) e ∙ sym (ap
-        (λ (o : Option Grant). filter_map paid_of (cons_option (cond (is_some o) (Some x) None) xs)) k)
-
-pub paid_only : (seen : List Coming) → filter_map paid_of seen ≡ filter_map paid_of (paid seen)
-paid_only [] = refl
-paid_only (x ∷ xs) = paid_here x (filter_map paid_of xs) (paid xs) (paid_only xs)
-
-paid_is : (x y : Coming) → paid_coming x ≡ Some y → (x ≡ y) × (is_some x.charge ≡ true)
-paid_is x y e = let k = cond_some (is_some x.charge) x y e in (k.1, k.0)
-
--- where one of those stands among all
-pub record PaidAt (seen front : List Coming) (x : Coming) : Type 0 where
-  pub before : List Coming
-  pub after : List Coming
-  pub is : seen ≡ before ++ x ∷ after
-  pub front_is : paid before ≡ front
-
-pub paid_place : (seen front : List Coming) (x : Coming) (back : List Coming) → paid seen ≡ front ++ x ∷ back → PaidAt seen front x
-paid_place seen front x back e =
-    let p = place paid_coming seen front x back e in
-    let same = paid_is p.at x p.gives in
-    record { before = p.before; after = p.after; is = p.is ∙ ap (λ (y : Coming). p.before ++ y ∷ p.after) same.0; front_is = p.front_is }
-
-paid_each_by : (P : Coming → Type 0) (x : Coming) (xs : List Coming) (o : Option Grant) → x.charge ≡ o
-    → AllByRecursion P (cons_option (cond (is_some o) (Some x) None) xs) → (is_some o ≡ true → P x) × AllByRecursion P xs
-paid_each_by P x xs None e a = (λ k. absurd (cc), a)
-paid_each_by P x xs (Some g) e a = (λ k. a.0, a.1)
-
--- what holds of those holds of each that was charged
-pub paid_each : (P : Coming → Type 0) (seen : List Coming) → AllByRecursion P (paid seen)
-    → AllByRecursion (λ x. is_some x.charge ≡ true → P x) seen
-paid_each P [] a = tt
-paid_each P (x ∷ xs) a = let k = paid_each_by P x (paid xs) x.charge refl a in (k.0, paid_each P xs k.1)
-
-charged_here : (x : Coming) (xs ys : List Coming) (b : Bool) → xs ≡ ys → cond b (x ∷ xs) xs ≡ cons_option (cond b (Some x) None) ys
-charged_here x xs ys true e = ap (λ (zs : List Coming). x ∷ zs) e
-charged_here x xs ys false e = e
-
--- they are those that were charged
-pub charged_is : (seen : List Coming) → those_charged seen ≡ paid seen
-charged_is [] = refl
-charged_is (x ∷ xs) = charged_here x (those_charged xs) (paid xs) (is_some x.charge) (charged_is xs)
-
--- what was charged to grants of no earlier second was charged
-pub since_charged : (second : ℕ) (seen : List Coming) → charged_since second seen ≡ paid (charged_since second seen)
-since_charged second [] = refl
-since_charged second (x ∷ xs) = by (since_charged second xs) x.charge refl
-  where
-    at : charged_since second xs ≡ paid (charged_since second xs) → (g : Grant) → x.charge ≡ Some g → (b : Bool)
-        → cond b (x ∷ charged_since second xs) (charged_since second xs) ≡ paid (cond b (x ∷ charged_since second xs) (charged_since second xs))
-    at ih g e true =
-        ap (λ (zs : List Coming). x ∷ zs) ih
-        ∙ sym (ap (λ (o : Option Grant). cons_option (cond (is_some o) (Some x) None) (paid (charged_since second xs))) e)
-    at ih g e false = ih
-
-    by : charged_since second xs ≡ paid (charged_since second xs) → (o : Option Grant) → x.charge ≡ o
-        → cond (is_charged_since second o) (x ∷ charged_since second xs) (charged_since second xs)
-        ≡ paid (cond (is_charged_since second o) (x ∷ charged_since second xs) (charged_since second xs))
-    by ih None e = ih
-    by ih (Some g) e = at ih g e (leb second g.second)
-
 -- all that was charged was so from the first second on
 from_first : (o : Option Grant) → is_charged_since 0 o ≡ is_some o
 from_first None = refl
@@ -410,9 +332,6 @@ pub since_each : (second : ℕ) (seen : List Coming) → charged_since second se
 since_each second [] = refl
 since_each second (x ∷ xs) = since_again second x xs x.charge refl (since_each second xs)
 
-pub since_all : (second : ℕ) (seen : List Coming) → charged_since second seen ≡ charged_since second (paid (charged_since 0 seen))
-since_all second seen = since_each second seen ∙ ap (charged_since second) (since_charged 0 seen)
-
 -- behind those that were charged to grants of earlier seconds
 early_by : (second : ℕ) (x : Coming) (xs ys : List Coming) (o : Option Grant) → x.charge ≡ o
     → AllByRecursion (λ (c : Charge). c.grant.second < second) (cons_option (option_map (charged x.time x.packet) o) (filter_map paid_of xs))
@@ -428,27 +347,28 @@ pub since_early : (second : ℕ) (xs ys : List Coming) → AllByRecursion (λ (c
 since_early second [] ys k = refl
 since_early second (x ∷ xs) ys k = early_by second x xs ys x.charge refl k (λ l. since_early second xs ys l)
 
--- all of these were charged
-paid_one : (x : Coming) (xs : List Coming) (o : Option Grant) → x.charge ≡ o → is_some (option_map (charged x.time x.packet) o) ≡ true
-    → paid xs ≡ xs → cons_option (cond (is_some o) (Some x) None) (paid xs) ≡ x ∷ xs
-paid_one x xs None e k ih = absurd (cc)
-paid_one x xs (Some g) e k ih = ap (λ (ys : List Coming). x ∷ ys) ih
-
-pub paid_all : (xs : List Coming) → AllByRecursion (λ x. is_some (paid_of x) ≡ true) xs → paid xs ≡ xs
-paid_all [] k = refl
-paid_all (x ∷ xs) k = paid_one x xs x.charge refl k.0 (paid_all xs k.1)
-
 -- a charge of what came
 pub charge_parts : (x : Coming) (o : Option Grant) (c : Charge) → x.charge ≡ o → option_map (charged x.time x.packet) o ≡ Some c
     → (g : Grant) × (x.charge ≡ Some g) × (charged x.time x.packet g ≡ c)
 charge_parts x None c e k = absurd (cc)
 charge_parts x (Some g) c e k = (g, e, some_same (charged x.time x.packet g) c k)
 
-paying_by : (x : Coming) (xs : List Coming) (o : Option Grant) → x.charge ≡ o → AllByRecursion (λ y. is_some (paid_of y) ≡ true) xs
-    → AllByRecursion (λ y. is_some (paid_of y) ≡ true) (cons_option (cond (is_some o) (Some x) None) xs)
-paying_by x xs None e a = a
-paying_by x xs (Some g) e a = (ap (λ (o : Option Grant). is_some (option_map (charged x.time x.packet) o)) e, a)
+-- what was charged to grants of no earlier second was charged
+paying_by : (second : ℕ) (x : Coming) (o : Option Grant) → is_charged_since second o ≡ true
+    → is_some (option_map (charged x.time x.packet) o) ≡ true
+paying_by second x None e = absurd (cc)
+paying_by second x (Some g) e = refl
 
-pub paying_all : (seen : List Coming) → AllByRecursion (λ y. is_some (paid_of y) ≡ true) (paid seen)
-paying_all [] = tt
-paying_all (x ∷ xs) = paying_by x (paid xs) x.charge refl (paying_all xs)
+pub paying : (second : ℕ) (seen : List Coming) → AllByRecursion (λ y. is_some (paid_of y) ≡ true) (charged_since second seen)
+paying second seen =
+    each-weaker (λ (y : Coming). is_charged_since second y.charge ≡ true) (λ (y : Coming). is_some (paid_of y) ≡ true)
+    (λ y e. paying_by second y y.charge e) (charged_since second seen) (each-passes (λ (y : Coming). is_charged_since second y.charge) seen)
+
+-- all charges are of no earlier second than the first
+from_none : (cs : List Charge) → AllByRecursion (λ (c : Charge). leb 0 c.grant.second ≡ true) cs
+from_none [] = tt
+from_none (c ∷ cs) = (le-leb 0 c.grant.second (omega arith), from_none cs)
+
+pub all_paid : (seen : List Coming) → filter_map paid_of seen ≡ filter_map paid_of (charged_since 0 seen)
+all_paid seen =
+    sym (filter-all (λ (c : Charge). leb 0 c.grant.second) (filter_map paid_of seen) (from_none (filter_map paid_of seen))) ∙ since_paid 0 seen

@@ -237,3 +237,20 @@ pub of_nonce : (a b : Carried) (v : AreShims a b) (P : Type 0) → (shows_nonce 
 of_nonce a b v P k =
     subst (λ (s : Shape). OfNonce s P) (sym (shape_is a b v))
     (nonce_kind v.made.kind v.came.kind P v.keeps.kind (λ e. k (ap shows_nonce v.came_is ∙ e)))
+
+-- ## what is minted
+
+minted_kind : (a b : RouterPlan) (p : PacketData) (t : ℕ) → a.master ≡ b.master → a.clock_offset ≡ b.clock_offset → (kind : Kind)
+    → ShowsMintedKind a p kind t → ShowsMintedKind b p kind t
+minted_kind a b p t e o (kinds.Request entries) k = tt
+minted_kind a b p t e o (kinds.List shown) k =
+    k ∙ (λ i. Some (capability_of (precap_of (e i) p.flow (router_second (o i) t)) shown.rights))
+minted_kind a b p t e o (kinds.Nonce nonce) k = tt
+minted_kind a b p t e o (kinds.Renewal shown) k =
+    k ∙ (λ i. Some (capability_of (precap_of (e i) p.flow (router_second (o i) t)) shown.rights))
+
+pub minted_with : (a b : RouterPlan) (p : PacketData) (t : ℕ) → a.master ≡ b.master → a.clock_offset ≡ b.clock_offset → (c : Carried)
+    → ShowsMinted a p c t → ShowsMinted b p c t
+minted_with a b p t e o carried.Nothing k = tt
+minted_with a b p t e o (carried.Shim shim) k = minted_kind a b p t e o shim.kind k
+minted_with a b p t e o (carried.Malformed size) k = tt

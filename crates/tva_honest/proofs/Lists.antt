@@ -1,5 +1,6 @@
 -- Lists with keys that rise, and where a list stands from which another one was picked.
-use Rattle.std.proofs.Common.{◌≡◌, ◌≤◌, ◌<◌, ℕ, suc, ◌+◌, List, [], ◌∷◌, ◌++◌, length, Option, Some, None, refl, ap, ap₂, subst, ◌∙◌, arith}
+use Rattle.std.proofs.Common.{◌≡◌, ◌≤◌, ◌<◌, ℕ, suc, ◌+◌, Bool, true, false, cond, List, [], ◌∷◌, ◌++◌, length, Option, Some, None, refl, ap, ap₂, sym, subst, ◌∙◌, arith, append_assoc}
+use Rattle.std.specs.Prelude.{filter}
 use Rattle.std.specs.List.{AllByRecursion, filter_map, cons_option}
 use Rattle.std.proofs.lemmas.List.Elements.{recursion_from_All, All-from_recursion}
 use Rattle.tva_log.proofs.Joins.{each-append}
@@ -16,6 +17,27 @@ tail_same x y xs ys e = cc
 
 not_cons : {X : Type 0} (x : X) (xs : List X) → [] ≡ x ∷ xs → ⊥
 not_cons x xs e = cc
+
+-- ## what holds of each
+
+-- what holds at each place holds of each
+pub each_at : {X : Type 0} (P : X → Type 0) (before xs : List X)
+    → ((front : List X) (x : X) (back : List X) → before ++ xs ≡ front ++ x ∷ back → P x) → AllByRecursion P xs
+each_at P before [] k = tt
+each_at P before (x ∷ xs) k = (
+  k before x xs refl,
+  each_at P (before ++ x ∷ []) xs (λ front y back e. k front y back (sym (append_assoc before (x ∷ []) xs) ∙ e)),
+)
+
+-- what holds of each that passes
+pub each_kept : {X : Type 0} (P : X → Type 0) (q : X → Bool) (xs : List X) → AllByRecursion (λ x. q x ≡ true → P x) xs
+    → AllByRecursion P (filter q xs)
+each_kept P q [] k = tt
+each_kept P q (x ∷ xs) k = by (each_kept P q xs k.1) (q x) k.0
+  where
+    by : AllByRecursion P (filter q xs) → (b : Bool) → (b ≡ true → P x) → AllByRecursion P (cond b (x ∷ filter q xs) (filter q xs))
+    by ih true l = (l refl, ih)
+    by ih false l = ih
 
 -- ## numbers that rise
 

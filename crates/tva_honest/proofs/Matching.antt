@@ -5,7 +5,7 @@ use Rattle.std.specs.List.{AllByRecursion, filter_map, cons_option}
 use Rattle.tva_base.specs.declared.packet.PacketId.{PacketId}
 use Rattle.tva_base.specs.declared.packet.Rights.{Rights}
 use Rattle.tva_shim.specs.Packets.{PacketData}
-use Rattle.tva_log.proofs.Joins.{each-weaker}
+use Rattle.tva_log.proofs.Joins.{each-append, each-weaker}
 use Rattle.tva_honest.specs.Deals.{Deal, Prepared, Granted, Noticed, Coming}
 use Rattle.tva_honest.proofs.Lists.{Rises, each_rest, rises_rest}
 use Rattle.tva_honest.proofs.Hosts.{deal_key}
@@ -41,6 +41,10 @@ in_left [] ys id k = absurd k
 in_left (x ∷ xs) ys id (inl k) = inl k
 in_left (x ∷ xs) ys id (inr k) = inr (in_left xs ys id k)
 
+pub in_right : (xs ys : List Deal) (id : PacketId) → In ys id → In (xs ++ ys) id
+in_right [] ys id k = k
+in_right (x ∷ xs) ys id k = inr (in_right xs ys id k)
+
 pub in_last : (xs : List Deal) (d : Deal) (id : PacketId) → IsOf d id → In (xs ++ d ∷ []) id
 in_last [] d id k = inl k
 in_last (x ∷ xs) d id k = inr (in_last xs d id k)
@@ -60,6 +64,15 @@ in_each P (d ∷ ds) id (inr k) a = in_each P ds id k (each_rest P (deal_key d) 
 pub in_behind : (d : Deal) (ds : List Deal) (i j : PacketId) → Rises (keys (d ∷ ds)) → IsOf d i → In ds j → i.ordinal < j.ordinal
 in_behind d ds i j r k l =
     in_each (λ n. i.ordinal < n) ds j l (subst (λ (o : Option ℕ). Rises (cons_option o (keys ds))) (is_key d i k) r).0
+
+-- what is in front has a smaller one
+pub in_front : (before : List Deal) (t : ℕ) (p : PacketData) (after : List Deal) (id : PacketId)
+    → Rises (keys (before ++ Prepared t p ∷ after)) → In before id → id.ordinal < p.id.ordinal
+in_front [] t p after id r k = absurd k
+in_front (b ∷ bs) t p after id r (inl k) =
+    in_behind b (bs ++ Prepared t p ∷ after) id p.id r k (in_place bs t p after p.id refl)
+in_front (b ∷ bs) t p after id r (inr k) =
+    in_front bs t p after id (rises_rest (deal_key b) (keys (bs ++ Prepared t p ∷ after)) r) k
 
 -- ## matching
 
@@ -126,6 +139,15 @@ matches_in (d ∷ ds) (x ∷ xs) (inl m) = (
 matches_in (d ∷ ds) (x ∷ xs) (inr m) =
     each-weaker (λ (y : Coming). In ds y.packet.id) (λ (y : Coming). In (d ∷ ds) y.packet.id) (λ y k. inr k) (x ∷ xs)
     (matches_in ds (x ∷ xs) m)
+
+-- what is matched, and what is in deals behind
+pub join_in : (ds : List Deal) (xs : List Coming) (behind : List Deal) (more : List Coming) → Matches ds xs → AreIn behind more
+    → AreIn (ds ++ behind) (xs ++ more)
+join_in ds xs behind more m i =
+    let P : Coming → Type 0 = λ y. In (ds ++ behind) y.packet.id in
+    each-append P xs more
+    (each-weaker (λ (y : Coming). In ds y.packet.id) P (λ y k. in_left ds behind y.packet.id k) xs (matches_in ds xs m))
+    (each-weaker (λ (y : Coming). In behind y.packet.id) P (λ y k. in_right ds behind y.packet.id k) more i)
 
 -- where what is in was prepared
 pub record InAt (ds : List Deal) (id : PacketId) : Type 0 where
@@ -203,3 +225,49 @@ rises_passing p (x ∷ xs) r = by (rises_passing p xs r.1) (keys_passing (λ n. 
         → Rises (map come_key (cond b (x ∷ filter p xs) (filter p xs)))
     by ih later true = (later, ih)
     by ih later false = ih
+
+-- ## those that were charged came in order
+
+-- in order, and before the last
+abbrev pub AreBefore : Coming → List ℕ → Type 0
+AreBefore x ns = Rises ns × AllByRecursion (λ n. n < come_key x) ns
+
+pub keys_push : (xs : List Coming) (x : Coming) → map come_key (xs ++ x ∷ []) ≡ map come_key xs ++ come_key x ∷ []
+keys_push [] x = refl
+keys_push (y ∷ ys) x = ap (λ (ns : List ℕ). come_key y ∷ ns) (keys_push ys x)
+
+-- those that came before were prepared before
+pub prepared_before : (earlier : List Deal) (t : ℕ) (q : PacketData) (after : List Deal) (x : Coming) (ys : List Coming)
+    → q.id ≡ x.packet.id → Rises (keys (Prepared t q ∷ after))
+    → AllByRecursion (λ y. In (earlier ++ Prepared t q ∷ after) y.packet.id) ys → AllByRecursion (λ n. n < come_key x) (map come_key ys)
+    → AreIn earlier ys
+prepared_before earlier t q after x [] same r a b = tt
+prepared_before earlier t q after x (y ∷ ys) same r a b =
+    (by (in_append earlier (Prepared t q ∷ after) y.packet.id a.0), prepared_before earlier t q after x ys same r a.1 b.1)
+  where
+    less : come_key y < come_key x
+    less = b.0
+
+    own : q.id.ordinal ≡ x.packet.id.ordinal
+    own = ap (λ (i : PacketId). i.ordinal) same
+
+    by : In earlier y.packet.id ⊎ In (Prepared t q ∷ after) y.packet.id → In earlier y.packet.id
+    by (inl k) = k
+    by (inr (inl k)) =
+        absurd (let here : q.id.ordinal ≡ y.packet.id.ordinal = ap (λ (i : PacketId). i.ordinal) k in omega (arith, less, own, here))
+    by (inr (inr k)) = absurd (let more = in_behind (Prepared t q) after q.id y.packet.id r refl k in omega (arith, less, own, more))
+
+pub rises_behind : (before ds : List Deal) → Rises (keys (before ++ ds)) → Rises (keys ds)
+rises_behind [] ds r = r
+rises_behind (b ∷ bs) ds r = rises_behind bs ds (rises_rest (deal_key b) (keys (bs ++ ds)) r)
+
+pub key_kept : (Q : ℕ → Type 0) (q : Coming → Bool) (xs : List Coming) → AllByRecursion Q (map come_key (filter q xs))
+    → AllByRecursion (λ x. q x ≡ true → Q (come_key x)) xs
+key_kept Q q [] k = tt
+key_kept Q q (x ∷ xs) k = by (λ l. key_kept Q q xs l) (q x) k
+  where
+    by : (AllByRecursion Q (map come_key (filter q xs)) → AllByRecursion (λ y. q y ≡ true → Q (come_key y)) xs) → (b : Bool)
+        → AllByRecursion Q (map come_key (cond b (x ∷ filter q xs) (filter q xs)))
+        → (b ≡ true → Q (come_key x)) × AllByRecursion (λ y. q y ≡ true → Q (come_key y)) xs
+    by ih true l = (λ e. l.0, ih l.1)
+    by ih false l = (λ e. absurd (cc), ih l)

@@ -71,3 +71,22 @@ unheld P (Some x) e k = cc
 
 pub no-taking : (P : Grant → Type 0) (h : List Contact) → last_taking [] h ≡ None → IsSomeAnd (grant_held h) P → ⊥
 no-taking P h e k = unheld P (last_taking [] h) e k
+
+-- no shape that shows a grant is allowed without one
+abbrev pub IsBare : Shape → Type 0
+IsBare shape.Request = Unit {0}
+IsBare (shape.List hd) = ⊥
+IsBare (shape.NonceOnly n) = ⊥
+IsBare (shape.Renewal hd) = ⊥
+IsBare shape.Legacy = Unit {0}
+
+pub none_held : (margin version : ℕ) (may : Bool) (h : List Contact) (sent body offered : ℕ) (s : Shape) → last_taking [] h ≡ None
+    → Allows margin version may (grant_held h) sent body offered s → IsBare s
+none_held margin version may h sent body offered shape.Request e a = tt
+none_held margin version may h sent body offered (shape.List hd) e a =
+    no-taking (λ g. (hd ≡ held g offered) × (fits margin sent g (list_length version hd.caps body) ≡ true)) h e a
+none_held margin version may h sent body offered (shape.NonceOnly n) e a =
+    no-taking (λ g. (n ≡ nonce_of g offered) × (is_alive margin sent g ≡ true) × (fits margin sent g (nonce_length body) ≡ true)) h e a
+none_held margin version may h sent body offered (shape.Renewal hd) e a =
+    no-taking (λ g. (hd ≡ held g offered) × (fits margin sent g (list_length version hd.caps body) ≡ true)) h e a.1
+none_held margin version may h sent body offered shape.Legacy e a = tt

@@ -11,9 +11,10 @@ use Rattle.tva_base.specs.declared.packet.Time.{Time}
 use Rattle.tva_base.specs.declared.plan.PolicyKind.{PolicyKind}
 use Rattle.tva_base.specs.declared.plan.PolicyKind.TheVariants.{Client, Server}
 use Rattle.tva_base.specs.declared.plan.Route.{Route}
-use Rattle.tva_base.specs.Plan.{AreClassLimits, AreLinkLimits, IsPrefix, IsRouterPlan, IsHostPlan, links_of}
+use Rattle.tva_base.specs.Plan.{AreRising, AreClassLimits, AreLinkLimits, IsPrefix, IsRouterPlan, IsHostPlan, links_of}
+use Rattle.tva_plan.specs.declared.config.Config.{Config}
 use Rattle.tva_plan.specs.declared.config.NodePlan.{NodePlan}
-use Rattle.tva_plan.specs.declared.config.NodePlan.TheVariants.{Host}
+use Rattle.tva_plan.specs.declared.config.NodePlan.TheVariants.{Router, Host}
 use Rattle.tva_plan.specs.Names.{is_host_plan}
 use Rattle.tva_plan.specs.Wiring.{links_from, incoming_of, outgoing_of}
 use Rattle.tva_plan.specs.Valid.{IsName, IsNodePlan, IsPolicyPlan, HasPolicy, IsLinkPlan, IsConfig}
@@ -29,25 +30,25 @@ absent_at [] x a k l e = omega (arith, l)
 absent_at (y ∷ ys) x a zero l e = a.0 e
 absent_at (y ∷ ys) x a (suc k) l e = absent_at ys x a.1 k (omega (arith, l)) e
 
-absent : {X : Type 0} (xs : List X) (x : X) → AllByRecursion (λ y. y ≡ x → ⊥) xs → Contains xs x → ⊥
+pub absent : {X : Type 0} (xs : List X) (x : X) → AllByRecursion (λ y. y ≡ x → ⊥) xs → Contains xs x → ⊥
 absent xs x a c = absent_at xs x a c.0 c.1 c.2
 
-unlike : {X : Type 0} (f : X → ℕ) (x y : X) → (f x ≡ f y → ⊥) → x ≡ y → ⊥
+pub unlike : {X : Type 0} (f : X → ℕ) (x y : X) → (f x ≡ f y → ⊥) → x ≡ y → ⊥
 unlike f x y n e = n (ap f e)
 
-abbrev first : List ℕ → ℕ
+abbrev pub first : List ℕ → ℕ
 first [] = 0
 first (n ∷ ns) = n
 
-abbrev left : ℕ × ℕ → ℕ
+abbrev pub left : ℕ × ℕ → ℕ
 left p = p.0
 
-abbrev right : ℕ × ℕ → ℕ
+abbrev pub right : ℕ × ℕ → ℕ
 right p = p.1
 
 -- ## limits
 
-class_fine : AreClassLimits walk_class
+pub class_fine : AreClassLimits walk_class
 class_fine = record {
   queues = (omega arith, omega arith);
   ring = (omega arith, omega arith);
@@ -57,7 +58,7 @@ class_fine = record {
   quantum = (omega arith, omega arith);
 }
 
-limits_fine : AreLinkLimits walk_limits
+pub limits_fine : AreLinkLimits walk_limits
 limits_fine = record {
   ns_per_byte = (omega arith, omega arith);
   share = (omega arith, omega arith);
@@ -71,8 +72,10 @@ limits_fine = record {
 
 -- ## nodes
 
-router_fine : IsRouterPlan walk_router
-router_fine = record {
+-- with some restarts
+router_fine : (restarts : List (Time × List ℕ)) → AreRising (map (λ (c : Time × List ℕ). c.0.0) restarts)
+    → IsRouterPlan (record walk_router { restarts = restarts })
+router_fine restarts rising = record {
   clock_offset = omega arith;
   slots = omega arith;
   edge_tag = omega arith;
@@ -89,13 +92,13 @@ router_fine = record {
         (unlike (λ (p : Prefix). p.address.0) (walk_route 167772416 2).prefix (walk_route 167772160 1).prefix (λ k. omega (arith, k)), tt),
     (absent [] (walk_route 167772416 2).prefix tt, tt),
   );
-  boots = tt;
+  boots = rising;
   moved = All-nil (λ (c : Time × Prefix × ℕ). Contains (map (λ (r : Route). r.prefix) walk_router.routes) c.1);
   ways = All-nil (λ (c : Time × Prefix × ℕ). Contains (links_of walk_router.outgoing) c.2);
   turns = λ prefix. tt;
 }
 
-host_fine : (letter : ℕ) (address : Address) (kind : PolicyKind) (uplink : ℕ) → IsHostPlan (walk_host letter address kind uplink)
+pub host_fine : (letter : ℕ) (address : Address) (kind : PolicyKind) (uplink : ℕ) → IsHostPlan (walk_host letter address kind uplink)
 host_fine letter address kind uplink = record {
   nonce = omega arith;
   margin = omega arith;
@@ -104,7 +107,7 @@ host_fine letter address kind uplink = record {
   rights = record { units = omega arith; seconds = omega arith };
 }
 
-policy_fine : (letter : ℕ) (address : Address) (kind : PolicyKind) (uplink : ℕ) → IsPolicyPlan (walk_host letter address kind uplink).policy
+pub policy_fine : (letter : ℕ) (address : Address) (kind : PolicyKind) (uplink : ℕ) → IsPolicyPlan (walk_host letter address kind uplink).policy
 policy_fine letter address kind uplink = record {
   grants = omega arith;
   deny = omega arith;
@@ -114,24 +117,31 @@ policy_fine letter address kind uplink = record {
 
 -- ## the network
 
-link_fine : (from to tag : ℕ) → from < 3 → to < 3 → (from ≡ to → ⊥) → IsLinkPlan 3 (walk_link from to tag)
+pub link_fine : (from to tag : ℕ) → from < 3 → to < 3 → (from ≡ to → ⊥) → IsLinkPlan 3 (walk_link from to tag)
 link_fine from to tag f t a = record { from = f; to = t; apart = a; delay = (omega arith, omega arith); limits = limits_fine }
 
-pub valid : IsConfig walk_config
+-- the network, where the router has some restarts, and the policy of A is of a kind
+abbrev pub config_with : List (Time × List ℕ) → PolicyKind → Config
+config_with restarts kind = record walk_config {
+  nodes = Router (record walk_router { restarts = restarts }) ∷ Host (walk_host 65 walk_a kind 0) ∷ Host walk_host_b ∷ [];
+}
+
+pub valid_with : (restarts : List (Time × List ℕ)) (kind : PolicyKind) → AreRising (map (λ (c : Time × List ℕ). c.0.0) restarts)
+    → length restarts ≤ 65536 → IsConfig (config_with restarts kind)
 unfolding links_from incoming_of outgoing_of
-valid = record {
+valid_with restarts kind rising few = record {
   horizon = omega arith;
   max_events = (omega arith, omega arith);
   few_nodes = omega arith;
   few_links = omega arith;
   few_routes = omega arith;
-  few_restarts = omega arith;
+  few_restarts = omega (arith, few);
   few_reroutes = omega arith;
   few_slots = omega arith;
   few_places = omega arith;
-  nodes = All-from_recursion IsNodePlan walk_config.nodes
-      (router_fine, (host_fine 65 walk_a Client 0, (host_fine 66 walk_b Server 3, tt)));
-  policies = All-from_recursion HasPolicy walk_config.nodes (tt, (policy_fine 65 walk_a Client 0, (policy_fine 66 walk_b Server 3, tt)));
+  nodes = All-from_recursion IsNodePlan (config_with restarts kind).nodes
+      (router_fine restarts rising, (host_fine 65 walk_a kind 0, (host_fine 66 walk_b Server 3, tt)));
+  policies = All-from_recursion HasPolicy (config_with restarts kind).nodes (tt, (policy_fine 65 walk_a kind 0, (policy_fine 66 walk_b Server 3, tt)));
   routers_first = All-from_recursion (λ (q : NodePlan). is_host_plan q ≡ true) (Host walk_host_b ∷ []) (refl, tt);
   links = All-from_recursion (IsLinkPlan 3) walk_config.links (
     link_fine 1 0 1 (omega arith) (omega arith) (λ e. omega (arith, e)),
@@ -167,8 +177,11 @@ valid = record {
   wired = ((refl, refl), (refl, (refl, tt)));
 }
 
+pub valid : IsConfig walk_config
+valid = valid_with [] Client tt (omega arith)
+
 -- no row begins a transfer
-none_begins : (node : ℕ) (rows : List Row) → AllByRecursion (λ (row : Row). begins row.what ≡ false) rows → files_at node rows ≡ 0
+pub none_begins : (node : ℕ) (rows : List Row) → AllByRecursion (λ (row : Row). begins row.what ≡ false) rows → files_at node rows ≡ 0
 none_begins node [] none = refl
 none_begins node (row ∷ rows) none =
     let here : ((row.node == node) && begins row.what) ≡ false = rw none.0 (and_right (row.node == node) false refl) in

@@ -1,15 +1,21 @@
 -- The paths of the worked walk are steady: up to its list, its nonce alone and its renewal.
-use Rattle.std.proofs.Common.{◌<◌, List, [], ◌∷◌, ◌++◌, Some, None, refl, arith}
+use Rattle.std.proofs.Common.{◌≡◌, ◌<◌, ℕ, List, [], ◌∷◌, ◌++◌, Some, None, refl, subst, arith}
+use Rattle.std.specs.Prelude.{IsSomeAnd}
+use Rattle.std.specs.List.{AllByRecursion}
 use Rattle.std.proofs.lemmas.List.Elements.{All-nil, All-from_recursion}
 use Rattle.tva_base.specs.declared.packet.Class.TheVariants.{Regular, Legacy}
+use Rattle.tva_base.specs.declared.packet.Rights.{Rights}
 use Rattle.tva_base.specs.Changes.{in_force}
 use Rattle.tva_base.specs.Credit.{credit_of}
 use Rattle.tva_shim.specs.Layout.{layout, two_bytes, six_bytes, eight_bytes, number_bytes}
+use Rattle.tva_shim.specs.Packets.{PacketData}
 use Rattle.tva_log.specs.declared.kinds.Input.TheVariants.{FromTrace}
 use Rattle.tva_log.specs.Entries.{Arrived, Took, Started}
+use Rattle.tva_paths.proofs.Walks.{at_place}
 use Rattle.tva_honest.specs.Deals.{Deal, Prepared, Granted, Coming, coming, deals}
-use Rattle.tva_honest.specs.Paths.{ComesInTime, ComesUnder}
-use Rattle.tva_honest.specs.Walk.{walk_b, walk_flow, walk_rights, walk_router, walk_host_a, walk_cap, walk_precap, walk_grant, walk_fate, walk_request, walk_list, walk_bare, walk_spoofed, walk_nonce, walk_renewal, walk_passes, walk_before_list, walk_before_nonce, walk_before_renewal, walk_log_a, walk_list_comes, walk_nonce_comes, walk_renewal_comes, IsSteadyBehind}
+use Rattle.tva_honest.specs.Paths.{ask_coming, IsNoGrant, ComesInTime, ComesUnder}
+use Rattle.tva_honest.specs.Whole.{IsBegun}
+use Rattle.tva_honest.specs.Walk.{walk_b, walk_flow, walk_rights, walk_router, walk_host_a, walk_cap, walk_precap, walk_grant, walk_fate, walk_request, walk_list, walk_bare, walk_spoofed, walk_nonce, walk_renewal, walk_passes, walk_before_list, walk_before_nonce, walk_before_renewal, walk_log_a, walk_list_comes, walk_nonce_comes, walk_renewal_comes, IsSteadyBehind, IsListWhole}
 
 abbrev own : List Deal
 own = deals walk_b walk_log_a
@@ -135,6 +141,48 @@ steady_list = record {
     known = λ e. absurd (cc);
     room = λ e. omega arith;
   };
+}
+
+-- a grant behind a packet is the only one where none is behind it
+only_grant : (t : ℕ) (p : PacketData) (r : Rights) (cs : List ℕ) (ds : List Deal) → AllByRecursion IsNoGrant ds → (first : List Deal)
+    (rights : Rights) (caps : List ℕ) (rest : List Deal) → Prepared t p ∷ Granted r cs ∷ ds ≡ first ++ Granted rights caps ∷ rest
+    → (Prepared t p ∷ [] ≡ first) × (ds ≡ rest)
+only_grant t p r cs ds none [] rights caps rest e = absurd (cc)
+only_grant t p r cs ds none (d ∷ []) rights caps rest e = (cc, cc)
+only_grant t p r cs ds none (d ∷ f ∷ fs) rights caps rest e =
+    let tail : ds ≡ fs ++ Granted rights caps ∷ rest = cc in
+    absurd (at_place IsNoGrant ds fs (Granted rights caps) rest tail none)
+
+list_begun : IsBegun walk_host_a walk_router 1000520 dealt (request_coming ∷ list_coming ∷ []) 5003420 request_coming
+unfolding in_force
+list_begun = record {
+  behind = (λ it. omega arith, (λ it. omega arith, tt));
+  minted = (λ it none. tt, (λ it none. refl, tt));
+  boot = refl;
+}
+
+pub whole_list : IsListWhole
+whole_list = record {
+  each = (request_in_time, tt);
+  last = record {
+    before = asked ∷ granted ∷ [];
+    sent = 4002900;
+    packet = walk_list 0 0;
+    after = named ∷ renewed ∷ [];
+    place = refl;
+    same = refl;
+    from = omega arith;
+    until = omega arith;
+  };
+  order = (All-nil (λ n. 2 < n), tt);
+  begun = λ first rights caps rest e it.
+      let is = only_grant 0 (walk_request 0 []) walk_rights (walk_cap walk_flow ∷ []) dealt (tt, (tt, (tt, tt))) first rights caps rest e in
+      subst (λ (ds : List Deal). IsSomeAnd (ask_coming (request_coming ∷ []) first)
+      (IsBegun walk_host_a walk_router 1000520 ds (request_coming ∷ list_coming ∷ []) 5003420)) is.1
+      (subst (λ (ds : List Deal). IsSomeAnd (ask_coming (request_coming ∷ []) ds)
+      (IsBegun walk_host_a walk_router 1000520 dealt (request_coming ∷ list_coming ∷ []) 5003420)) is.0 list_begun);
+  paid = tt;
+  room = λ e. omega arith;
 }
 
 nonce_comes : Under nonce_coming

@@ -73,9 +73,9 @@ pub record IsNarrowPath (host : HostPlan) (router : RouterPlan) (delay : ℕ) (o
   pub paid : AllByRecursion (WasCharged (comings_at router x.time seen)) (since_granted [] last.in_time.before)
   pub room : lives charged x.packet.flow x.time ≡ false → living_count charged x.time < router.slots
 
--- what the narrower words call steady is steady
-abbrev pub AreNarrowSteady : Config → Logs → Type 0
-AreNarrowSteady config logs =
+-- in a run each path is steady that is of a kind
+abbrev pub AreSteady : (HostPlan → RouterPlan → ℕ → List Deal → List Coming → List Charge → Coming → Type 0) → Config → Logs → Type 0
+AreSteady IsPath config logs =
     (sender node : ℕ) (from to : Site) (host : HostPlan) (router : RouterPlan)
     → site_at config sender ≡ Some from → from.plan ≡ Host host
     → site_at config node ≡ Some to → to.plan ≡ Router router
@@ -84,7 +84,11 @@ AreNarrowSteady config logs =
     → log_at logs node ≡ before ++ Took input (Arrived on packet fate onward) ∷ rest
     → is_marked packet.carried ≡ false → packet.hops < 32 → shows packet.carried ≡ true
     → (delay : ℕ)
-    → IsNarrowPath host router delay (deals packet.flow.dst (log_at logs sender)) (comings packet.flow before)
+    → IsPath host router delay (deals packet.flow.dst (log_at logs sender)) (comings packet.flow before)
     (charges_at router (input_time input) (charges before)) (coming input packet fate)
     → IsSteadyPath host router delay (deals packet.flow.dst (log_at logs sender)) (comings packet.flow before)
     (charges_at router (input_time input) (charges before)) (coming input packet fate)
+
+-- what the narrower words call steady is steady
+abbrev pub AreNarrowSteady : Config → Logs → Type 0
+AreNarrowSteady config logs = AreSteady IsNarrowPath config logs

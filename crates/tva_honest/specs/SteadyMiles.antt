@@ -116,7 +116,6 @@ pub record IsSteady (w : Way) (h : List Charge) (ms : List Mile) (sent : ℕ) (s
   -- but for charges of earlier seconds all charges of the flow are of its packets under the last grant, in the order in
   -- which they were prepared
   pub miles : AreMiles w [] ms
-  pub under : charges_in ms ≡ charges_in (since_got [] ms)
   pub charges : IfSome (last_came ms) (λ came. filter (is_since w came) (of_flow w.flow h) ≡ charges_in ms)
   -- the packet comes within the margin, behind the ask of its grant
   pub comes : ComesIn w sent at

@@ -45,6 +45,7 @@ use Rattle.tva_log.specs.Told.{at_time}
 use Rattle.tva_run.specs.Reaching.{Logs, log_at}
 use Rattle.tva_honest.specs.Deals.{coming, comings, deals}
 use Rattle.tva_honest.specs.Paths.{IsSteadyPath}
+use Rattle.tva_honest.specs.Whole.{IsWholePath}
 
 -- ## the network
 
@@ -295,3 +296,10 @@ pub record IsSteadyBehind (before : List Entry) (input : Input) (packet onward :
       ≡ before ++ Took input (Arrived (Some 0) packet (walk_fate Regular (Some walk_grant) 2) onward) ∷ rest
   pub steady : IsSteadyPath walk_host_a walk_router 1000520 (deals walk_b (log_at walk_logs 1)) (comings walk_flow before)
       (charges_at walk_router (input_time input) (charges before)) (coming input packet (walk_fate Regular (Some walk_grant) 2))
+
+-- and the whole flow keeps to the path up to the list
+abbrev pub IsListWhole : Type 0
+IsListWhole =
+    IsWholePath walk_host_a walk_router 1000520 (deals walk_b (log_at walk_logs 1)) (comings walk_flow walk_before_list)
+    (charges_at walk_router (input_time walk_list_comes) (charges walk_before_list))
+    (coming walk_list_comes (walk_list 0 0) (walk_fate Regular (Some walk_grant) 2))

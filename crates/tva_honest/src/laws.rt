@@ -15,10 +15,11 @@ ghost use Rattle.tva_honest.specs.Deals.{Deal, Coming};
 ghost use Rattle.tva_honest.specs.Paths.{AreHonestRegular, IsSteadyPath, LieInBoot, charged_since, comings_at};
 ghost use Rattle.tva_honest.specs.Paths.{shows_nonce, since_noticed};
 ghost use Rattle.tva_honest.specs.Narrow.{AreNarrowSteady};
+ghost use Rattle.tva_honest.specs.Whole.{AreWholeSteady};
 ghost use Rattle.tva_honest.specs.Walk.{walk_before_list, walk_before_nonce, walk_before_renewal, walk_cap, walk_config};
 ghost use Rattle.tva_honest.specs.Walk.{walk_flow, walk_list, walk_list_comes, walk_logs, walk_nonce, walk_nonce_comes};
 ghost use Rattle.tva_honest.specs.Walk.{walk_precap, walk_renewal, walk_renewal_comes, walk_rows, walk_until};
-ghost use Rattle.tva_honest.specs.Walk.{IsSteadyBehind};
+ghost use Rattle.tva_honest.specs.Walk.{IsListWhole, IsSteadyBehind};
 ghost use Rattle.tva_honest.specs.Miles.{Mile};
 ghost use Rattle.tva_honest.specs.SteadyMiles.{Way, IsSteady, IsNarrow, IsTaken};
 
@@ -51,6 +52,16 @@ pub fn narrow_paths_are_steady()
         → AreTraceRows config rows → IsRunTo config rows until logs → AreNarrowSteady config logs }
 {}
 
+/// In each such run a path that the whole flow keeps to is steady: where up to the packet each unmarked packet of the flow
+/// was prepared by the host and came in time, those that show a grant in order; the last ask of each grant came before all
+/// that was prepared behind the taking, and what shows the grant came with the capability minted for that ask; all that shows
+/// the packet's own grant was charged; and the router didn't restart since the first of these asks came. Times are in
+/// nanoseconds.
+pub fn whole_paths_are_steady()
+    ensures { (config : Config) (rows : List Row) (until : ℕ) (logs : Logs) → IsConfig config
+        → AreTraceRows config rows → IsRunTo config rows until logs → AreWholeSteady config logs }
+{}
+
 /// A restart ends a path for nonces alone: where it is steady up to one, all packets that were prepared before it since
 /// its grant, or since the first notice on that, and show the grant came to the router in the same boot, and were charged
 /// there. Times are in nanoseconds.
@@ -71,10 +82,12 @@ pub fn worked_walk_is_a_run()
 {}
 
 /// Some paths are steady, by the logs of a run: those of the worked walk up to its list, up to its nonce alone, which
-/// comes behind a packet without a shim that another node sends as its host's, and up to its renewal.
+/// comes behind a packet without a shim that another node sends as its host's, and up to its renewal. And up to its list
+/// the whole flow keeps to the path.
 pub fn worked_walk_comes_steadily()
     ensures list { IsSteadyBehind walk_before_list walk_list_comes (walk_list 0 0) (walk_list 1 1) }
     ensures nonce { IsSteadyBehind walk_before_nonce walk_nonce_comes (walk_nonce 0) (walk_nonce 1) }
     ensures renewal { IsSteadyBehind walk_before_renewal walk_renewal_comes (walk_renewal 0 0 (walk_cap walk_flow))
         (walk_renewal 1 1 (walk_precap walk_flow 6)) }
+    ensures whole { IsListWhole }
 {}

@@ -9,5 +9,5 @@ mod laws;
 
 pub use laws::{
     honest_senders_are_authorised, honest_senders_are_regular, narrow_paths_are_steady,
-    paths_lie_in_a_boot, worked_walk_comes_steadily, worked_walk_is_a_run,
+    paths_lie_in_a_boot, whole_paths_are_steady, worked_walk_comes_steadily, worked_walk_is_a_run,
 };

@@ -1,2 +1,12 @@
-mod Restart
-mod Lost
+mod Networks
+mod Nodes
+mod NewRun
+mod NewPath
+mod Ended
+mod SameRun
+mod SamePaths
+mod DetourNet
+mod DetourRun
+mod DetourPath
+mod LossRun
+mod LossPath

@@ -1,5 +1,9 @@
-use Rattle.tva_honest_tests.proofs.Restart.{no_path}
+use Rattle.std.proofs.Common.{refl}
+use Rattle.tva_honest_tests.proofs.Ended.{no_path}
 use Rattle.tva_honest_tests.proofs.a_restart_ends_the_path.Goals as goal
 
-pub returns : goal.returns
-returns c = no_path
+pub returns-clause-comes : goal.returns-clause-comes
+returns-clause-comes c = refl
+
+pub returns-clause-ends : goal.returns-clause-ends
+returns-clause-ends c = no_path

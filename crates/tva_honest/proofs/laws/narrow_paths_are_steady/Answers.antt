@@ -1,5 +1,5 @@
 use Rattle.tva_honest.proofs.Given.{given}
-use Rattle.tva_honest.proofs.Steady.{narrow_steady}
+use Rattle.tva_honest.proofs.Narrower.{narrow_steady}
 use Rattle.tva_honest.proofs.laws.narrow_paths_are_steady.Goals as goal
 
 pub returns : goal.returns

@@ -1,4 +1,4 @@
-use Rattle.tva_honest.proofs.Walked.{steady_list, steady_nonce, steady_renewal}
+use Rattle.tva_honest.proofs.Walked.{steady_list, steady_nonce, steady_renewal, whole_list}
 use Rattle.tva_honest.proofs.laws.worked_walk_comes_steadily.Goals as goal
 
 pub returns-clause-list : goal.returns-clause-list
@@ -9,3 +9,6 @@ returns-clause-nonce c = steady_nonce
 
 pub returns-clause-renewal : goal.returns-clause-renewal
 returns-clause-renewal c = steady_renewal
+
+pub returns-clause-whole : goal.returns-clause-whole
+returns-clause-whole c = whole_list

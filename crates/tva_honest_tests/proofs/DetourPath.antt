@@ -1,0 +1,131 @@
+-- Behind a changed route the path is steady up to the list of the next grant, at the router before and at that which it brings in.
+use Rattle.std.proofs.Common.{◌<◌, false, List, [], ◌∷◌, ◌++◌, None, refl, arith}
+use Rattle.std.proofs.lemmas.List.Elements.{All-nil}
+use Rattle.tva_base.specs.declared.packet.Class.TheVariants.{Regular}
+use Rattle.tva_base.specs.Changes.{in_force}
+use Rattle.tva_base.specs.Credit.{credit_of}
+use Rattle.tva_shim.specs.Layout.{layout, two_bytes, six_bytes, eight_bytes, number_bytes}
+use Rattle.tva_log.specs.Entries.{Started}
+use Rattle.tva_honest.specs.Deals.{Deal, Prepared, Granted, Noticed}
+use Rattle.tva_honest.specs.Walk.{walk_rights}
+use Rattle.tva_honest_tests.specs.Steady.{IsSteadyIn}
+use Rattle.tva_honest_tests.specs.Restarts.{charged_to}
+use Rattle.tva_honest_tests.specs.Detour.{to_first, to_second, detour_logs, first_before_list, second_before_list, asked, narrow_caps, wide_caps, narrow_list, narrow_nonce, wide_list, by_first}
+
+-- what A had before it asked anew
+abbrev earlier : List Deal
+earlier =
+    Prepared 0 (asked 1 0 [])
+    ∷ Granted walk_rights narrow_caps
+    ∷ Prepared 5000000 (narrow_list 2 0 0 false)
+    ∷ Prepared 10000000 (narrow_nonce 0 false)
+    ∷ Noticed
+    ∷ Prepared 20000000 (narrow_list 4 0 0 false)
+    ∷ Noticed
+    ∷ []
+
+abbrev asks : Deal
+asks = Prepared 2100000000 (asked 5 0 [])
+
+abbrev listed : Deal
+listed = Prepared 2110000000 (wide_list 0 0)
+
+pub steady_first : IsSteadyIn detour_logs to_first first_before_list 2111010480 0 (wide_list 0 0) (charged_to 2 4) (wide_list 1 1)
+unfolding in_force layout two_bytes six_bytes eight_bytes number_bytes credit_of
+steady_first = record {
+  sender = refl;
+  node = refl;
+  rest = Started 2111010480 4 Regular (wide_list 1 1) ∷ [];
+  here = refl;
+  unmarked = refl;
+  hops = omega arith;
+  shown = refl;
+  steady = record {
+    first = earlier ++ asks ∷ [];
+    rights = walk_rights;
+    caps = wide_caps;
+    rest = listed ∷ [];
+    place = refl;
+    ask = record { time = 2101001000; packet = asked 5 0 []; charge = None };
+    came = refl;
+    in_time = record {
+      before = earlier;
+      sent = 2100000000;
+      packet = asked 5 0 [];
+      after = Granted walk_rights wide_caps ∷ listed ∷ [];
+      place = refl;
+      same = refl;
+      from = omega arith;
+      until = omega arith;
+    };
+    last = record {
+      in_time = record {
+        before = [];
+        sent = 2110000000;
+        packet = wide_list 0 0;
+        after = [];
+        place = refl;
+        same = refl;
+        from = omega arith;
+        until = omega arith;
+      };
+      behind = omega arith;
+      minted = refl;
+    };
+    no_other = tt;
+    each = tt;
+    order = (All-nil (λ n. 6 < n), tt);
+    known = λ e. absurd (cc);
+    room = λ e. omega arith;
+  };
+}
+
+pub steady_second : IsSteadyIn detour_logs to_second second_before_list 2112020960 4 (wide_list 1 1) (charged_to 2 5) (wide_list 2 2)
+unfolding in_force layout two_bytes six_bytes eight_bytes number_bytes credit_of
+steady_second = record {
+  sender = refl;
+  node = refl;
+  rest = Started 2112020960 5 Regular (wide_list 2 2) ∷ [];
+  here = refl;
+  unmarked = refl;
+  hops = omega arith;
+  shown = refl;
+  steady = record {
+    first = earlier ++ asks ∷ [];
+    rights = walk_rights;
+    caps = wide_caps;
+    rest = listed ∷ [];
+    place = refl;
+    ask = record { time = 2102002100; packet = asked 5 1 (by_first 2); charge = None };
+    came = refl;
+    in_time = record {
+      before = earlier;
+      sent = 2100000000;
+      packet = asked 5 0 [];
+      after = Granted walk_rights wide_caps ∷ listed ∷ [];
+      place = refl;
+      same = refl;
+      from = omega arith;
+      until = omega arith;
+    };
+    last = record {
+      in_time = record {
+        before = [];
+        sent = 2110000000;
+        packet = wide_list 0 0;
+        after = [];
+        place = refl;
+        same = refl;
+        from = omega arith;
+        until = omega arith;
+      };
+      behind = omega arith;
+      minted = refl;
+    };
+    no_other = tt;
+    each = tt;
+    order = (All-nil (λ n. 6 < n), tt);
+    known = λ e. absurd (cc);
+    room = λ e. omega arith;
+  };
+}

@@ -1,0 +1,135 @@
+-- The path is steady up to a renewal where a nonce alone before it was lost.
+use Rattle.std.proofs.Common.{◌<◌, false, [], ◌∷◌, None, refl, arith}
+use Rattle.std.proofs.lemmas.List.Elements.{All-nil, All-from_recursion}
+use Rattle.tva_base.specs.declared.packet.Class.TheVariants.{Regular}
+use Rattle.tva_base.specs.Changes.{in_force}
+use Rattle.tva_base.specs.Credit.{credit_of}
+use Rattle.tva_shim.specs.Layout.{layout, two_bytes, six_bytes, eight_bytes, number_bytes}
+use Rattle.tva_log.specs.Entries.{Started}
+use Rattle.tva_honest.specs.Deals.{Deal, Prepared, Granted}
+use Rattle.tva_honest.specs.Walk.{walk_rights}
+use Rattle.tva_honest_tests.specs.Steady.{IsSteadyIn}
+use Rattle.tva_honest_tests.specs.Restarts.{a_request, a_list, a_nonce, first_cap, charged_to}
+use Rattle.tva_honest_tests.specs.Loss.{loss_walk, loss_logs, loss_before_renewal, late_renewal, late_renewed}
+
+abbrev asked : Deal
+asked = Prepared 0 (a_request 1 0 [])
+
+abbrev listed : Deal
+listed = Prepared 5000000 (a_list 2 2 0 0 first_cap)
+
+abbrev named : Deal
+named = Prepared 10000000 (a_nonce 3 0 false)
+
+abbrev waited : Deal
+waited = Prepared 10001000 (a_nonce 4 0 false)
+
+abbrev lost : Deal
+lost = Prepared 10002000 (a_nonce 5 0 false)
+
+abbrev renews : Deal
+renews = Prepared 6000000000 late_renewal
+
+pub steady : IsSteadyIn loss_logs loss_walk loss_before_renewal 6001010400 0 late_renewal (charged_to 0 2) late_renewed
+unfolding in_force layout two_bytes six_bytes eight_bytes number_bytes credit_of
+steady = record {
+  sender = refl;
+  node = refl;
+  rest = Started 6001010400 2 Regular late_renewed ∷ [];
+  here = refl;
+  unmarked = refl;
+  hops = omega arith;
+  shown = refl;
+  steady = record {
+    first = asked ∷ [];
+    rights = walk_rights;
+    caps = first_cap ∷ [];
+    rest = listed ∷ named ∷ waited ∷ lost ∷ renews ∷ [];
+    place = refl;
+    ask = record { time = 1001000; packet = a_request 1 0 []; charge = None };
+    came = refl;
+    in_time = record {
+      before = [];
+      sent = 0;
+      packet = a_request 1 0 [];
+      after = Granted walk_rights (first_cap ∷ []) ∷ listed ∷ named ∷ waited ∷ lost ∷ renews ∷ [];
+      place = refl;
+      same = refl;
+      from = omega arith;
+      until = omega arith;
+    };
+    last = record {
+      in_time = record {
+        before = listed ∷ named ∷ waited ∷ lost ∷ [];
+        sent = 6000000000;
+        packet = late_renewal;
+        after = [];
+        place = refl;
+        same = refl;
+        from = omega arith;
+        until = omega arith;
+      };
+      behind = omega arith;
+      minted = refl;
+    };
+    no_other = (tt, (tt, (tt, (tt, tt))));
+    each = (
+      record {
+        in_time = record {
+          before = [];
+          sent = 5000000;
+          packet = a_list 2 2 0 0 first_cap;
+          after = named ∷ waited ∷ lost ∷ [];
+          place = refl;
+          same = refl;
+          from = omega arith;
+          until = omega arith;
+        };
+        behind = omega arith;
+        minted = refl;
+      },
+      (
+        record {
+          in_time = record {
+            before = listed ∷ [];
+            sent = 10000000;
+            packet = a_nonce 3 0 false;
+            after = waited ∷ lost ∷ [];
+            place = refl;
+            same = refl;
+            from = omega arith;
+            until = omega arith;
+          };
+          behind = omega arith;
+          minted = tt;
+        },
+        (
+          record {
+            in_time = record {
+              before = listed ∷ named ∷ [];
+              sent = 10001000;
+              packet = a_nonce 4 0 false;
+              after = lost ∷ [];
+              place = refl;
+              same = refl;
+              from = omega arith;
+              until = omega arith;
+            };
+            behind = omega arith;
+            minted = tt;
+          },
+          tt,
+        ),
+      ),
+    );
+    order = (
+      All-from_recursion (λ n. 2 < n) (3 ∷ 4 ∷ 6 ∷ []) (omega arith, (omega arith, (omega arith, tt))),
+      (
+        All-from_recursion (λ n. 3 < n) (4 ∷ 6 ∷ []) (omega arith, (omega arith, tt)),
+        (All-from_recursion (λ n. 4 < n) (6 ∷ []) (omega arith, tt), (All-nil (λ n. 6 < n), tt)),
+      ),
+    );
+    known = λ e. absurd (cc);
+    room = λ e. omega arith;
+  };
+}

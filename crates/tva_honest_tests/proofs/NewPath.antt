@@ -1,0 +1,81 @@
+-- Behind a restart with another master the path is steady up to the list of the next grant.
+use Rattle.std.proofs.Common.{◌<◌, false, List, [], ◌∷◌, ◌++◌, None, refl, arith}
+use Rattle.std.proofs.lemmas.List.Elements.{All-nil}
+use Rattle.tva_base.specs.Changes.{in_force}
+use Rattle.tva_base.specs.Credit.{credit_of}
+use Rattle.tva_shim.specs.Layout.{layout, two_bytes, six_bytes, eight_bytes, number_bytes}
+use Rattle.tva_log.specs.Entries.{Started}
+use Rattle.tva_base.specs.declared.packet.Class.TheVariants.{Regular}
+use Rattle.tva_honest.specs.Deals.{Deal, Prepared, Granted, Noticed}
+use Rattle.tva_honest.specs.Walk.{walk_rights}
+use Rattle.tva_honest_tests.specs.Steady.{IsSteadyIn}
+use Rattle.tva_honest_tests.specs.Restarts.{restart_walk, a_request, a_list, a_nonce, first_cap, charged_to}
+use Rattle.tva_honest_tests.specs.NewMaster.{new_master, new_logs, new_before_list, new_list, second_cap}
+
+-- what A had before it asked anew
+abbrev pub earlier : List Deal
+earlier =
+    Prepared 0 (a_request 1 0 [])
+    ∷ Granted walk_rights (first_cap ∷ [])
+    ∷ Prepared 5000000 (a_list 2 2 0 0 first_cap)
+    ∷ Prepared 10000000 (a_nonce 3 0 false)
+    ∷ Prepared 10100000 (a_nonce 4 0 false)
+    ∷ Noticed
+    ∷ Noticed
+    ∷ []
+
+abbrev asked : Deal
+asked = Prepared 2100000000 (a_request 5 0 [])
+
+abbrev listed : Deal
+listed = Prepared 2110000000 (new_list 0 0)
+
+pub steady : IsSteadyIn new_logs (restart_walk new_master) new_before_list 2111010400 0 (new_list 0 0) (charged_to 2 2) (new_list 1 1)
+unfolding in_force layout two_bytes six_bytes eight_bytes number_bytes credit_of
+steady = record {
+  sender = refl;
+  node = refl;
+  rest = Started 2111010400 2 Regular (new_list 1 1) ∷ [];
+  here = refl;
+  unmarked = refl;
+  hops = omega arith;
+  shown = refl;
+  steady = record {
+    first = earlier ++ asked ∷ [];
+    rights = walk_rights;
+    caps = second_cap ∷ [];
+    rest = listed ∷ [];
+    place = refl;
+    ask = record { time = 2101001000; packet = a_request 5 0 []; charge = None };
+    came = refl;
+    in_time = record {
+      before = earlier;
+      sent = 2100000000;
+      packet = a_request 5 0 [];
+      after = Granted walk_rights (second_cap ∷ []) ∷ listed ∷ [];
+      place = refl;
+      same = refl;
+      from = omega arith;
+      until = omega arith;
+    };
+    last = record {
+      in_time = record {
+        before = [];
+        sent = 2110000000;
+        packet = new_list 0 0;
+        after = [];
+        place = refl;
+        same = refl;
+        from = omega arith;
+        until = omega arith;
+      };
+      behind = omega arith;
+      minted = refl;
+    };
+    no_other = tt;
+    each = tt;
+    order = (All-nil (λ n. 6 < n), tt);
+    known = λ e. absurd (cc);
+    room = λ e. omega arith;
+  };
+}
