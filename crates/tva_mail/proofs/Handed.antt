@@ -1,47 +1,39 @@
 -- Nodes that hand out events: nothing else of them changes.
-use Rattle.std.proofs.Common.{◌≡◌, ℕ, ◌+◌, ◌<◌, ◌≤◌, List, [], ◌∷◌, ◌++◌, length, get_or, set, drop, map, Option, Some, None, IfSome, refl, sym, subst, ◌∙◌, ap, ap₂, arith}
+use Rattle.std.proofs.Common.{◌≡◌, ℕ, ◌+◌, ◌<◌, ◌≤◌, List, [], ◌∷◌, ◌++◌, Vec, Global, length, get_or, set, drop, Option, Some, None, IfSome, Result, Ok, Err, IfOk, refl, sym, subst, ◌∙◌, ap, ap₂, arith}
+use Rattle.std.specs.Prelude.{flat_map}
 use Rattle.std.specs.List.{AllZip}
-use Rattle.std.specs.Option.{option_map_or}
 use Rattle.std.proofs.lemmas.List.{append-nil, drop_all, get_or_default, set-get_or}
-use Rattle.std.proofs.lemmas.Option.{slice_get-get_or}
+use Rattle.std.proofs.lemmas.List.Elements.{AllZip-get_or}
 use Rattle.tva_base.specs.declared.event.Event.{Event}
 use Rattle.tva_log.specs.Joins.{NeverFalls, from_source}
-use Rattle.tva_node.specs.States.{Gone, NodeState}
+use Rattle.tva_node.specs.States.{Gone, NodeState, all_given, news, unsent}
 use Rattle.tva_run.specs.Report.{event_time}
 use Rattle.tva_mail.specs.Handing.{IsByTime, IsOnly, picked}
-use Rattle.tva_mail.specs.Mail.{Forgot, HandedOut}
-use Rattle.tva_mail.specs.News.{since}
-use Rattle.tva_mail.specs.Places.{AreKnownElsewhere}
+use Rattle.tva_mail.specs.Mail.{HandedOn, HandedOut}
+use Rattle.tva_mail.specs.News.{of_place}
+use Rattle.tva_mail.specs.Places.{ArePlaces, AreQuietElsewhere}
 use Rattle.tva_mail.proofs.Lists.{zip_length, zip_same, zip_weaker}
 use Rattle.tva_mail.proofs.Mails.{zip_set}
-use Rattle.tva_mail.proofs.News.{zip_at}
-use Rattle.tva_mail.proofs.Places.{news_at, picked_last, picked_more}
+use Rattle.tva_mail.proofs.Places.{of_place_is, picked_last, picked_more, since_picked}
 
 -- ## a node
 
 handed_nothing : (v : NodeState) → HandedOut v v
-handed_nothing v = record { same = refl; events = λ l. l }
+handed_nothing v = record { same = refl; news = λ h. h }
 
-handed_forgot : (v w : NodeState) → HandedOut v w → Forgot v w
-handed_forgot v w h = record {
+pub handed_on : (v w : NodeState) → HandedOut v w → HandedOn v w
+handed_on v w h = record {
   same = h.same ∙ ap (λ (g : Gone). record v { gone = g }) (sym (ap (λ (x : NodeState). x.gone) h.same));
-  gone = λ had. record {
-    events = h.events had.events;
-    sendings = let gone = ap (λ (x : NodeState). x.gone.sendings) h.same in let many = ap (λ (x : NodeState). length x.sendings) h.same in omega (arith, gone, many, had.sendings);
-  };
+  news = h.news;
 }
 
-pub told_still : (v w : NodeState) → HandedOut v w → w.events ≡ v.events
-told_still v w h = ap (λ (x : NodeState). x.events) h.same
+pub unsent_still : (v w : NodeState) → HandedOut v w → unsent w ≡ unsent v
+unsent_still v w h = ap (λ (x : NodeState). unsent x) h.same
 
-pub sent_still : (v w : NodeState) → HandedOut v w → w.sendings ≡ v.sendings
-sent_still v w h = ap (λ (x : NodeState). x.sendings) h.same
-
-pub taken : (v w : NodeState) → w ≡ record v { gone = w.gone } → w.gone.inputs ≡ v.gone.inputs → w.gone.events ≤ length w.events → w.gone.sendings ≡ v.gone.sendings → HandedOut v w
-taken v w e i l s = record {
-  same = e ∙ (λ k. record v { gone = record { inputs = i k; events = w.gone.events; sendings = s k } });
-  events = λ m. l;
-}
+-- its news are taken, or nothing happens
+pub taken : (v w : NodeState) (news : Option (Vec Event Global)) → IfSome news (λ list. w ≡ record v { gone = all_given v }) → (news ≡ None → w ≡ v) → HandedOut v w
+taken v w None some none = subst (HandedOut v) (sym (none refl)) (handed_nothing v)
+taken v w (Some list) some none = subst (HandedOut v) (sym some) (record { same = refl; news = λ h. record { told = refl; sent = h.sent } })
 
 -- ## nodes
 
@@ -52,34 +44,19 @@ pub handed_one : (nodes : List NodeState) (place : ℕ) (u w : NodeState) → pl
 handed_one nodes place u w l h =
     zip_set HandedOut handed_nothing nodes place w (subst (λ (v : NodeState). HandedOut v w) (get_or_default nodes place u w l) h)
 
-pub all_forgot_handed : (xs ys : List NodeState) → AllZip HandedOut xs ys → AllZip Forgot xs ys
-all_forgot_handed xs ys h = zip_weaker HandedOut Forgot handed_forgot xs ys h
+pub all_handed_on : (xs ys : List NodeState) → AllZip HandedOut xs ys → AllZip HandedOn xs ys
+all_handed_on xs ys h = zip_weaker HandedOut HandedOn handed_on xs ys h
 
-pub handed_map : {X : Type 0} (f : NodeState → X) → ((v w : NodeState) → HandedOut v w → f w ≡ f v) → (xs ys : List NodeState) → AllZip HandedOut xs ys → map f ys ≡ map f xs
-handed_map f e [] [] h = refl
-handed_map f e [] (w ∷ ws) h = absurd h
-handed_map f e (v ∷ vs) [] h = absurd h
-handed_map f e (v ∷ vs) (w ∷ ws) h = ap₂ ◌∷◌ (e v w h.0) (handed_map f e vs ws h.1)
+pub handed_unsent : (xs ys : List NodeState) → AllZip HandedOut xs ys → flat_map unsent ys ≡ flat_map unsent xs
+handed_unsent [] [] h = refl
+handed_unsent [] (w ∷ ws) h = absurd h
+handed_unsent (v ∷ vs) [] h = absurd h
+handed_unsent (v ∷ vs) (w ∷ ws) h = ap₂ (λ xs ys. xs ++ ys) (unsent_still v w h.0) (handed_unsent vs ws h.1)
 
-pub handed_since : {X : Type 0} (has : NodeState → List X) → ((v w : NodeState) → HandedOut v w → has w ≡ has v) → (xs ys : List NodeState) (known : List ℕ) → AllZip HandedOut xs ys → since has ys known ≡ since has xs known
-handed_since has e [] [] known h = refl
-handed_since has e [] (w ∷ ws) known h = absurd h
-handed_since has e (v ∷ vs) [] known h = absurd h
-handed_since has e (v ∷ vs) (w ∷ ws) [] h = refl
-handed_since has e (v ∷ vs) (w ∷ ws) (n ∷ ns) h = ap₂ (λ xs ys. xs ++ ys) (ap (drop n) (e v w h.0)) (handed_since has e vs ws ns h.1)
-
-pub handed_elsewhere : {X : Type 0} (has : NodeState → List X) → ((v w : NodeState) → HandedOut v w → has w ≡ has v) → (xs ys : List NodeState) (known places : List ℕ) → AllZip HandedOut xs ys → AreKnownElsewhere has xs known places → AreKnownElsewhere has ys known places
-handed_elsewhere has e xs ys known places h k = λ place d l out.
-    let c = zip_length HandedOut xs ys h in
-    let there : place < length xs = omega (arith, l, c) in
-    k place d there out ∙ ap length (sym (e (get_or xs place d) (get_or ys place d) (zip_at HandedOut xs ys place d d h there)))
-
-pub handed_zip : {Y : Type 0} (P : NodeState → Y → Type 0) → ((v w : NodeState) (y : Y) → HandedOut v w → P v y → P w y) → (xs ys : List NodeState) (ns : List Y) → AllZip HandedOut xs ys → AllZip P xs ns → AllZip P ys ns
-handed_zip P e [] [] ns h k = k
-handed_zip P e [] (w ∷ ws) ns h k = absurd h
-handed_zip P e (v ∷ vs) [] ns h k = absurd h
-handed_zip P e (v ∷ vs) (w ∷ ws) [] h k = absurd k
-handed_zip P e (v ∷ vs) (w ∷ ws) (n ∷ ns) h k = (e v w n h.0 k.0, handed_zip P e vs ws ns h.1 k.1)
+pub handed_elsewhere : (xs ys : List NodeState) (places : List ℕ) → AllZip HandedOut xs ys → AreQuietElsewhere xs places → AreQuietElsewhere ys places
+handed_elsewhere xs ys places h k = λ place d l out.
+    let there : place < length xs = omega (arith, l, zip_length HandedOut xs ys h) in
+    (AllZip-get_or HandedOut xs ys place d d h there).news (k place d there out)
 
 -- one node is as it was
 pub same_there : (nodes : List NodeState) (place : ℕ) (u w : NodeState) → w ≡ get_or nodes place u → set nodes place w ≡ nodes
@@ -91,43 +68,50 @@ pub if_some : {X : Type 0} (P Q : X → Type 0) → ((x : X) → P x → Q x) �
 if_some P Q f None h = tt
 if_some P Q f (Some x) h = f x h
 
+pub if_ok : {X E : Type 0} (P Q : X → Type 0) → ((x : X) → P x → Q x) → (r : Result X E) → IfOk r P → IfOk r Q
+if_ok P Q f (Ok x) h = f x h
+if_ok P Q f (Err e) h = tt
+
 pub by_itself : (told ordered : List Event) → ordered ≡ told → NeverFalls event_time told → IsByTime told ordered
 by_itself told ordered e f = record {
   times = subst (NeverFalls event_time) (sym e) f;
   ties = λ t. ap (from_source event_time t) e;
 }
 
--- of the events that are not known, the nodes in the first so many places have those of the node in that place alone
-abbrev pub IsOnlySoFar : List NodeState → List ℕ → List ℕ → ℕ → Option ℕ → Type 0
-IsOnlySoFar nodes known places i None = picked (λ v. v.events) nodes known (drop i places) ≡ picked (λ v. v.events) nodes known places
-IsOnlySoFar nodes known places i (Some p) =
-    (p < length nodes)
-    × (news_at (λ v. v.events) nodes known p ++ picked (λ v. v.events) nodes known (drop i places) ≡ picked (λ v. v.events) nodes known places)
+-- of the news, the nodes in the first so many places have those of the node in that place alone
+abbrev pub IsOnlySoFar : List NodeState → List ℕ → ℕ → Option ℕ → Type 0
+IsOnlySoFar nodes places i None = picked news nodes (drop i places) ≡ picked news nodes places
+IsOnlySoFar nodes places i (Some p) = (p < length nodes) × (of_place news nodes p ++ picked news nodes (drop i places) ≡ picked news nodes places)
 
-module _ (nodes : List NodeState) (known places : List ℕ) (i : ℕ) (l : i < length places) (v : NodeState) (is : v ≡ get_or nodes (get_or places i 0) v) (m : get_or places i 0 < length nodes) where
-  none_here : length v.events ≤ get_or known (get_or places i 0) 0 → picked (λ v. v.events) nodes known (drop i places) ≡ picked (λ v. v.events) nodes known (drop (i + 1) places)
+module _ (nodes : List NodeState) (places : List ℕ) (i : ℕ) (l : i < length places) (v : NodeState) (is : v ≡ get_or nodes (get_or places i 0) v) (m : get_or places i 0 < length nodes) where
+  none_here : length (news v) ≤ 0 → picked news nodes (drop i places) ≡ picked news nodes (drop (i + 1) places)
   none_here few =
-      let p = get_or places i 0 in
-      let none : news_at (λ v. v.events) nodes known p ≡ [] =
-      ap (λ o. drop (get_or known p 0) (option_map_or (λ v. v.events) o [])) (slice_get-get_or nodes p v m)
-      ∙ (ap (λ (u : NodeState). drop (get_or known p 0) u.events) (sym is) ∙ drop_all (get_or known p 0) v.events few) in
-      picked_more (λ v. v.events) nodes known places i 0 l ∙ ap (λ (xs : List Event). xs ++ picked (λ v. v.events) nodes known (drop (i + 1) places)) none
+      let none : of_place news nodes (get_or places i 0) ≡ [] = of_place_is news nodes (get_or places i 0) v m ∙ (ap (λ (u : NodeState). news u) (sym is) ∙ empty_if (news v) few) in
+      picked_more news nodes places i 0 l ∙ ap (λ (xs : List Event). xs ++ picked news nodes (drop (i + 1) places)) none
+    where
+      empty_if : (xs : List Event) → length xs ≤ 0 → xs ≡ []
+      empty_if [] k = refl
+      empty_if (x ∷ xs) k = absurd (omega (arith, k))
 
-  pub quiet_there : (only : Option ℕ) → length v.events ≤ get_or known (get_or places i 0) 0 → IsOnlySoFar nodes known places i only → IsOnlySoFar nodes known places (i + 1) only
+  pub quiet_there : (only : Option ℕ) → length (news v) ≤ 0 → IsOnlySoFar nodes places i only → IsOnlySoFar nodes places (i + 1) only
   quiet_there None few h = sym (none_here few) ∙ h
-  quiet_there (Some p) few h = (h.0, ap (λ (xs : List Event). news_at (λ v. v.events) nodes known p ++ xs) (sym (none_here few)) ∙ h.1)
+  quiet_there (Some p) few h = (h.0, ap (λ (xs : List Event). of_place news nodes p ++ xs) (sym (none_here few)) ∙ h.1)
 
-  pub first_there : IsOnlySoFar nodes known places i None → IsOnlySoFar nodes known places (i + 1) (Some (get_or places i 0))
-  first_there h = (m, sym (picked_more (λ v. v.events) nodes known places i 0 l) ∙ h)
+  pub first_there : IsOnlySoFar nodes places i None → IsOnlySoFar nodes places (i + 1) (Some (get_or places i 0))
+  first_there h = (m, sym (picked_more news nodes places i 0 l) ∙ h)
 
-pub only_within : (nodes : List NodeState) (known places : List ℕ) (i : ℕ) (only : Option ℕ) → IsOnlySoFar nodes known places i only → IfSome only (λ p. p < length nodes)
-only_within nodes known places i None h = tt
-only_within nodes known places i (Some p) h = h.0
+pub only_within : (nodes : List NodeState) (places : List ℕ) (i : ℕ) (only : Option ℕ) → IsOnlySoFar nodes places i only → IfSome only (λ p. p < length nodes)
+only_within nodes places i None h = tt
+only_within nodes places i (Some p) h = h.0
 
-pub only_last : (nodes : List NodeState) (known places : List ℕ) (i : ℕ) (only : Option ℕ) → length places ≤ i → IsOnlySoFar nodes known places i only → IfSome only (IsOnly nodes known places)
-only_last nodes known places i None l h = tt
-only_last nodes known places i (Some p) l h = λ d.
+pub only_last : (nodes : List NodeState) (places : List ℕ) (i : ℕ) (only : Option ℕ) → length places ≤ i → IsOnlySoFar nodes places i only → IfSome only (IsOnly nodes places)
+only_last nodes places i None l h = tt
+only_last nodes places i (Some p) l h = λ d.
     sym h.1
-    ∙ (ap (λ (xs : List Event). news_at (λ v. v.events) nodes known p ++ xs) (picked_last (λ v. v.events) nodes known places i l)
-    ∙ (append-nil (news_at (λ v. v.events) nodes known p)
-    ∙ ap (λ o. drop (get_or known p 0) (option_map_or (λ v. v.events) o [])) (slice_get-get_or nodes p d h.0)))
+    ∙ (ap (λ (xs : List Event). of_place news nodes p ++ xs) (picked_last news nodes places i l)
+    ∙ (append-nil (of_place news nodes p) ∙ of_place_is news nodes p d h.0))
+
+-- all that the nodes sent is what those in these places have, where the others have nothing
+pub unsent_whole : (nodes : List NodeState) (places : List ℕ) → ArePlaces (length nodes) places → AreQuietElsewhere nodes places → flat_map unsent nodes ≡ picked unsent nodes places
+unsent_whole nodes places placed quiet = since_picked unsent nodes places placed
+    (λ i d l out. drop_all (get_or nodes i d).gone.sent (get_or nodes i d).sendings (let sent = (quiet i d l out).sent in omega (arith, sent)))

@@ -6,5 +6,4 @@ pub mod News
 pub mod Sorting
 pub mod Noted
 pub mod Forgotten
-pub mod Forget
 pub mod Handed

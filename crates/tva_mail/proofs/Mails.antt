@@ -1,41 +1,40 @@
 -- Mail that nodes get, one delivery after another.
-use Rattle.std.proofs.Common.{◌≡◌, ℕ, zero, suc, ◌+◌, ◌<◌, ◌≤◌, Bool, true, false, cond, List, [], ◌∷◌, ◌++◌, length, get_or, set, drop, map, filter, All, Option, refl, sym, subst, ◌∙◌, ap, ap₂, arith, inl, inr}
+use Rattle.std.proofs.Common.{◌≡◌, ℕ, zero, suc, ◌<◌, ◌≤◌, Bool, true, false, cond, List, [], ◌∷◌, ◌++◌, length, get_or, set, map, filter, All, Option, refl, sym, subst, ◌∙◌, ap, arith, inl, inr}
 use Rattle.std.specs.Prelude.{◌==◌, ◌&&◌, nat_le, slice_get}
 use Rattle.std.specs.Option.{option_map_or}
 use Rattle.std.specs.List.{AllZip}
 use Rattle.std.proofs.lemmas.Bool.{cases_eq, eq-eqb, ne_eqb, lt-leb, le-leb, and_right}
-use Rattle.std.proofs.lemmas.List.{append-nil, append_assoc, length-set, get_or-set_same, get_or-set_other, get_or_default, map-append, get_or_append_left, get_or-append-add, length-append}
-use Rattle.std.proofs.lemmas.List.Elements.{filter-append, All-weaker}
+use Rattle.std.proofs.lemmas.List.{append-nil, append_assoc, length-set, get_or-set_same, get_or-set_other, get_or_default, map-append}
+use Rattle.std.proofs.lemmas.List.Elements.{filter-append, All-weaker, AllZip-get_or}
 use Rattle.std.proofs.lemmas.Option.{slice_get-get_or}
 use Rattle.tva_base.specs.declared.plan.LinkPlan.{LinkPlan}
 use Rattle.tva_log.specs.declared.kinds.Input.{Input}
 use Rattle.tva_log.specs.declared.kinds.Sending.{Sending}
 use Rattle.tva_log.specs.Entries.{input_time}
 use Rattle.tva_log.specs.Sites.{Site}
-use Rattle.tva_node.specs.States.{NodeState, Fits}
+use Rattle.tva_node.specs.States.{Gone, NodeState, Fits, IsAsBefore}
 use Rattle.tva_run.specs.Reaching.{arrival}
 use Rattle.tva_mail.specs.Mail.{CanDeliver, GotMail, GotMails, IsPostable, IsSameBut, KeepsWork, goes_to, mail_at, mail_to}
-use Rattle.tva_mail.specs.Handing.{picked, sent_by}
-use Rattle.tva_mail.proofs.Lists.{zip_same}
-use Rattle.tva_mail.proofs.Places.{news_at, picked_last, picked_more}
+use Rattle.tva_mail.specs.News.{HasNoNews}
+use Rattle.tva_mail.proofs.Lists.{zip_length, zip_same}
 
 -- ## what is kept
 
 pub keeps_same : (v : NodeState) → KeepsWork v v
-keeps_same v = record { site = refl; horizon = refl; events = refl; sendings = refl; worked_to = refl; keeps = refl; gone = λ h. h }
+keeps_same v = record { site = refl; horizon = refl; events = refl; sendings = refl; worked_to = refl; keeps = refl; news = λ h. h }
 
 -- the same from the clause of a post
-pub kept_by : (old new : NodeState) → (new.site ≡ old.site) × (new.horizon ≡ old.horizon) × (new.events ≡ old.events) × (new.sendings ≡ old.sendings) × (new.worked_to ≡ old.worked_to) × (new.keeps ≡ old.keeps) × (new.gone.events ≡ old.gone.events) × (new.gone.sendings ≡ old.gone.sendings) → KeepsWork old new
+pub kept_by : (old new : NodeState) → IsAsBefore old new → KeepsWork old new
 kept_by old new h = record {
-  site = h.0;
-  horizon = h.1;
-  events = h.2;
-  sendings = h.3;
-  worked_to = h.4;
-  keeps = h.5;
-  gone = λ had. record {
-    events = let few = had.events in let many = ap length h.2 in let gone = h.6 in omega (arith, few, many, gone);
-    sendings = let few = had.sendings in let many = ap length h.3 in let gone = h.7 in omega (arith, few, many, gone);
+  site = h.site;
+  horizon = h.horizon;
+  events = h.events;
+  sendings = h.sendings;
+  worked_to = h.worked_to;
+  keeps = h.keeps;
+  news = λ had. record {
+    told = ap (λ (g : Gone). g.told) h.gone ∙ (had.told ∙ ap length (sym h.events));
+    sent = ap (λ (g : Gone). g.sent) h.gone ∙ (had.sent ∙ ap length (sym h.sendings));
   };
 }
 
@@ -47,7 +46,7 @@ keeps_more u v w a b = record {
   sendings = b.sendings ∙ a.sendings;
   worked_to = b.worked_to ∙ a.worked_to;
   keeps = b.keeps ∙ a.keeps;
-  gone = λ had. b.gone (a.gone had);
+  news = λ had. b.news (a.news had);
 }
 
 pub zip_more : {X : Type 0} (R : X → X → Type 0) → ((x y z : X) → R x y → R y z → R x z) → (xs ys zs : List X) → AllZip R xs ys → AllZip R ys zs → AllZip R xs zs
@@ -200,41 +199,6 @@ mail_of_late horizon links s n l =
     ap (λ (b : Bool). map arrival (cond b (s ∷ []) []))
     (and_right (option_map_or (λ link. link.to == n) (slice_get links s.link) false) (nat_le s.arrive.0 horizon) (lt-leb s.arrive.0 horizon l))
 
--- ## mail of one node after another
-
-pub sent_by_at : (nodes : List NodeState) (from : ℕ) (d : NodeState) → from < length nodes → sent_by nodes from ≡ (get_or nodes from d).sendings
-sent_by_at nodes from d within =
-    ap (λ (o : Option NodeState). option_map_or (λ w. w.sendings) o []) (slice_get-get_or nodes from d within)
-
--- mail changes nothing in what was sent
-pub sent_by_still : (mail : ℕ → List Input) (xs ys : List NodeState) (from : ℕ) → GotMails mail xs ys → from < length xs → sent_by ys from ≡ sent_by xs from
-sent_by_still mail [] ys from g within = absurd (omega arith)
-sent_by_still mail (x ∷ xs) ys from g within =
-    let there : from < length ys = omega (arith, g.count) in
-    sent_by_at ys from x there ∙ ((g.each from x within).keeps.sendings ∙ sym (sent_by_at (x ∷ xs) from x within))
-
--- what the node in a place has
-abbrev pub has_by : {X : Type 0} → (NodeState → List X) → List NodeState → ℕ → List X
-has_by has nodes k = option_map_or has (slice_get nodes k) []
-
-all_left : {X : Type 0} (P : X → Type 0) (xs ys : List X) → All P (xs ++ ys) → All P xs
-all_left P xs ys h = λ k d l. subst P (get_or_append_left xs ys d k l) (h k d (simp length-append (omega arith)))
-
-all_right : {X : Type 0} (P : X → Type 0) (xs ys : List X) → All P (xs ++ ys) → All P ys
-all_right P xs ys h = λ k d l. subst P (get_or-append-add xs ys k d) (h (length xs + k) d (simp length-append (omega arith)))
-
-pub picked_all : {X : Type 0} (P : X → Type 0) (has : NodeState → List X) (nodes : List NodeState) (known places : List ℕ) (i e : ℕ) → i < length places → All P (picked has nodes known places) → All P (news_at has nodes known (get_or places i e))
-picked_all P has nodes known [] i e l h = absurd (omega arith)
-picked_all P has nodes known (p ∷ ps) zero e l h = all_left P (news_at has nodes known p) (picked has nodes known ps) h
-picked_all P has nodes known (p ∷ ps) (suc i) e l h = picked_all P has nodes known ps i e (omega arith) (all_right P (news_at has nodes known p) (picked has nodes known ps) h)
-
--- no more is known than a node has
-pub known_at : {X : Type 0} (has : NodeState → List X) (nodes : List NodeState) (known : List ℕ) (k e : ℕ) → AllZip (λ v n. n ≤ length (has v)) nodes known → k < length nodes → get_or known k e ≤ length (has_by has nodes k)
-known_at has [] known k e z l = absurd (omega arith)
-known_at has (v ∷ vs) [] k e z l = absurd z
-known_at has (v ∷ vs) (n ∷ ns) zero e z l = z.0
-known_at has (v ∷ vs) (n ∷ ns) (suc k) e z l = known_at has vs ns k e z.1 (omega arith)
-
 -- ## steps
 
 module _ (horizon : ℕ) (links : List LinkPlan) (nodes : List NodeState) (s : Sending) (d : LinkPlan) (link to : ℕ) (l : s.arrive.0 ≤ horizon) (same : link ≡ s.link) (end : to ≡ (get_or links link d).to) where
@@ -264,36 +228,6 @@ going_one horizon links all left rest s nodes now more e h g =
     going_more (mail_to horizon links all) (mail_to horizon links left) (mail_to horizon links (s ∷ [])) (mail_to horizon links rest) nodes now more h g
     (λ n. ap (λ (ss : List Sending). mail_to horizon links ss n) e ∙ mail-append horizon links (s ∷ []) rest n)
 
-pub going_node : (horizon : ℕ) (links : List LinkPlan) (known places : List ℕ) (i from : ℕ) (nodes now more : List NodeState) → i < length places → from ≡ get_or places i from → from < length nodes
-    → IsGoing (mail_to horizon links (picked (λ v. v.sendings) nodes known places)) (mail_to horizon links (picked (λ v. v.sendings) nodes known (drop i places))) nodes now
-    → GotMails (mail_to horizon links (drop (get_or known from 0) (sent_by now from))) now more
-    → IsGoing (mail_to horizon links (picked (λ v. v.sendings) nodes known places)) (mail_to horizon links (picked (λ v. v.sendings) nodes known (drop (i + 1) places))) nodes more
-going_node horizon links known places i from nodes now more l is m h g =
-    let rest : List Sending = picked (λ v. v.sendings) nodes known (drop (i + 1) places) in
-    let same = sent_by_still h.done nodes now from h.got m in
-    let next : picked (λ v. v.sendings) nodes known (drop i places) ≡ drop (get_or known from 0) (sent_by nodes from) ++ rest =
-    picked_more (λ v. v.sendings) nodes known places i from l ∙ ap (λ (k : ℕ). news_at (λ v. v.sendings) nodes known k ++ rest) (sym is) in
-    going_more (mail_to horizon links (picked (λ v. v.sendings) nodes known places)) (mail_to horizon links (picked (λ v. v.sendings) nodes known (drop i places)))
-    (mail_to horizon links (drop (get_or known from 0) (sent_by nodes from))) (mail_to horizon links rest) nodes now more h
-    (subst (λ (ss : List Sending). GotMails (mail_to horizon links (drop (get_or known from 0) ss)) now more) same g)
-    (λ n. ap (λ (ss : List Sending). mail_to horizon links ss n) next
-    ∙ mail-append horizon links (drop (get_or known from 0) (sent_by nodes from)) rest n)
-
-pub picked_none : (horizon : ℕ) (links : List LinkPlan) (known places : List ℕ) (i n : ℕ) (nodes : List NodeState) → length places ≤ i → mail_to horizon links (picked (λ v. v.sendings) nodes known (drop i places)) n ≡ []
-picked_none horizon links known places i n nodes l = ap (λ (ss : List Sending). mail_to horizon links ss n) (picked_last (λ v. v.sendings) nodes known places i l)
-
-pub postable_from : (horizon : ℕ) (links : List LinkPlan) (known places : List ℕ) (i from : ℕ) (nodes now : List NodeState) (mail : ℕ → List Input) → GotMails mail nodes now → i < length places → from ≡ get_or places i from → from < length nodes
-    → All (IsPostable horizon links nodes) (picked (λ v. v.sendings) nodes known places)
-    → All (IsPostable horizon links now) (drop (get_or known from 0) (sent_by now from))
-postable_from horizon links known places i from nodes now mail g l is m h =
-    let same = sent_by_still mail nodes now from g m in
-    let here : All (IsPostable horizon links nodes) (drop (get_or known from 0) (sent_by nodes from)) =
-    subst (λ (k : ℕ). All (IsPostable horizon links nodes) (news_at (λ v. v.sendings) nodes known k)) (sym is) (picked_all (IsPostable horizon links nodes) (λ v. v.sendings) nodes known places i from l h) in
-    subst (λ (ss : List Sending). All (IsPostable horizon links now) (drop (get_or known from 0) ss)) (sym same)
-    (All-weaker (IsPostable horizon links nodes) (IsPostable horizon links now) (λ s k. still_postable mail horizon links nodes now s g k) (drop (get_or known from 0) (sent_by nodes from)) here)
-
-pub sent_counts : (xs ys : List NodeState) → AllZip KeepsWork xs ys → map (λ v. length v.sendings) ys ≡ map (λ v. length v.sendings) xs
-sent_counts [] [] h = refl
-sent_counts [] (y ∷ ys) h = absurd h
-sent_counts (x ∷ xs) [] h = absurd h
-sent_counts (x ∷ xs) (y ∷ ys) h = ap₂ (λ (n : ℕ) (ns : List ℕ). n ∷ ns) (ap length h.0.sendings) (sent_counts xs ys h.1)
+-- what nodes that told all got leaves them so
+pub all_quiet : (xs ys : List NodeState) → AllZip KeepsWork xs ys → All HasNoNews xs → All HasNoNews ys
+all_quiet xs ys z h = λ n d l. let k : n < length xs = omega (arith, l, zip_length KeepsWork xs ys z) in (AllZip-get_or KeepsWork xs ys n d d z k).news (h n d k)

@@ -1,9 +1,9 @@
 -- What nodes tell, one node after another.
 use Rattle.std.proofs.Common.{◌≡◌, ℕ, zero, suc, ◌+◌, ◌<◌, ◌≤◌, List, [], ◌∷◌, ◌++◌, length, get_or, drop, All, refl, sym, subst, ◌∙◌, ap, ap₂, arith, inl, inr, true, false}
-use Rattle.std.specs.Prelude.{◌==◌}
-use Rattle.std.specs.List.{AllByRecursion, AllZip}
+use Rattle.std.specs.Prelude.{◌==◌, flat_map}
+use Rattle.std.specs.List.{AllByRecursion}
 use Rattle.std.proofs.lemmas.Bool.{eq-eqb, ne_eqb}
-use Rattle.std.proofs.lemmas.List.{append-nil}
+use Rattle.std.proofs.lemmas.List.{append-nil, drop_all}
 use Rattle.std.proofs.lemmas.List.Elements.{All-head, All-tail, filter-append}
 use Rattle.tva_base.specs.declared.event.Event.{Event}
 use Rattle.tva_log.specs.Joins.{IsInOrder, IsJoin, MayPrecede, NeverFalls, from_source}
@@ -11,19 +11,13 @@ use Rattle.tva_log.proofs.Joins.{each-append, each-weaker, filter-all, filter-no
 use Rattle.tva_log.specs.Entries.{Entry, entry_rank, entry_time}
 use Rattle.tva_log.specs.Sites.{Site}
 use Rattle.tva_log.specs.Told.{events}
-use Rattle.tva_node.specs.States.{NodeState, Stands}
+use Rattle.tva_node.specs.States.{NodeState, Stands, news}
 use Rattle.tva_run.specs.Report.{event_node, event_time}
-use Rattle.tva_mail.specs.Handing.{IsByTime}
-use Rattle.tva_mail.specs.News.{since, told_since}
+use Rattle.tva_mail.specs.Handing.{IsByTime, picked}
+use Rattle.tva_mail.specs.News.{HasNoNews, of_place}
+use Rattle.tva_mail.specs.Places.{ArePlaces, AreQuietElsewhere}
 use Rattle.tva_mail.proofs.Orders.{stable_joins}
-
--- ## lists place by place
-
-pub zip_at : {X Y : Type 0} (R : X → Y → Type 0) (xs : List X) (ys : List Y) (i : ℕ) (d : X) (e : Y) → AllZip R xs ys → i < length xs → R (get_or xs i d) (get_or ys i e)
-zip_at R [] ys i d e z l = absurd (omega arith)
-zip_at R (x ∷ xs) [] i d e z l = absurd z
-zip_at R (x ∷ xs) (y ∷ ys) zero d e z l = z.0
-zip_at R (x ∷ xs) (y ∷ ys) (suc i) d e z l = zip_at R xs ys i d e z.1 (omega arith)
+use Rattle.tva_mail.proofs.Places.{since_picked}
 
 -- ## what a node tells
 
@@ -72,13 +66,12 @@ falls-drop time (suc n) [] h = tt
 falls-drop time (suc n) (x ∷ xs) h = falls-drop time n xs h.1
 
 -- all that is told from a number on is of that number or a later one
-told_late : (k : ℕ) (vs : List NodeState) (known : List ℕ) → Tell k vs → AllByRecursion (λ e. k ≤ event_node e) (since (λ v. v.events) vs known)
-told_late k [] known h = tt
-told_late k (v ∷ vs) [] h = tt
-told_late k (v ∷ vs) (n ∷ ns) h =
-    each-append (λ e. k ≤ event_node e) (drop n v.events) (since (λ v. v.events) vs ns)
-    (each-weaker (λ e. event_node e ≡ k) (λ e. k ≤ event_node e) (λ e l. omega arith) (drop n v.events) (each-drop (λ e. event_node e ≡ k) n v.events h.0))
-    (each-weaker (λ e. k + 1 ≤ event_node e) (λ e. k ≤ event_node e) (λ e l. omega arith) (since (λ v. v.events) vs ns) (told_late (k + 1) vs ns h.2))
+told_late : (k : ℕ) (vs : List NodeState) → Tell k vs → AllByRecursion (λ e. k ≤ event_node e) (flat_map news vs)
+told_late k [] h = tt
+told_late k (v ∷ vs) h =
+    each-append (λ e. k ≤ event_node e) (news v) (flat_map news vs)
+    (each-weaker (λ e. event_node e ≡ k) (λ e. k ≤ event_node e) (λ e l. omega arith) (news v) (each-drop (λ e. event_node e ≡ k) v.gone.told v.events h.0))
+    (each-weaker (λ e. k + 1 ≤ event_node e) (λ e. k ≤ event_node e) (λ e l. omega arith) (flat_map news vs) (told_late (k + 1) vs h.2))
 
 rise_behind : (k : ℕ) (xs ys : List Event) → AllByRecursion (λ e. event_node e ≡ k) xs → AllByRecursion (λ e. k ≤ event_node e) ys → NeverFalls event_node ys → NeverFalls event_node (xs ++ ys)
 rise_behind k [] ys h l r = r
@@ -90,24 +83,21 @@ rise_behind k (x ∷ xs) ys h l r =
       rise_behind k xs ys h.1 l r,
     )
 
-told_rise : (k : ℕ) (vs : List NodeState) (known : List ℕ) → Tell k vs → NeverFalls event_node (since (λ v. v.events) vs known)
-told_rise k [] known h = tt
-told_rise k (v ∷ vs) [] h = tt
-told_rise k (v ∷ vs) (n ∷ ns) h =
-    rise_behind k (drop n v.events) (since (λ v. v.events) vs ns) (each-drop (λ e. event_node e ≡ k) n v.events h.0)
-    (each-weaker (λ e. k + 1 ≤ event_node e) (λ e. k ≤ event_node e) (λ e l. omega arith) (since (λ v. v.events) vs ns) (told_late (k + 1) vs ns h.2))
-    (told_rise (k + 1) vs ns h.2)
+told_rise : (k : ℕ) (vs : List NodeState) → Tell k vs → NeverFalls event_node (flat_map news vs)
+told_rise k [] h = tt
+told_rise k (v ∷ vs) h =
+    rise_behind k (news v) (flat_map news vs) (each-drop (λ e. event_node e ≡ k) v.gone.told v.events h.0)
+    (each-weaker (λ e. k + 1 ≤ event_node e) (λ e. k ≤ event_node e) (λ e l. omega arith) (flat_map news vs) (told_late (k + 1) vs h.2))
+    (told_rise (k + 1) vs h.2)
 
-told_falls : (k : ℕ) (vs : List NodeState) (known : List ℕ) (n : ℕ) → Tell k vs → NeverFalls event_time (told_since vs known n)
-told_falls k [] known n h = tt
-told_falls k (v ∷ vs) [] zero h = falls-drop event_time 0 v.events h.1
-told_falls k (v ∷ vs) (m ∷ ms) zero h = falls-drop event_time m v.events h.1
-told_falls k (v ∷ vs) [] (suc n) h = told_falls (k + 1) vs [] n h.2
-told_falls k (v ∷ vs) (m ∷ ms) (suc n) h = told_falls (k + 1) vs ms n h.2
+told_falls : (k : ℕ) (vs : List NodeState) (n : ℕ) → Tell k vs → NeverFalls event_time (of_place news vs n)
+told_falls k [] n h = tt
+told_falls k (v ∷ vs) zero h = falls-drop event_time v.gone.told v.events h.1
+told_falls k (v ∷ vs) (suc n) h = told_falls (k + 1) vs n h.2
 
--- what a node tells behind its first so many never falls
-pub told_on : (v : NodeState) (n : ℕ) → Stands v → NeverFalls event_time (drop n v.events)
-told_on v n s = falls-drop event_time n v.events (tells v.site.number v refl s).1
+-- what a node has not told yet never falls
+pub told_on : (v : NodeState) → Stands v → NeverFalls event_time (news v)
+told_on v s = falls-drop event_time v.gone.told v.events (tells v.site.number v refl s).1
 
 own : (k s : ℕ) (xs : List Event) → s ≡ k → AllByRecursion (λ e. event_node e ≡ k) xs → from_source event_node s xs ≡ xs
 own k s xs e h =
@@ -125,29 +115,32 @@ of_later s xs h =
     (each-weaker (λ x. s + 1 ≤ event_node x) (λ x. (event_node x == s) ≡ false) (λ x l. ne_eqb (event_node x) s (λ z. omega arith)) xs h)
 
 -- of what is told, a node's is what it told itself
-told_each : (k : ℕ) (vs : List NodeState) (known : List ℕ) (n s : ℕ) → s ≡ k + n → length known ≡ length vs → Tell k vs → from_source event_node s (since (λ v. v.events) vs known) ≡ told_since vs known n
-told_each k [] known n s e c h = refl
-told_each k (v ∷ vs) [] n s e c h = absurd (omega arith)
-told_each k (v ∷ vs) (m ∷ ms) zero s e c h =
+told_each : (k : ℕ) (vs : List NodeState) (n s : ℕ) → s ≡ k + n → Tell k vs → from_source event_node s (flat_map news vs) ≡ of_place news vs n
+told_each k [] n s e h = refl
+told_each k (v ∷ vs) zero s e h =
     let same : s ≡ k = omega arith in
-    let late : AllByRecursion (λ e. s + 1 ≤ event_node e) (since (λ v. v.events) vs ms) =
-    each-weaker (λ e. k + 1 ≤ event_node e) (λ e. s + 1 ≤ event_node e) (λ e l. omega arith) (since (λ v. v.events) vs ms) (told_late (k + 1) vs ms h.2) in
-    filter-append (λ x. event_node x == s) (drop m v.events) (since (λ v. v.events) vs ms)
-    ∙ (ap₂ (λ (xs ys : List Event). xs ++ ys) (own k s (drop m v.events) same (each-drop (λ e. event_node e ≡ k) m v.events h.0)) (of_later s (since (λ v. v.events) vs ms) late)
-    ∙ append-nil (drop m v.events))
-told_each k (v ∷ vs) (m ∷ ms) (suc n) s e c h =
+    let late : AllByRecursion (λ e. s + 1 ≤ event_node e) (flat_map news vs) =
+    each-weaker (λ e. k + 1 ≤ event_node e) (λ e. s + 1 ≤ event_node e) (λ e l. omega arith) (flat_map news vs) (told_late (k + 1) vs h.2) in
+    filter-append (λ x. event_node x == s) (news v) (flat_map news vs)
+    ∙ (ap₂ (λ (xs ys : List Event). xs ++ ys) (own k s (news v) same (each-drop (λ e. event_node e ≡ k) v.gone.told v.events h.0)) (of_later s (flat_map news vs) late)
+    ∙ append-nil (news v))
+told_each k (v ∷ vs) (suc n) s e h =
     let other : s ≡ k → ⊥ = λ z. omega arith in
     let further : s ≡ (k + 1) + n = omega arith in
-    let counts : length ms ≡ length vs = omega arith in
-    filter-append (λ x. event_node x == s) (drop m v.events) (since (λ v. v.events) vs ms)
-    ∙ (ap (λ (xs : List Event). xs ++ from_source event_node s (since (λ v. v.events) vs ms)) (of_others k s (drop m v.events) other (each-drop (λ e. event_node e ≡ k) m v.events h.0))
-    ∙ told_each (k + 1) vs ms n s further counts h.2)
+    filter-append (λ x. event_node x == s) (news v) (flat_map news vs)
+    ∙ (ap (λ (xs : List Event). xs ++ from_source event_node s (flat_map news vs)) (of_others k s (news v) other (each-drop (λ e. event_node e ≡ k) v.gone.told v.events h.0))
+    ∙ told_each (k + 1) vs n s further h.2)
 
--- what is told, put in order, is the join of what the nodes tell
-pub told_join : (vs : List NodeState) (known : List ℕ) (ordered : List Event) → ((n : ℕ) (d : NodeState) → n < length vs → (get_or vs n d).site.number ≡ n) → All Stands vs → length known ≡ length vs → IsByTime (since (λ v. v.events) vs known) ordered → IsJoin event_time event_node (told_since vs known) ordered
-told_join vs known ordered numbers stand c by =
+nothing_new : (v : NodeState) → HasNoNews v → news v ≡ []
+nothing_new v h = drop_all v.gone.told v.events (let told = h.told in omega (arith, told))
+
+-- what the nodes in these places tell, put in order, is the join of what the nodes tell, where the others tell nothing
+pub told_join : (vs : List NodeState) (places : List ℕ) (ordered : List Event) → ((n : ℕ) (d : NodeState) → n < length vs → (get_or vs n d).site.number ≡ n) → All Stands vs → ArePlaces (length vs) places → AreQuietElsewhere vs places
+    → IsByTime (picked news vs places) ordered → IsJoin event_time event_node (of_place news vs) ordered
+told_join vs places ordered numbers stand placed quiet by =
     let tell : Tell 0 vs = all_tell 0 vs (λ n d l. let same : (get_or vs n d).site.number ≡ n = numbers n d l in omega arith) stand in
-    let each : (s : ℕ) → from_source event_node s (since (λ v. v.events) vs known) ≡ told_since vs known s = λ s. told_each 0 vs known s s (omega arith) c tell in
-    let j = stable_joins event_time event_node (since (λ v. v.events) vs known) ordered by.times by.ties (told_rise 0 vs known tell)
-    (λ s. subst (NeverFalls event_time) (sym (each s)) (told_falls 0 vs known s tell)) in
+    let whole : flat_map news vs ≡ picked news vs places = since_picked news vs places placed (λ i d l out. nothing_new (get_or vs i d) (quiet i d l out)) in
+    let each : (s : ℕ) → from_source event_node s (flat_map news vs) ≡ of_place news vs s = λ s. told_each 0 vs s s (omega arith) tell in
+    let j = stable_joins event_time event_node (flat_map news vs) ordered by.times (λ t. by.ties t ∙ ap (from_source event_time t) (sym whole)) (told_rise 0 vs tell)
+    (λ s. subst (NeverFalls event_time) (sym (each s)) (told_falls 0 vs s tell)) in
     record { in_order = j.in_order; each = λ s. j.each s ∙ each s }

@@ -1,5 +1,5 @@
-pub mod Mail
 pub mod News
 pub mod Places
 pub mod Times
+pub mod Mail
 pub mod Handing

@@ -1,14 +1,16 @@
 -- Crate: what nodes get, and what is posted to them of what was sent.
-use Rattle.std.specs.Prelude.{◌≡◌, ℕ, ◌<◌, ◌≤◌, ◌==◌, ◌&&◌, nat_le, false, Bool, List, [], ◌++◌, length, map, filter}
+use Rattle.std.specs.Prelude.{◌≡◌, ℕ, ◌<◌, ◌≤◌, ◌==◌, ◌&&◌, nat_le, false, Bool, List, [], ◌++◌, All, flat_map, length, map, filter}
 use Rattle.std.specs.Prelude.{slice_get, slice_index_or, if◌then◌else◌}
 use Rattle.std.specs.Option.{option_map_or}
 use Rattle.tva_base.specs.declared.plan.LinkPlan.{LinkPlan}
 use Rattle.tva_log.specs.declared.kinds.Input.{Input}
 use Rattle.tva_log.specs.declared.kinds.Sending.{Sending}
 use Rattle.tva_log.specs.Entries.{input_time}
-use Rattle.tva_node.specs.States.{NodeState, Fits, Stands, gone_after}
+use Rattle.tva_node.specs.States.{NodeState, Fits, Stands, unsent}
 use Rattle.tva_run.specs.Reaching.{arrival}
-use Rattle.tva_mail.specs.Places.{IsElsewhere}
+use Rattle.tva_mail.specs.News.{HasNoNews}
+use Rattle.tva_mail.specs.Places.{ArePlaces, AreQuietElsewhere}
+use Rattle.tva_mail.specs.Times.{AreNoted}
 
 -- ## what nodes get
 
@@ -23,11 +25,6 @@ pub record CanDeliver (nodes : List NodeState) (to : ℕ) (input : Input) : Type
   pub node : to < length nodes
   pub takes : (d : NodeState) → CanTake (slice_index_or nodes to d) input
 
--- of its events and sendings memory has lost no more than there are
-pub record HadGone (node : NodeState) : Type 0 where
-  pub events : node.gone.events ≤ length node.events
-  pub sendings : node.gone.sendings ≤ length node.sendings
-
 -- what posting leaves of a node, whatever it answers: all but its inbox and what memory holds
 pub record KeepsWork (old new : NodeState) : Type 0 where
   pub site : new.site ≡ old.site
@@ -36,7 +33,7 @@ pub record KeepsWork (old new : NodeState) : Type 0 where
   pub sendings : new.sendings ≡ old.sendings
   pub worked_to : new.worked_to ≡ old.worked_to
   pub keeps : new.keeps ≡ old.keeps
-  pub gone : HadGone old → HadGone new
+  pub news : HasNoNews old → HasNoNews new
 
 -- nothing happened to nodes in other places
 abbrev pub IsSameBut : ℕ → List NodeState → List NodeState → Type 0
@@ -44,27 +41,15 @@ IsSameBut place old new =
     (length new ≡ length old)
     × ((other : ℕ) (d : NodeState) → (other ≡ place → ⊥) → slice_index_or new other d ≡ slice_index_or old other d)
 
--- of each node's sendings memory has lost what it had lost before, and no more
-abbrev pub IsGoneAsBefore : List NodeState → List NodeState → Type 0
-IsGoneAsBefore old new =
-    (n : ℕ) (d : NodeState) → (slice_index_or new n d).gone.sendings ≡ (slice_index_or old n d).gone.sendings
-
--- a node forgot something, and nothing else happened to it
-pub record Forgot (old new : NodeState) : Type 0 where
+-- a node told or handed over what it has, and memory may have less of that; nothing else happened to it
+pub record HandedOn (old new : NodeState) : Type 0 where
   pub same : new ≡ record old { gone = new.gone }
-  pub gone : HadGone old → HadGone new
+  pub news : HasNoNews old → HasNoNews new
 
--- a node handed out events that it need not keep, and nothing else happened to it
+-- the same, where it handed over none of its sendings
 pub record HandedOut (old new : NodeState) : Type 0 where
-  pub same : new ≡ record old { gone = record old.gone { events = new.gone.events } }
-  pub events : old.gone.events ≤ length old.events → new.gone.events ≤ length new.events
-
--- the nodes in these places forgot what they need not keep; nothing else happened to them, and nothing to the others
-pub record HaveForgotten (places : List ℕ) (old new : List NodeState) : Type 0 where
-  pub count : length new ≡ length old
-  pub there : (n : ℕ) (d : NodeState) → n < length old → (IsElsewhere places n → ⊥)
-      → slice_index_or new n d ≡ record (slice_index_or old n d) { gone = gone_after (slice_index_or old n d) }
-  pub elsewhere : (n : ℕ) (d : NodeState) → IsElsewhere places n → slice_index_or new n d ≡ slice_index_or old n d
+  pub same : new ≡ record old { gone = record old.gone { events = new.gone.events; told = new.gone.told } }
+  pub news : HasNoNews old → HasNoNews new
 
 -- a node got this mail, and nothing else happened to it
 pub record GotMail (mail : List Input) (old new : NodeState) : Type 0 where
@@ -98,3 +83,19 @@ pub record IsPostable (horizon : ℕ) (links : List LinkPlan) (nodes : List Node
   pub link : sent.link < length links
   pub arrives : (d : LinkPlan) → sent.arrive.0 ≤ horizon
       → CanDeliver nodes (slice_index_or links sent.link d).to (arrival sent)
+
+-- ## posting
+
+-- what the nodes in these places sent can be posted: the others have no news, and it is noted when each has work next
+pub record CanPost (horizon : ℕ) (links : List LinkPlan) (places times : List ℕ) (nodes : List NodeState) : Type 0 where
+  pub few : length nodes ≤ 1024
+  pub placed : ArePlaces (length nodes) places
+  pub others : AreQuietElsewhere nodes places
+  pub noted : AreNoted times nodes
+  pub postable : All (IsPostable horizon links nodes) (flat_map unsent nodes)
+
+-- it is posted: each node got what goes to it, has told and handed over all, and it is noted when it has work next
+pub record HavePosted (horizon : ℕ) (links : List LinkPlan) (times : List ℕ) (old new : List NodeState) : Type 0 where
+  pub got : GotMails (mail_to horizon links (flat_map unsent old)) old new
+  pub told : All HasNoNews new
+  pub noted : AreNoted times new

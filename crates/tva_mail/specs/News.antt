@@ -1,7 +1,6 @@
 -- Crate: what nodes have that was not handed on yet, and when they have work again.
-use Rattle.std.specs.Prelude.{◌≡◌, ℕ, ◌<◌, ◌≤◌, List, [], ◌∷◌, ◌++◌, All, drop, Option, Some, None, slice_get, slice_index_or}
+use Rattle.std.specs.Prelude.{◌≡◌, ℕ, ◌<◌, ◌≤◌, List, [], All, length, Option, Some, None, slice_get}
 use Rattle.std.specs.Option.{option_map_or}
-use Rattle.tva_base.specs.declared.event.Event.{Event}
 use Rattle.tva_base.specs.declared.packet.Time.{Time}
 use Rattle.tva_log.specs.Entries.{Entry}
 use Rattle.tva_log.specs.NodeLog.{in_turn}
@@ -10,15 +9,14 @@ use Rattle.tva_node.specs.States.{NodeState, StandsFor}
 
 -- ## news
 
--- what each of the nodes has behind its first so many, one node after another
-abbrev pub since : {X : Type 0} → (NodeState → List X) → List NodeState → List ℕ → List X
-since has [] known = []
-since has (v ∷ vs) [] = []
-since has (v ∷ vs) (n ∷ ns) = drop n (has v) ++ since has vs ns
+-- what the node in that place has
+abbrev pub of_place : {X : Type 0} → (NodeState → List X) → List NodeState → ℕ → List X
+of_place has nodes place = option_map_or has (slice_get nodes place) []
 
--- the events of the node in that place behind its first so many
-abbrev pub told_since : List NodeState → List ℕ → ℕ → List Event
-told_since nodes known n = option_map_or (λ v. drop (slice_index_or known n 0) v.events) (slice_get nodes n) []
+-- a node has told and handed over all
+pub record HasNoNews (v : NodeState) : Type 0 where
+  pub told : v.gone.told ≡ length v.events
+  pub sent : v.gone.sent ≡ length v.sendings
 
 -- ## times
 

@@ -1,7 +1,8 @@
 -- Crate: places of nodes, in their order, and what these nodes have.
-use Rattle.std.specs.Prelude.{◌≡◌, ℕ, ◌<◌, List, [], ◌∷◌, length, slice_index, slice_index_or}
+use Rattle.std.specs.Prelude.{◌≡◌, ℕ, ◌<◌, List, [], ◌∷◌, length, slice_index_or}
 use Rattle.std.specs.List.{AllByRecursion}
 use Rattle.tva_node.specs.States.{NodeState}
+use Rattle.tva_mail.specs.News.{HasNoNews}
 
 -- each is less than those behind it
 abbrev pub Rises : List ℕ → Type 0
@@ -17,8 +18,7 @@ pub record ArePlaces (count : ℕ) (places : List ℕ) : Type 0 where
   pub rises : Rises places
   pub within : AllByRecursion (λ place. place < count) places
 
--- of each node elsewhere all is known
-abbrev pub AreKnownElsewhere : {X : Type 0} → (NodeState → List X) → List NodeState → List ℕ → List ℕ → Type 0
-AreKnownElsewhere has nodes known places =
-    (place : ℕ) (d : NodeState) → place < length nodes → IsElsewhere places place
-    → slice_index known place ≡ length (has (slice_index_or nodes place d))
+-- the nodes elsewhere have no news
+abbrev pub AreQuietElsewhere : List NodeState → List ℕ → Type 0
+AreQuietElsewhere nodes places =
+    (place : ℕ) (d : NodeState) → place < length nodes → IsElsewhere places place → HasNoNews (slice_index_or nodes place d)

@@ -6,12 +6,10 @@
 //! where nothing happens.
 #![tactic(auto)]
 
-mod forgetting;
 mod gathering;
 mod posting;
 mod times;
 
-pub use forgetting::forget_each;
 pub use gathering::gather;
 pub use posting::post_beside;
 pub use times::{due_before, first_time, note, note_all, times_of};

@@ -12,10 +12,10 @@ use tva_index::Lowest;
 use tva_node::Node;
 
 // A nanosecond past the greatest horizon.
-const NEVER: u128 = 1_000_000_000_000_001;
+const NEVER: u64 = 1_000_000_000_000_001;
 
 /// The next times of the nodes. The error is want of memory.
-pub fn times_of(alloc: Global, nodes: &[Node]) -> Result<Lowest, AllocError>
+pub fn times_of(alloc: Global, nodes: &[Node]) -> Result<Lowest<u64>, AllocError>
     requires { length nodes.now ≤ 1024 }
     ensures { IfOk result (λ times. AreNoted times nodes.now) }
 {
@@ -25,7 +25,7 @@ pub fn times_of(alloc: Global, nodes: &[Node]) -> Result<Lowest, AllocError>
 }
 
 /// Notes when each of the nodes has work next.
-pub fn note_all(times: &mut Lowest, nodes: &[Node])
+pub fn note_all(times: &mut Lowest<u64>, nodes: &[Node])
     requires few { length nodes.now ≤ 1024 }
     requires count { length times.old ≡ length nodes.now }
     ensures { AreNoted times.new nodes.now }
@@ -36,7 +36,7 @@ pub fn note_all(times: &mut Lowest, nodes: &[Node])
 }
 
 /// Notes when the node in that place has work next.
-pub fn note(times: &mut Lowest, nodes: &[Node], place: usize)
+pub fn note(times: &mut Lowest<u64>, nodes: &[Node], place: usize)
     requires few { length nodes.now ≤ 1024 }
     requires place { place < length nodes.now }
     requires count { length times.old ≡ length nodes.now }
@@ -47,17 +47,17 @@ pub fn note(times: &mut Lowest, nodes: &[Node], place: usize)
 }
 
 // The number of a next time.
-fn number_of(next: Option<Time>) -> u128
+fn number_of(next: Option<Time>) -> u64
     ensures { result ≡ number_of next }
 {
     match next {
-        Some(time) => u128::from(time.0),
+        Some(time) => time.0,
         None => NEVER,
     }
 }
 
 /// The first time, in nanoseconds, at which one of the nodes has work up to its horizon.
-pub fn first_time(times: &Lowest, nodes: &[Node]) -> Option<Time>
+pub fn first_time(times: &Lowest<u64>, nodes: &[Node]) -> Option<Time>
     requires noted { AreNoted times.now nodes.now }
     requires stand { AllByRecursion Stands nodes.now }
     ensures { IsFirstTime nodes.now result }
@@ -69,7 +69,7 @@ pub fn first_time(times: &Lowest, nodes: &[Node]) -> Option<Time>
 }
 
 /// The place of a node that has work before a time, in nanoseconds.
-pub fn due_before(times: &Lowest, nodes: &[Node], until: Time) -> Option<usize>
+pub fn due_before(times: &Lowest<u64>, nodes: &[Node], until: Time) -> Option<usize>
     requires noted { AreNoted times.now nodes.now }
     requires stand { AllByRecursion Stands nodes.now }
     ensures within { IfSome result (λ place. place < length nodes.now) }
@@ -83,7 +83,7 @@ pub fn due_before(times: &Lowest, nodes: &[Node], until: Time) -> Option<usize>
 }
 
 // The place of a node that has work before all others, and when.
-fn first_due(times: &Lowest, nodes: &[Node]) -> Option<(usize, Time)>
+fn first_due(times: &Lowest<u64>, nodes: &[Node]) -> Option<(usize, Time)>
     requires noted { AreNoted times.now nodes.now }
     requires stand { AllByRecursion Stands nodes.now }
     ensures { IsFirstDue nodes.now result }

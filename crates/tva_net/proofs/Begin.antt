@@ -1,5 +1,5 @@
 -- What a network stands for before its first window.
-use Rattle.std.proofs.Common.{◌≡◌, ℕ, zero, suc, ◌+◌, ◌<◌, List, [], ◌∷◌, length, get_or, map, filter, replicate, Bool, true, false, cond, Option, Some, None, All, refl, sym, subst, ◌∙◌, ap, ap₂, arith}
+use Rattle.std.proofs.Common.{◌≡◌, ℕ, zero, suc, ◌+◌, ◌<◌, List, [], ◌∷◌, length, get_or, map, filter, Bool, true, false, cond, Option, Some, None, All, refl, sym, subst, ◌∙◌, ap, arith}
 use Rattle.std.specs.Prelude.{◌==◌, slice_get}
 use Rattle.std.specs.Option.{option_map_or}
 use Rattle.std.specs.List.{AllByRecursion}
@@ -47,10 +47,6 @@ no_log (v ∷ vs) (suc n) = no_log vs n
 none_early : (until : ℕ) (es : List Entry) → until ≡ 0 → AllByRecursion (λ e. entry_time e < until) es → es ≡ []
 none_early until [] z h = refl
 none_early until (e ∷ es) z h = absurd (omega (arith, z, h.0))
-
-pub zeros : (f : NodeState → ℕ) (nodes : List NodeState) → ((n : ℕ) (d : NodeState) → n < length nodes → f (get_or nodes n d) ≡ 0) → replicate (length nodes) 0 ≡ map f nodes
-zeros f [] h = refl
-zeros f (v ∷ vs) h = ap₂ ◌∷◌ (sym (h 0 v (omega arith))) (zeros f vs (λ n d l. h (suc n) d (omega (arith, l))))
 
 cond_same : (b : Bool) → cond b (let is : List Input = [] in is) [] ≡ []
 cond_same true = refl
@@ -127,9 +123,9 @@ module _ (config : Config) (rows : List Row) (nodes : List NodeState) (valid : I
   nothing_told : AreEvents config logs []
   nothing_told = record { in_order = tt; each = λ n. sym (no_events n (site_at config n)) }
 
-  pub begins : (horizon span : ℕ) (links : List LinkPlan) (posted shown : List ℕ) → horizon ≡ config.horizon.0 → links ≡ config.links → span ≡ window_length config → posted ≡ replicate (length nodes) 0 → shown ≡ replicate (length nodes) 0
-      → WorksFor config rows [] [] (record { horizon = horizon; links = links; span = span; nodes = nodes; posted = posted; shown = shown; worked_to = 0 })
-  begins horizon span links posted shown horizon_is links_are span_is posted_are shown_are = record {
+  pub begins : (horizon span : ℕ) (links : List LinkPlan) → horizon ≡ config.horizon.0 → links ≡ config.links → span ≡ window_length config
+      → WorksFor config rows [] [] (record { horizon = horizon; links = links; span = span; nodes = nodes; worked_to = 0 })
+  begins horizon span links horizon_is links_are span_is = record {
     way = record {
       valid = valid;
       trace = trace;
@@ -149,9 +145,7 @@ module _ (config : Config) (rows : List Row) (nodes : List NodeState) (valid : I
       span = span_is;
       count = first.count;
       nodes = first_at;
-      posted = posted_are ∙ zeros (λ (v : NodeState). length v.sendings) nodes (λ n d l. ap length (first.each n d l).nothing.1);
-      shown = shown_are ∙ zeros (λ (v : NodeState). length v.events) nodes (λ n d l. ap length (first.each n d l).nothing.0);
-      gone = λ n d l. (first.each n d l).gone;
+      news = λ n d l. (first.each n d l).news;
     };
   }
 

@@ -1,22 +1,23 @@
 -- What the steps of a window ask and leave.
 use Rattle.std.proofs.Common.{Vec, Global, Result, Ok, Err, IfOk, Option, ◌≡◌, ℕ, ◌+◌, ◌<◌, ◌≤◌, min, List, [], ◌∷◌, ◌++◌, length, get_or, Some, None, All, refl, sym, subst, ◌∙◌, ap, arith}
+use Rattle.std.specs.Prelude.{flat_map}
 use Rattle.std.specs.List.{AllByRecursion, AllZip}
 use Rattle.std.specs.Option.{option_map}
-use Rattle.std.proofs.lemmas.List.{append-nil, append_assoc, get_or-map}
+use Rattle.std.proofs.lemmas.List.{append-nil, append_assoc}
 use Rattle.std.proofs.lemmas.List.Elements.{recursion_from_All}
 use Rattle.tva_base.specs.declared.event.Event.{Event}
 use Rattle.tva_base.specs.declared.packet.Time.{Time}
 use Rattle.tva_plan.specs.declared.config.Config.{Config}
 use Rattle.tva_rows.specs.declared.rows.Row.{Row}
-use Rattle.tva_node.specs.States.{Keeps, NodeState, Stands}
+use Rattle.tva_node.specs.States.{Keeps, NodeState, Stands, unsent}
 use Rattle.tva_node.proofs.Zips.{begins_more, begins_same}
 use Rattle.tva_run.specs.Reaching.{log_at}
 use Rattle.tva_run.specs.Windows.{Window, given}
 use Rattle.tva_mail.specs.Mail.{IsPostable, KeepsWork}
-use Rattle.tva_mail.specs.News.{IsFirstTime, since}
+use Rattle.tva_mail.specs.News.{HasNoNews, IsFirstTime}
 use Rattle.tva_net.specs.Kept.{WorksFor}
 use Rattle.tva_net.specs.Nets.{GrowsFrom, IsWholeRun, WorkState}
-use Rattle.tva_mail.specs.Places.{AreKnownElsewhere, IsElsewhere}
+use Rattle.tva_mail.specs.Places.{AreQuietElsewhere, IsElsewhere}
 use Rattle.tva_net.specs.Work.{AddsNothing, AddsWindow, AddsWindows, AreWorked, CanGoTo, CanWork, EndsWindow, IsThrough, OfEachRun, WorksOn, WorksUpTo, if_some}
 use Rattle.tva_mail.proofs.Lists.{zip_length, zip_same, zip_weaker}
 use Rattle.tva_net.proofs.Lists.{zip_both}
@@ -72,75 +73,44 @@ module _ (w : WorkState) (until : ℕ) (e : EndsWindow w until) where
       (omega (arith, from, later, within, ends, horizon), omega (arith, ends, horizon, same))
 
   module _ (mids : List NodeState) (through : AllByRecursion (IsThrough until) mids) (kept : AllZip Keeps w.nodes mids) where
-    pub shown_known : AllZip (λ (v : NodeState) (n : ℕ). n ≤ length v.events) mids w.shown
-    shown_known = spans.shown_known e.config e.rows e.windows e.told w e.works e.start e.first until e.ends mids through kept
-
     pub mids_stand : All Stands mids
     mids_stand = spans.mids_stand e.config e.rows e.windows e.told w e.works e.start e.first until e.ends mids through kept
 
     pub mids_numbered : (n : ℕ) (d : NodeState) → n < length mids → (get_or mids n d).site.number ≡ n
     mids_numbered = spans.mids_numbered e.config e.rows e.windows e.told w e.works e.start e.first until e.ends mids through kept
 
-    pub posted_known : AllZip (λ (v : NodeState) (n : ℕ). n ≤ length v.sendings) mids w.posted
-    posted_known = spans.posted_known e.config e.rows e.windows e.told w e.works e.start e.first until e.ends mids through kept
-
-    pub shown_held : AllZip (λ (v : NodeState) (n : ℕ). v.gone.events ≤ n) mids w.shown
-    shown_held = spans.shown_held e.config e.rows e.windows e.told w e.works e.start e.first until e.ends mids through kept
-
-    pub posted_held : AllZip (λ (v : NodeState) (n : ℕ). v.gone.sendings ≤ n) mids w.posted
-    posted_held = spans.posted_held e.config e.rows e.windows e.told w e.works e.start e.first until e.ends mids through kept
-
-    pub postable : All (IsPostable w.horizon w.links mids) (since (λ v. v.sendings) mids w.posted)
+    pub postable : All (IsPostable w.horizon w.links mids) (flat_map unsent mids)
     postable = spans.postable e.config e.rows e.windows e.told w e.works e.start e.first until e.ends mids through kept
 
     pub mids_few : length mids ≤ 1024
     mids_few = omega (arith, few, zip_length Keeps w.nodes mids kept)
 
-    -- of nodes elsewhere all is known
-    module _ (places : List ℕ) (others : (place : ℕ) (d : NodeState) → place < length mids → IsElsewhere places place → get_or mids place d ≡ get_or w.nodes place d) where
-      old_within : (n : ℕ) → n < length mids → n < length w.nodes
-      old_within n l = omega (arith, l, zip_length Keeps w.nodes mids kept)
-
-      pub shown_elsewhere : AreKnownElsewhere (λ v. v.events) mids w.shown places
-      shown_elsewhere n d l k =
-          ap (λ (ns : List ℕ). get_or ns n 0) e.works.kept.shown
-          ∙ (get_or-map (λ (v : NodeState). length v.events) w.nodes n d 0 (old_within n l) ∙ ap (λ (v : NodeState). length v.events) (sym (others n d l k)))
-
-      pub posted_elsewhere : AreKnownElsewhere (λ v. v.sendings) mids w.posted places
-      posted_elsewhere n d l k =
-          ap (λ (ns : List ℕ). get_or ns n 0) e.works.kept.posted
-          ∙ (get_or-map (λ (v : NodeState). length v.sendings) w.nodes n d 0 (old_within n l) ∙ ap (λ (v : NodeState). length v.sendings) (sym (others n d l k)))
+    -- nodes elsewhere have no news
+    pub quiet_elsewhere : (places : List ℕ) → ((place : ℕ) (d : NodeState) → place < length mids → IsElsewhere places place → get_or mids place d ≡ get_or w.nodes place d) → AreQuietElsewhere mids places
+    quiet_elsewhere places others = λ n d l out.
+        subst HasNoNews (sym (others n d l out)) (e.works.kept.news n d (omega (arith, l, zip_length Keeps w.nodes mids kept)))
 
 -- ## the next window
 
 pub none_left : (w : WorkState) → IsFirstTime w.nodes None → WorksOn w None w
 none_left w none = (refl, λ config rows windows told h. whole_run config rows windows told w h none)
 
-pub window_works : (w : WorkState) (start : Time) (until : ℕ) (list : List Event) (posts shows : List ℕ) (news : List NodeState) → CanWork w → IsFirstTime w.nodes (Some start) → until ≡ min (start.0 + w.span) (w.horizon + 1)
-    → AreWorked until w.horizon w.links w.posted w.shown w.nodes list posts shows news
-    → WorksOn w (Some list) (record { horizon = w.horizon; links = w.links; span = w.span; nodes = news; posted = posts; shown = shows; worked_to = until })
-window_works w start until list posts shows news (config, rows, before, told, h) first ends worked =
+pub window_works : (w : WorkState) (start : Time) (until : ℕ) (list : List Event) (new news : List NodeState) → CanWork w → IsFirstTime w.nodes (Some start) → until ≡ min (start.0 + w.span) (w.horizon + 1)
+    → AreWorked until w.horizon w.links w.nodes list new → news ≡ new
+    → WorksOn w (Some list) (record { horizon = w.horizon; links = w.links; span = w.span; nodes = news; worked_to = until })
+window_works w start until list new news (config, rows, before, told, h) first ends worked same =
     let later = start_later config rows before told w h start first in
-    let some = spans.some config rows before told w h start first until ends worked.mids worked.through worked.kept in (
+    let some = spans.some config rows before told w h start first until ends worked.mids worked.through worked.kept in
+    subst (λ (vs : List NodeState). WorksOn w (Some list) (record { horizon = w.horizon; links = w.links; span = w.span; nodes = vs; worked_to = until })) (sym same) (
       omega (arith, later, some),
       omega (arith, ends),
       refl,
       λ config rows before told h. record {
         window = (start.0, until);
-        works = spans.works_on config rows before told w h start first until ends worked.mids worked.through worked.kept news worked.mail list posts shows worked.told worked.posting worked.showing;
+        works = spans.works_on config rows before told w h start first until ends worked.mids worked.through worked.kept new worked.mail list worked.told worked.quiet;
         given = spans.given_on config rows before told w h start first until ends worked.mids worked.through worked.kept list worked.told;
       },
     )
-
--- the same, where the lists are those by equations
-pub window_works_as : (w : WorkState) (start : Time) (until : ℕ) (list : List Event) (posts shows posts' shows' : List ℕ) (news news' : List NodeState) → CanWork w → IsFirstTime w.nodes (Some start) → until ≡ min (start.0 + w.span) (w.horizon + 1)
-    → AreWorked until w.horizon w.links w.posted w.shown w.nodes list posts shows news → posts' ≡ posts → shows' ≡ shows → news' ≡ news
-    → WorksOn w (Some list) (record { horizon = w.horizon; links = w.links; span = w.span; nodes = news'; posted = posts'; shown = shows'; worked_to = until })
-window_works_as w start until list posts shows posts' shows' news news' can first ends worked p q r =
-    subst (λ (vs : List NodeState). WorksOn w (Some list) (record { horizon = w.horizon; links = w.links; span = w.span; nodes = vs; posted = posts'; shown = shows'; worked_to = until })) (sym r)
-    (subst (λ (ns : List ℕ). WorksOn w (Some list) (record { horizon = w.horizon; links = w.links; span = w.span; nodes = news; posted = ns; shown = shows'; worked_to = until })) (sym p)
-    (subst (λ (ns : List ℕ). WorksOn w (Some list) (record { horizon = w.horizon; links = w.links; span = w.span; nodes = news; posted = posts; shown = ns; worked_to = until })) (sym q)
-    (window_works w start until list posts shows news can first ends worked)))
 
 pub ends_window : (w : WorkState) (start : Time) (until : ℕ) → CanWork w → IsFirstTime w.nodes (Some start) → until ≡ min (start.0 + w.span) (w.horizon + 1) → EndsWindow w until
 ends_window w start until (config, rows, before, told, h) first ends = record { config = config; rows = rows; windows = before; told = told; works = h; start = start; first = first; ends = ends }

@@ -106,7 +106,7 @@ with_rows config rs nodes filed first got = record {
         horizon = g.keeps.horizon ∙ v.horizon;
         inbox = g.inbox ∙ ap (λ (is : List Input). is ++ rows_at rs n) v.inbox;
         nothing = (g.keeps.events ∙ v.nothing.0, g.keeps.sendings ∙ v.nothing.1, g.keeps.worked_to ∙ v.nothing.2);
-        gone = g.keeps.gone v.gone;
+        news = g.keeps.news v.news;
         stands = g.stands v.stands;
       };
 }

@@ -1,5 +1,5 @@
 -- Lists, by what stands at each place, and what a list in order has from a time on.
-use Rattle.std.proofs.Common.{◌≡◌, ℕ, zero, suc, ◌+◌, ◌<◌, ◌≤◌, List, [], ◌∷◌, ◌++◌, length, get_or, drop, map, filter, Bool, Some, refl, sym, ◌∙◌, ap, ap₂, arith, inl, inr}
+use Rattle.std.proofs.Common.{◌≡◌, ℕ, zero, suc, ◌+◌, ◌<◌, ◌≤◌, List, [], ◌∷◌, ◌++◌, length, get_or, drop, map, filter, Bool, Some, refl, sym, ◌∙◌, ap, arith, inl, inr}
 use Rattle.std.specs.Prelude.{◌==◌, nat_lt, slice_range, Contains}
 use Rattle.std.specs.List.{AllByRecursion, AllZip}
 use Rattle.std.proofs.lemmas.Bool.{lt-ltb, eq-eqb, cases_Bool, cases_lt}
@@ -23,20 +23,6 @@ range_one xs i x l is =
     (sym (drop_split xs i (i + 1) (omega arith)) ∙ (drop_more xs i x l ∙ ap (λ y. y ∷ drop (i + 1) xs) (sym is)))
 
 -- ## by places
-
--- two lists that are alike at each place in what is asked of them
-pub map_same : {X Y : Type 0} (f : X → Y) (xs ys : List X) → length ys ≡ length xs → ((i : ℕ) (d : X) → i < length xs → f (get_or ys i d) ≡ f (get_or xs i d)) → map f ys ≡ map f xs
-map_same f [] [] n h = refl
-map_same f [] (y ∷ ys) n h = absurd (omega (arith, n))
-map_same f (x ∷ xs) [] n h = absurd (omega (arith, n))
-map_same f (x ∷ xs) (y ∷ ys) n h =
-    ap₂ ◌∷◌ (h 0 x (omega arith)) (map_same f xs ys (omega (arith, n)) (λ i d l. h (suc i) d (omega (arith, l))))
-
-pub zip_from : {X Y : Type 0} (R : X → Y → Type 0) (xs : List X) (ys : List Y) (e : Y) → length xs ≡ length ys → ((i : ℕ) (d : X) → i < length xs → R (get_or xs i d) (get_or ys i e)) → AllZip R xs ys
-zip_from R [] [] e n h = tt
-zip_from R [] (y ∷ ys) e n h = absurd (omega (arith, n))
-zip_from R (x ∷ xs) [] e n h = absurd (omega (arith, n))
-zip_from R (x ∷ xs) (y ∷ ys) e n h = (h 0 x (omega arith), zip_from R xs ys e (omega (arith, n)) (λ i d l. h (suc i) d (omega (arith, l))))
 
 pub zip_both : {X Y Z : Type 0} (R : X → Y → Type 0) (S : Y → Z → Type 0) (T : X → Z → Type 0) → ((x : X) (y : Y) (z : Z) → R x y → S y z → T x z) → (xs : List X) (ys : List Y) (zs : List Z) → AllZip R xs ys → AllZip S ys zs → AllZip T xs zs
 zip_both R S T w [] [] [] a b = tt

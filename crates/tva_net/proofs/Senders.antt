@@ -1,6 +1,6 @@
 -- What the links of nodes send: each packet on a link out of its node, and when it arrives.
-use Rattle.std.proofs.Common.{◌≡◌, ℕ, zero, suc, ◌+◌, ◌*◌, ◌<◌, ◌≤◌, List, [], ◌∷◌, ◌++◌, length, get_or, drop, map, filter, Bool, true, false, cond, Option, Some, None, refl, sym, subst, ◌∙◌, ap, ap₂, arith, inl, inr}
-use Rattle.std.specs.Prelude.{◌==◌, ◌&&◌, nat_lt, nat_le, slice_get}
+use Rattle.std.proofs.Common.{◌≡◌, ℕ, zero, suc, ◌+◌, ◌*◌, ◌<◌, ◌≤◌, List, [], ◌∷◌, ◌++◌, length, get_or, map, filter, Bool, true, false, cond, Option, Some, None, refl, sym, subst, ◌∙◌, ap, ap₂, arith, inl, inr}
+use Rattle.std.specs.Prelude.{◌==◌, ◌&&◌, flat_map, nat_lt, nat_le, slice_get}
 use Rattle.std.specs.Option.{option_map, option_map_or, option_and_then}
 use Rattle.std.specs.List.{AllByRecursion, cons_option, find}
 use Rattle.std.proofs.lemmas.Bool.{cases_Bool, cases_eq, cond-true, cond-false, eqb-true, eq-eqb, ne_eqb, lt-ltb, le-ltb, cases_lt}
@@ -23,10 +23,9 @@ use Rattle.tva_log.specs.Entries.{Entry, Took, Started, input_time, input_source
 use Rattle.tva_log.specs.NodeLog.{GoesOn, due, start_after}
 use Rattle.tva_log.specs.Parts.{port_logs}
 use Rattle.tva_log.specs.Told.{sendings}
-use Rattle.tva_node.specs.States.{NodeState}
+use Rattle.tva_node.specs.States.{NodeState, unsent}
 use Rattle.tva_run.specs.Reaching.{arrival, link_from, links_out, site_at}
 use Rattle.tva_mail.specs.Mail.{goes_to, mail_to}
-use Rattle.tva_mail.specs.News.{since}
 use Rattle.tva_net.proofs.Lists.{drop_none, some_same}
 
 -- ## the links out of a node
@@ -121,33 +120,30 @@ sends_none site t key ss none h = filter-none (λ (s : Sending). s.link == key) 
 -- ## what several nodes sent
 
 module _ (p : Sending → Bool) where
-  pub since_none : (vs : List NodeState) (ns : List ℕ) → ((i : ℕ) (d : NodeState) → i < length vs → filter p (get_or vs i d).sendings ≡ []) → filter p (since (λ v. v.sendings) vs ns) ≡ []
-  since_none [] ns h = refl
-  since_none (v ∷ vs) [] h = refl
-  since_none (v ∷ vs) (n ∷ ns) h =
-      filter-append p (drop n v.sendings) (since (λ v. v.sendings) vs ns)
-      ∙ ap₂ ◌++◌ (drop_none p n v.sendings (h 0 v (omega arith))) (since_none vs ns (λ i d l. h (suc i) d (omega (arith, l))))
+  pub since_none : (vs : List NodeState) → ((i : ℕ) (d : NodeState) → i < length vs → filter p (get_or vs i d).sendings ≡ []) → filter p (flat_map unsent vs) ≡ []
+  since_none [] h = refl
+  since_none (v ∷ vs) h =
+      filter-append p (unsent v) (flat_map unsent vs)
+      ∙ ap₂ ◌++◌ (drop_none p v.gone.sent v.sendings (h 0 v (omega arith))) (since_none vs (λ i d l. h (suc i) d (omega (arith, l))))
 
   -- of what only one of the nodes sends, that is what they send
-  pub since_one : (vs : List NodeState) (ns : List ℕ) (m : ℕ) (d : NodeState) → length ns ≡ length vs → m < length vs
+  pub since_one : (vs : List NodeState) (m : ℕ) (d : NodeState) → m < length vs
       → ((i : ℕ) (e : NodeState) → i < length vs → (i ≡ m → ⊥) → filter p (get_or vs i e).sendings ≡ [])
-      → filter p (since (λ v. v.sendings) vs ns) ≡ filter p (drop (get_or ns m 0) (get_or vs m d).sendings)
-  since_one [] ns m d n l h = absurd (omega (arith, l))
-  since_one (v ∷ vs) [] m d n l h = absurd (omega (arith, n))
-  since_one (v ∷ vs) (k ∷ ns) zero d n l h =
-      filter-append p (drop k v.sendings) (since (λ v. v.sendings) vs ns)
-      ∙ (ap (λ (xs : List Sending). filter p (drop k v.sendings) ++ xs) (since_none vs ns (λ i e j. h (suc i) e (omega (arith, j)) (λ z. omega (arith, z))))
-      ∙ append-nil (filter p (drop k v.sendings)))
-  since_one (v ∷ vs) (k ∷ ns) (suc m) d n l h =
-      filter-append p (drop k v.sendings) (since (λ v. v.sendings) vs ns)
-      ∙ ap₂ (λ (xs ys : List Sending). xs ++ ys) (drop_none p k v.sendings (h 0 v (omega arith) (λ z. omega (arith, z))))
-      (since_one vs ns m d (omega (arith, n)) (omega (arith, l)) (λ i e j k'. h (suc i) e (omega (arith, j)) (λ z. k' (omega (arith, z)))))
+      → filter p (flat_map unsent vs) ≡ filter p (unsent (get_or vs m d))
+  since_one [] m d l h = absurd (omega (arith, l))
+  since_one (v ∷ vs) zero d l h =
+      filter-append p (unsent v) (flat_map unsent vs)
+      ∙ (ap (λ (xs : List Sending). filter p (unsent v) ++ xs) (since_none vs (λ i e j. h (suc i) e (omega (arith, j)) (λ z. omega (arith, z))))
+      ∙ append-nil (filter p (unsent v)))
+  since_one (v ∷ vs) (suc m) d l h =
+      filter-append p (unsent v) (flat_map unsent vs)
+      ∙ ap₂ (λ (xs ys : List Sending). xs ++ ys) (drop_none p v.gone.sent v.sendings (h 0 v (omega arith) (λ z. omega (arith, z))))
+      (since_one vs m d (omega (arith, l)) (λ i e j k'. h (suc i) e (omega (arith, j)) (λ z. k' (omega (arith, z)))))
 
 -- what holds of each node's part holds of all
-pub each_since : (P : Sending → Type 0) (vs : List NodeState) (ns : List ℕ) → ((i : ℕ) (d : NodeState) → i < length vs → AllByRecursion P (drop (get_or ns i 0) (get_or vs i d).sendings)) → AllByRecursion P (since (λ v. v.sendings) vs ns)
-each_since P [] ns h = tt
-each_since P (v ∷ vs) [] h = tt
-each_since P (v ∷ vs) (n ∷ ns) h = each-append P (drop n v.sendings) (since (λ v. v.sendings) vs ns) (h 0 v (omega arith)) (each_since P vs ns (λ i d l. h (suc i) d (omega (arith, l))))
+pub each_since : (P : Sending → Type 0) (vs : List NodeState) → ((i : ℕ) (d : NodeState) → i < length vs → AllByRecursion P (unsent (get_or vs i d))) → AllByRecursion P (flat_map unsent vs)
+each_since P [] h = tt
+each_since P (v ∷ vs) h = each-append P (unsent v) (flat_map unsent vs) (h 0 v (omega arith)) (each_since P vs (λ i d l. h (suc i) d (omega (arith, l))))
 
 -- ## what arrives
 

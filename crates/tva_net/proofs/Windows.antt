@@ -1,12 +1,11 @@
 -- A window keeps the run: what the nodes' logs add is the run's, and the inboxes have it all afterwards.
 use Rattle.std.proofs.Common.{◌≡◌, ℕ, zero, suc, ◌+◌, ◌<◌, ◌≤◌, min, List, [], ◌∷◌, ◌++◌, length, get_or, drop, map, filter, Bool, true, false, cond, Option, Some, None, All, refl, sym, subst, ◌∙◌, ap, ap₂, arith, inl, inr}
-use Rattle.std.specs.Prelude.{slice_get, nat_lt, ◌==◌}
+use Rattle.std.specs.Prelude.{flat_map, slice_get, nat_lt, ◌==◌}
 use Rattle.std.specs.Option.{option_map, option_map_or}
 use Rattle.std.specs.List.{AllByRecursion, AllZip}
-use Rattle.std.proofs.lemmas.List.{append-nil, drop_at, get_or-map, map-append, length-map}
-use Rattle.std.proofs.Common.{length-append}
+use Rattle.std.proofs.lemmas.List.{append-nil, drop_at, map-append}
 use Rattle.std.proofs.lemmas.List.Elements.{filter-append, filter_map-append, All-from_recursion, AllZip-get_or}
-use Rattle.std.proofs.lemmas.Option.{slice_get_cases, slice_get-get_or, slice_get_past, slice_get_within, get_or_from_slice_get}
+use Rattle.std.proofs.lemmas.Option.{slice_get_cases, slice_get_past, slice_get_within, get_or_from_slice_get}
 use Rattle.tva_base.specs.declared.event.Event.{Event}
 use Rattle.tva_base.specs.declared.packet.Time.{Time}
 use Rattle.tva_base.specs.declared.plan.LinkPlan.{LinkPlan}
@@ -26,7 +25,7 @@ use Rattle.tva_log.specs.NodeLog.{IsNodeLog, due, in_turn}
 use Rattle.tva_log.specs.Next.{IsQuiet, IsWorkAt}
 use Rattle.tva_log.specs.Told.{event_of, events, sending_of, sendings}
 use Rattle.tva_log.proofs.Logs.{IsNodeLog-unique}
-use Rattle.tva_node.specs.States.{Gone, Keeps, NodeState, Stands, StandsFor}
+use Rattle.tva_node.specs.States.{Gone, Keeps, NodeState, Stands, StandsFor, news, unsent}
 use Rattle.tva_run.specs.Reaching.{Logs, log_at, arrival, arrival_of, arrivals, arrivals_at, links_out, reaches, rows_at, site_at}
 use Rattle.tva_run.specs.Report.{AreEvents, event_node, event_time, events_at}
 use Rattle.tva_run.specs.Run.{HasLog, IsRunTo, logs_before}
@@ -36,14 +35,15 @@ use Rattle.tva_run.proofs.Holding.{HappensAt, events_work}
 use Rattle.tva_run.proofs.Next.{window_next}
 use Rattle.tva_run.proofs.Runs.{log_at-before}
 use Rattle.tva_run.proofs.Sites.{link_out_is, sent_arrives, site_number}
-use Rattle.tva_mail.specs.Mail.{CanDeliver, GotMail, GotMails, HadGone, IsPostable, goes_to, mail_to}
-use Rattle.tva_mail.specs.News.{IsFirstTime, since, told_since}
+use Rattle.tva_mail.specs.Mail.{CanDeliver, GotMail, GotMails, IsPostable, goes_to, mail_to}
+use Rattle.tva_mail.specs.News.{HasNoNews, IsFirstTime, of_place}
+use Rattle.tva_mail.proofs.Places.{of_place_is}
 use Rattle.tva_net.specs.Kept.{IsNodeAt, WorksFor}
 use Rattle.tva_net.specs.Nets.{WorkState}
 use Rattle.tva_run.proofs.Reaches.{reaches_rise}
 use Rattle.tva_net.specs.Work.{IsThrough, if_some}
 use Rattle.tva_mail.proofs.Lists.{each_map, zip_length}
-use Rattle.tva_net.proofs.Lists.{map_same, some_same, split_at, zip_from}
+use Rattle.tva_net.proofs.Lists.{some_same, split_at}
 use Rattle.tva_net.proofs.Given.{given_more, held_more}
 use Rattle.tva_net.proofs.Nodes.{has_log}
 use Rattle.tva_net.proofs.Resting.{comes_early, log_then}
@@ -184,14 +184,16 @@ module _ (config : Config) (rows : List Row) (windows : List Window) (told : Lis
 
   -- ## what they tell
 
-  shown_at : (n : ℕ) (d : NodeState) → n < length mids → get_or w.shown n 0 ≡ length (events (get_or mids n d).site (log_at h.way.run.logs n))
-  shown_at n d l =
+  kept_at : (n : ℕ) (d : NodeState) → n < length mids → Keeps (get_or w.nodes n d) (get_or mids n d)
+  kept_at n d l = AllZip-get_or Keeps w.nodes mids n d d kept (omega (arith, l, mid_count))
+
+  told_at : (n : ℕ) (d : NodeState) → n < length mids → (get_or mids n d).gone.told ≡ length (events (get_or mids n d).site (log_at h.way.run.logs n))
+  told_at n d l =
       let k : n < length w.nodes = omega (arith, l, mid_count) in
-      let a = h.kept.nodes n d k in
-      let same : (get_or w.nodes n d).site ≡ (get_or mids n d).site = some_same (get_or w.nodes n d).site (get_or mids n d).site (sym a.site ∙ (mid_at n d l).site) in
-      ap (λ (ns : List ℕ). get_or ns n 0) h.kept.shown
-      ∙ (get_or-map (λ (v : NodeState). length v.events) w.nodes n d 0 k
-      ∙ (ap length a.stands.events ∙ ap (λ (s : Site). length (events s (log_at h.way.run.logs n))) same))
+      let keeps = kept_at n d l in
+      ap (λ (g : Gone). g.told) keeps.gone
+      ∙ ((h.kept.news n d k).told
+      ∙ (ap length (h.kept.nodes n d k).stands.events ∙ ap (λ (s : Site). length (events s (log_at h.way.run.logs n))) (sym keeps.site)))
 
   events_both : (n : ℕ) (d : NodeState) (l : n < length mids) (rest : List Entry) → IsFurther h.way.run.logs longer start.0 n rest
       → (get_or mids n d).events ≡ events (get_or mids n d).site (log_at h.way.run.logs n) ++ events (get_or mids n d).site rest
@@ -199,15 +201,15 @@ module _ (config : Config) (rows : List Row) (windows : List Window) (told : Lis
       let site = (get_or mids n d).site in
       (mid_at n d l).stands.events ∙ (ap (events site) f.log ∙ map-append (event_of site) (log_at h.way.run.logs n) rest)
 
-  told_there : (n : ℕ) (d : NodeState) (l : n < length mids) (rest : List Entry) → IsFurther h.way.run.logs longer start.0 n rest → told_since mids w.shown n ≡ events (get_or mids n d).site rest
+  told_there : (n : ℕ) (d : NodeState) (l : n < length mids) (rest : List Entry) → IsFurther h.way.run.logs longer start.0 n rest → of_place news mids n ≡ events (get_or mids n d).site rest
   told_there n d l rest f =
       let site = (get_or mids n d).site in
-      ap (λ (o : Option NodeState). option_map_or (λ v. drop (get_or w.shown n 0) v.events) o []) (slice_get-get_or mids n d l)
-      ∙ (ap (drop (get_or w.shown n 0)) (events_both n d l rest f)
-      ∙ drop_at (events site (log_at h.way.run.logs n)) (events site rest) (get_or w.shown n 0) (sym (shown_at n d l)))
+      of_place_is news mids n d l
+      ∙ (ap (drop (get_or mids n d).gone.told) (events_both n d l rest f)
+      ∙ drop_at (events site (log_at h.way.run.logs n)) (events site rest) (get_or mids n d).gone.told (sym (told_at n d l)))
 
-  told_past : (n : ℕ) → length mids ≤ n → told_since mids w.shown n ≡ []
-  told_past n l = ap (λ (o : Option NodeState). option_map_or (λ v. drop (get_or w.shown n 0) v.events) o []) (slice_get_past mids n l)
+  told_past : (n : ℕ) → length mids ≤ n → of_place news mids n ≡ []
+  told_past n l = ap (λ (o : Option NodeState). option_map_or news o []) (slice_get_past mids n l)
 
   no_site : (n : ℕ) → length mids ≤ n → site_at config n ≡ None
   no_site n l = ap (option_map (λ (p : NodePlan). site_of n p (links_out n config.links))) (slice_get_past config.nodes n (omega (arith, l, config_count)))
@@ -218,7 +220,7 @@ module _ (config : Config) (rows : List Row) (windows : List Window) (told : Lis
   events_before : (n : ℕ) → events_at config h.way.run.logs n ≡ events_at config (logs_before start.0 longer) n
   events_before n = ap (λ (log : List Entry). option_map_or (λ site. events site log) (site_at config n) []) (sym (before_is n))
 
-  events_more : (n : ℕ) → events_at config longer n ≡ events_at config (logs_before start.0 longer) n ++ told_since mids w.shown n
+  events_more : (n : ℕ) → events_at config longer n ≡ events_at config (logs_before start.0 longer) n ++ of_place news mids n
   events_more n =
       elim (slice_get_cases mids n).1 [
         | inl in' ↦
@@ -243,11 +245,11 @@ module _ (config : Config) (rows : List Row) (windows : List Window) (told : Lis
   told_before : AreEvents config (logs_before start.0 longer) told
   told_before = record { in_order = h.way.run.events.in_order; each = λ n. h.way.run.events.each n ∙ events_before n }
 
-  pub events_on : (list : List Event) → IsJoin event_time event_node (told_since mids w.shown) list → AreEvents config longer (told ++ list)
-  events_on list join = events_added config start.0 longer told list (told_since mids w.shown) told_before events_more join
+  pub events_on : (list : List Event) → IsJoin event_time event_node (of_place news mids) list → AreEvents config longer (told ++ list)
+  events_on list join = events_added config start.0 longer told list (of_place news mids) told_before events_more join
 
   -- what they tell comes from the window's start on
-  pub told_late : (n : ℕ) → AllByRecursion (λ e. start.0 ≤ event_time e) (told_since mids w.shown n)
+  pub told_late : (n : ℕ) → AllByRecursion (λ e. start.0 ≤ event_time e) (of_place news mids n)
   told_late n =
       elim (slice_get_cases mids n).1 [
         | inl in' ↦
@@ -262,14 +264,13 @@ module _ (config : Config) (rows : List Row) (windows : List Window) (told : Lis
 
   -- ## what they sent
 
-  posted_at : (n : ℕ) (d : NodeState) → n < length mids → get_or w.posted n 0 ≡ length (sendings (get_or mids n d).site (log_at h.way.run.logs n))
-  posted_at n d l =
+  sent_at : (n : ℕ) (d : NodeState) → n < length mids → (get_or mids n d).gone.sent ≡ length (sendings (get_or mids n d).site (log_at h.way.run.logs n))
+  sent_at n d l =
       let k : n < length w.nodes = omega (arith, l, mid_count) in
-      let a = h.kept.nodes n d k in
-      let same : (get_or w.nodes n d).site ≡ (get_or mids n d).site = some_same (get_or w.nodes n d).site (get_or mids n d).site (sym a.site ∙ (mid_at n d l).site) in
-      ap (λ (ns : List ℕ). get_or ns n 0) h.kept.posted
-      ∙ (get_or-map (λ (v : NodeState). length v.sendings) w.nodes n d 0 k
-      ∙ (ap length a.stands.sendings ∙ ap (λ (s : Site). length (sendings s (log_at h.way.run.logs n))) same))
+      let keeps = kept_at n d l in
+      ap (λ (g : Gone). g.sent) keeps.gone
+      ∙ ((h.kept.news n d k).sent
+      ∙ (ap length (h.kept.nodes n d k).stands.sendings ∙ ap (λ (s : Site). length (sendings s (log_at h.way.run.logs n))) (sym keeps.site)))
 
   sendings_both : (n : ℕ) (d : NodeState) (l : n < length mids) (rest : List Entry) → IsFurther h.way.run.logs longer start.0 n rest
       → (get_or mids n d).sendings ≡ sendings (get_or mids n d).site (log_at h.way.run.logs n) ++ sendings (get_or mids n d).site rest
@@ -278,11 +279,11 @@ module _ (config : Config) (rows : List Row) (windows : List Window) (told : Lis
       (mid_at n d l).stands.sendings ∙ (ap (sendings site) f.log ∙ filter_map-append (sending_of site) (log_at h.way.run.logs n) rest)
 
   sent_there : (n : ℕ) (d : NodeState) (l : n < length mids) (rest : List Entry) → IsFurther h.way.run.logs longer start.0 n rest
-      → drop (get_or w.posted n 0) (get_or mids n d).sendings ≡ sendings (get_or mids n d).site rest
+      → unsent (get_or mids n d) ≡ sendings (get_or mids n d).site rest
   sent_there n d l rest f =
       let site = (get_or mids n d).site in
-      ap (drop (get_or w.posted n 0)) (sendings_both n d l rest f)
-      ∙ drop_at (sendings site (log_at h.way.run.logs n)) (sendings site rest) (get_or w.posted n 0) (sym (posted_at n d l))
+      ap (drop (get_or mids n d).gone.sent) (sendings_both n d l rest f)
+      ∙ drop_at (sendings site (log_at h.way.run.logs n)) (sendings site rest) (get_or mids n d).gone.sent (sym (sent_at n d l))
 
   linked : (n : ℕ) (d : NodeState) (l : n < length mids) → AllByRecursion (HasLink (get_or mids n d).site) (log_at longer n)
   linked n d l =
@@ -306,10 +307,10 @@ module _ (config : Config) (rows : List Row) (windows : List Window) (told : Lis
       (sent_from site start.0 rest (each_right (HasLink site) (log_at h.way.run.logs n) rest links) f.late)
 
   abbrev pub sent : List Sending
-  sent = since (λ v. v.sendings) mids w.posted
+  sent = flat_map unsent mids
 
   all_going : AllByRecursion (IsGoing config until) sent
-  all_going = each_since (IsGoing config until) mids w.posted (λ n d l.
+  all_going = each_since (IsGoing config until) mids (λ n d l.
       let (rest, f) = further n d l in
       subst (λ (ss : List Sending). AllByRecursion (IsGoing config until) ss) (sym (sent_there n d l rest f)) (going n d l rest f))
 
@@ -332,60 +333,6 @@ module _ (config : Config) (rows : List Row) (windows : List Window) (told : Lis
   postable =
       let there : AllByRecursion (IsPostable config.horizon.0 config.links mids) sent = each-weaker (IsGoing config until) (IsPostable config.horizon.0 config.links mids) can_post sent all_going in
       rw (h.kept.horizon, h.kept.links) (All-from_recursion (IsPostable config.horizon.0 config.links mids) sent there)
-
-  pub shown_known : AllZip (λ (v : NodeState) (n : ℕ). n ≤ length v.events) mids w.shown
-  shown_known = zip_from (λ (v : NodeState) (n : ℕ). n ≤ length v.events) mids w.shown 0
-      (mid_count ∙ sym (ap length h.kept.shown ∙ length-map w.nodes (λ (v : NodeState). length v.events)))
-      (λ n d l.
-      let site = (get_or mids n d).site in
-      let (rest, f) = further n d l in
-      let whole_length = ap length (events_both n d l rest f) ∙ length-append (events site (log_at h.way.run.logs n)) (events site rest) in
-      omega (arith, whole_length, shown_at n d l))
-
-  pub posted_known : AllZip (λ (v : NodeState) (n : ℕ). n ≤ length v.sendings) mids w.posted
-  posted_known = zip_from (λ (v : NodeState) (n : ℕ). n ≤ length v.sendings) mids w.posted 0
-      (mid_count ∙ sym (ap length h.kept.posted ∙ length-map w.nodes (λ (v : NodeState). length v.sendings)))
-      (λ n d l.
-      let site = (get_or mids n d).site in
-      let (rest, f) = further n d l in
-      let whole_length = ap length (sendings_both n d l rest f) ∙ length-append (sendings site (log_at h.way.run.logs n)) (sendings site rest) in
-      omega (arith, whole_length, posted_at n d l))
-
-  -- ## what memory holds
-
-  mids_gone : All HadGone mids
-  mids_gone n d l =
-      let k : n < length w.nodes = omega (arith, l, mid_count) in
-      let keeps : Keeps (get_or w.nodes n d) (get_or mids n d) = AllZip-get_or Keeps w.nodes mids n d d kept k in
-      let had = h.kept.gone n d k in
-      let more_events : length (get_or w.nodes n d).events ≤ length (get_or mids n d).events =
-      let both = ap length keeps.events.1 ∙ length-append (get_or w.nodes n d).events keeps.events.0 in omega (arith, both) in
-      let more_sendings : length (get_or w.nodes n d).sendings ≤ length (get_or mids n d).sendings =
-      let both = ap length keeps.sendings.1 ∙ length-append (get_or w.nodes n d).sendings keeps.sendings.0 in omega (arith, both) in
-      record {
-        events = subst (λ (g : Gone). g.events ≤ length (get_or mids n d).events) (sym keeps.gone) (let few = had.events in omega (arith, few, more_events));
-        sendings = subst (λ (g : Gone). g.sendings ≤ length (get_or mids n d).sendings) (sym keeps.gone) (let few = had.sendings in omega (arith, few, more_sendings));
-      }
-
-  pub shown_held : AllZip (λ (v : NodeState) (n : ℕ). v.gone.events ≤ n) mids w.shown
-  shown_held = zip_from (λ (v : NodeState) (n : ℕ). v.gone.events ≤ n) mids w.shown 0
-      (mid_count ∙ sym (ap length h.kept.shown ∙ length-map w.nodes (λ (v : NodeState). length v.events)))
-      (λ n d l.
-      let k : n < length w.nodes = omega (arith, l, mid_count) in
-      let keeps : Keeps (get_or w.nodes n d) (get_or mids n d) = AllZip-get_or Keeps w.nodes mids n d d kept k in
-      let few = (h.kept.gone n d k).events in
-      let known = ap (λ (ns : List ℕ). get_or ns n 0) h.kept.shown ∙ get_or-map (λ (v : NodeState). length v.events) w.nodes n d 0 k in
-      subst (λ (g : Gone). g.events ≤ get_or w.shown n 0) (sym keeps.gone) (omega (arith, few, known)))
-
-  pub posted_held : AllZip (λ (v : NodeState) (n : ℕ). v.gone.sendings ≤ n) mids w.posted
-  posted_held = zip_from (λ (v : NodeState) (n : ℕ). v.gone.sendings ≤ n) mids w.posted 0
-      (mid_count ∙ sym (ap length h.kept.posted ∙ length-map w.nodes (λ (v : NodeState). length v.sendings)))
-      (λ n d l.
-      let k : n < length w.nodes = omega (arith, l, mid_count) in
-      let keeps : Keeps (get_or w.nodes n d) (get_or mids n d) = AllZip-get_or Keeps w.nodes mids n d d kept k in
-      let few = (h.kept.gone n d k).sendings in
-      let known = ap (λ (ns : List ℕ). get_or ns n 0) h.kept.posted ∙ get_or-map (λ (v : NodeState). length v.sendings) w.nodes n d 0 k in
-      subst (λ (g : Gone). g.sendings ≤ get_or w.posted n 0) (sym keeps.gone) (omega (arith, few, known)))
 
   pub mids_stand : All Stands mids
   mids_stand n d l = (log_at longer n, (mid_at n d l).stands)
@@ -430,9 +377,8 @@ module _ (config : Config) (rows : List Row) (windows : List Window) (told : Lis
             let (rest, f) = further m d l in
             let out : link_out v.site k ≡ Some (k, link) = link_out_is config k link v.site here (mid_at m d l).site in
             let end : option_map_or (λ (x : LinkPlan). x.to == n) (slice_get config.links k) false ≡ true = ap (λ (o : Option LinkPlan). option_map_or (λ (x : LinkPlan). x.to == n) o false) here ∙ there in
-            let counts : length w.posted ≡ length mids = ap length h.kept.posted ∙ (length-map w.nodes (λ (x : NodeState). length x.sendings) ∙ sym mid_count) in
             let from_here : filter (λ (s : Sending). s.link == k) sent ≡ filter (λ (s : Sending). s.link == k) (sendings v.site rest) =
-            since_one (λ s. s.link == k) mids w.posted m d counts l (sends_alone k link here) ∙ ap (filter (λ (s : Sending). s.link == k)) (sent_there m d l rest f) in
+            since_one (λ s. s.link == k) mids m d l (sends_alone k link here) ∙ ap (filter (λ (s : Sending). s.link == k)) (sent_there m d l rest f) in
             let arrived : from_source input_source (suc k) (mail n) ≡ due (config.horizon.0 + 1) (arrivals k link rest) =
             mail_on config.horizon.0 config.links n k end sent
             ∙ ap (due (config.horizon.0 + 1)) (ap (map arrival) from_here ∙ sym (sent_arrives k link v.site out rest)) in
@@ -471,12 +417,12 @@ module _ (config : Config) (rows : List Row) (windows : List Window) (told : Lis
       first_push config rows logs 0 windows w.worked_to window (h.way.run.begins far logs near run)
       (subst (λ (t : ℕ). let x : Window = (start.0, t) in IsNextWindow config rows logs w.worked_to x) (sym ends_is) next)
 
-  list_late : (list : List Event) → IsJoin event_time event_node (told_since mids w.shown) list → AllByRecursion (λ e. start.0 ≤ event_time e) list
+  list_late : (list : List Event) → IsJoin event_time event_node (of_place news mids) list → AllByRecursion (λ e. start.0 ≤ event_time e) list
   list_late list join =
       each_from_sources event_time event_node (λ e. start.0 ≤ event_time e) list
       (λ n. subst (λ (es : List Event). AllByRecursion (λ e. start.0 ≤ event_time e) es) (sym (join.each n)) (told_late n))
 
-  list_early : (list : List Event) → IsJoin event_time event_node (told_since mids w.shown) list → AllByRecursion (λ e. event_time e < until) list
+  list_early : (list : List Event) → IsJoin event_time event_node (of_place news mids) list → AllByRecursion (λ e. event_time e < until) list
   list_early list join =
       each_right (λ e. event_time e < until) told list
       (each-weaker (λ e. HappensAt config rows longer until (event_time e)) (λ e. event_time e < until) (λ e k. k.1) (told ++ list)
@@ -486,22 +432,22 @@ module _ (config : Config) (rows : List Row) (windows : List Window) (told : Lis
   told_early = each-weaker (λ e. HappensAt config rows h.way.run.logs w.worked_to (event_time e)) (λ e. event_time e < w.worked_to) (λ e k. k.1) told
       (events_work config rows w.worked_to h.way.run.logs told h.way.run.run h.way.run.events)
 
-  pub given_on : (list : List Event) → IsJoin event_time event_node (told_since mids w.shown) list → given (told ++ list) (windows ++ window ∷ []) ≡ given told windows ++ if_some list
+  pub given_on : (list : List Event) → IsJoin event_time event_node (of_place news mids) list → given (told ++ list) (windows ++ window ∷ []) ≡ given told windows ++ if_some list
   given_on list join =
       given_more w.worked_to start.0 until told list later told_early (list_late list join) (list_early list join) windows
       (first_ends config rows h.way.run.logs 0 windows w.worked_to (h.way.run.begins w.worked_to h.way.run.logs (omega arith) h.way.run.run)).0
 
-  module _ (news : List NodeState) (posting : GotMails (mail_to w.horizon w.links sent) mids news) where
-    got : GotMails mail mids news
+  module _ (new : List NodeState) (posting : GotMails (mail_to w.horizon w.links sent) mids new) where
+    got : GotMails mail mids new
     got =
-        subst (λ (t : ℕ). GotMails (λ n. mail_to t config.links sent n) mids news) h.kept.horizon
-        (subst (λ (ls : List LinkPlan). GotMails (λ n. mail_to w.horizon ls sent n) mids news) h.kept.links posting)
+        subst (λ (t : ℕ). GotMails (λ n. mail_to t config.links sent n) mids new) h.kept.horizon
+        (subst (λ (ls : List LinkPlan). GotMails (λ n. mail_to w.horizon ls sent n) mids new) h.kept.links posting)
 
-    new_at : (n : ℕ) (d : NodeState) → n < length news → IsNodeAt config rows longer until n (get_or news n d)
+    new_at : (n : ℕ) (d : NodeState) → n < length new → IsNodeAt config rows longer until n (get_or new n d)
     new_at n d l =
         let k : n < length mids = omega (arith, l, got.count) in
         let v = get_or mids n d in
-        let u = get_or news n d in
+        let u = get_or new n d in
         let m = mid_at n d k in
         let g : GotMail (mail n) v u = got.each n d k in
         let q = g.keeps in
@@ -530,9 +476,9 @@ module _ (config : Config) (rows : List Row) (windows : List Window) (told : Lis
         }
 
     -- the work stands for the run up to the window's end
-    pub works_on : (list : List Event) (posts shows : List ℕ) → IsJoin event_time event_node (told_since mids w.shown) list → posts ≡ map (λ (v : NodeState). length v.sendings) mids → shows ≡ map (λ (v : NodeState). length v.events) mids
-        → WorksFor config rows (windows ++ window ∷ []) (told ++ list) (record { horizon = w.horizon; links = w.links; span = w.span; nodes = news; posted = posts; shown = shows; worked_to = until })
-    works_on list posts shows join posts_are shows_are = record {
+    pub works_on : (list : List Event) → IsJoin event_time event_node (of_place news mids) list → All HasNoNews new
+        → WorksFor config rows (windows ++ window ∷ []) (told ++ list) (record { horizon = w.horizon; links = w.links; span = w.span; nodes = new; worked_to = until })
+    works_on list join quiet = record {
       way = record {
         valid = h.way.valid;
         trace = h.way.trace;
@@ -540,7 +486,7 @@ module _ (config : Config) (rows : List Row) (windows : List Window) (told : Lis
         run = record {
           logs = longer;
           run = run_on;
-          tell = tell_of config rows longer until news (got.count ∙ config_count) new_at;
+          tell = tell_of config rows longer until new (got.count ∙ config_count) new_at;
           events = events_on list join;
           begins = windows_on;
         };
@@ -552,8 +498,6 @@ module _ (config : Config) (rows : List Row) (windows : List Window) (told : Lis
         span = h.kept.span;
         count = got.count ∙ config_count;
         nodes = new_at;
-        posted = posts_are ∙ sym (map_same (λ (v : NodeState). length v.sendings) mids news got.count (λ n d l. ap length (got.each n d l).keeps.sendings));
-        shown = shows_are ∙ sym (map_same (λ (v : NodeState). length v.events) mids news got.count (λ n d l. ap length (got.each n d l).keeps.events));
-        gone = λ n d l. let k : n < length mids = omega (arith, l, got.count) in (got.each n d k).keeps.gone (mids_gone n d k);
+        news = quiet;
       };
     }

@@ -1,5 +1,5 @@
 -- Kit: what a network keeps of its run to go on with it: the nodes at work, and how far each is.
-use Rattle.std.specs.Prelude.{◌≡◌, ℕ, ◌+◌, ◌≤◌, List, All, length, map}
+use Rattle.std.specs.Prelude.{◌≡◌, ℕ, ◌+◌, ◌≤◌, List, All, length}
 use Rattle.std.specs.Prelude.{Some, None}
 use Rattle.tva_base.specs.declared.event.Event.{Event}
 use Rattle.tva_plan.specs.declared.config.Config.{Config}
@@ -12,7 +12,7 @@ use Rattle.tva_run.specs.Reaching.{Logs, log_at, site_at, reaches}
 use Rattle.tva_run.specs.Windows.{Window, window_length}
 use Rattle.tva_node.specs.States.{NodeState}
 use Rattle.tva_node.specs.States as states
-use Rattle.tva_mail.specs.Mail.{HadGone}
+use Rattle.tva_mail.specs.News.{HasNoNews}
 use Rattle.tva_net.specs.declared.parts.Parts.{Parts}
 use Rattle.tva_net.specs.declared.works.Works.{Works}
 use Rattle.tva_mail.specs.Times.{AreNoted}
@@ -37,9 +37,7 @@ pub record IsAtWork (config : Config) (rows : List Row) (logs : Logs) (work : Wo
   pub span : work.span ≡ window_length config
   pub count : length work.nodes ≡ length config.nodes
   pub nodes : ByPlace (IsNodeAt config rows logs work.worked_to) work.nodes
-  pub posted : work.posted ≡ map (λ node. length node.sendings) work.nodes
-  pub shown : work.shown ≡ map (λ node. length node.events) work.nodes
-  pub gone : All HadGone work.nodes
+  pub news : All HasNoNews work.nodes
 
 -- the work stands for a run that is under way
 pub record WorksFor (config : Config) (rows : List Row) (windows : List Window) (told : List Event) (work : WorkState)
@@ -53,8 +51,6 @@ work_of w = record {
   links = w.links.items;
   span = w.span;
   nodes = w.nodes.items;
-  posted = w.posted.items;
-  shown = w.shown.items;
   worked_to = w.worked_to;
 }
 

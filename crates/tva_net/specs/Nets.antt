@@ -68,16 +68,13 @@ pub record IsUnderWay (config : Config) (rows : List Row) (windows : List Window
 
 -- ## the network
 
--- the nodes and links at work: the horizon in nanoseconds, the links, how long a window is, how much each node's links
--- sent that was posted and how much it told that was shown, and the time before which nothing is left to be done; what
--- is told of it speaks of the nodes and of that time alone
+-- the nodes and links at work: the horizon in nanoseconds, the links, how long a window is, and the time before which
+-- nothing is left to be done; what is told of it speaks of the nodes and of that time alone
 pub record WorkState : Type 0 where
   pub horizon : ℕ
   pub links : List LinkPlan
   pub span : ℕ
   pub nodes : List NodeState
-  pub posted : List ℕ
-  pub shown : List ℕ
   pub worked_to : ℕ
 
 -- a network: its work, the greatest number of events, the sums of what it gave, and the error that it has come to

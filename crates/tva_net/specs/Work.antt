@@ -1,6 +1,6 @@
 -- Kit: how the nodes are worked over a window, and over several.
 use Rattle.std.specs.Prelude.{◌≡◌, ℕ, ◌+◌, ◌<◌, ◌≤◌, min, nat_lt, List, [], ◌∷◌, ◌++◌, filter}
-use Rattle.std.specs.Prelude.{length, map, Option, Some, None, slice_index_or, slice_set}
+use Rattle.std.specs.Prelude.{All, flat_map, length, Option, Some, None, slice_index_or, slice_set}
 use Rattle.std.specs.List.{AllByRecursion, AllZip}
 use Rattle.tva_base.specs.declared.event.Event.{Event}
 use Rattle.tva_base.specs.declared.packet.Time.{Time}
@@ -10,9 +10,9 @@ use Rattle.tva_rows.specs.declared.rows.Row.{Row}
 use Rattle.tva_log.specs.Joins.{IsJoin}
 use Rattle.tva_run.specs.Report.{event_time, event_node}
 use Rattle.tva_run.specs.Windows.{Window, given}
-use Rattle.tva_node.specs.States.{IsAdvanced, Keeps, NodeState, Stands}
+use Rattle.tva_node.specs.States.{IsAdvanced, Keeps, NodeState, Stands, news, unsent}
 use Rattle.tva_mail.specs.Mail.{GotMails, mail_to}
-use Rattle.tva_mail.specs.News.{HasNoneBefore, IsFirstTime, since, told_since}
+use Rattle.tva_mail.specs.News.{HasNoneBefore, HasNoNews, IsFirstTime, of_place}
 use Rattle.tva_mail.specs.Places.{ArePlaces, IsElsewhere, Rises}
 use Rattle.tva_net.specs.Kept.{WorksFor}
 use Rattle.tva_net.specs.Nets.{IsWholeRun, WorkState}
@@ -86,17 +86,10 @@ pub record EndsWindow (work : WorkState) (until : ℕ) : Type 0 where
   pub ends : until ≡ min (start.0 + work.span) (work.horizon + 1)
 
 -- the nodes can be worked up to a time as over a window
-abbrev pub CanBeWorked : ℕ → ℕ → List LinkPlan → List ℕ → List ℕ → List NodeState → Type 0
-CanBeWorked until horizon links posted shown nodes =
-    (span worked_to : ℕ) × EndsWindow (record {
-      horizon = horizon;
-      links = links;
-      span = span;
-      nodes = nodes;
-      posted = posted;
-      shown = shown;
-      worked_to = worked_to;
-    }) until
+abbrev pub CanBeWorked : ℕ → ℕ → List LinkPlan → List NodeState → Type 0
+CanBeWorked until horizon links nodes =
+    (span worked_to : ℕ)
+    × EndsWindow (record { horizon = horizon; links = links; span = span; nodes = nodes; worked_to = worked_to }) until
 
 -- a node can be worked up to a time
 abbrev pub CanGoTo : ℕ → NodeState → Type 0
@@ -135,12 +128,11 @@ pub record AreThrough (until : ℕ) (olds news : List NodeState) (places : List 
       → slice_index_or news place d ≡ slice_index_or olds place d
 
 -- the nodes were worked up to a time, what they told is this list, and what they sent was posted
-pub record AreWorked (until horizon : ℕ) (links : List LinkPlan) (posted shown : List ℕ) (olds : List NodeState)
-    (list : List Event) (posts shows : List ℕ) (news : List NodeState) : Type 0 where
+pub record AreWorked (until horizon : ℕ) (links : List LinkPlan) (olds : List NodeState) (list : List Event)
+    (new : List NodeState) : Type 0 where
   pub mids : List NodeState
   pub through : AllByRecursion (IsThrough until) mids
   pub kept : AllZip Keeps olds mids
-  pub told : IsJoin event_time event_node (told_since mids shown) list
-  pub mail : GotMails (mail_to horizon links (since (λ node. node.sendings) mids posted)) mids news
-  pub posting : posts ≡ map (λ node. length node.sendings) mids
-  pub showing : shows ≡ map (λ node. length node.events) mids
+  pub told : IsJoin event_time event_node (of_place news mids) list
+  pub mail : GotMails (mail_to horizon links (flat_map unsent mids)) mids new
+  pub quiet : All HasNoNews new

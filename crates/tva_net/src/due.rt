@@ -16,7 +16,7 @@ use tva_node::Node;
 /// places in their order. The error is want of memory.
 pub(crate) fn work_due(
     alloc: Global,
-    times: &mut Lowest,
+    times: &mut Lowest<u64>,
     until: Time,
     nodes: &mut [Node],
 ) -> Result<Vec<usize>, AllocError>
@@ -38,7 +38,7 @@ pub(crate) fn work_due(
 
 // Works the node in that place, and notes when it has work next.
 fn work_one(
-    times: &mut Lowest,
+    times: &mut Lowest<u64>,
     until: Time,
     nodes: &mut [Node],
     place: usize,

@@ -35,7 +35,7 @@ pub(crate) fn advance<R: Threads + Sync, G: Gate>(
     gate: &G,
     parts: usize,
     pace: Option<usize>,
-    times: &mut Lowest,
+    times: &mut Lowest<u64>,
     until: Time,
     nodes: &mut [Node],
 ) -> Result<Vec<usize>, AllocError>
@@ -71,7 +71,7 @@ fn work_all<R: Threads + Sync, G: Gate>(
     alloc: Global,
     gate: &G,
     parts: usize,
-    times: &mut Lowest,
+    times: &mut Lowest<u64>,
     until: Time,
     nodes: &mut [Node],
 ) -> Result<Vec<usize>, AllocError>

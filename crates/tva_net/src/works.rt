@@ -24,8 +24,7 @@ use tva_plan::Config;
 use tva_rows::PackedRows;
 
 /// The horizon, the links, the length of a window in nanoseconds, the nodes, when each of them has
-/// work next, how much of what each one's links sent was posted and how much of what each told was
-/// shown, the time before which nothing is left to be done, the pace of the windows so far, if there
+/// work next, the time before which nothing is left to be done, the pace of the windows so far, if there
 /// was one, into how many parts the nodes are cut where they are worked at once, once that was asked, and
 /// memory for what the nodes hand over.
 #[derive(Drop)]
@@ -34,9 +33,7 @@ pub(crate) struct Works {
     pub links: Vec<LinkPlan>,
     pub span: u64,
     pub nodes: Vec<Node>,
-    pub times: Lowest,
-    pub posted: Vec<usize>,
-    pub shown: Vec<usize>,
+    pub times: Lowest<u64>,
     pub worked_to: u64,
     pub pace: Option<usize>,
     pub parts: Option<usize>,
@@ -60,7 +57,6 @@ impl Works {
     {
         let nodes = first_nodes(alloc, config, rows, keeps)?;
         let links = config.links.as_slice().to_vec(alloc)?;
-        let count = nodes.len();
         let times = times_of(alloc, nodes.as_slice())?;
         Ok(Works {
             horizon: config.horizon,
@@ -68,8 +64,6 @@ impl Works {
             links,
             nodes,
             times,
-            posted: vec![in alloc; 0; count]?,
-            shown: vec![in alloc; 0; count]?,
             worked_to: 0,
             pace: None,
             parts: None,
@@ -177,9 +171,7 @@ impl Works {
             self.horizon,
             self.links.as_slice(),
             &mut self.times,
-            self.posted.as_mut_slice(),
             &mut self.sent,
-            self.shown.as_mut_slice(),
             self.nodes.as_mut_slice(),
             other,
         );
@@ -214,17 +206,15 @@ fn work_nodes<R: Threads + Sync, G: Gate, F: FnMut() -> A + Send, A: Send>(
     until: Time,
     horizon: Time,
     links: &[LinkPlan],
-    times: &mut Lowest,
-    posted: &mut [usize],
+    times: &mut Lowest<u64>,
     sent: &mut Vec<Flight>,
-    shown: &mut [usize],
     nodes: &mut [Node],
     other: &mut F,
 ) -> (Result<Vec<Event>, AllocError>, A)
-    requires works { CanBeWorked until.0 horizon.0 links.now posted.old shown.old nodes.old }
+    requires works { CanBeWorked until.0 horizon.0 links.now nodes.old }
     requires noted { AreNoted times.old nodes.old }
     requires other { F.pre other.old }
-    ensures worked { IfOk result.0 (λ list. AreWorked until.0 horizon.0 links.now posted.old shown.old nodes.old list.items posted.new shown.new nodes.new) }
+    ensures worked { IfOk result.0 (λ list. AreWorked until.0 horizon.0 links.now nodes.old list.items nodes.new) }
     ensures noted { OnOk result.0 (AreNoted times.new nodes.new) }
     ensures kept { AllZip GrowsFrom nodes.old nodes.new }
     ensures other { F.step other.old result.1 other.new }
@@ -233,7 +223,7 @@ fn work_nodes<R: Threads + Sync, G: Gate, F: FnMut() -> A + Send, A: Send>(
         Ok(places) => places,
         Err(error) => return (Err(error), other()),
     };
-    let events = match gather(alloc, nodes, places.as_slice(), shown) {
+    let events = match gather(alloc, nodes, places.as_slice()) {
         Ok(events) => events,
         Err(error) => return (Err(error), other()),
     };
@@ -245,7 +235,6 @@ fn work_nodes<R: Threads + Sync, G: Gate, F: FnMut() -> A + Send, A: Send>(
         horizon,
         links,
         places.as_slice(),
-        posted,
         sent,
         is_much,
         other,

@@ -35,7 +35,7 @@ use Rattle.tva_waiting.specs.declared.memory.Memory.{Memory}
 use Rattle.tva_node.specs.Links.{with_next}
 use Rattle.tva_node.specs.Pairs.{link_pair}
 use Rattle.tva_node.specs.Besides.{RoleStands, IsBy}
-use Rattle.tva_node.specs.States.{Gone, NodeState, role_plan, site_at, state_of}
+use Rattle.tva_node.specs.States.{Gone, NodeState, gone_in, role_plan, site_at, state_of}
 use Rattle.tva_node.specs.Steps.{StandsAt, Decides, started_by}
 use Rattle.tva_node.specs.Work.{IsRank, AwaitsAt, DecidesAt, IsStartable, all_taken, end_on, start_event, start_sending}
 use Rattle.tva_node.proofs.Finding.{find-at, link_valid}
@@ -190,10 +190,6 @@ count_put ls links place a next e = ap length e ∙ length-set ls place (record 
 pub by_packet : {A : Type 0} (hand : Option PacketData) → IsSome hand → ((packet : PacketData) → hand ≡ Some packet → A) → A
 by_packet (Some packet) held by = by packet refl
 by_packet None held by = absurd (true≢false (sym held))
-
--- how much of its lists is gone
-abbrev pub gone_in : Parts → Gone
-gone_in p = record { inputs = p.inbox.gone; events = p.log.gone; sendings = p.outbox.gone }
 
 -- what a node was that is now
 pub from_fields : (q : Parts) (number horizon worked : ℕ) (role : Role) (links : List Link) (inbox : List Input) (waiting : List Input) (keeps : Memory) (gone : Gone) (es : List Event) (ss : List Sending)

@@ -29,7 +29,7 @@ use Rattle.tva_node.specs.Links.{first_link, least_next}
 use Rattle.tva_node.specs.Pairs.{link_pair}
 use Rattle.tva_waiting.specs.declared.memory.Memory.{Memory}
 use Rattle.tva_node.specs.Besides.{IsBy, KnowsNext, RoleStands}
-use Rattle.tva_node.specs.States.{AreLeft, Gone, NodeState, Fits, IsFirstWork, Stands, StandsFor, role_plan}
+use Rattle.tva_node.specs.States.{AreLeft, Gone, NodeState, Fits, IsFirstWork, Stands, StandsFor, none_gone, role_plan}
 use Rattle.tva_node.specs.Work.{IsNoneBefore, first_time, work_time}
 use Rattle.tva_node.proofs.Works.{any_link, either, none_sooner, quiet, work_late}
 
@@ -104,10 +104,10 @@ pairs_first (o ∷ os) = ap (λ (xs : List (ℕ × LinkPlan)). o ∷ xs) (pairs_
 
 -- a node to which nothing happened
 pub built : (number horizon : ℕ) (keeps : Memory) (role : Role) (links : List (ℕ × LinkPlan)) (ls : List Link) → horizon ≤ 1000000000000000 → ls ≡ map first_link links → IsSite (site_of number (role_plan role) links) → RoleStands (site_of number (role_plan role) links) role [] → IsBy 0 role
-    → Stands (record { site = site_of number (role_plan role) (map link_pair ls); horizon = horizon; inbox = []; events = []; sendings = []; worked_to = 0; keeps = keeps; gone = record { inputs = 0; events = 0; sendings = 0 }; role = role; links = ls; waiting = [] })
+    → Stands (record { site = site_of number (role_plan role) (map link_pair ls); horizon = horizon; inbox = []; events = []; sendings = []; worked_to = 0; keeps = keeps; gone = none_gone; role = role; links = ls; waiting = [] })
 built number horizon keeps role links ls h e s r b =
-    subst (λ (xs : List Link). Stands (record { site = site_of number (role_plan role) (map link_pair xs); horizon = horizon; inbox = []; events = []; sendings = []; worked_to = 0; keeps = keeps; gone = record { inputs = 0; events = 0; sendings = 0 }; role = role; links = xs; waiting = [] })) (sym e)
-    (subst (λ (os : List (ℕ × LinkPlan)). os ≡ links → Stands (record { site = site_of number (role_plan role) os; horizon = horizon; inbox = []; events = []; sendings = []; worked_to = 0; keeps = keeps; gone = record { inputs = 0; events = 0; sendings = 0 }; role = role; links = map first_link links; waiting = [] })) (sym (pairs_first links))
+    subst (λ (xs : List Link). Stands (record { site = site_of number (role_plan role) (map link_pair xs); horizon = horizon; inbox = []; events = []; sendings = []; worked_to = 0; keeps = keeps; gone = none_gone; role = role; links = xs; waiting = [] })) (sym e)
+    (subst (λ (os : List (ℕ × LinkPlan)). os ≡ links → Stands (record { site = site_of number (role_plan role) os; horizon = horizon; inbox = []; events = []; sendings = []; worked_to = 0; keeps = keeps; gone = none_gone; role = role; links = map first_link links; waiting = [] })) (sym (pairs_first links))
     (λ same. at_first) (pairs_first links))
   where
     site : Site
@@ -117,7 +117,7 @@ built number horizon keeps role links ls h e s r b =
     none_known [] = All-nil (KnowsNext (site_of number (role_plan role) links) [] 0)
     none_known (x ∷ xs) = All-cons (KnowsNext (site_of number (role_plan role) links) [] 0) (first_link x) (map first_link xs) (next_nothing (limits_out (site_of number (role_plan role) links) x.0)) (none_known xs)
 
-    at_first : Stands (record { site = site_of number (role_plan role) links; horizon = horizon; inbox = []; events = []; sendings = []; worked_to = 0; keeps = keeps; gone = record { inputs = 0; events = 0; sendings = 0 }; role = role; links = map first_link links; waiting = [] })
+    at_first : Stands (record { site = site_of number (role_plan role) links; horizon = horizon; inbox = []; events = []; sendings = []; worked_to = 0; keeps = keeps; gone = none_gone; role = role; links = map first_link links; waiting = [] })
     at_first = (
       [],
       record {

@@ -12,10 +12,10 @@ use Rattle.tva_node.specs.declared.role.Role.{Role}
 use Rattle.tva_node.specs.Besides.{IsBy, RoleStands}
 use Rattle.tva_node.specs.Links.{asked_by}
 use Rattle.tva_node.specs.Pairs.{link_pair}
-use Rattle.tva_node.specs.States.{Fits, NodeState, role_plan, site_at, state_of}
+use Rattle.tva_node.specs.States.{Fits, NodeState, gone_in, role_plan, site_at, state_of}
 use Rattle.tva_node.specs.Steps.{Takes}
 use Rattle.tva_node.specs.Work.{TakesAt, is_due, queued_on}
-use Rattle.tva_node.proofs.Decides.{from_fields, gone_in}
+use Rattle.tva_node.proofs.Decides.{from_fields}
 use Rattle.tva_node.proofs.Left.{some_due}
 use Rattle.tva_node.proofs.Waits.{asked_pairs}
 use Rattle.tva_node.proofs.Works.{next_fits, took_one}
@@ -53,4 +53,4 @@ module _ (p : Parts) (now : ℕ) (input : Input) (rest : List Input) (due : is_d
     taken_then q log links s = subst (λ (w : NodeState). TakesAt w now)
         (from_fields q p.number p.horizon p.worked_to role asked p.inbox.all rest p.outbox.keeps (gone_in p) (p.log.all ++ event ∷ []) p.outbox.all
         s.3 s.4 s.5 s.0 links (ap (λ k. k.all) s.1) s.2 (ap (λ k. k.all) log) (ap (λ k. k.all) s.6) (ap (λ k. k.keeps) s.6)
-        (λ i. record { inputs = (s.1 i).gone; events = (log i).gone; sendings = (s.6 i).gone })) mid
+        (λ i. record { inputs = (s.1 i).gone; events = (log i).gone; sendings = (s.6 i).gone; told = (log i).told; sent = (s.6 i).told })) mid

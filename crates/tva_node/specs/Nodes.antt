@@ -1,5 +1,5 @@
 -- Crate: what a node keeps, which inputs it can take, and what memory holds of its past.
-use Rattle.std.specs.Prelude.{◌≡◌, ℕ, ◌≤◌, List, [], ◌++◌, length, map, Option, Some, None}
+use Rattle.std.specs.Prelude.{◌≡◌, ℕ, ◌≤◌, List, [], ◌++◌, drop, length, map, Option, Some, None}
 use Rattle.tva_base.specs.declared.event.Event.{Event}
 use Rattle.tva_base.specs.declared.packet.Time.{Time}
 use Rattle.tva_shim.specs.Packets.{IsCarried}
@@ -57,11 +57,14 @@ Fits plan (Arrival time link packet) = Unit {0}
 
 -- ## a node
 
--- how many of a node's first inputs, events and sendings memory holds no more
+-- how many of a node's first inputs, events and sendings memory holds no more, and how many of its events were told and
+-- of its sendings handed over
 pub record Gone : Type 0 where
   pub inputs : ℕ
   pub events : ℕ
   pub sendings : ℕ
+  pub told : ℕ
+  pub sent : ℕ
 
 -- a node: what it is, the horizon in nanoseconds, all inputs that it was given, all its events and sendings, the time
 -- up to which it is worked; what memory keeps of these lists, and how much of them is gone; and what it keeps besides,
@@ -82,6 +85,10 @@ pub record NodeState : Type 0 where
 abbrev pub site_at : Parts → Site
 site_at p = site_of p.number (role_plan p.role) (map link_pair p.links)
 
+abbrev pub gone_in : Parts → Gone
+gone_in p =
+    record { inputs = p.inbox.gone; events = p.log.gone; sendings = p.outbox.gone; told = p.log.told; sent = p.outbox.told }
+
 abbrev pub state_of : Parts → NodeState
 state_of p = record {
   site = site_at p;
@@ -91,7 +98,7 @@ state_of p = record {
   sendings = p.outbox.all;
   worked_to = p.worked_to;
   keeps = p.outbox.keeps;
-  gone = record { inputs = p.inbox.gone; events = p.log.gone; sendings = p.outbox.gone };
+  gone = gone_in p;
   role = p.role;
   links = p.links;
   waiting = p.waiting;
@@ -100,6 +107,27 @@ state_of p = record {
 -- of all inputs in their order these are taken, and those wait
 abbrev pub AreLeft : List Input → List Input → List Input → Type 0
 AreLeft inbox taken waiting = in_turn inbox ≡ taken ++ waiting
+
+-- ## what is told
+
+-- nothing is gone or told
+abbrev pub none_gone : Gone
+none_gone = record { inputs = 0; events = 0; sendings = 0; told = 0; sent = 0 }
+
+-- what was not told yet, and what was not handed over
+abbrev pub news : NodeState → List Event
+news v = drop v.gone.told v.events
+
+abbrev pub unsent : NodeState → List Sending
+unsent v = drop v.gone.sent v.sendings
+
+-- all is told and handed over
+abbrev pub all_told : NodeState → Gone
+all_told v = record v.gone { told = length v.events; sent = length v.sendings }
+
+-- the events are handed out, which are told then, and gone
+abbrev pub all_given : NodeState → Gone
+all_given v = record v.gone { events = length v.events; told = length v.events }
 
 -- ## what memory holds
 
@@ -117,15 +145,15 @@ KeepsAll memory.Nothing = ⊥
 
 -- what is gone of a node's lists by what memory keeps of them; of inputs it keeps all or none
 abbrev pub Holds : Memory → NodeState → Type 0
-Holds memory.All v = v.gone ≡ record { inputs = 0; events = 0; sendings = 0 }
+Holds memory.All v = (v.gone.inputs ≡ 0) × (v.gone.events ≡ 0) × (v.gone.sendings ≡ 0)
 Holds memory.Events v = (v.gone.inputs ≡ length v.inbox) × (v.gone.events ≡ 0)
 Holds memory.Nothing v = v.gone.inputs ≡ length v.inbox
 
--- what is gone once a node has forgotten what it need not keep
+-- what is gone once a node has told and handed over all, and forgotten what it need not keep
 abbrev pub gone_by : Memory → NodeState → Gone
-gone_by memory.All v = v.gone
-gone_by memory.Events v = record v.gone { sendings = length v.sendings }
-gone_by memory.Nothing v = record v.gone { events = length v.events; sendings = length v.sendings }
+gone_by memory.All v = all_told v
+gone_by memory.Events v = record (all_told v) { sendings = length v.sendings }
+gone_by memory.Nothing v = record (all_told v) { events = length v.events; sendings = length v.sendings }
 
 abbrev pub gone_after : NodeState → Gone
 gone_after v = gone_by v.keeps v

@@ -9,7 +9,7 @@ use Rattle.tva_log.specs.Told.{events, sendings}
 use Rattle.tva_log.specs.Next.{IsWorkAt}
 use Rattle.tva_node.specs.Besides.{StandsBesides}
 pub use Rattle.tva_node.specs.Nodes.{AreLeft, Fits, FitsRow, Gone, Holds, KeepsAll, KeepsEvents, NodeState}
-pub use Rattle.tva_node.specs.Nodes.{gone_after, gone_by, restarts_in, role_plan}
+pub use Rattle.tva_node.specs.Nodes.{all_given, all_told, gone_after, gone_by, gone_in, news, none_gone, restarts_in, role_plan, unsent}
 pub use Rattle.tva_node.specs.Nodes.{router_in, router_number, site_at, state_of}
 
 -- the node stands for the log: it is the log over the node's inputs up to the time up to which it is worked, its events
@@ -25,6 +25,16 @@ pub record StandsFor (v : NodeState) (log : List Entry) : Type 0 where
 -- it stands for some log, which is the only one
 abbrev pub Stands : NodeState → Type 0
 Stands v = (log : List Entry) × StandsFor v log
+
+-- what posting leaves of a node, whatever it answers: all but its inbox, and what memory holds of that
+pub record IsAsBefore (old new : NodeState) : Type 0 where
+  pub site : new.site ≡ old.site
+  pub horizon : new.horizon ≡ old.horizon
+  pub events : new.events ≡ old.events
+  pub sendings : new.sendings ≡ old.sendings
+  pub worked_to : new.worked_to ≡ old.worked_to
+  pub keeps : new.keeps ≡ old.keeps
+  pub gone : new.gone ≡ record old.gone { inputs = new.gone.inputs }
 
 -- a list begins with another
 abbrev pub BeginsWith : {X : Type 0} → List X → List X → Type 0

@@ -1,7 +1,7 @@
 // What memory keeps of a node's past.
-ghost use Rattle.std.specs.Prelude.{◌≡◌, ◌≤◌, None, drop, length, IfSome, OnOk};
-ghost use Rattle.tva_node.specs.States.{gone_after, state_of};
-ghost use Rattle.tva_node.specs.Keeping.{HoldsSome, IsButGone};
+ghost use Rattle.std.specs.Prelude.{◌≡◌, ◌++◌, None, IfSome, OnErr, OnOk};
+ghost use Rattle.tva_node.specs.States.{all_given, gone_after, news, state_of, unsent};
+ghost use Rattle.tva_node.specs.Keeping.{HoldsSome};
 
 use crate::parts::Parts;
 use std::alloc::AllocError;
@@ -9,47 +9,34 @@ use tva_base::Event;
 use tva_waiting::{Flight, Memory};
 
 impl Parts {
-    /// Puts into `sent` what the links sent behind the first so many. The error is want of memory.
-    pub fn hand_over(&mut self, place: usize, sent: &mut Vec<Flight>) -> Result<(), AllocError>
+    /// Puts behind what stands in `sent` what was not handed over yet; all is told then, and what need not be kept is
+    /// forgotten. The error is want of memory, and changes nothing here.
+    pub fn hand_over(&mut self, sent: &mut Vec<Flight>) -> Result<(), AllocError>
         requires held { HoldsSome self.old }
-        requires gone { self.old.outbox.gone ≤ place }
-        requires within { place ≤ length self.old.outbox.all }
-        ensures sent { OnOk result (sent.new.items ≡ drop place self.old.outbox.all) }
-        ensures same { IsButGone self.old self.new }
+        ensures sent { OnOk result (sent.new.items ≡ sent.old.items ++ unsent (state_of self.old)) }
+        ensures same { OnOk result (state_of self.new ≡ record (state_of self.old) { gone = gone_after (state_of self.old) }) }
         ensures held { HoldsSome self.new }
-        ensures gone { (self.new.log ≡ self.old.log) × (self.new.outbox.gone ≤ length self.new.outbox.all) }
+        ensures err { OnErr result (state_of self.new ≡ state_of self.old) }
     {
-        self.outbox.hand_over(self.alloc, place, sent)
-    }
-
-    /// Hands out what happened behind the first so many events, where memory has just these and need not
-    /// keep them.
-    pub fn take_told(&mut self, place: usize) -> Option<Vec<Event>>
-        requires held { HoldsSome self.old }
-        ensures told { IfSome result (λ list. list.items ≡ drop place self.old.log.all) }
-        ensures none { result ≡ None → state_of self.new ≡ state_of self.old }
-        ensures same { IsButGone self.old self.new }
-        ensures held { HoldsSome self.new }
-        ensures gone { (self.new.outbox ≡ self.old.outbox) × (self.new.log.gone ≤ length self.new.log.all) }
-    {
-        let gone = self.log.gone();
+        self.outbox.hand_over(self.alloc, sent)?;
         match self.outbox.keeps() {
-            Memory::All | Memory::Events => None,
-            Memory::Nothing if place == gone => Some(self.log.take(Vec::new(self.alloc))),
-            Memory::Nothing => None,
-        }
-    }
-
-    /// Forgets what need not be kept.
-    pub fn forget(&mut self)
-        requires held { HoldsSome self.old }
-        ensures same { state_of self.new ≡ record (state_of self.old) { gone = gone_after (state_of self.old) } }
-        ensures held { HoldsSome self.new }
-    {
-        match self.outbox.keeps() {
-            Memory::All | Memory::Events => {}
+            Memory::All | Memory::Events => self.log.tell(),
             Memory::Nothing => self.log.forget(),
         }
-        self.outbox.forget();
+        Ok(())
+    }
+
+    /// Hands out what was not told yet, where memory has just these events and need not keep them.
+    pub fn take_news(&mut self) -> Option<Vec<Event>>
+        requires held { HoldsSome self.old }
+        ensures told { IfSome result (λ list. list.items ≡ news (state_of self.old)) }
+        ensures left { IfSome result (λ list. state_of self.new ≡ record (state_of self.old) { gone = all_given (state_of self.old) }) }
+        ensures none { result ≡ None → state_of self.new ≡ state_of self.old }
+        ensures held { HoldsSome self.new }
+    {
+        match self.outbox.keeps() {
+            Memory::All | Memory::Events => None,
+            Memory::Nothing => self.log.take_news(Vec::new(self.alloc)),
+        }
     }
 }

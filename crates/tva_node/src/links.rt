@@ -29,7 +29,7 @@ pub struct Link {
 #[derive(Drop)]
 pub(crate) struct Links {
     items: Vec<Link>,
-    keys: Lowest,
+    keys: Lowest<u128>,
 }
 
 impl Model for Links {
@@ -132,7 +132,7 @@ fn first_links(alloc: Global, links: &[(u16, LinkPlan)]) -> Result<Vec<Link>, Al
 }
 
 // The keys of so many links, none of which decides by itself yet.
-fn first_keys(alloc: Global, count: usize) -> Result<Lowest, AllocError>
+fn first_keys(alloc: Global, count: usize) -> Result<Lowest<u128>, AllocError>
     requires { count ≤ 65536 }
     ensures { IfOk result (AreNoKeys count) }
 {

@@ -9,7 +9,7 @@ ghost use Rattle.tva_log.specs.NodeLog.{in_turn};
 ghost use Rattle.tva_log.specs.Sites.{IsSite, site_of};
 ghost use Rattle.tva_waiting.specs.declared.memory.Memory.TheVariants as memory;
 ghost use Rattle.tva_node.specs.Besides.{IsBy, RoleStands};
-ghost use Rattle.tva_node.specs.States.{Fits, FitsRow, IsFirstWork, Keeps, KeepsAll, KeepsEvents, Stands, StandsFor, gone_after, restarts_in, role_plan, router_in};
+ghost use Rattle.tva_node.specs.States.{Fits, FitsRow, IsAsBefore, IsFirstWork, Keeps, KeepsAll, KeepsEvents, Stands, StandsFor, all_given, gone_after, news, none_gone, restarts_in, role_plan, router_in, unsent};
 
 use crate::changes::Changes;
 use crate::links::Links;
@@ -66,7 +66,7 @@ impl Node {
         ensures empty { IfOk result (λ node. (node.inbox ≡ []) × (node.events ≡ []) × (node.sendings ≡ [])) }
         ensures worked { IfOk result (λ node. node.worked_to ≡ 0) }
         ensures keeps { IfOk result (λ node. node.keeps ≡ memory.All) }
-        ensures gone { IfOk result (λ node. node.gone ≡ record { inputs = 0; events = 0; sendings = 0 }) }
+        ensures gone { IfOk result (λ node. node.gone ≡ none_gone) }
         ensures stands { IfOk result Stands }
     {
         Node::build_keeping(alloc, horizon, number, plan, links, Memory::All)
@@ -88,7 +88,7 @@ impl Node {
         ensures empty { IfOk result (λ node. (node.inbox ≡ []) × (node.events ≡ []) × (node.sendings ≡ [])) }
         ensures worked { IfOk result (λ node. node.worked_to ≡ 0) }
         ensures keeps { IfOk result (λ node. node.keeps ≡ keeps) }
-        ensures gone { IfOk result (λ node. node.gone ≡ record { inputs = 0; events = 0; sendings = 0 }) }
+        ensures gone { IfOk result (λ node. node.gone ≡ none_gone) }
         ensures stands { IfOk result Stands }
     {
         let role = role_of(alloc, number, plan, links)?;
@@ -140,33 +140,21 @@ impl Node {
         self.parts.log.as_slice()
     }
 
-    /// How many events happened at the node.
-    pub fn told(&self) -> usize
-        ensures { result ≡ length self.now.events }
+    /// What happened at the node and was not told yet.
+    pub fn news(&self) -> &[Event]
+        ensures { result.now ≡ news self.now }
     {
-        self.parts.log.count()
+        self.parts.log.news()
     }
 
-    /// What happened at the node behind the first so many events.
-    pub fn log_behind(&self, place: usize) -> &[Event]
-        requires gone { self.now.gone.events ≤ place }
-        requires within { place ≤ length self.now.events }
-        ensures { result.now ≡ drop place self.now.events }
-    {
-        self.parts.log.behind(place)
-    }
-
-    /// Hands out what happened at the node behind the first so many events, where memory has just these and
-    /// need not keep them: as it has them, and then they are gone. None where it is otherwise, and nothing changes.
-    pub fn take_told(&mut self, place: usize) -> Option<Vec<Event>>
-        ensures told { IfSome result (λ list. list.items ≡ drop place self.old.events) }
+    /// Hands out what happened at the node and was not told yet, where memory has just these events and need not keep
+    /// them: as it has them, and then they are told and gone. None where it is otherwise, and nothing changes.
+    pub fn take_news(&mut self) -> Option<Vec<Event>>
+        ensures told { IfSome result (λ list. list.items ≡ news self.old) }
+        ensures left { IfSome result (λ list. self.new ≡ record self.old { gone = all_given self.old }) }
         ensures none { result ≡ None → self.new ≡ self.old }
-        ensures stands { (log : List Entry) → StandsFor self.old log → StandsFor self.new log }
-        ensures same { self.new ≡ record self.old { gone = self.new.gone } }
-        ensures gone { (self.new.gone.inputs ≡ self.old.gone.inputs) × (self.new.gone.events ≤ length self.new.events)
-            × (self.new.gone.sendings ≡ self.old.gone.sendings) }
     {
-        self.parts.take_told(place)
+        self.parts.take_news()
     }
 
     /// What it may cost to work the node for a while, beside others: what happened at it so far, in events
@@ -190,26 +178,15 @@ impl Node {
         self.parts.outbox.as_slice()
     }
 
-    /// How many packets its links sent.
-    pub fn sent(&self) -> usize
-        ensures { result ≡ length self.now.sendings }
+    /// Puts behind what stands in `sent` what its links sent and was not handed over yet: where memory keeps all, copies,
+    /// and else the packets themselves. All is told and handed over then, and memory forgets what it need not keep:
+    /// nothing, its sendings, or its events too. The error is want of memory, and changes nothing here.
+    pub fn hand_over(&mut self, sent: &mut Vec<Flight>) -> Result<(), AllocError>
+        ensures sent { OnOk result (sent.new.items ≡ sent.old.items ++ unsent self.old) }
+        ensures same { OnOk result (self.new ≡ record self.old { gone = gone_after self.old }) }
+        ensures err { OnErr result (self.new ≡ self.old) }
     {
-        self.parts.outbox.count()
-    }
-
-    /// Puts into `sent`, in place of what that has, what its links sent behind the first so many packets:
-    /// where memory keeps all, copies, and else the packets themselves, and then all that was sent is gone.
-    /// The error is want of memory.
-    pub fn hand_over(&mut self, place: usize, sent: &mut Vec<Flight>) -> Result<(), AllocError>
-        requires gone { self.old.gone.sendings ≤ place }
-        requires within { place ≤ length self.old.sendings }
-        ensures sent { OnOk result (sent.new.items ≡ drop place self.old.sendings) }
-        ensures stands { (log : List Entry) → StandsFor self.old log → StandsFor self.new log }
-        ensures same { self.new ≡ record self.old { gone = self.new.gone } }
-        ensures gone { (self.new.gone.inputs ≡ self.old.gone.inputs) × (self.new.gone.events ≡ self.old.gone.events)
-            × (self.new.gone.sendings ≤ length self.new.sendings) }
-    {
-        self.parts.hand_over(place, sent)
+        self.parts.hand_over(sent)
     }
 
     /// What memory holds of the inputs that it was given.
@@ -218,14 +195,6 @@ impl Node {
         ensures whole { KeepsAll self.now.keeps → result.now ≡ self.now.inbox }
     {
         self.parts.inbox.as_slice()
-    }
-
-    /// Forgets what memory need not keep: nothing, its sendings, or its events too.
-    pub fn forget(&mut self)
-        ensures stands { (log : List Entry) → StandsFor self.old log → StandsFor self.new log }
-        ensures same { self.new ≡ record self.old { gone = gone_after self.old } }
-    {
-        self.parts.forget();
     }
 
     /// The restarts of a router's plan, each with its time, in nanoseconds, and the master that the router
@@ -261,10 +230,7 @@ impl Node {
         ensures inbox { OnOk result (self.new.inbox ≡ self.old.inbox ++ input ∷ []) }
         ensures stands { Stands self.old → OnOk result (Stands self.new) }
         ensures err { OnErr result (self.new ≡ self.old) }
-        ensures same { (self.new.site ≡ self.old.site) × (self.new.horizon ≡ self.old.horizon)
-            × (self.new.events ≡ self.old.events) × (self.new.sendings ≡ self.old.sendings)
-            × (self.new.worked_to ≡ self.old.worked_to) × (self.new.keeps ≡ self.old.keeps)
-            × (self.new.gone.events ≡ self.old.gone.events) × (self.new.gone.sendings ≡ self.old.gone.sendings) }
+        ensures same { IsAsBefore self.old self.new }
     {
         match input {
             Input::FromTrace(row) => {
@@ -288,10 +254,7 @@ impl Node {
         ensures inbox { (row : Row) → OnOk result (self.new.inbox ≡ self.old.inbox ++ FromTrace (slice_index_or rows.now place row) ∷ []) }
         ensures stands { Stands self.old → OnOk result (Stands self.new) }
         ensures err { OnErr result (self.new ≡ self.old) }
-        ensures same { (self.new.site ≡ self.old.site) × (self.new.horizon ≡ self.old.horizon)
-            × (self.new.events ≡ self.old.events) × (self.new.sendings ≡ self.old.sendings)
-            × (self.new.worked_to ≡ self.old.worked_to) × (self.new.keeps ≡ self.old.keeps)
-            × (self.new.gone.events ≡ self.old.gone.events) × (self.new.gone.sendings ≡ self.old.gone.sendings) }
+        ensures same { IsAsBefore self.old self.new }
     {
         let parts = &mut self.parts;
         parts
@@ -306,10 +269,7 @@ impl Node {
         ensures inbox { OnOk result (self.new.inbox ≡ self.old.inbox ++ arrived flight ∷ []) }
         ensures stands { Stands self.old → OnOk result (Stands self.new) }
         ensures err { OnErr result (self.new ≡ self.old) }
-        ensures same { (self.new.site ≡ self.old.site) × (self.new.horizon ≡ self.old.horizon)
-            × (self.new.events ≡ self.old.events) × (self.new.sendings ≡ self.old.sendings)
-            × (self.new.worked_to ≡ self.old.worked_to) × (self.new.keeps ≡ self.old.keeps)
-            × (self.new.gone.events ≡ self.old.gone.events) × (self.new.gone.sendings ≡ self.old.gone.sendings) }
+        ensures same { IsAsBefore self.old self.new }
     {
         let parts = &mut self.parts;
         parts

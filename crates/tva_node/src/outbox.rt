@@ -1,5 +1,5 @@
 // What a node's links sent.
-ghost use Rattle.std.specs.Prelude.{◌≡◌, ◌≤◌, [], drop, length, OnErr, OnOk};
+ghost use Rattle.std.specs.Prelude.{◌≡◌, ◌++◌, [], drop, length, OnErr, OnOk};
 ghost use Rattle.tva_node.specs.Nodes.{KeepsAll};
 ghost use Rattle.tva_node.specs.Outbox.{gone_sendings, with_sent};
 
@@ -19,18 +19,21 @@ pub(crate) struct Outbox {
 }
 
 impl Model for Outbox {
+    ghost use Rattle.std.specs.Prelude.{◌≡◌};
     ghost use Rattle.tva_node.specs.Outbox.{SentList, kept_of, sent_list};
 
     ghost Value = { SentList };
 
     ghost view = { λ b. sent_list b.keeps (kept_of b.keeps b.whole b.flights) };
+
+    ghost invariant = { λ b. b.flights.told ≡ b.flights.gone };
 }
 
 impl Outbox {
     /// Nothing was sent.
     pub fn new(alloc: Global, keeps: Memory) -> Outbox
         ensures keeps { result.keeps ≡ keeps }
-        ensures empty { (result.all ≡ []) × (result.gone ≡ 0) }
+        ensures empty { (result.all ≡ []) × (result.gone ≡ 0) × (result.told ≡ 0) }
     {
         Outbox {
             keeps,
@@ -44,16 +47,6 @@ impl Outbox {
         ensures { result ≡ self.now.keeps }
     {
         self.keeps
-    }
-
-    /// How many packets were sent.
-    pub fn count(&self) -> usize
-        ensures { result ≡ length self.now.all }
-    {
-        match self.keeps {
-            Memory::All => self.whole.count(),
-            Memory::Events | Memory::Nothing => self.flights.count(),
-        }
     }
 
     /// All that was sent, where memory keeps it, and else nothing.
@@ -80,52 +73,30 @@ impl Outbox {
         }
     }
 
-    /// Puts into `sent`, in place of what that has, what was sent behind the first so many: copies, where memory
-    /// keeps all, and else the packets themselves. The memory in which they stood stays with the outbox. The error is
-    /// want of memory.
-    pub fn hand_over(
-        &mut self,
-        alloc: Global,
-        place: usize,
-        sent: &mut Vec<Flight>,
-    ) -> Result<(), AllocError>
-        requires gone { self.old.gone ≤ place }
-        requires within { place ≤ length self.old.all }
-        ensures sent { OnOk result (sent.new.items ≡ drop place self.old.all) }
+    /// Puts behind what stands in `sent` what was not handed over yet: copies, where memory keeps all, and else the
+    /// packets themselves, which it has no more. The memory in which they stood stays with the outbox. The error is
+    /// want of memory, and changes nothing here.
+    pub fn hand_over(&mut self, alloc: Global, sent: &mut Vec<Flight>) -> Result<(), AllocError>
+        ensures sent { OnOk result (sent.new.items ≡ sent.old.items ++ drop self.old.told self.old.all) }
         ensures same { (self.new.keeps ≡ self.old.keeps) × (self.new.all ≡ self.old.all) }
-        ensures gone { self.new.gone ≤ length self.new.all }
-        ensures kept { KeepsAll self.old.keeps → self.new.gone ≡ self.old.gone }
+        ensures gone { OnOk result (self.new.gone ≡ gone_sendings self.old.keeps self.old) }
+        ensures told { OnOk result (self.new.told ≡ length self.old.all) }
+        ensures err { OnErr result (self.new ≡ self.old) }
     {
-        sent.clear();
         match self.keeps {
-            Memory::All => copy_each(alloc, self.whole.behind(place), sent),
-            Memory::Events | Memory::Nothing => {
-                let first = place - self.flights.gone();
-                self.flights.pour(sent)?;
-                if first > 0 {
-                    *sent = sent.split_off(first)?;
-                }
+            Memory::All => {
+                copy_each(alloc, self.whole.news(), sent)?;
+                self.whole.tell();
                 Ok(())
             }
-        }
-    }
-
-    /// Forgets what need not be kept.
-    pub fn forget(&mut self)
-        ensures same { (self.new.keeps ≡ self.old.keeps) × (self.new.all ≡ self.old.all) }
-        ensures gone { self.new.gone ≡ gone_sendings self.old.keeps self.old }
-    {
-        match self.keeps {
-            Memory::All => {}
-            Memory::Events | Memory::Nothing => self.flights.forget(),
+            Memory::Events | Memory::Nothing => self.flights.pour(sent),
         }
     }
 }
 
-// Puts copies of sendings into an empty list, as packets on their way.
+// Puts copies of sendings behind what stands in a list, as packets on their way.
 fn copy_each(alloc: Global, sendings: &[Sending], list: &mut Vec<Flight>) -> Result<(), AllocError>
-    requires { list.old.items ≡ [] }
-    ensures { OnOk result (list.new.items ≡ sendings.now) }
+    ensures { OnOk result (list.new.items ≡ list.old.items ++ sendings.now) }
 {
     list.reserve(sendings.len())?;
     for sending in sendings {

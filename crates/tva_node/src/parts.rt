@@ -245,7 +245,8 @@ impl Parts {
         ensures same { (self.new.role ≡ self.old.role) × (self.new.inbox ≡ self.old.inbox) × (self.new.waiting ≡ self.old.waiting)
             × (self.new.number ≡ self.old.number) × (self.new.horizon ≡ self.old.horizon) × (self.new.worked_to ≡ self.old.worked_to) }
         ensures held { (self.new.outbox.keeps ≡ self.old.outbox.keeps) × (self.new.log.gone ≡ self.old.log.gone)
-            × (self.new.outbox.gone ≡ self.old.outbox.gone) }
+            × (self.new.outbox.gone ≡ self.old.outbox.gone) × (self.new.log.told ≡ self.old.log.told)
+            × (self.new.outbox.told ≡ self.old.outbox.told) }
     {
         let link = self.links.at(place);
         let id = id_in(&hand);

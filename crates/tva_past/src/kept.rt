@@ -1,30 +1,33 @@
 // Lists that forget.
-ghost use Rattle.std.specs.Prelude.{◌≡◌, ◌+◌, ◌≤◌, [], ◌∷◌, ◌++◌, drop, length, OnErr, OnOk};
-ghost use Rattle.tva_past.specs.Kept.{KeptList, forgotten, held, nothing, with_more};
+ghost use Rattle.std.specs.Prelude.{◌≡◌, ◌+◌, ◌≤◌, [], ◌∷◌, ◌++◌, None, length, IfSome, OnErr, OnOk};
+ghost use Rattle.tva_past.specs.Kept.{KeptList, all_told, forgotten, held, news, nothing, with_more};
 
 use crate::past::{Past, nothing, with_all, with_one};
 use std::alloc::{AllocError, Global};
 use std::marker::Model;
 use std::mem;
 
-/// A list of which memory holds what was put in behind its first so many elements. Contracts see all of it.
+/// A list of which memory holds what was put in behind its first so many elements, and which knows how many of them it
+/// has told. Contracts see all of it.
 #[derive(Drop)]
 pub struct Kept<T> {
     held: Vec<T>,
     gone: usize,
+    told: usize,
     past: Past<T>,
 }
 
 impl<T> Model for Kept<T> {
-    ghost use Rattle.std.specs.Prelude.{◌≡◌, ◌<◌, ◌+◌, ◌++◌, ◌^◌, length};
+    ghost use Rattle.std.specs.Prelude.{◌≡◌, ◌<◌, ◌≤◌, ◌+◌, ◌++◌, ◌^◌, length};
     ghost use Rattle.tva_past.specs.Behind.{all_behind};
     ghost use Rattle.tva_past.specs.Kept.{KeptList};
 
     ghost Value = { KeptList T };
 
-    ghost view = { λ kept. record { all = all_behind kept.past.value ++ kept.held.items; gone = kept.gone } };
+    ghost view = { λ kept. record { all = all_behind kept.past.value ++ kept.held.items; gone = kept.gone; told = kept.told } };
 
-    ghost invariant = { λ kept. (length (all_behind kept.past.value) ≡ kept.gone) × (kept.gone + length kept.held.items < 2 ^ 64) };
+    ghost invariant = { λ kept. (length (all_behind kept.past.value) ≡ kept.gone) × (kept.gone + length kept.held.items < 2 ^ 64)
+        × (kept.gone ≤ kept.told) × (kept.told ≤ kept.gone + length kept.held.items) };
 }
 
 impl<T> Kept<T> {
@@ -35,6 +38,7 @@ impl<T> Kept<T> {
         Kept {
             held: Vec::new(alloc),
             gone: 0,
+            told: 0,
             past: nothing(),
         }
     }
@@ -46,14 +50,6 @@ impl<T> Kept<T> {
         self.gone + self.held.len()
     }
 
-    /// How many of them are forgotten.
-    pub fn gone(&self) -> usize
-        ensures gone { result ≡ self.now.gone }
-        ensures few { self.now.gone ≤ length self.now.all }
-    {
-        self.gone
-    }
-
     /// What memory holds.
     pub fn as_slice(&self) -> &[T]
         ensures { result.now ≡ held self.now }
@@ -61,13 +57,11 @@ impl<T> Kept<T> {
         self.held.as_slice()
     }
 
-    /// What was put in behind the first so many, none of which is forgotten.
-    pub fn behind(&self, place: usize) -> &[T]
-        requires gone { self.now.gone ≤ place }
-        requires within { place ≤ length self.now.all }
-        ensures { result.now ≡ drop place self.now.all }
+    /// What was not told yet.
+    pub fn news(&self) -> &[T]
+        ensures { result.now ≡ news self.now }
     {
-        &self.held[place - self.gone..]
+        &self.held[self.told - self.gone..]
     }
 
     /// Puts an element in. The error is want of memory, also where the count of all elements would pass
@@ -98,10 +92,18 @@ impl<T> Kept<T> {
         }
         self.past = with_one(&self.past, item);
         self.gone += 1;
+        self.told = self.gone;
         Ok(())
     }
 
-    /// Forgets all that memory holds.
+    /// All is told, and stays.
+    pub fn tell(&mut self)
+        ensures { self.new ≡ all_told self.old }
+    {
+        self.told = self.count();
+    }
+
+    /// All is told, and forgotten.
     pub fn forget(&mut self)
     where
         T: Drop,
@@ -109,14 +111,16 @@ impl<T> Kept<T> {
     {
         self.past = with_all(&self.past, &self.held);
         self.gone += self.held.len();
+        self.told = self.gone;
         self.held.clear();
     }
 
-    /// Moves all that memory holds into an empty list, and forgets it. The error is want of memory, and changes
-    /// nothing. That this list keeps the memory in which it stood is how `Vec::append` is made; no clause says it.
+    /// Moves what was not told yet, where memory holds just that, behind what stands in a list; then it is told and
+    /// forgotten. The error is want of memory, and changes nothing. That this list keeps the memory in which it stood
+    /// is how `Vec::append` is made; no clause says it.
     pub fn pour(&mut self, into: &mut Vec<T>) -> Result<(), AllocError>
-        requires { into.old.items ≡ [] }
-        ensures poured { OnOk result (into.new.items ≡ held self.old) }
+        requires { self.old.told ≡ self.old.gone }
+        ensures poured { OnOk result (into.new.items ≡ into.old.items ++ news self.old) }
         ensures left { OnOk result (self.new ≡ forgotten self.old) }
         ensures err { OnErr result (self.new ≡ self.old) }
     {
@@ -125,18 +129,27 @@ impl<T> Kept<T> {
         into.append(&mut self.held)?;
         self.past = past;
         self.gone += count;
+        self.told = self.gone;
         Ok(())
     }
 
-    /// Hands out all that memory holds, and forgets it. The list goes on in `room`, which is empty. That putting
-    /// in takes no memory until that is full is how `Vec` is made; no clause says it.
-    pub fn take(&mut self, room: Vec<T>) -> Vec<T>
+    /// Hands out what was not told yet, where memory holds just that; then it is told and forgotten. None where memory
+    /// holds more, and nothing changes. The list goes on in `room`, which is empty. That putting in takes no memory
+    /// until that is full is how `Vec` is made; no clause says it.
+    pub fn take_news(&mut self, room: Vec<T>) -> Option<Vec<T>>
+    where
+        T: Drop,
         requires { room.items ≡ [] }
-        ensures taken { result.items ≡ held self.old }
-        ensures left { self.new ≡ forgotten self.old }
+        ensures taken { IfSome result (λ list. list.items ≡ news self.old) }
+        ensures left { IfSome result (λ list. self.new ≡ forgotten self.old) }
+        ensures none { result ≡ None → self.new ≡ self.old }
     {
+        if self.told > self.gone {
+            return None;
+        }
         self.past = with_all(&self.past, &self.held);
         self.gone += self.held.len();
-        mem::replace(&mut self.held, room)
+        self.told = self.gone;
+        Some(mem::replace(&mut self.held, room))
     }
 }

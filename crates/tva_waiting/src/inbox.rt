@@ -52,7 +52,7 @@ impl Model for Inbox {
 
     ghost Value = { KeptList Input };
 
-    ghost view = { λ inbox. record { all = inbox.noted.all ++ inbox.whole.all; gone = inbox.noted.gone } };
+    ghost view = { λ inbox. record { all = inbox.noted.all ++ inbox.whole.all; gone = inbox.noted.gone; told = inbox.noted.told } };
 
     ghost invariant = { λ inbox. (inbox.whole.gone ≡ 0) × (inbox.noted.gone ≡ length inbox.noted.all) };
 }

@@ -50,7 +50,7 @@ pub(crate) struct Lanes {
     pub layouts: Vec<u8>,
     pub list: Vec<Lane>,
     pub sources: KeyRing,
-    pub heads: Lowest,
+    pub heads: Lowest<u128>,
     pub places: u32,
     pub alloc: Global,
 }
@@ -361,7 +361,7 @@ fn heads_of(
     rows: &VecDeque<Turn>,
     list: &Vec<Lane>,
     places: u32,
-) -> Result<Lowest, AllocError>
+) -> Result<Lowest<u128>, AllocError>
     requires room { length list.now.items + 1 ≤ places }
     ensures count { IfOk result (λ heads. length heads ≡ places) }
     ensures each { (layouts : List ℕ) (place : ℕ) → IfOk result (λ heads. get_or heads place never

@@ -1,7 +1,7 @@
 // That the gate is told of a node before the node is worked. No clause says it, and no answer shows it: time
 // alone does. So in these windows much happens at one node, and the gate has to be told of that node in the
 // first half of the time that the window takes. Where the machine is busy otherwise a window may be held up
-// before its work begins, so each has some tries.
+// before its work begins, so each has many tries.
 use super::network;
 use std::alloc::{AllocError, Global};
 use std::sync::atomic::{AtomicU64, Ordering};
@@ -14,7 +14,7 @@ use tva_outside::Gate;
 const PLAN: &str =
     "horizon_ns = 1000000000000\nmax_events = 100000\n[[router]]\nname = \"R1\"\nmaster = \"000102030405060708090a0b0c0d0e0f101112131415161718191a1b1c1d1e1f\"\nslots = 8\n[[router]]\nname = \"R2\"\nmaster = \"000102030405060708090a0b0c0d0e0f101112131415161718191a1b1c1d1e1f\"\nslots = 8\n[[link]]\nfrom = \"R1\"\nto = \"R2\"\nns_per_byte = 10\ndelay_ns = 1000000\ntag = 1\n[[link]]\nfrom = \"R2\"\nto = \"R1\"\nns_per_byte = 10\ndelay_ns = 1000000\ntag = 1\n";
 
-const TRIES: u64 = 3;
+const TRIES: u64 = 100;
 
 const MANY: u64 = 4_000;
 

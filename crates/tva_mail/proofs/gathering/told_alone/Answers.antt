@@ -1,36 +1,31 @@
-use Rattle.std.proofs.Common.{◌≡◌, List, drop, get_or, sym, subst, ◌∙◌, arith}
+use Rattle.std.proofs.Common.{◌≡◌, List, get_or, sym, subst, ◌∙◌}
 use Rattle.tva_base.specs.declared.event.Event.{Event}
 use Rattle.tva_log.specs.Joins.{NeverFalls}
+use Rattle.tva_node.specs.States.{news}
 use Rattle.tva_run.specs.Report.{event_time}
 use Rattle.tva_mail.specs.Handing.{IsByTime, picked}
 use Rattle.tva_mail.proofs.Handed.{by_itself, handed_none, handed_one, if_some, same_there, taken}
 use Rattle.tva_mail.proofs.News.{told_on}
 use Rattle.tva_mail.proofs.gathering.told_alone.Goals as goal
 
-pub bounds-given-place : goal.bounds-given-place
-bounds-given-place c = let within = c.in-Some.ensures.within in omega (arith, within, c.requires.count)
-
 pub returns-in-Some-clause-by : goal.returns-in-Some-clause-by
 returns-in-Some-clause-by c =
-    let nodes = c.args.nodes.now in
     let u = c.index-nodes-place.result in
-    let v = get_or nodes c.in-Some.place u in
-    let n = get_or c.args.given.now c.in-Some.place 0 in
-    let told : List Event = picked (λ v. v.events) nodes c.args.given.now c.args.places.now in
-    let only : told ≡ drop n v.events = c.in-Some.ensures.only u in
-    let falls = subst (NeverFalls event_time) (sym only) (told_on v n (c.requires.stand c.in-Some.place u c.in-Some.ensures.within)) in
-    if_some (λ list. list.items ≡ drop n v.events) (λ events. IsByTime told events.items) (λ list e. by_itself told list.items (e ∙ sym only) falls) c.take_told.result c.take_told.ensures.told
+    let v = get_or c.args.nodes.now c.in-Some.place u in
+    let told : List Event = picked news c.args.nodes.now c.args.places.now in
+    let only : told ≡ news v = c.in-Some.ensures.only u in
+    let falls = subst (NeverFalls event_time) (sym only) (told_on v (c.requires.stand c.in-Some.place u c.in-Some.ensures.within)) in
+    if_some (λ list. list.items ≡ news v) (λ events. IsByTime told events.items) (λ list e. by_itself told list.items (e ∙ sym only) falls) c.take_news.result c.take_news.ensures.told
 
 pub returns-in-Some-clause-none : goal.returns-in-Some-clause-none
-returns-in-Some-clause-none c = λ e. same_there c.args.nodes.now c.in-Some.place c.index-nodes-place.result c.take_told.new.self (c.take_told.ensures.none e)
+returns-in-Some-clause-none c = λ e. same_there c.args.nodes.now c.in-Some.place c.index-nodes-place.result c.take_news.new.self (c.take_news.ensures.none e)
 
 pub returns-in-Some-clause-handed : goal.returns-in-Some-clause-handed
 returns-in-Some-clause-handed c =
     let nodes = c.args.nodes.now in
     let u = c.index-nodes-place.result in
-    let w = c.take_told.new.self in
-    let e = c.take_told.ensures in
-    handed_one nodes c.in-Some.place u w c.in-Some.ensures.within (taken (get_or nodes c.in-Some.place u) w e.same e.gone.0 e.gone.1 e.gone.2)
+    let w = c.take_news.new.self in
+    handed_one nodes c.in-Some.place u w c.in-Some.ensures.within (taken (get_or nodes c.in-Some.place u) w c.take_news.result c.take_news.ensures.left c.take_news.ensures.none)
 
 pub returns-in-None-clause-handed : goal.returns-in-None-clause-handed
 returns-in-None-clause-handed c = handed_none c.args.nodes.now

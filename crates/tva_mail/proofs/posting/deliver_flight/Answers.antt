@@ -3,7 +3,6 @@ use Rattle.std.proofs.lemmas.List.{get_or_default}
 use Rattle.tva_run.specs.Reaching.{arrival}
 use Rattle.tva_node.specs.States.{NodeState}
 use Rattle.tva_mail.specs.Mail.{GotMail, KeepsWork}
-use Rattle.tva_mail.proofs.Forgotten.{gone_at}
 use Rattle.tva_mail.proofs.Mails.{got_at, keeps_same, kept_by, same_but, zip_set}
 use Rattle.tva_mail.proofs.posting.deliver_flight.Goals as goal
 
@@ -41,9 +40,3 @@ returns-in_err-post_flight-clause-others c = same_but c.args.to c.args.nodes.now
 
 pub returns-clause-others : goal.returns-clause-others
 returns-clause-others c = same_but c.args.to c.args.nodes.now c.post_flight.new.self
-
-pub returns-in_err-post_flight-clause-gone : goal.returns-in_err-post_flight-clause-gone
-returns-in_err-post_flight-clause-gone c = gone_at c.args.to c.args.nodes.now c.index-nodes-to.result c.post_flight.new.self c.requires.node c.in_err-post_flight.ensures.same.7
-
-pub returns-clause-gone : goal.returns-clause-gone
-returns-clause-gone c = gone_at c.args.to c.args.nodes.now c.index-nodes-to.result c.post_flight.new.self c.requires.node c.in_ok-post_flight.ensures.same.7

@@ -4,7 +4,6 @@ use Rattle.std.proofs.lemmas.List.{take_all}
 use Rattle.std.proofs.lemmas.List.Elements.{All-head, All-tail}
 use Rattle.tva_log.specs.declared.kinds.Sending.{Sending}
 use Rattle.tva_mail.specs.Mail.{IsPostable, KeepsWork, mail_to}
-use Rattle.tva_mail.proofs.Forgotten.{gone_on, gone_same}
 use Rattle.tva_mail.proofs.Lists.{zip_same}
 use Rattle.tva_mail.proofs.Mails.{IsGoing, all_keep, going_first, going_one, keeps_same, still_postable}
 use Rattle.tva_mail.proofs.posting.post_sent.Goals as goal
@@ -20,7 +19,6 @@ loop-sending-init c =
           (going_first (mail_to c.args.horizon.0 c.args.links.now c.args.sent.now.items) nodes);
       left = subst (All (IsPostable c.args.horizon.0 c.args.links.now nodes)) (sym e) c.requires.postable;
       noted = c.requires.noted;
-      gone = gone_same nodes;
       keeps = zip_same KeepsWork keeps_same nodes;
     }
 
@@ -39,9 +37,6 @@ post_one-requires-clause-postable c =
 pub returns-in_err-post_one-clause-keeps : goal.returns-in_err-post_one-clause-keeps
 returns-in_err-post_one-clause-keeps c = all_keep c.args.nodes.now c.loop-sending.nodes c.post_one.new.nodes c.loop-sending.invariant.keeps c.in_err-post_one.ensures.keeps
 
-pub returns-in_err-post_one-clause-gone : goal.returns-in_err-post_one-clause-gone
-returns-in_err-post_one-clause-gone c = gone_on c.args.nodes.now c.loop-sending.nodes c.post_one.new.nodes c.loop-sending.invariant.gone c.in_err-post_one.ensures.gone
-
 pub loop-sending-preserved : goal.loop-sending-preserved
 loop-sending-preserved c =
     let nodes = c.args.nodes.now in
@@ -54,6 +49,5 @@ loop-sending-preserved c =
       going = going_one c.args.horizon.0 c.args.links.now c.args.sent.now.items (drain_items c.loop-sending.sending-iterator) rest s nodes now more e c.loop-sending.invariant.going c.in_ok-post_one.ensures.got;
       left = All-tail (IsPostable c.args.horizon.0 c.args.links.now nodes) s rest (subst (All (IsPostable c.args.horizon.0 c.args.links.now nodes)) e c.loop-sending.invariant.left);
       noted = c.in_ok-post_one.ensures.noted;
-      gone = gone_on nodes now more c.loop-sending.invariant.gone c.in_ok-post_one.ensures.gone;
       keeps = all_keep nodes now more c.loop-sending.invariant.keeps c.in_ok-post_one.ensures.keeps;
     }

@@ -1,4 +1,4 @@
-use Rattle.std.proofs.Common.{◌≡◌, List, get_or, ◌∙◌, ap, arith}
+use Rattle.std.proofs.Common.{◌≡◌, List, get_or, length, sym, ◌∙◌, ap}
 use Rattle.tva_plan.specs.declared.config.NodePlan.{NodePlan}
 use Rattle.tva_run.specs.Reaching.{links_out}
 use Rattle.tva_net.proofs.Firsts.{site_fits, site_there}
@@ -28,6 +28,6 @@ returns-clause-first c =
       horizon = e.horizon;
       inbox = e.empty.0;
       nothing = (e.empty.1, e.empty.2, e.worked);
-      gone = record { events = let none = ap (λ g. g.events) e.gone in omega (arith, none); sendings = let none = ap (λ g. g.sendings) e.gone in omega (arith, none) };
+      news = record { told = ap (λ g. g.told) e.gone ∙ ap length (sym e.empty.1); sent = ap (λ g. g.sent) e.gone ∙ ap length (sym e.empty.2) };
       stands = e.stands;
     }

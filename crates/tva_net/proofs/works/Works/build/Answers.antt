@@ -1,4 +1,4 @@
-use Rattle.std.proofs.Common.{rules, ◌≡◌, ℕ, ◌+◌, length, replicate, refl, ◌∙◌, ap}
+use Rattle.std.proofs.Common.{◌≡◌, ◌+◌, refl, ◌∙◌, ap}
 use Rattle.tva_run.specs.Windows.{least_delay}
 use Rattle.tva_net.proofs.Begin.{begins}
 use Rattle.tva_net.proofs.works.Works.build.Goals as goal
@@ -7,9 +7,6 @@ pub returns-clause-works : goal.returns-clause-works
 returns-clause-works c =
     let config = c.args.config.now in
     let links : c.in_ok-links.links.items ≡ config.links = c.in_ok-links.ensures.items_if_clones_equal (λ x y e. e) ∙ c.as_slice.ensures in
-    let count : c.len-count.result ≡ length c.in_ok-nodes.nodes.items = search (rules, c.len-count.ensures) in
     begins config c.args.rows c.in_ok-nodes.nodes.items c.requires.config c.requires.rows c.in_ok-nodes.ensures.first
-    config.horizon.0 c.window_length.result c.in_ok-links.links.items c.in_ok-vec.field-0.items c.in_ok-vec-2.field-0.items
+    config.horizon.0 c.window_length.result c.in_ok-links.links.items
     refl links (c.window_length.ensures ∙ ap (least_delay (config.horizon.0 + 1)) (c.as_slice-3.ensures.value ∙ links))
-    (c.in_ok-vec.ensures.items_if_clones_equal (λ y e. e) ∙ ap (λ (n : ℕ). replicate n 0) count)
-    (c.in_ok-vec-2.ensures.items_if_clones_equal (λ y e. e) ∙ ap (λ (n : ℕ). replicate n 0) count)

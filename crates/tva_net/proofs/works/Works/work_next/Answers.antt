@@ -6,7 +6,7 @@ use Rattle.tva_node.specs.States.{NodeState, Stands}
 use Rattle.tva_mail.specs.News.{IsFirstTime}
 use Rattle.tva_net.specs.Kept.{work_of}
 use Rattle.tva_mail.specs.Times.{AreNoted}
-use Rattle.tva_net.proofs.Ends.{can_stand, ends_window, none_left, room_in_time, told_same, window_works_as}
+use Rattle.tva_net.proofs.Ends.{can_stand, ends_window, none_left, room_in_time, told_same, window_works}
 use Rattle.tva_net.proofs.works.Works.work_next.Goals as goal
 
 pub returns-in_default-clause-works : goal.returns-in_default-clause-works
@@ -31,7 +31,7 @@ work_nodes-worked-requires-clause-works g c κs within =
     let first : IsFirstTime c.args.self.now.nodes.items (Some c.in-Some.start) =
     subst (λ (vs : List NodeState). IsFirstTime vs (Some c.in-Some.start)) c.as_slice.ensures.value (subst (λ (o : Option Time). IsFirstTime c.as_slice.result.now o) c.in-Some.is c.first_time.ensures) in
     let ends : c.min-until.result ≡ min (c.in-Some.start.0 + c.args.self.now.span) (c.args.self.now.horizon.0 + 1) = grind (arith, rules, c.min-until.ensures) in
-    rw (c.as_slice-2.ensures.value, c.as_mut_slice.ensures.value, c.as_mut_slice-2.ensures.value, c.as_mut_slice-3.ensures.value)
+    rw (c.as_slice-2.ensures.value, c.as_mut_slice.ensures.value)
     (w.span, w.worked_to, ends_window w c.in-Some.start c.min-until.result c.requires.works first ends)
 
 pub returns-in-Ok-clause-works : goal.returns-in-Ok-clause-works
@@ -39,12 +39,9 @@ returns-in-Ok-clause-works g c =
     let first : IsFirstTime c.args.self.now.nodes.items (Some c.in-Some.start) =
     subst (λ (vs : List NodeState). IsFirstTime vs (Some c.in-Some.start)) c.as_slice.ensures.value (subst (λ (o : Option Time). IsFirstTime c.as_slice.result.now o) c.in-Some.is c.first_time.ensures) in
     let ends : c.min-until.result ≡ min (c.in-Some.start.0 + c.args.self.now.span) (c.args.self.now.horizon.0 + 1) = grind (arith, rules, c.min-until.ensures) in
-    let worked = rw (c.as_slice-2.ensures.value, c.as_mut_slice.ensures.value, c.as_mut_slice-2.ensures.value, c.as_mut_slice-3.ensures.value) at (rw c.in-Ok.is at c.work_nodes-worked.ensures.worked) in
-    window_works_as (work_of c.args.self.now) c.in-Some.start c.min-until.result c.in-Ok.events.items c.work_nodes-worked.new.posted c.work_nodes-worked.new.shown
-    _ _ c.work_nodes-worked.new.nodes _ c.requires.works first ends worked
-    (with_items_is c.args.self.now.posted c.work_nodes-worked.new.posted (c.work_nodes-worked.auto.posted ∙ c.as_mut_slice.ensures.len))
-    (with_items_is c.args.self.now.shown c.work_nodes-worked.new.shown (c.work_nodes-worked.auto.shown ∙ c.as_mut_slice-2.ensures.len))
-    (with_items_is c.args.self.now.nodes c.work_nodes-worked.new.nodes (c.work_nodes-worked.auto.nodes ∙ c.as_mut_slice-3.ensures.len))
+    let worked = rw (c.as_slice-2.ensures.value, c.as_mut_slice.ensures.value) at (rw c.in-Ok.is at c.work_nodes-worked.ensures.worked) in
+    window_works (work_of c.args.self.now) c.in-Some.start c.min-until.result c.in-Ok.events.items c.work_nodes-worked.new.nodes _ c.requires.works first ends worked
+    (with_items_is c.args.self.now.nodes c.work_nodes-worked.new.nodes (c.work_nodes-worked.auto.nodes ∙ c.as_mut_slice.ensures.len))
 
 pub first_time-requires-clause-noted : goal.first_time-requires-clause-noted
 first_time-requires-clause-noted g c = subst (AreNoted c.args.self.now.times) (sym c.as_slice.ensures.value) c.requires.noted

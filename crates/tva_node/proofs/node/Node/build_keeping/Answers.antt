@@ -28,7 +28,7 @@ returns-clause-stands c =
       sendings = (sym c.new-4.ensures.empty.0 i);
       worked_to = 0;
       keeps = sym c.new-4.ensures.keeps i;
-      gone = record { inputs = (sym c.new.ensures i).gone; events = (sym c.new-3.ensures i).gone; sendings = (sym c.new-4.ensures.empty.1 i) };
+      gone = record { inputs = (sym c.new.ensures i).gone; events = (sym c.new-3.ensures i).gone; sendings = (sym c.new-4.ensures.empty.1 i); told = (sym c.new-3.ensures i).told; sent = (sym c.new-4.ensures.empty.2 i) };
       role = role;
       links = ls;
       waiting = sym c.in_ok-new.ensures i;

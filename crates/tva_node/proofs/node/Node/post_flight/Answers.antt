@@ -3,7 +3,7 @@ use Rattle.tva_log.specs.Joins.{put_in}
 use Rattle.tva_log.specs.declared.kinds.Input.{Input}
 use Rattle.tva_log.specs.Entries.{input_source, input_time}
 use Rattle.tva_waiting.specs.Inputs.{arrived}
-use Rattle.tva_node.specs.States.{Gone, NodeState, Stands, state_of}
+use Rattle.tva_node.specs.States.{Gone, NodeState, Stands, gone_in, state_of}
 use Rattle.tva_node.proofs.Decides.{on_both}
 use Rattle.tva_node.proofs.Posts.{posted}
 use Rattle.tva_node.proofs.node.Node.post_flight.Goals as goal
@@ -13,7 +13,7 @@ returns-clause-stands c = λ st.
     let p = c.self.inside.parts in
     let v = state_of p in
     let input : Input = arrived c.args.flight in
-    let gone : Gone = record { inputs = c.put_flight.new.inbox.gone; events = p.log.gone; sendings = p.outbox.gone } in
+    let gone : Gone = record (gone_in p) { inputs = c.put_flight.new.inbox.gone } in
     let stands = subst Stands (sym c.self.view_is) st in
     let late = subst (λ (w : NodeState). w.worked_to ≤ input_time input) (sym c.self.view_is) c.requires.late in
     let within = subst (λ (w : NodeState). input_time input ≤ w.horizon) (sym c.self.view_is) c.requires.horizon in

@@ -4,7 +4,7 @@ use Rattle.tva_log.specs.declared.kinds.Input.{Input}
 use Rattle.tva_log.specs.declared.kinds.Input.TheVariants.{FromTrace}
 use Rattle.tva_log.specs.Entries.{input_source, input_time}
 use Rattle.tva_waiting.specs.Noted.{no_row}
-use Rattle.tva_node.specs.States.{Fits, Gone, NodeState, Stands, state_of}
+use Rattle.tva_node.specs.States.{Fits, Gone, NodeState, Stands, gone_in, state_of}
 use Rattle.tva_node.proofs.Decides.{on_both}
 use Rattle.tva_node.proofs.Posts.{posted}
 use Rattle.tva_node.proofs.node.Node.post_packed.Goals as goal
@@ -14,7 +14,7 @@ returns-clause-stands c = λ st.
     let p = c.self.inside.parts in
     let v = state_of p in
     let input : Input = FromTrace (get_or c.args.rows.now c.args.place no_row) in
-    let gone : Gone = record { inputs = c.put_packed.new.inbox.gone; events = p.log.gone; sendings = p.outbox.gone } in
+    let gone : Gone = record (gone_in p) { inputs = c.put_packed.new.inbox.gone } in
     let stands = subst Stands (sym c.self.view_is) st in
     let late = subst (λ (w : NodeState). w.worked_to ≤ input_time input) (sym c.self.view_is) (c.requires.late no_row) in
     let within = subst (λ (w : NodeState). input_time input ≤ w.horizon) (sym c.self.view_is) (c.requires.horizon no_row) in

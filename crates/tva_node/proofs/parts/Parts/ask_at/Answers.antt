@@ -5,10 +5,10 @@ use Rattle.tva_port.specs.declared.decision.Decision.TheVariants.{WaitUntil, Idl
 use Rattle.tva_port.specs.declared.hand.Next.TheVariants.{Start}
 use Rattle.tva_port.specs.Hand.{decision_by}
 use Rattle.tva_node.specs.Pairs.{link_pair}
-use Rattle.tva_node.specs.States.{NodeState, role_plan, site_at, state_of}
+use Rattle.tva_node.specs.States.{NodeState, gone_in, role_plan, site_at, state_of}
 use Rattle.tva_node.specs.Steps.{Decides}
 use Rattle.tva_node.specs.Work.{DecidesAt, end_on, start_event, start_sending}
-use Rattle.tva_node.proofs.Decides.{by_packet, count_put, from_fields, gone_in, here_is, on_both, pairs_put, pairs_set, put_there, read_busy, read_fits, read_out, read_rest, read_start}
+use Rattle.tva_node.proofs.Decides.{by_packet, count_put, from_fields, here_is, on_both, pairs_put, pairs_set, put_there, read_busy, read_fits, read_out, read_rest, read_start}
 use Rattle.tva_node.proofs.parts.Parts.ask_at.Goals as goal
 
 pub free_at-free-requires : goal.free_at-free-requires
@@ -77,7 +77,7 @@ returns-in-Start-clause-stands c = by_packet c.decide.new.hand c.in-Start.ensure
     (omega (arith, free, c.if-free-now.false)) decided c.in-Start.ensures.plan c.in-Start.ensures.last in
     on_both (q.log.all ≡ events) (q.outbox.all ≡ sendings) (DecidesAt (state_of q) c.args.now (c.args.place + 1)) c.note_start.result
     (λ told sent. subst (λ (v : NodeState). DecidesAt v c.args.now (c.args.place + 1))
-    (from_fields q p.number p.horizon p.worked_to c.decide.new.self _ p.inbox.all p.waiting p.outbox.keeps (gone_in p) events sendings same.3 same.4 same.5 same.0 (c.note_start.ensures.links a packet hand) (ap (λ v. v.all) same.1) same.2 told sent held.0 (λ i. record { inputs = (same.1 i).gone; events = held.1 i; sendings = held.2 i })) stands)
+    (from_fields q p.number p.horizon p.worked_to c.decide.new.self _ p.inbox.all p.waiting p.outbox.keeps (gone_in p) events sendings same.3 same.4 same.5 same.0 (c.note_start.ensures.links a packet hand) (ap (λ v. v.all) same.1) same.2 told sent held.0 (λ i. record { inputs = (same.1 i).gone; events = held.1 i; sendings = held.2 i; told = held.3 i; sent = held.4 i })) stands)
     (c.note_start.ensures.log a packet hand) (c.note_start.ensures.outbox a packet hand))
 
 pub returns-in-Start-clause-count : goal.returns-in-Start-clause-count
@@ -105,7 +105,7 @@ returns-in-Start-clause-keeps c = by_packet c.decide.new.hand c.in-Start.ensures
       events = c.note_start.ensures.more;
       sendings = c.note_start.ensures.sent;
       keeps = held.0;
-      gone = λ i. record { inputs = (same.1 i).gone; events = held.1 i; sendings = held.2 i };
+      gone = λ i. record { inputs = (same.1 i).gone; events = held.1 i; sendings = held.2 i; told = held.3 i; sent = held.4 i };
     })
 
 pub returns-in-WaitUntil-clause-stands : goal.returns-in-WaitUntil-clause-stands

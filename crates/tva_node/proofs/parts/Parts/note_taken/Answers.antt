@@ -1,7 +1,7 @@
 use Rattle.std.proofs.Common.{◌≡◌, ℕ, ◌∷◌, [], map, Option, refl, ◌∙◌, ap}
 use Rattle.tva_node.specs.Links.{asked_by}
 use Rattle.tva_node.specs.Pairs.{link_pair}
-use Rattle.tva_node.specs.States.{state_of}
+use Rattle.tva_node.specs.States.{gone_in, state_of}
 use Rattle.tva_node.specs.Work.{queued_on}
 use Rattle.tva_node.proofs.Waits.{asked_pairs}
 use Rattle.tva_node.proofs.Zips.{begins_same}
@@ -19,5 +19,5 @@ returns-clause-keeps c =
       events = (record { time = record { 0 = c.args.now }; node = p.number; happened = c.args.happened } ∷ [], ap (λ k. k.all) pushed);
       sendings = begins_same p.outbox.all;
       keeps = refl;
-      gone = λ i. record { inputs = p.inbox.gone; events = (pushed i).gone; sendings = p.outbox.gone };
+      gone = λ i. record (gone_in p) { events = (pushed i).gone; told = (pushed i).told };
     }

@@ -1,14 +1,11 @@
-use Rattle.std.proofs.Common.{◌≡◌, ◌∙◌, Some, None, refl, sym, subst, ap}
+use Rattle.std.proofs.Common.{◌∙◌, Some, refl, subst}
 use Rattle.tva_base.specs.declared.packet.Time.{Time}
-use Rattle.std.specs.Option.{option_map}
 use Rattle.tva_router.specs.Boots.{charges_of_boot}
-use Rattle.tva_router.specs.Stands.{RouterData, StandsFor}
-use Rattle.tva_log.specs.declared.kinds.Input.{Input}
-use Rattle.tva_log.specs.declared.kinds.Input.TheVariants.{FromTrace, Arrival}
+use Rattle.tva_log.specs.declared.kinds.Input.TheVariants.{Arrival}
 use Rattle.tva_log.specs.Parts.{charges, port_logs}
-use Rattle.tva_log.specs.Contents.{arrived, packet_of_row}
+use Rattle.tva_log.specs.Contents.{arrived}
 use Rattle.tva_node.specs.Steps.{RouterTook}
-use Rattle.tva_node.proofs.Roles.{ordinal_arrival, ordinal_row, router_takes}
+use Rattle.tva_node.proofs.Roles.{ordinal_arrival, router_takes}
 use Rattle.tva_node.proofs.role.Routed.take_flight.Goals as goal
 
 pub returns-clause-took : goal.returns-clause-took
