@@ -21,4 +21,5 @@ AreShown test entries = All (λ e. test e.grant e.cap ≡ true) entries
 
 -- some entry has this grant, and this capability that was shown for it
 abbrev pub IsShown : Grant → ℕ → List Entry → Type 0
-IsShown grant cap entries = (i : ℕ) × (i < length entries) × ((e : Entry) → e ≡ slice_index_or entries i e → (e.grant ≡ grant) × (e.cap ≡ cap))
+IsShown grant cap entries = (i : ℕ) × (i < length entries)
+    × ((e : Entry) → e ≡ slice_index_or entries i e → (e.grant ≡ grant) × (e.cap ≡ cap))

@@ -210,7 +210,7 @@ impl FlowCache {
     }
 
     /// The verdict on a packet of `length` bytes that shows a capability of the grant, which the caller
-    /// has checked, and a nonce. Times are in nanoseconds and never fall. The verdict is the first that
+    /// has checked, and a nonce. Times are in nanoseconds, at most 10^15, and never fall. The verdict is the first that
     /// holds of Superseded, OverN, CacheFull and Authorised, over all charges so far. Exactly an
     /// authorised packet is charged, and its nonce then holds the flow; a refusal changes nothing but the
     /// last time. This is TVA's accounting of bytes and life; the order of the refusals, and the first
@@ -293,7 +293,7 @@ impl FlowCache {
     }
 
     /// The verdict on a packet of `length` bytes of the flow that shows a nonce alone. Times are in
-    /// nanoseconds and never fall. The verdict is the first that holds of UnknownNonce, Expired, OverN
+    /// nanoseconds, at most 10^15, and never fall. The verdict is the first that holds of UnknownNonce, Expired, OverN
     /// and Authorised by the holder's grant, over all charges so far. Exactly an authorised packet is
     /// charged; a refusal changes nothing but the last time. The nonce that stands for a list of
     /// capabilities is TVA's.

@@ -6,12 +6,10 @@
 #![tactic(auto)]
 
 mod cache;
-mod ends;
 mod hash;
 mod kept;
 mod laws;
 mod table;
-mod tree;
 mod verdicts;
 
 pub use cache::FlowCache;

@@ -1,17 +1,16 @@
 // The entries of a cache at their places.
-ghost use Rattle.std.specs.Prelude.{◌≡◌, ℕ, ◌+◌, ◌*◌, ◌<◌, ◌≤◌, nat_lt, nat_le, List, [], ◌∷◌, ◌++◌, length, count_by, slice_index_or, slice_set, vec_capacity, None, Some, MatchOption, All, IfOk};
+ghost use Rattle.std.specs.Prelude.{◌≡◌, ℕ, ◌+◌, ◌*◌, ◌<◌, ◌≤◌, nat_lt, nat_le, [], ◌∷◌, ◌++◌, length, count_by, slice_index_or, slice_set, vec_capacity, None, Some, MatchOption, All, IfOk};
 ghost use Rattle.tva_index.specs.Buckets.{home};
 ghost use Rattle.tva_flow.specs.declared.kept.Entry.{Entry};
 ghost use Rattle.tva_flow.specs.Places.{IsPlaceOf};
 ghost use Rattle.tva_flow.specs.Index.{kept, AreNoLater};
 
-use crate::ends::Ends;
 use crate::hash::{HashKey, bucket_of};
 use crate::kept::{Entry, is_live, is_same_flow};
 use std::alloc::{AllocError, Global};
 use std::marker::Model;
 use tva_base::Flow;
-use tva_index::Buckets;
+use tva_index::{Buckets, Lowest};
 
 /// Entries, of which there are at most as many as slots. Contracts see them in the order of their
 /// places. A flow's place is found by its bucket, and that of an entry that has ended by a tree of
@@ -24,7 +23,7 @@ pub(crate) struct Entries {
     key: HashKey,
     all: Vec<Entry>,
     places: Buckets,
-    ends: Ends,
+    ends: Lowest<u64>,
 }
 
 impl Model for Entries {
@@ -79,7 +78,7 @@ fn take_all(all: &mut Vec<Entry>, places: &mut Buckets)
 /// most that time, so all entries live. One call may bring up many numbers, yet each of them was left behind
 /// by a packet that renewed its entry and wrote nothing here: so in the sum packets cost as they would if
 /// each renewal wrote its number.
-fn ended_in(all: &Vec<Entry>, ends: &mut Ends, now: u64) -> Option<usize>
+fn ended_in(all: &Vec<Entry>, ends: &mut Lowest<u64>, now: u64) -> Option<usize>
     requires size { (length ends.old ≡ length all.now.items) × (length all.now.items ≤ 1000000) }
     requires below { AreNoLater ends.old all.now.items }
     ensures size { length ends.new ≡ length ends.old }
@@ -113,7 +112,7 @@ impl Entries {
     {
         let all = Vec::with_capacity(alloc, slots as usize)?;
         let places = Buckets::with_places(alloc, slots, 2 * slots + 1)?;
-        let ends = Ends::with_places(alloc, slots)?;
+        let ends = Lowest::with_places(alloc, slots)?;
         Ok(Entries {
             slots,
             key,

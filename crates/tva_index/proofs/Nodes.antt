@@ -1,11 +1,22 @@
 -- A tree of numbers: each node has at most the numbers below it, and stays so where one is written.
-use Rattle.std.proofs.Common.{◌≡◌, ℕ, ◌+◌, ◌-◌, ◌*◌, ◌/◌, ◌<◌, ◌≤◌, min, List, length, get_or, set, drop, replicate, sym, ap, ◌∙◌, subst, inl, inr, zero, suc, Some, arith}
+use Rattle.std.proofs.Common.{◌≡◌, ℕ, ◌+◌, ◌-◌, ◌*◌, ◌/◌, ◌<◌, ◌≤◌, min, List, length, get_or, set, drop, replicate, map, ◌∷◌, refl, sym, ap, ap₂, ◌∙◌, subst, inl, inr, zero, suc, Some, arith}
 use Rattle.std.proofs.lemmas.Bool.{cases_lt, cases_eq}
-use Rattle.std.proofs.lemmas.List.{get_or-set_same, get_or-set_other, get_or-replicate, get_or-drop, length-drop}
+use Rattle.std.proofs.lemmas.List.{get_or-set_same, get_or-set_other, get_or-replicate, get_or-drop, get_or-map, length-drop}
 use Rattle.tva_index.specs.Lowest.{IsLeastPlace}
 use Rattle.tva_index.specs.Tree.{IsNode, AreNodes, AreNodesBut}
 
+-- what is read at a place is the number there
+pub number_at : {A : Type 0} (f : A → ℕ) (xs : List A) (i : ℕ) (x : A) → i < length xs → x ≡ get_or xs i x → get_or (map f xs) i 0 ≡ f x
+number_at f xs i x l e = get_or-map f xs i x 0 l ∙ ap f (sym e)
+
 -- a 0 everywhere
+zeros : {A : Type 0} (f : A → ℕ) (z : A) (m : ℕ) → f z ≡ 0 → map f (replicate m z) ≡ replicate m 0
+zeros f z zero e = refl
+zeros f z (suc m) e = ap₂ ◌∷◌ e (zeros f z m e)
+
+pub all_zero : {A : Type 0} (f : A → ℕ) (z : A) (n : ℕ) (xs : List A) → f z ≡ 0 → xs ≡ replicate (2 * n) z → map f xs ≡ replicate (2 * n) 0
+all_zero f z n xs e q = ap (map f) q ∙ zeros f z (2 * n) e
+
 pub nodes_zero : (n m : ℕ) (xs : List ℕ) → m ≡ 2 * n → xs ≡ replicate m 0 → AreNodes n xs
 nodes_zero n m xs e f i a b =
     let zero_at : (j : ℕ) → j < m → get_or xs j 0 ≡ 0 = λ j l. subst (λ (z : List ℕ). get_or z j 0 ≡ 0) (sym f) (get_or-replicate m j 0 0 l) in

@@ -10,6 +10,7 @@ mod fronts;
 mod key_ring;
 mod links;
 mod lowest;
+mod number;
 mod numbered_keys;
 mod tree;
 
@@ -17,3 +18,4 @@ pub use buckets::Buckets;
 pub use fronts::take_front;
 pub use key_ring::KeyRing;
 pub use lowest::Lowest;
+pub use number::Number;

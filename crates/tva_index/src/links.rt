@@ -1,7 +1,7 @@
 // The places of each bucket as a chain, from the last to the first.
 ghost use Rattle.std.specs.Prelude.{◌≡◌, ℕ, ◌+◌, ◌^◌, ◌<◌, None, Some, length, replicate, slice_set, IfOk};
 ghost use Rattle.std.specs.Option.{ForSome};
-ghost use Rattle.tva_index.specs.Buckets.{home, IsLastBelow};
+ghost use Rattle.tva_index.specs.Buckets.{home};
 ghost use Rattle.tva_index.specs.Links.{AreLinked, IsFirstAbove, link_of, with_last, with_before};
 
 use std::alloc::{AllocError, Global};

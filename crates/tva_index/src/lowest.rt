@@ -2,7 +2,8 @@
 ghost use Rattle.std.specs.Prelude.{◌≡◌, ◌<◌, ◌*◌, ◌^◌, length, replicate, slice_set, IfOk};
 ghost use Rattle.tva_index.specs.Lowest.{IsLeastPlace};
 
-use crate::tree::{least_leaf, mend};
+use crate::number::Number;
+use crate::tree::{is_same, least_leaf, mend};
 use std::alloc::{AllocError, Global};
 use std::marker::Model;
 
@@ -12,34 +13,34 @@ use std::marker::Model;
 /// those beside it. One to the least place, whose number is then least no more, walks down the tree
 /// once more. All memory is taken when it is made.
 #[derive(Drop)]
-pub struct Lowest {
+pub struct Lowest<N: Number> {
     places: usize,
     first: usize,
-    nodes: Vec<u128>,
+    nodes: Vec<N>,
 }
 
-impl Model for Lowest {
-    ghost use Rattle.std.specs.Prelude.{◌≡◌, ◌*◌, ◌^◌, ◌<◌, ℕ, List, length, drop, Some};
+impl<N: Number> Model for Lowest<N> {
+    ghost use Rattle.std.specs.Prelude.{◌≡◌, ◌*◌, ◌^◌, ◌<◌, ℕ, List, length, drop, map, Some};
     ghost use Rattle.tva_index.specs.Lowest.{IsLeastPlace};
     ghost use Rattle.tva_index.specs.Tree.{AreNodes};
 
     ghost Value = { List ℕ };
 
-    ghost view = { λ a. drop a.places a.nodes.items };
+    ghost view = { λ a. drop a.places (map N.number a.nodes.items) };
 
     ghost invariant = { λ a. (length a.nodes.items ≡ 2 * a.places) × (a.places < 2 ^ 32)
-        × AreNodes a.places a.nodes.items
-        × (0 < a.places → IsLeastPlace (drop a.places a.nodes.items) (Some a.first)) };
+        × AreNodes a.places (map N.number a.nodes.items)
+        × (0 < a.places → IsLeastPlace (drop a.places (map N.number a.nodes.items)) (Some a.first)) };
 }
 
-impl Lowest {
+impl<N: Number> Lowest<N> {
     /// A 0 at each of so many places. The error is want of memory.
-    pub fn with_places(alloc: Global, places: u32) -> Result<Lowest, AllocError>
+    pub fn with_places(alloc: Global, places: u32) -> Result<Lowest<N>, AllocError>
         ensures { IfOk result (λ v. v ≡ replicate places 0) }
     {
         let places = places as usize;
         let mut nodes = Vec::with_capacity(alloc, 2 * places)?;
-        nodes.resize(2 * places, 0)?;
+        nodes.resize(2 * places, N::zero())?;
         Ok(Lowest {
             places,
             first: 0,
@@ -58,9 +59,9 @@ impl Lowest {
     }
 
     /// Writes the number at a place.
-    pub fn put(&mut self, place: u32, number: u128)
+    pub fn put(&mut self, place: u32, number: N)
         requires { place < length self.old }
-        ensures { self.new ≡ slice_set self.old place number }
+        ensures { self.new ≡ slice_set self.old place (N.number number) }
     {
         let places = self.places;
         let place = place as usize;
@@ -68,7 +69,7 @@ impl Lowest {
         self.nodes[leaf] = number;
         mend(&mut self.nodes, places, leaf / 2);
         // The root has a least number.
-        if number == self.nodes[1] {
+        if is_same(number, self.nodes[1]) {
             self.first = place;
         } else if place == self.first {
             self.first = least_leaf(&self.nodes, places) - places;

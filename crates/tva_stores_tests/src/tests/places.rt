@@ -22,13 +22,13 @@ fn places_are_found_in_their_buckets(rt: HostRuntime) -> Result<(), Fail> {
 #[test]
 fn the_least_number_is_found(rt: HostRuntime) -> Result<(), Fail> {
     let mut all = Lowest::with_places(rt.alloc(), 3)?;
-    all.put(0, 7);
+    all.put(0, 7u64);
     all.put(1, 5);
     all.put(2, 6);
     assert_eq!(rt; all.least(), Some(1));
     all.put(1, 9);
     assert_eq!(rt; all.least(), Some(2));
-    assert_eq!(rt; Lowest::with_places(rt.alloc(), 0)?.least(), None);
+    assert_eq!(rt; Lowest::<u128>::with_places(rt.alloc(), 0)?.least(), None);
     Ok(())
 }
 

@@ -1,14 +1,14 @@
-use Rattle.std.proofs.Common.{◌≡◌, ℕ, List, length, Some, subst, arith}
-use Rattle.std.proofs.lemmas.List.{length-drop}
+use Rattle.std.proofs.Common.{◌≡◌, ℕ, List, length, map, Some, subst, arith}
+use Rattle.std.proofs.lemmas.List.{length-drop, length-map}
 use Rattle.tva_index.specs.Lowest.{IsLeastPlace}
 use Rattle.tva_index.proofs.lowest.Lowest.least.Goals as goal
 
 pub returns-then-self-eq0 : goal.returns-then-self-eq0
-returns-then-self-eq0 c =
+returns-then-self-eq0 g c =
     let a = c.self.inside in
-    subst (λ (v : List ℕ). length v ≡ 0) c.self.view_is (omega (arith, length-drop a.places a.nodes.items, c.self.invariant.0))
+    subst (λ (v : List ℕ). length v ≡ 0) c.self.view_is (omega (arith, length-drop a.places (map g.N.Number.number a.nodes.items), length-map a.nodes.items g.N.Number.number, c.self.invariant.0))
 
 pub returns : goal.returns
-returns c =
+returns g c =
     let a = c.self.inside in
     subst (λ (v : List ℕ). IsLeastPlace v (Some a.first)) c.self.view_is (c.self.invariant.3 (omega arith))

@@ -1,50 +1,69 @@
-use Rattle.std.proofs.Common.{◌≡◌, ◌+◌, ◌-◌, ◌*◌, ◌<◌, ℕ, List, length, get_or, drop, set, ap, ◌∙◌, arith}
-use Rattle.std.proofs.lemmas.List.{drop-set-add, length-drop, get_or_default}
-use Rattle.tva_index.proofs.Nodes.{least_at, least_written, least_kept}
+use Rattle.std.proofs.Common.{◌≡◌, ◌+◌, ◌-◌, ◌*◌, ◌/◌, ◌<◌, ℕ, Bool, true, false, eqb, List, length, drop, map, set, sym, ap, ◌∙◌, subst, arith}
+use Rattle.std.proofs.lemmas.Bool.{eqb-true}
+use Rattle.std.proofs.lemmas.Bool.Decides.{nat_tests}
+use Rattle.std.proofs.lemmas.List.{drop-set-add, length-drop, length-map, map-set}
+use Rattle.tva_index.specs.Tree.{AreNodesBut}
+use Rattle.tva_index.proofs.Nodes.{least_at, least_written, least_kept, nodes-leaf, number_at}
 use Rattle.tva_index.proofs.lowest.Lowest.put.Goals as goal
 
--- the root's number, as it is read
-root_is : (n r : ℕ) (ys : List ℕ) → length ys ≡ 2 * n → 0 < n → r ≡ get_or ys 1 r → r ≡ get_or ys 1 0
-root_is n r ys s l e = e ∙ get_or_default ys 1 r 0 (omega arith)
+-- the place is one of so many
+within_places : {A : Type 0} (f : A → ℕ) (n p : ℕ) (xs : List A) (ys : List ℕ) → length xs ≡ 2 * n → p < length ys → drop n (map f xs) ≡ ys → p < n
+within_places f n p xs ys s l e = omega (arith, l, ap (λ (v : List ℕ). length v) e, length-drop n (map f xs), length-map xs f, s)
+
+-- the numbers, once one is written
+leaves_set : {A : Type 0} (f : A → ℕ) (n p : ℕ) (v : A) (xs : List A) (ys : List ℕ) → drop n ys ≡ drop n (map f (set xs (n + p) v)) → drop n ys ≡ drop n (set (map f xs) (n + p) (f v))
+leaves_set f n p v xs ys e = e ∙ ap (drop n) (map-set f xs (n + p) v)
+
+written : {A : Type 0} (f : A → ℕ) (n p : ℕ) (v : A) (xs : List A) (ys zs : List ℕ) → drop n ys ≡ drop n (map f (set xs (n + p) v)) → drop n (map f xs) ≡ zs → drop n ys ≡ set zs p (f v)
+written f n p v xs ys zs e w = leaves_set f n p v xs ys e ∙ (drop-set-add n (map f xs) p (f v) ∙ ap (λ (z : List ℕ). set z p (f v)) w)
+
+differ : (a b : ℕ) (t : Bool) → t ≡ eqb a b → t ≡ false → a ≡ b → ⊥
+differ a b t s n e = grind (arith, nat_tests)
+
+pub mend-requires-clause-nodes : goal.mend-requires-clause-nodes
+mend-requires-clause-nodes g c =
+    let f = g.N.Number.number in
+    let a = c.self.inside in
+    let leaf = a.places + c.args.place in
+    subst (λ (ys : List ℕ). AreNodesBut a.places ys (leaf / 2)) (sym (map-set f a.nodes.items leaf c.args.number)) (nodes-leaf a.places leaf (f c.args.number) (map f a.nodes.items) c.self.invariant.2 (omega arith))
 
 pub invariant_of-self : goal.invariant_of-self
-invariant_of-self c =
+invariant_of-self g c =
+    let f = g.N.Number.number in
     let a = c.self.inside in
     let mend = c.mend.ensures in
-    let within : c.args.place < a.places = omega (arith, c.requires, ap (λ (v : List ℕ). length v) c.self.view_is, length-drop a.places a.nodes.items, c.self.invariant.0) in
-    let root = root_is a.places c.index.result.now c.mend.new.nodes.items mend.size (omega (arith, within)) c.index.ensures in
-    (mend.size, c.self.invariant.1, mend.nodes, λ _. least_written a.places c.args.place c.args.number a.nodes.items c.mend.new.nodes.items c.self.invariant.0 mend.size mend.nodes mend.leaves within (omega (arith, root)))
+    let xs = a.nodes.items in
+    let ys = c.mend.new.nodes.items in
+    let within = within_places f a.places c.args.place xs c.args.self.now c.self.invariant.0 c.requires c.self.view_is in
+    let root = number_at f ys 1 _ (omega (arith, mend.size, within)) c.index.ensures in
+    let same = eqb-true (f c.args.number) (f c.index.result.now) (sym c.is_same.ensures ∙ c.if-is_same.true) in
+    (mend.size, c.self.invariant.1, mend.nodes, λ _. least_written a.places c.args.place (f c.args.number) (map f xs) (map f ys) (length-map xs f ∙ c.self.invariant.0) (length-map ys f ∙ mend.size) mend.nodes (leaves_set f a.places c.args.place c.args.number xs (map f ys) mend.leaves) within (omega (arith, root, same)))
 
 pub invariant_of-self-then-place-self : goal.invariant_of-self-then-place-self
-invariant_of-self-then-place-self c =
+invariant_of-self-then-place-self g c =
+    let f = g.N.Number.number in
     let a = c.self.inside in
     let mend = c.mend.ensures in
     let leaf = c.least_leaf in
-    (mend.size, c.self.invariant.1, mend.nodes, λ _. least_at a.places leaf.result (leaf.result - a.places) c.mend.new.nodes.items mend.nodes mend.size leaf.ensures.leaf.0 leaf.ensures.leaf.1 leaf.ensures.least (omega (arith, leaf.ensures.leaf.0)))
+    let ys = c.mend.new.nodes.items in
+    (mend.size, c.self.invariant.1, mend.nodes, λ _. least_at a.places leaf.result (leaf.result - a.places) (map f ys) mend.nodes (length-map ys f ∙ mend.size) leaf.ensures.leaf.0 leaf.ensures.leaf.1 leaf.ensures.least (omega (arith, leaf.ensures.leaf.0)))
 
 pub invariant_of-self-else-place-self : goal.invariant_of-self-else-place-self
-invariant_of-self-else-place-self c =
+invariant_of-self-else-place-self g c =
+    let f = g.N.Number.number in
     let a = c.self.inside in
     let mend = c.mend.ensures in
-    let within : c.args.place < a.places = omega (arith, c.requires, ap (λ (v : List ℕ). length v) c.self.view_is, length-drop a.places a.nodes.items, c.self.invariant.0) in
-    let root = root_is a.places c.index.result.now c.mend.new.nodes.items mend.size (omega (arith, within)) c.index.ensures in
-    (mend.size, c.self.invariant.1, mend.nodes, λ some. least_kept a.places c.args.place a.first c.args.number a.nodes.items c.mend.new.nodes.items c.self.invariant.0 mend.size mend.nodes mend.leaves within (λ e. c.if-number-index.false (omega (arith, e, root))) (c.self.invariant.3 some) c.if-place-self.false)
+    let xs = a.nodes.items in
+    let ys = c.mend.new.nodes.items in
+    let within = within_places f a.places c.args.place xs c.args.self.now c.self.invariant.0 c.requires c.self.view_is in
+    let root = number_at f ys 1 _ (omega (arith, mend.size, within)) c.index.ensures in
+    (mend.size, c.self.invariant.1, mend.nodes, λ some. least_kept a.places c.args.place a.first (f c.args.number) (map f xs) (map f ys) (length-map xs f ∙ c.self.invariant.0) (length-map ys f ∙ mend.size) mend.nodes (leaves_set f a.places c.args.place c.args.number xs (map f ys) mend.leaves) within (λ e. differ (f c.args.number) (f c.index.result.now) c.is_same.result c.is_same.ensures c.if-is_same.false (omega (arith, e, root))) (c.self.invariant.3 some) c.if-place-self.false)
 
--- the numbers, once one is written
-written : (n p v : ℕ) (xs ys zs : List ℕ) → drop n ys ≡ drop n (set xs (n + p) v) → drop n xs ≡ zs → drop n ys ≡ set zs p v
-written n p v xs ys zs e f = e ∙ drop-set-add n xs p v ∙ ap (λ (z : List ℕ). set z p v) f
-
-pub returns-then-number-index : goal.returns-then-number-index
-returns-then-number-index c =
-    let a = c.self.inside in
-    written a.places c.args.place c.args.number a.nodes.items c.mend.new.nodes.items c.args.self.now c.mend.ensures.leaves c.self.view_is
+pub returns-then-is_same : goal.returns-then-is_same
+returns-then-is_same g c = let a = c.self.inside in written g.N.Number.number a.places c.args.place c.args.number a.nodes.items (map g.N.Number.number c.mend.new.nodes.items) c.args.self.now c.mend.ensures.leaves c.self.view_is
 
 pub returns-then-place-self : goal.returns-then-place-self
-returns-then-place-self c =
-    let a = c.self.inside in
-    written a.places c.args.place c.args.number a.nodes.items c.mend.new.nodes.items c.args.self.now c.mend.ensures.leaves c.self.view_is
+returns-then-place-self g c = let a = c.self.inside in written g.N.Number.number a.places c.args.place c.args.number a.nodes.items (map g.N.Number.number c.mend.new.nodes.items) c.args.self.now c.mend.ensures.leaves c.self.view_is
 
 pub returns-else-place-self : goal.returns-else-place-self
-returns-else-place-self c =
-    let a = c.self.inside in
-    written a.places c.args.place c.args.number a.nodes.items c.mend.new.nodes.items c.args.self.now c.mend.ensures.leaves c.self.view_is
+returns-else-place-self g c = let a = c.self.inside in written g.N.Number.number a.places c.args.place c.args.number a.nodes.items (map g.N.Number.number c.mend.new.nodes.items) c.args.self.now c.mend.ensures.leaves c.self.view_is
