@@ -1,6 +1,6 @@
 -- The lines of events are lines of a report.
-use Rattle.std.proofs.Common.{◌≡◌, ◌<◌, ℕ, ◌+◌, List, [], ◌∷◌, ◌++◌, length, map, take, get_or, All, None, sym, ap, ap₂, ◌∙◌, subst, append-nil}
-use Rattle.std.specs.Prelude.{codes}
+use Rattle.std.proofs.Common.{◌≡◌, ◌<◌, ℕ, ◌+◌, Bool, true, false, cond, List, [], ◌∷◌, ◌++◌, length, map, take, get_or, All, Option, None, is_some, Result, Ok, Err, sym, ap, ap₂, ◌∙◌, subst, append_assoc, append-nil}
+use Rattle.std.specs.Prelude.{codes, OnOk}
 use Rattle.std.proofs.lemmas.Grind.{flat_map-append}
 use Rattle.std.proofs.lemmas.List.{map-append, take_more}
 use Rattle.std.proofs.lemmas.List.Folds.{flat_map-map}
@@ -10,8 +10,17 @@ use Rattle.tva_base.specs.declared.event.Event.{Event}
 use Rattle.tva_plan.specs.declared.config.Config.{Config}
 use Rattle.tva_lines.specs.Lines.{line_of, text_of_event}
 use Rattle.tva_report.specs.Lines.{ended, first_bad, report_lines, text_of}
+use Rattle.tva_report.specs.Compared.{Compared, outcome}
+use Rattle.tva_report.specs.Compared as compared
+use Rattle.tva_report.specs.declared.differences.Finding.{Finding}
+use Rattle.tva_report.specs.Differences.{first_difference}
+use Rattle.tva_report.proofs.Comparing.{outcome_kept}
 use Rattle.tva_report.proofs.LinesBack.{good_made, lines_made}
 use Rattle.tva_run.specs.Report.{lines_of}
+
+pub ok_more : {E : Type 0} {P Q : Type 0} (r : Result Unit E) → (P → Q) → OnOk r P → OnOk r Q
+ok_more (Ok x) f h = f h
+ok_more (Err e) f h = tt
 
 -- the texts of the lines that events have in a report, without their line feeds
 abbrev pub texts_of : Config → List Event → List (List ℕ)
@@ -57,3 +66,28 @@ pub each_more : (config : Config) (list : List Event) (i : ℕ) (d : Event) → 
 each_more config list i d below before line =
     subst (All (λ x. IsLine (text_of_event config x))) (sym (take_more list i d below))
     (All-append (λ x. IsLine (text_of_event config x)) (take i list) (get_or list i d ∷ []) before (All-from_recursion (λ x. IsLine (text_of_event config x)) (get_or list i d ∷ []) (line, tt)))
+
+-- ## compared with a report
+
+-- the lines of these events are fed, or there is a difference already and none is
+pub compares_more : (config : Config) (c d : Compared) (report : List ℕ) (told list : List Event) (text : List ℕ) (differs : Bool) → is_some c.wanted ≡ differs
+    → text ≡ lines_of config (cond differs [] list) → All IsLine (texts_of config (cond differs [] list))
+    → ((report : List ℕ) (fed : List (List ℕ)) → compared.StandsFor c report fed → compared.StandsFor d report (fed ++ report_lines text))
+    → compared.StandsFor c report (texts_of config told) → compared.StandsFor d report (texts_of config (told ++ list))
+compares_more config c d report told list text false none lines each feeds stands =
+    let has : report_lines text ≡ texts_of config list = ap report_lines lines ∙ (lines_fit config list each).has in
+    let all : texts_of config told ++ report_lines text ≡ texts_of config (told ++ list) =
+    ap (λ (ls : List (List ℕ)). texts_of config told ++ ls) has ∙ sym (texts_more config told list) in
+    subst (compared.StandsFor d report) all (feeds report (texts_of config told) stands)
+compares_more config c d report told list text true differs lines each feeds stands =
+    let fed = texts_of config told in
+    let next = feeds report fed stands in
+    record {
+      bad = next.bad;
+      same = λ good more.
+          let First : List (List ℕ) → Option Finding = λ ls. first_difference ls (report_lines report) in
+          let any : (m : List (List ℕ)) → First (fed ++ m) ≡ outcome c [] = λ m. stands.same good m ∙ outcome_kept c m [] differs in
+          ap First (ap (λ (ls : List (List ℕ)). ls ++ more) (texts_more config told list) ∙ append_assoc fed (texts_of config list) more)
+          ∙ any (texts_of config list ++ more) ∙ sym (any (report_lines text ++ more))
+          ∙ ap First (sym (append_assoc fed (report_lines text) more)) ∙ next.same good more;
+    }

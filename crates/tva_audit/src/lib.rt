@@ -5,12 +5,14 @@
 #![tactic(auto)]
 
 mod audits;
+mod followed;
 mod laws;
 mod lines;
 mod routers;
+mod tallies;
 
 pub use audits::{AuditError, Audited, audit, audit_packed};
-pub use laws::{events_tell_charges, sums_are_below_their_limits};
+pub use laws::{audits_have_one_answer, events_tell_charges, sums_are_below_their_limits};
 pub use lines::{put_lines, step_and_put};
 pub use routers::{RouterSum, sums};
 pub use tva_report::Finding;

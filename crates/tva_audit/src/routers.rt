@@ -108,7 +108,8 @@ fn node_sum(alloc: Global, node: &Node) -> Result<Option<RouterSum>, AllocError>
     Ok(Some(numbered(number, sums)))
 }
 
-fn numbered(node: u16, sums: Sums) -> RouterSum
+/// The sums of a router with that number.
+pub fn numbered(node: u16, sums: Sums) -> RouterSum
     ensures { result ≡ numbered node sums }
 {
     RouterSum {

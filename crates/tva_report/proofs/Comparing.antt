@@ -1,19 +1,19 @@
 -- Lemmas on comparing a report with lines.
-use Rattle.std.proofs.Common.{◌≡◌, ℕ, ◌+◌, ◌≤◌, Bool, true, false, not, List, [], ◌∷◌, ◌++◌, length, cond, refl, sym, ◌∙◌, arith, inl, inr, Some, None, Option, MatchOption, is_some, append-nil}
+use Rattle.std.proofs.Common.{◌≡◌, ℕ, ◌+◌, ◌≤◌, Bool, true, false, not, List, [], ◌∷◌, ◌++◌, length, cond, refl, sym, ◌∙◌, ap, arith, inl, inr, Some, None, Option, MatchOption, is_some, append-nil}
 use Rattle.std.specs.Prelude.{◌&&◌, nat_le}
-use Rattle.std.specs.List.{list_all, list_any, position_from}
-use Rattle.std.specs.Option.{option_or, option_map_or}
+use Rattle.std.specs.List.{list_all, position_from}
+use Rattle.std.specs.Option.{option_map_or}
 use Rattle.std.specs.Str.{bytes_eq}
 use Rattle.std.proofs.lemmas.Bool.{cases_Bool, leb-true}
 use Rattle.std.proofs.lemmas.List.Elements.{All-weaker}
 use Rattle.std.proofs.lemmas.List.Sums.{AllPass-from_list_all}
 use Rattle.tva_lists.specs.Printable.{IsPrintable}
 use Rattle.tva_report.specs.declared.pieces.Piece.{Piece}
-use Rattle.tva_report.specs.declared.differences.Finding.{Finding}
-use Rattle.tva_report.specs.Ahead.{Ahead, IsNext, IsOver, whole}
-use Rattle.tva_report.specs.Compared.{AreLines, Compared, FitsLine, StandsFor, outcome}
-use Rattle.tva_report.specs.Differences.{difference_from, finding, first_difference}
-use Rattle.tva_report.specs.Lines.{first_bad, is_ended_line, is_feed, is_line, is_printable, pieces, report_lines, without_feed}
+use Rattle.tva_report.specs.Ahead.{Ahead, IsNext, IsOver, bad_ahead, line_there}
+use Rattle.tva_report.specs.Compared.{AreLines, Compared, FitsLine, Leads, StandsFor, compared, found_there, outcome}
+use Rattle.tva_report.specs.Differences.{first_difference}
+use Rattle.tva_report.specs.Lines.{first_bad, is_ended_line, is_line, is_printable, pieces, report_lines}
+use Rattle.tva_report.proofs.Differing.{equal_lines}
 
 pub both_true : (a b : Bool) → (a && b) ≡ true → (a ≡ true) × (b ≡ true)
 both_true false b h = absurd cc
@@ -30,18 +30,6 @@ none_bad (p ∷ ps) k h =
 -- a text without a bad line
 pub are_lines : (text : List ℕ) → first_bad text ≡ None → AreLines text
 are_lines text h = none_bad (pieces text) 1 h
-
--- the first of these pieces, and the rest
-pub record Firsts (piece : Piece) (after : Ahead) : Type 0 where
-  pub line : is_line piece.text.now ≡ true
-  pub rest : AreLines after.rest
-
-pub firsts : (before : Ahead) (piece : Piece) (after : Ahead) → AreLines before.rest → IsNext before piece after → Firsts piece after
-firsts before piece after lines next =
-    let all : (is_ended_line (whole piece) && list_all is_ended_line (pieces after.rest)) ≡ true = rw (next.first) at lines in
-    let parts = both_true (is_ended_line (whole piece)) (list_all is_ended_line (pieces after.rest)) all in
-    let line = both_true (list_any is_feed (whole piece)) (is_line (without_feed (whole piece))) parts.0 in
-    record { line = rw next.text at line.1; rest = parts.1 }
 
 pub some_byte : (text : List ℕ) → is_line text ≡ true → 1 ≤ length text
 some_byte text h =
@@ -63,71 +51,86 @@ fits_line text h =
 pub fits_nothing : FitsLine []
 fits_nothing = record { short = omega arith; printable = λ k d l. absurd (omega arith) }
 
--- a line isn't empty
-never_empty : (text : List ℕ) → is_line text ≡ true → bytes_eq text [] ≡ false
-never_empty [] h = absurd cc
-never_empty (b ∷ bs) h = refl
+-- ## one more line is expected
 
-empty_never : (text : List ℕ) → is_line text ≡ true → bytes_eq [] text ≡ false
-empty_never [] h = absurd cc
-empty_never (b ∷ bs) h = refl
+-- the piece is this line, and a line feed ends it
+abbrev pub is_this : List ℕ → Option Piece → Bool
+is_this x r = option_map_or (λ p. p.ended && bytes_eq x p.text.now) r false
 
--- what stands in a report in a line's place
-abbrev pub line_there : Option Piece → List ℕ
-line_there r = option_map_or (λ p. p.text.now) r []
+abbrev pub Came : Ahead → Option Piece → Ahead → Type 0
+Came before r after = MatchOption r (IsOver before after) (λ p. IsNext before p after)
 
-pub fits_there : (before : Ahead) (r : Option Piece) (after : Ahead) → AreLines before.rest → MatchOption r (IsOver before after) (λ p. IsNext before p after) → FitsLine (line_there r)
-fits_there before None after lines h = fits_nothing
-fits_there before (Some p) after lines h = fits_line p.text.now (firsts before p after lines h).line
-
-pub rest_are_lines : (before : Ahead) (r : Option Piece) (after : Ahead) → AreLines before.rest → MatchOption r (IsOver before after) (λ p. IsNext before p after) → AreLines after.rest
-rest_are_lines before None after lines h = rw (h.same) lines
-rest_are_lines before (Some p) after lines h = (firsts before p after lines h).rest
-
-abbrev pub found_by : ℕ → List ℕ → List ℕ → Option Finding
-found_by number x y = cond (bytes_eq x y) None (Some (finding number x y))
-
-pub lines_next : (before : Ahead) (piece : Piece) (after : Ahead) → IsNext before piece after → report_lines before.rest ≡ piece.text.now ∷ report_lines after.rest
+lines_next : (before : Ahead) (piece : Piece) (after : Ahead) → IsNext before piece after → report_lines before.rest ≡ piece.text.now ∷ report_lines after.rest
 lines_next before piece after next = rw (next.first, next.text) refl
 
-pub lines_over : (before after : Ahead) → IsOver before after → report_lines before.rest ≡ []
+lines_over : (before after : Ahead) → IsOver before after → report_lines before.rest ≡ []
 lines_over before after over = rw over.nothing refl
 
--- one more line is expected
-pub step : (before : Ahead) (r : Option Piece) (after : Ahead) (x : List ℕ) (more : List (List ℕ)) → is_line x ≡ true → MatchOption r (IsOver before after) (λ p. IsNext before p after) → difference_from before.number (x ∷ more) (report_lines before.rest) ≡ option_or (found_by before.number x (line_there r)) (difference_from after.number more (report_lines after.rest))
-step before None after x more line over = let e = never_empty x line in rw (lines_over before after over, e) refl
-step before (Some p) after x more line next =
-    elim (cases_Bool (bytes_eq x p.text.now)) [
-      | inl a ↦ rw (lines_next before p after next, a, next.next) refl
-      | inr a ↦ rw (lines_next before p after next, a) refl
+-- the first piece is a line that a line feed ends, or it is the first that is bad
+ended_or_bad : (before : Ahead) (piece : Piece) (after : Ahead) → IsNext before piece after
+    → bad_ahead before ≡ cond (not (piece.ended && is_line piece.text.now)) (Some before.number) (bad_ahead after)
+ended_or_bad before piece after next = rw (next.first, next.ended, next.text, next.next) refl
+
+pub line_passed : (before : Ahead) (wanted : Option (List ℕ)) (r : Option Piece) (after : Ahead) (x : List ℕ) → is_some wanted ≡ false → is_line x ≡ true
+    → Came before r after → is_this x r ≡ true → Leads (compared before wanted) (x ∷ []) (compared after wanted) []
+line_passed before (Some y) r after x none line came this = absurd cc
+line_passed before None None after x none line over this = absurd cc
+line_passed before None (Some p) after x none line next this =
+    let both = both_true p.ended (bytes_eq x p.text.now) this in
+    let same : x ≡ p.text.now = equal_lines x p.text.now both.1 in
+    let is : is_line p.text.now ≡ true = ap is_line (sym same) ∙ line in
+    record {
+      bad = ended_or_bad before p after next ∙ rw (both.0, is) refl;
+      same = λ good more. rw (lines_next before p after next, both.1, next.next) refl;
+    }
+
+-- where what is ahead has no bad line
+never : (before : Ahead) (piece : Piece) (after : Ahead) → IsNext before piece after → bad_ahead before ≡ None → (piece.ended && is_line piece.text.now) ≡ true
+never before piece after next good =
+    elim (cases_Bool (piece.ended && is_line piece.text.now)) [
+      | inl a ↦ a
+      | inr a ↦ let e = rw a at (sym (ended_or_bad before piece after next) ∙ good) in absurd cc
     ]
 
--- nothing more is expected
-pub last : (before : Ahead) (r : Option Piece) (after : Ahead) → AreLines before.rest → MatchOption r (IsOver before after) (λ p. IsNext before p after) → difference_from before.number [] (report_lines before.rest) ≡ found_by before.number [] (line_there r)
-last before None after lines over = rw (lines_over before after over) refl
-last before (Some p) after lines next =
-    let e = empty_never p.text.now (firsts before p after lines next).line in
-    rw (lines_next before p after next, e) refl
+other_line : (before : Ahead) (p : Piece) (after : Ahead) (x : List ℕ) (more : List (List ℕ)) → IsNext before p after → bad_ahead before ≡ None → (p.ended && bytes_eq x p.text.now) ≡ false
+    → outcome (compared before None) (x ∷ more) ≡ outcome (compared before (Some x)) more
+other_line before p after x more next good this =
+    let ended = (both_true p.ended (is_line p.text.now) (never before p after next good)).0 in
+    let other : bytes_eq x p.text.now ≡ false = rw ended at this in
+    rw (lines_next before p after next, other) refl
+
+pub line_wanted : (before : Ahead) (wanted : Option (List ℕ)) (r : Option Piece) (after : Ahead) (x : List ℕ) → is_some wanted ≡ false
+    → Came before r after → is_this x r ≡ false → Leads (compared before wanted) (x ∷ []) (compared before (Some x)) []
+line_wanted before (Some y) r after x none came this = absurd cc
+line_wanted before None None after x none over this = record { bad = refl; same = λ good more. rw (lines_over before after over) refl }
+line_wanted before None (Some p) after x none next this = record { bad = refl; same = λ good more. other_line before p after x more next good this }
+
+-- ## nothing more is expected
+
+pub fits_there : (before : Ahead) (r : Option Piece) (after : Ahead) → bad_ahead before ≡ None → Came before r after → FitsLine (line_there r)
+fits_there before None after good h = fits_nothing
+fits_there before (Some p) after good h = fits_line p.text.now (both_true p.ended (is_line p.text.now) (never before p after h good)).1
+
+last : (before : Ahead) (wanted : Option (List ℕ)) (r : Option Piece) (after : Ahead) → Came before r after → outcome (compared before wanted) [] ≡ found_there before.number wanted r
+last before None None after over = rw (lines_over before after over) refl
+last before None (Some p) after next = rw (lines_next before p after next) refl
+last before (Some x) None after over = rw (lines_over before after over) refl
+last before (Some x) (Some p) after next = rw (lines_next before p after next) refl
+
+pub finished : (before : Ahead) (wanted : Option (List ℕ)) (r : Option Piece) (after : Ahead) → bad_ahead before ≡ None → Came before r after
+    → (report : List ℕ) (fed : List (List ℕ)) → StandsFor (compared before wanted) report fed
+    → (first_bad report ≡ None) × (found_there before.number wanted r ≡ first_difference fed (report_lines report))
+finished before wanted r after good came report fed stands =
+    let none : first_bad report ≡ None = stands.bad ∙ good in
+    let all : first_difference (fed ++ []) (report_lines report) ≡ outcome (compared before wanted) [] = stands.same none [] in
+    (none, sym (last before wanted r after came) ∙ sym all ∙ rw append-nil refl)
 
 -- ## over what was fed
 
-pub none_of : {A : Type 0} (o : Option A) → is_some o ≡ false → o ≡ None
-none_of None h = refl
-none_of (Some x) h = absurd cc
-
-pub outcome_kept : (o a : Option Finding) → is_some o ≡ true → option_or o a ≡ o
-outcome_kept None a h = absurd cc
-outcome_kept (Some x) a h = refl
-
 -- the difference is there already
-pub finish_early : (c : Compared) (report : List ℕ) (fed : List (List ℕ)) → is_some c.found ≡ true → StandsFor c report fed → c.found ≡ first_difference fed (report_lines report)
-finish_early c report fed h stands =
-    let whole : first_difference (fed ++ []) (report_lines report) ≡ outcome c [] = stands [] in
-    sym (outcome_kept c.found (difference_from c.ahead.number [] (report_lines c.ahead.rest)) h) ∙ sym whole ∙ rw append-nil refl
+kept : (a : Ahead) (wanted : Option (List ℕ)) (xs ys : List (List ℕ)) → is_some wanted ≡ true → outcome (compared a wanted) xs ≡ outcome (compared a wanted) ys
+kept a None xs ys h = absurd cc
+kept a (Some x) xs ys h = refl
 
--- what is still ahead in the report is the difference
-pub finish_late : (c : Compared) (report : List ℕ) (fed : List (List ℕ)) → is_some c.found ≡ false → StandsFor c report fed → first_difference fed (report_lines report) ≡ difference_from c.ahead.number [] (report_lines c.ahead.rest)
-finish_late c report fed h stands =
-    let whole : first_difference (fed ++ []) (report_lines report) ≡ outcome c [] = stands [] in
-    let none = none_of c.found h in
-    rw append-nil at whole ∙ rw none refl
+pub outcome_kept : (c : Compared) (xs ys : List (List ℕ)) → is_some c.wanted ≡ true → outcome c xs ≡ outcome c ys
+outcome_kept c xs ys h = kept c.ahead c.wanted xs ys h

@@ -72,7 +72,7 @@ none_without_feed text e =
 -- ## what a slice takes off the front
 
 -- the slice from there on
-slice_from : (text : List ℕ) (at : ℕ) → take (length text - at) (drop at text) ≡ drop at text
+pub slice_from : (text : List ℕ) (at : ℕ) → take (length text - at) (drop at text) ≡ drop at text
 slice_from text at = rw (← length-drop at text) (take-length (drop at text))
 
 pub pieces_cut : (text : List ℕ) (at : ℕ) → IsCut text at → pieces text ≡ ended (take at text) ∷ pieces (take (length text - (at + 1)) (drop (at + 1) text))

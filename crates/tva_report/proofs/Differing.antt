@@ -10,7 +10,7 @@ use Rattle.tva_report.specs.Differences.{IsFirstDifference, difference_from, fin
 same_line : (x : List ℕ) → bytes_eq x x ≡ true
 same_line x = (bytes_eq-Decides x x).1 refl
 
-equal_lines : (x y : List ℕ) → bytes_eq x y ≡ true → x ≡ y
+pub equal_lines : (x y : List ℕ) → bytes_eq x y ≡ true → x ≡ y
 equal_lines x y = (bytes_eq-Decides x y).0
 
 unequal_lines : (x y : List ℕ) → bytes_eq x y ≡ false → x ≢ y
@@ -41,6 +41,13 @@ added n [] x more = rw add-zero refl
 added n (y ∷ ys) x more =
     let e : (n + 1) + length ys ≡ n + length (y ∷ ys) = omega arith in
     rw (same_line y, added (n + 1) ys x more, e) refl
+
+-- the same lines in front count, and are no difference
+pub past_same : (n : ℕ) (xs more ys : List (List ℕ)) → difference_from n (xs ++ more) (xs ++ ys) ≡ difference_from (n + length xs) more ys
+past_same n [] more ys = rw add-zero refl
+past_same n (x ∷ xs) more ys =
+    let e : (n + 1) + length xs ≡ n + length (x ∷ xs) = omega arith in
+    rw (same_line x, past_same (n + 1) xs more ys, e) refl
 
 -- the difference by how many lines stand before it, where the first lines have that number
 pub record IsDifferenceAt (n k : ℕ) (f : Finding) (xs ys : List (List ℕ)) : Type 0 where

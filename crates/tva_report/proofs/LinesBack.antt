@@ -1,10 +1,11 @@
 -- Lemmas on texts that are made of lines.
-use Rattle.std.proofs.Common.{◌≡◌, ℕ, ◌+◌, Bool, true, false, not, List, [], ◌∷◌, length, map, refl, sym, ◌∙◌, ap, arith, inl, inr, None, All, append_assoc, subst}
+use Rattle.std.proofs.Common.{◌≡◌, ℕ, ◌+◌, ◌≤◌, Bool, true, false, not, List, [], ◌∷◌, ◌++◌, length, map, refl, sym, ◌∙◌, ap, arith, inl, inr, None, All, append_assoc, add-zero, subst}
 use Rattle.std.specs.Prelude.{◌&&◌, nat_le}
 use Rattle.std.specs.List.{list_all, list_any, onto_first, position_from, AllByRecursion}
 use Rattle.std.proofs.lemmas.Bool.{cases_Bool, le-leb, eqb-true, ne_eqb}
 use Rattle.std.proofs.lemmas.List.Elements.{All-weaker, All-map, recursion_from_All}
 use Rattle.std.proofs.lemmas.List.Sums.{AllPass-from_list_all, list_all-from_AllPass}
+use Rattle.std.proofs.lemmas.List.{length-map, map-append}
 use Rattle.std.proofs.lemmas.List.Folds.{list_any_none}
 use Rattle.tva_lists.specs.Printable.{IsLine, IsPrintable}
 use Rattle.tva_report.specs.Lines.{ended, first_bad, is_ended_line, is_feed, is_line, is_printable, pieces, report_lines, text_of, without_feed}
@@ -31,23 +32,37 @@ line_passes text h =
 no_feed : (b : ℕ) → IsPrintable b → is_feed b ≡ false
 no_feed b h = ne_eqb b 10 (λ e. let low = h.0 in absurd (omega arith))
 
+abbrev Printable : List ℕ → Type 0
+Printable text = All IsPrintable text
+
+has_none : (text : List ℕ) → Printable text → HasNoFeed text
+has_none text h = list_any_none is_feed text (All-weaker IsPrintable (λ b. is_feed b ≡ false) no_feed text h)
+
 pub line_has_none : (text : List ℕ) → IsLine text → HasNoFeed text
-line_has_none text h = list_any_none is_feed text (All-weaker IsPrintable (λ b. is_feed b ≡ false) no_feed text h.printable)
+line_has_none text h = has_none text h.printable
+
+each_printable : (lines : List (List ℕ)) → AllByRecursion IsLine lines → AllByRecursion Printable lines
+each_printable [] h = tt
+each_printable (line ∷ lines) h = (h.0.printable, each_printable lines h.1)
 
 -- ## the text that lines make
 
-pub pieces_made : (lines : List (List ℕ)) → AllByRecursion IsLine lines → pieces (text_of lines) ≡ map ended lines
+pub pieces_made : (lines : List (List ℕ)) → AllByRecursion Printable lines → pieces (text_of lines) ≡ map ended lines
 pieces_made [] h = refl
 pieces_made (line ∷ lines) h =
     rw append_assoc
-    (pieces_ended line (text_of lines) (line_has_none line h.0) ∙ ap (λ ps. ended line ∷ ps) (pieces_made lines h.1))
+    (pieces_ended line (text_of lines) (has_none line h.0) ∙ ap (λ ps. ended line ∷ ps) (pieces_made lines h.1))
 
-without_made : (lines : List (List ℕ)) → AllByRecursion IsLine lines → map without_feed (map ended lines) ≡ lines
+without_made : (lines : List (List ℕ)) → AllByRecursion Printable lines → map without_feed (map ended lines) ≡ lines
 without_made [] h = refl
-without_made (line ∷ lines) h = rw (without_feed-ended line (line_has_none line h.0), without_made lines h.1) refl
+without_made (line ∷ lines) h = rw (without_feed-ended line (has_none line h.0), without_made lines h.1) refl
+
+-- also of lines that are empty or too long
+pub printable_made : (lines : List (List ℕ)) → All (λ line. All IsPrintable line) lines → report_lines (text_of lines) ≡ lines
+printable_made lines h = let each = recursion_from_All Printable lines h in rw (pieces_made lines each) (without_made lines each)
 
 pub lines_made : (lines : List (List ℕ)) → All IsLine lines → report_lines (text_of lines) ≡ lines
-lines_made lines h = let each = recursion_from_All IsLine lines h in rw (pieces_made lines each) (without_made lines each)
+lines_made lines h = printable_made lines (All-weaker IsLine Printable (λ line is. is.printable) lines h)
 
 made_is_ended : (line : List ℕ) → IsLine line → is_ended_line (ended line) ≡ true
 made_is_ended line h = rw (any_feed-ended line, without_feed-ended line (line_has_none line h)) (line_passes line h)
@@ -57,7 +72,7 @@ none_made [] k h = refl
 none_made (line ∷ lines) k h = rw (made_is_ended line h.0) (none_made lines (k + 1) h.1)
 
 pub good_made : (lines : List (List ℕ)) → All IsLine lines → first_bad (text_of lines) ≡ None
-good_made lines h = let each = recursion_from_All IsLine lines h in rw (pieces_made lines each) (none_made lines 1 each)
+good_made lines h = let each = recursion_from_All IsLine lines h in rw (pieces_made lines (each_printable lines each)) (none_made lines 1 each)
 
 -- ## a text without a bad line
 
@@ -92,3 +107,56 @@ good_are_lines text h = lines_told (pieces text) (are_lines text h)
 
 pub good_back : (text : List ℕ) → first_bad text ≡ None → text_of (report_lines text) ≡ text
 good_back text h = sym (text_back text (has_feeds (pieces text) (are_lines text h)))
+
+-- ## a text that stands in front of another
+
+pieces_before : (lines : List (List ℕ)) (more : List ℕ) → AllByRecursion IsLine lines → pieces (text_of lines ++ more) ≡ map ended lines ++ pieces more
+pieces_before [] more h = refl
+pieces_before (line ∷ lines) more h =
+    ap pieces (append_assoc (ended line) (text_of lines) more ∙ append_assoc line (10 ∷ []) (text_of lines ++ more))
+    ∙ pieces_ended line (text_of lines ++ more) (line_has_none line h.0)
+    ∙ ap (λ (ps : List (List ℕ)). ended line ∷ ps) (pieces_before lines more h.1)
+
+good_before : (text more : List ℕ) → first_bad text ≡ None → pieces (text ++ more) ≡ map ended (report_lines text) ++ pieces more
+good_before text more good =
+    ap (λ (t : List ℕ). pieces (t ++ more)) (sym (good_back text good))
+    ∙ pieces_before (report_lines text) more (recursion_from_All IsLine (report_lines text) (good_are_lines text good))
+
+pub lines_before : (text more : List ℕ) → first_bad text ≡ None → report_lines (text ++ more) ≡ report_lines text ++ report_lines more
+lines_before text more good =
+    let lines = report_lines text in
+    ap (map without_feed) (good_before text more good) ∙ map-append without_feed (map ended lines) (pieces more)
+    ∙ ap (λ (ls : List (List ℕ)). ls ++ report_lines more) (without_made lines (each_printable lines (recursion_from_All IsLine lines (good_are_lines text good))))
+
+bad_from_more : (lines : List (List ℕ)) (ps : List (List ℕ)) (k : ℕ) → AllByRecursion IsLine lines
+    → position_from (λ piece. not (is_ended_line piece)) k (map ended lines ++ ps) ≡ position_from (λ piece. not (is_ended_line piece)) (k + length lines) ps
+bad_from_more [] ps k h = rw add-zero refl
+bad_from_more (line ∷ lines) ps k h =
+    let e : (k + 1) + length lines ≡ k + length (line ∷ lines) = omega arith in
+    rw (made_is_ended line h.0, bad_from_more lines ps (k + 1) h.1, e) refl
+
+-- the first bad line stands behind a text that has none
+pub bad_before : (text more : List ℕ) (k : ℕ) → first_bad text ≡ None
+    → position_from (λ piece. not (is_ended_line piece)) k (pieces (text ++ more)) ≡ position_from (λ piece. not (is_ended_line piece)) (k + length (report_lines text)) (pieces more)
+bad_before text more k good =
+    rw (good_before text more good)
+    (bad_from_more (report_lines text) (pieces more) k (recursion_from_All IsLine (report_lines text) (good_are_lines text good)))
+
+-- ## how many lines there are
+
+onto_few : (b : ℕ) (ps : List (List ℕ)) (n : ℕ) → length ps ≤ n → length (onto_first b ps) ≤ n + 1
+onto_few b [] n h = omega (arith, h)
+onto_few b (p ∷ ps) n h = omega (arith, h)
+
+few_pieces : (text : List ℕ) → length (pieces text) ≤ length text
+few_pieces [] = omega arith
+few_pieces (b ∷ bs) =
+    let rest = few_pieces bs in
+    elim (cases_Bool (is_feed b)) [
+      | inl a ↦ rw a (omega (arith, rest))
+      | inr a ↦ let few = onto_few b (pieces bs) (length bs) rest in rw a (omega (arith, few))
+    ]
+
+-- a text has no more lines than bytes
+pub few_lines : (text : List ℕ) → length (report_lines text) ≤ length text
+few_lines text = let few = few_pieces text in omega (arith, few, length-map (pieces text) without_feed)

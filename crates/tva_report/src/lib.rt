@@ -13,4 +13,4 @@ pub use laws::{
     difference_is_the_first, good_texts_are_lines, lines_are_read_back, lines_pass_their_test,
     report_is_what_is_expected,
 };
-pub use pieces::{Piece, Pieces, first_bad, is_line};
+pub use pieces::{Piece, Pieces, first_bad, is_line, line_count};

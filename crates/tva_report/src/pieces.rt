@@ -1,8 +1,8 @@
 // A text in pieces, each a line with the line feed that ends it.
-ghost use Rattle.std.specs.Prelude.{◌≡◌, MatchOption, position};
-ghost use Rattle.std.specs.List.{list_all};
-ghost use Rattle.tva_report.specs.Lines.{first_bad, is_feed, is_line, is_printable};
-ghost use Rattle.tva_report.specs.Ahead.{ahead, IsNext, IsOver};
+ghost use Rattle.std.specs.Prelude.{◌≡◌, ◌≤◌, ◌==◌, MatchOption, None, false, length, position, true};
+ghost use Rattle.std.specs.List.{list_all, starts_with};
+ghost use Rattle.tva_report.specs.Lines.{first_bad, is_feed, is_line, is_printable, report_lines};
+ghost use Rattle.tva_report.specs.Ahead.{ahead, bad_ahead, IsNext, IsOver, IsPast};
 
 use std::marker::Model;
 
@@ -52,6 +52,45 @@ impl<'a> Pieces<'a> {
         self.number
     }
 
+    /// Passes so many pieces, which are this text, where the rest begins with it.
+    pub fn pass(&mut self, text: &[u8], count: u64) -> bool
+        requires { count ≤ length text.now }
+        ensures passed { result ≡ true → IsPast self.old text.now count self.new }
+        ensures not { result ≡ false → self.new ≡ self.old }
+    {
+        let rest = self.rest;
+        if begins_with(rest, text) {
+            self.rest = &rest[text.len()..];
+            self.number += count;
+            true
+        } else {
+            false
+        }
+    }
+
+    /// The same once more.
+    pub fn again(&self) -> Pieces<'a>
+        ensures { result ≡ self.now }
+    {
+        Pieces {
+            rest: self.rest,
+            number: self.number,
+        }
+    }
+
+    /// The number of the first piece that is no line, or that no line feed ends.
+    pub fn first_bad(&self) -> Option<u64>
+        ensures { result ≡ bad_ahead self.now }
+    {
+        let mut pieces = self.again();
+        while let Some(piece) = pieces.next() {
+            if !piece.ended || !is_line(piece.text) {
+                return Some(piece.number);
+            }
+        }
+        None
+    }
+
     /// The next piece, where there is one.
     pub fn next(&mut self) -> Option<Piece<'a>>
         ensures { MatchOption result (IsOver self.old self.new) (λ piece. IsNext self.old piece self.new) }
@@ -81,6 +120,13 @@ impl<'a> Pieces<'a> {
             }
         }
     }
+}
+
+// A text stands in front of the rest of another.
+fn begins_with(rest: &[u8], text: &[u8]) -> bool
+    ensures { result ≡ starts_with ◌==◌ rest.now text.now }
+{
+    rest.starts_with(text)
 }
 
 // The place of the first line feed.
@@ -114,11 +160,17 @@ fn is_printable(byte: u8) -> bool
 pub fn first_bad(text: &[u8]) -> Option<u64>
     ensures { result ≡ first_bad text.now }
 {
-    let mut pieces = Pieces::new(text);
-    while let Some(piece) = pieces.next() {
-        if !piece.ended || !is_line(piece.text) {
-            return Some(piece.number);
-        }
+    Pieces::new(text).first_bad()
+}
+
+/// How many lines a text without a bad line has: as many as it has line feeds.
+pub fn line_count(text: &[u8]) -> u64
+    requires { first_bad text.now ≡ None }
+    ensures { result ≡ length (report_lines text.now) }
+{
+    let mut count = 0;
+    for byte in text {
+        count += u64::from(*byte == b'\n');
     }
-    None
+    count
 }

@@ -1,4 +1,4 @@
--- Kit: how the sums of pairs are kept while charges come, and that they stand for the charges so far.
+-- Crate: how the sums of pairs are kept while charges come, and that they stand for the charges so far.
 use Rattle.std.specs.Prelude.{◌≡◌, ℕ, ◌+◌, ◌*◌, ◌≤◌, ◌^◌, Bool, if◌then◌else◌, List, [], ◌∷◌, length, sum_by, All, Option}
 use Rattle.std.specs.BTreeMap.{get}
 use Rattle.std.specs.List.{position_from}
@@ -35,6 +35,10 @@ pub record IsSound (tally : Tally) : Type 0 where
   pub placed : IsPlaced tally.table
   pub parts : All (λ s. s.1 ≤ tally.bytes) tally.table.sums.items
   pub bounded : tally.bytes ≤ tally.charges * 2 ^ 32
+
+-- there is room for so many charges more
+abbrev pub HasRoom : Tally → ℕ → Type 0
+HasRoom tally more = tally.charges + more ≤ 4000000
 
 -- what was added up of these charges
 pub record StandsFor (tally : Tally) (restarts : List (Time × List ℕ)) (cs : List Charged) : Type 0 where

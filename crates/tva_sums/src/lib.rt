@@ -11,4 +11,4 @@ mod sums;
 pub use charged::{Charged, charged_in};
 pub use laws::{boots_are_a_plans, the_worst_is_the_worst};
 pub use pairs::Pair;
-pub use sums::{Sums, limit, router_sums};
+pub use sums::{Sums, Tally, limit, router_sums};

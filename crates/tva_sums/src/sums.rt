@@ -1,12 +1,12 @@
 // The sums of a router.
-ghost use Rattle.std.specs.Prelude.{◌≡◌, ◌+◌, ◌<◌, ◌≤◌, ◌^◌, [], ◌∷◌, ◌++◌, ℕ, List, length, map, OnOk, IfOk};
+ghost use Rattle.std.specs.Prelude.{◌≡◌, ◌+◌, ◌≤◌, ◌^◌, [], ◌∷◌, ◌++◌, ℕ, List, length, map, OnOk, IfOk};
 ghost use Rattle.tva_base.specs.Plan.{AreRising};
 ghost use Rattle.tva_base.specs.declared.event.Event.{Event};
 ghost use Rattle.tva_base.specs.declared.packet.Time.{Time};
 ghost use Rattle.tva_sums.specs.declared.charged.Charged.{Charged};
 ghost use Rattle.tva_sums.specs.Charged.{charges_in};
 ghost use Rattle.tva_sums.specs.Sums.{limit_of, pair_of, sums_of};
-ghost use Rattle.tva_sums.specs.Table.{IsSound, StandsFor};
+ghost use Rattle.tva_sums.specs.Table.{HasRoom, IsSound, StandsFor};
 
 use crate::charged::{boot_among, charged_in};
 use crate::pairs::{Pair, Table, worst};
@@ -49,19 +49,20 @@ pub fn router_sums(
     Ok(tally.sums())
 }
 
-// What was added up so far.
+/// What was added up so far of the charges that a router's events tell, for whoever is told the events as
+/// they come and keeps none. It is as large as the pairs that were charged.
 #[derive(Drop)]
-struct Tally {
+pub struct Tally {
     table: Table,
     charges: u64,
     bytes: u64,
 }
 
 impl Tally {
-    fn new(alloc: Global) -> Tally
+    /// Nothing was charged yet.
+    pub fn new(alloc: Global) -> Tally
         ensures sound { IsSound result }
         ensures stands { (restarts : List (Time × List ℕ)) → StandsFor result restarts [] }
-        ensures none { result.charges ≡ 0 }
     {
         Tally {
             table: Table::new(alloc),
@@ -70,13 +71,14 @@ impl Tally {
         }
     }
 
-    // One more event.
-    fn tell(&mut self, restarts: &[(Time, [u8; 32])], event: &Event) -> Result<(), AllocError>
+    /// One more event of the router. The restarts' times rise, and are the same at each event. The error is
+    /// want of memory, and then nothing is said of the tally any more.
+    pub fn tell(&mut self, restarts: &[(Time, [u8; 32])], event: &Event) -> Result<(), AllocError>
         requires rising { AreRising (map (λ c. c.0.0) restarts.now) }
         requires sound { IsSound self.old }
-        requires few { self.old.charges < 4000000 }
+        requires few { HasRoom self.old 1 }
         ensures sound { OnOk result (IsSound self.new) }
-        ensures few { OnOk result (self.new.charges ≤ self.old.charges + 1) }
+        ensures few { (more : ℕ) → HasRoom self.old (more + 1) → OnOk result (HasRoom self.new more) }
         ensures stands { (events : List Event) → StandsFor self.old restarts.now (charges_in events) → OnOk result (StandsFor self.new restarts.now (charges_in (events ++ event.now ∷ []))) }
     {
         match charged_in(event) {
@@ -95,7 +97,7 @@ impl Tally {
     // One more charge of the pair.
     fn add(&mut self, pair: Pair, length: u32) -> Result<(), AllocError>
         requires sound { IsSound self.old }
-        requires few { self.old.charges < 4000000 }
+        requires few { HasRoom self.old 1 }
         ensures sound { OnOk result (IsSound self.new) }
         ensures counted { OnOk result (self.new.charges ≡ self.old.charges + 1) }
         ensures stands { (restarts : List (Time × List ℕ)) (cs : List Charged) (c : Charged) → pair_of restarts c ≡ pair → c.length ≡ length → StandsFor self.old restarts cs → OnOk result (StandsFor self.new restarts (cs ++ c ∷ [])) }
@@ -106,7 +108,8 @@ impl Tally {
         Ok(())
     }
 
-    fn sums(&self) -> Sums
+    /// The sums of these charges.
+    pub fn sums(&self) -> Sums
         ensures { (restarts : List (Time × List ℕ)) (cs : List Charged) → StandsFor self.now restarts cs → result ≡ sums_of restarts cs }
     {
         let pairs = self.table.sums();

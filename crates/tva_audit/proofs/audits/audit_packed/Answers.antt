@@ -1,109 +1,112 @@
-use Rattle.std.proofs.Common.{List, All, Err, sym, subst, ◌∙◌}
+use Rattle.std.proofs.Common.{◌≡◌, List, None, Ok, Err, [], ◌∷◌, ◌++◌, sym, subst, ◌∙◌}
+use Rattle.tva_lists.specs.Printable.{IsLine}
 use Rattle.tva_base.specs.declared.event.Event.{Event}
-use Rattle.tva_lines.specs.Lines.{HasEvent}
+use Rattle.tva_base.specs.declared.event.Totals.{Totals}
+use Rattle.tva_lines.specs.Lines.{text_of_totals}
 use Rattle.tva_net.specs.declared.kinds.Window as answers
-use Rattle.tva_net.specs.Steps.{Gives}
+use Rattle.tva_report.specs.Lines.{first_bad}
+use Rattle.tva_report.specs.Ahead.{bad_ahead}
 use Rattle.tva_audit.specs.declared.audits.AuditError.{AuditError}
+use Rattle.tva_audit.specs.declared.audits.AuditError.TheVariants.{OutOfMemory}
 use Rattle.tva_audit.specs.Audit.{IsAudit}
+use Rattle.tva_audit.specs.Deciding.{IsDecided}
+use Rattle.tva_audit.specs.Tallies.{sums_among}
+use Rattle.tva_audit.specs.Worked.{Comes}
 use Rattle.tva_audit.proofs.Texts.{texts_of}
-use Rattle.tva_audit.proofs.Windowed.{HasLines, IsLevel, begun, decided, feeds, few_in_all, fewer_left, goes_on, keeping, named, put, put_good, refused, still_keeping}
-use Rattle.tva_audit.proofs.audits.audit_packed.Given.{Over}
+use Rattle.tva_audit.proofs.Worked.{begun}
+use Rattle.tva_audit.proofs.Windowed.{IsAfoot, bad_first, decided, followed_on, ready, refused}
 use Rattle.tva_audit.proofs.audits.audit_packed.Goals as goal
-use Rattle.tva_audit.proofs.audits.audit_packed.Goals.{After-feed}
 
--- ## what is known once the lines are put, and once they are fed
-
-lines_put : (g : Over) (c : After-feed g) → HasLines c.args.config.now c.loop-comparison.events.items c.as_slice-in-loop-comparison.result.now
-lines_put g c =
-    put c.args.config.now c.step_and_put-step.result.1 c.as_slice.result.now c.loop-comparison.events.items c.step_and_put-step.new.text.items c.as_slice-in-loop-comparison.result.now
-    (sym c.is_err.ensures.value ∙ c.if-is_err.false) c.as_slice.ensures.value c.as_slice-in-loop-comparison.ensures.value
-    c.step_and_put-step.ensures.lines c.step_and_put-step.ensures.printable
-
-level_fed : (g : Over) (c : After-feed g) → IsLevel c.args.config.now c.args.rows c.args.report.now c.feed.new.self c.loop-comparison.net
-level_fed g c =
-    feeds c.args.config.now c.args.rows c.args.report.now c.loop-comparison.comparison c.feed.new.self c.loop-comparison.events.items c.loop-comparison.net
-    c.as_slice-in-loop-comparison.result.now c.loop-comparison.invariant.behind (lines_put g c) c.feed.ensures
-
--- ## goals
-
-pub loop-comparison-init : goal.loop-comparison-init
-loop-comparison-init g c = record {
-  behind = begun c.args.config.now c.args.rows c.args.report.now c.new-comparison.result c.new-events.result.items c.in-Ok.net c.new-events.ensures.items c.in-Ok.ensures.stands c.new-comparison.ensures;
-  keeps = keeping c.in-Ok.net.work.nodes c.in-Ok.ensures.keeps;
+pub loop-alloc-init : goal.loop-alloc-init
+loop-alloc-init g c = record {
+  told = [];
+  behind = begun c.args.config.now c.args.rows c.new-events.result.items c.in-Ok.net c.new-events.ensures.items c.in-Ok.ensures.stands;
+  follows = c.in-Ok-new.ensures;
 }
 
-pub step_and_put-step-requires-clause-known : goal.step_and_put-step-requires-clause-known
-step_and_put-step-requires-clause-known g c κs within =
-    let config = c.args.config.now in
-    subst (λ (es : List Event). All (HasEvent config) es) (sym c.as_slice.ensures.value)
-    (named config c.args.rows c.args.report.now c.loop-comparison.comparison c.loop-comparison.events.items c.loop-comparison.net c.loop-comparison.invariant.behind)
-
-pub feed-requires : goal.feed-requires
-feed-requires g c =
-    let config = c.args.config.now in
-    let list = c.loop-comparison.events.items in
-    put_good config list c.as_slice-in-loop-comparison.result.now
-    (put config c.step_and_put-step.result.1 c.as_slice.result.now list c.step_and_put-step.new.text.items c.as_slice-in-loop-comparison.result.now
-    (sym c.is_err.ensures.value ∙ c.if-is_err.false) c.as_slice.ensures.value c.as_slice-in-loop-comparison.ensures.value
-    c.step_and_put-step.ensures.lines c.step_and_put-step.ensures.printable)
-
-pub loop-comparison-smaller : goal.loop-comparison-smaller
-loop-comparison-smaller g c =
+pub follow-requires-clause-ready : goal.follow-requires-clause-ready
+follow-requires-clause-ready g c =
     let config = c.args.config.now in
     let rows = c.args.rows in
-    let level = level_fed g (goal.at.loop-comparison-smaller g c).After-feed in
-    let gives = subst (λ (w : answers.Window). Gives config rows level.windows level.told w c.step_and_put-step.new.net) c.in-Ok-Events.field-0-is
-    ((rw c.in-Ok-Events.is at c.step_and_put-step.ensures.gives) config rows level.windows level.told level.stands) in
-    fewer_left config rows c.args.report.now level.windows level.told c.in-Ok-Events.next.items c.loop-comparison.net c.step_and_put-step.new.net level.stands gives.1 gives.0
+    let report = c.args.report.now in
+    let list = c.as_slice-list.result.now in
+    let a = subst (λ (es : List Event). IsAfoot config rows report c.loop-alloc.followed es c.loop-alloc.net) (sym c.as_slice-list.ensures.value) c.loop-alloc.invariant in
+    ready config rows report c.loop-alloc.followed list c.loop-alloc.net a
 
-pub loop-comparison-preserved : goal.loop-comparison-preserved
-loop-comparison-preserved g c =
+pub returns-then-is_err : goal.returns-then-is_err
+returns-then-is_err g c =
     let config = c.args.config.now in
     let rows = c.args.rows in
-    let level = level_fed g (goal.at.loop-comparison-preserved g c).After-feed in
-    let gives = subst (λ (w : answers.Window). Gives config rows level.windows level.told w c.step_and_put-step.new.net) c.in-Ok-Events.field-0-is
-    ((rw c.in-Ok-Events.is at c.step_and_put-step.ensures.gives) config rows level.windows level.told level.stands) in
+    let report = c.args.report.now in
+    let list = c.as_slice-list.result.now in
+    let a = subst (λ (es : List Event). IsAfoot config rows report c.loop-alloc.followed es c.loop-alloc.net) (sym c.as_slice-list.ensures.value) c.loop-alloc.invariant in
     record {
-      behind = goes_on config rows c.args.report.now c.feed.new.self c.in-Ok-Events.next.items c.loop-comparison.net c.step_and_put-step.new.net level gives.1;
-      keeps = still_keeping c.loop-comparison.net.work.nodes c.step_and_put-step.new.net.work.nodes c.step_and_put-step.ensures.kept c.loop-comparison.invariant.keeps;
+      answer =
+          subst (λ (e : AuditError). IsAudit config rows report (Err e)) (sym c.refusal.ensures)
+          (bad_first config rows report (bad_ahead c.follow.new.self.comparison.ahead) OutOfMemory (c.follow.ensures report a.told a.follows).bad (λ good. good));
     }
 
-pub decide-requires-clause-few : goal.decide-requires-clause-few
-decide-requires-clause-few g c κs within =
+pub loop-alloc-smaller : goal.loop-alloc-smaller
+loop-alloc-smaller g c =
     let config = c.args.config.now in
     let rows = c.args.rows in
-    let level = level_fed g (goal.at.decide-requires-clause-few g c).After-feed in
-    let ended = subst (λ (w : answers.Window). Gives config rows level.windows level.told w c.step_and_put-step.new.net) c.in-Ok-Ended.field-0-is
-    ((rw c.in-Ok-Ended.is at c.step_and_put-step.ensures.gives) config rows level.windows level.told level.stands) in
-    few_in_all config rows c.args.report.now c.feed.new.self c.loop-comparison.net c.step_and_put-step.new.net level ended
+    let report = c.args.report.now in
+    let list = c.as_slice-list.result.now in
+    let a = subst (λ (es : List Event). IsAfoot config rows report c.loop-alloc.followed es c.loop-alloc.net) (sym c.as_slice-list.ensures.value) c.loop-alloc.invariant in
+    let comes = subst (λ (w : answers.Window). Comes config rows (a.told ++ list) (Ok w) c.loop-alloc.net c.step_and_put-step.new.net) c.in-Ok-Events.field-0-is
+    ((rw c.in-Ok-Events.is at c.step_and_put-step.ensures.comes) rows a.told a.behind) in
+    comes.1
 
-pub decide-requires-clause-keeps : goal.decide-requires-clause-keeps
-decide-requires-clause-keeps g c κs within =
-    still_keeping c.loop-comparison.net.work.nodes c.step_and_put-step.new.net.work.nodes c.step_and_put-step.ensures.kept c.loop-comparison.invariant.keeps
+pub loop-alloc-preserved : goal.loop-alloc-preserved
+loop-alloc-preserved g c =
+    let config = c.args.config.now in
+    let rows = c.args.rows in
+    let report = c.args.report.now in
+    let list = c.as_slice-list.result.now in
+    let a = subst (λ (es : List Event). IsAfoot config rows report c.loop-alloc.followed es c.loop-alloc.net) (sym c.as_slice-list.ensures.value) c.loop-alloc.invariant in
+    let follows = followed_on config rows report c.loop-alloc.followed c.follow.new.self list c.loop-alloc.net c.follow.result a (sym c.is_err.ensures.value ∙ c.if-is_err.false) c.follow.ensures in
+    let comes = subst (λ (w : answers.Window). Comes config rows (a.told ++ list) (Ok w) c.loop-alloc.net c.step_and_put-step.new.net) c.in-Ok-Events.field-0-is
+    ((rw c.in-Ok-Events.is at c.step_and_put-step.ensures.comes) rows a.told a.behind) in
+    record { told = a.told ++ list; behind = comes.0; follows = follows }
+
+pub answered-requires-clause-count : goal.answered-requires-clause-count
+answered-requires-clause-count g c =
+    let config = c.args.config.now in
+    let rows = c.args.rows in
+    let report = c.args.report.now in
+    let list = c.as_slice-list.result.now in
+    let a = subst (λ (es : List Event). IsAfoot config rows report c.loop-alloc.followed es c.loop-alloc.net) (sym c.as_slice-list.ensures.value) c.loop-alloc.invariant in
+    let follows = followed_on config rows report c.loop-alloc.followed c.follow.new.self list c.loop-alloc.net c.follow.result a (sym c.is_err.ensures.value ∙ c.if-is_err.false) c.follow.ensures in
+    follows.tallied.count
 
 pub returns-in-Ok-Ended : goal.returns-in-Ok-Ended
 returns-in-Ok-Ended g c =
     let config = c.args.config.now in
     let rows = c.args.rows in
-    let level = level_fed g (goal.at.returns-in-Ok-Ended g c).After-feed in
-    let ended = subst (λ (w : answers.Window). Gives config rows level.windows level.told w c.step_and_put-step.new.net) c.in-Ok-Ended.field-0-is
-    ((rw c.in-Ok-Ended.is at c.step_and_put-step.ensures.gives) config rows level.windows level.told level.stands) in
-    let good = sym c.first_bad.ensures ∙ c.in_default.is in
-    record {
-      answer =
-          decided config rows c.args.report.now c.feed.new.self c.loop-comparison.net c.step_and_put-step.new.net level ended c.decide.result good
-          c.decide.ensures.last (c.decide.ensures.decided c.args.report.now (texts_of config level.told) level.compares);
-    }
+    let report = c.args.report.now in
+    let list = c.as_slice-list.result.now in
+    let a = subst (λ (es : List Event). IsAfoot config rows report c.loop-alloc.followed es c.loop-alloc.net) (sym c.as_slice-list.ensures.value) c.loop-alloc.invariant in
+    let follows = followed_on config rows report c.loop-alloc.followed c.follow.new.self list c.loop-alloc.net c.follow.result a (sym c.is_err.ensures.value ∙ c.if-is_err.false) c.follow.ensures in
+    let comes = subst (λ (w : answers.Window). Comes config rows (a.told ++ list) (Ok w) c.loop-alloc.net c.step_and_put-step.new.net) c.in-Ok-Ended.field-0-is
+    ((rw c.in-Ok-Ended.is at c.step_and_put-step.ensures.comes) rows a.told a.behind) in
+    let last = subst (λ (t : Totals). IsLine (text_of_totals t)) c.totals.ensures c.answered.ensures.last in
+    let found = subst (λ (t : Totals). IsDecided (texts_of config (a.told ++ list) ++ text_of_totals t ∷ []) report (sums_among config (a.told ++ list)) c.answered.result) c.totals.ensures
+    (c.answered.ensures.decided report (a.told ++ list) follows) in
+    record { answer = decided config rows report (a.told ++ list) c.step_and_put-step.new.net.totals c.requires.config comes c.answered.result last found }
 
 pub returns-in-Err-step : goal.returns-in-Err-step
 returns-in-Err-step g c =
     let config = c.args.config.now in
     let rows = c.args.rows in
-    let level = level_fed g (goal.at.returns-in-Err-step g c).After-feed in
-    let good = sym c.first_bad.ensures ∙ c.in_default.is in
-    let refuses = (rw c.in-Err-step.is at c.step_and_put-step.ensures.refuses) config rows level.windows level.told level.stands in
+    let report = c.args.report.now in
+    let list = c.as_slice-list.result.now in
+    let a = subst (λ (es : List Event). IsAfoot config rows report c.loop-alloc.followed es c.loop-alloc.net) (sym c.as_slice-list.ensures.value) c.loop-alloc.invariant in
+    let follows = followed_on config rows report c.loop-alloc.followed c.follow.new.self list c.loop-alloc.net c.follow.result a (sym c.is_err.ensures.value ∙ c.if-is_err.false) c.follow.ensures in
+    let comes = (rw c.in-Err-step.is at c.step_and_put-step.ensures.comes) rows a.told a.behind in
+    let error = subst (λ (e : AuditError). first_bad report ≡ None → IsAudit config rows report (Err e)) (sym c.error_of.ensures)
+    (λ good. refused config rows report (a.told ++ list) c.loop-alloc.net c.step_and_put-step.new.net c.in-Err-step.error good comes) in
     record {
       answer =
-          subst (λ (e : AuditError). IsAudit config rows c.args.report.now (Err e)) (sym c.error_of.ensures)
-          (refused config rows c.args.report.now c.feed.new.self c.loop-comparison.net c.step_and_put-step.new.net c.in-Err-step.error level good refuses);
+          subst (λ (e : AuditError). IsAudit config rows report (Err e)) (sym c.refusal-in-Err-step.ensures)
+          (bad_first config rows report (bad_ahead c.follow.new.self.comparison.ahead) c.error_of.result follows.compares.bad error);
     }

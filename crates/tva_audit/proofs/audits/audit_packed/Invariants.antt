@@ -1,14 +1,10 @@
-use Rattle.std.proofs.Common.{◌-◌, All}
-use Rattle.tva_node.specs.States.{KeepsEvents}
-use Rattle.tva_audit.proofs.Windowed.{IsBehind}
+use Rattle.std.proofs.Common.{◌-◌}
+use Rattle.tva_audit.proofs.Windowed.{IsAfoot}
 use Rattle.tva_audit.proofs.audits.audit_packed.Given as goal
 
--- the report is compared with the lines of what the network gave before the last window; and its nodes keep their events
-abbrev pub invariant-loop-comparison : goal.invariant-loop-comparison
-invariant-loop-comparison g l = record {
-  behind : IsBehind l.config l.fn.rows l.report l.comparison l.events.items l.net;
-  keeps : All (λ v. KeepsEvents v.keeps) l.net.work.nodes;
-}
+-- what the network gave before the last window is followed
+abbrev pub invariant-loop-alloc : goal.invariant-loop-alloc
+invariant-loop-alloc g l = IsAfoot l.config l.fn.rows l.report l.followed l.events.items l.net
 
-abbrev pub decreases-loop-comparison : goal.decreases-loop-comparison
-decreases-loop-comparison g l = l.net.limit - l.net.totals.events
+abbrev pub decreases-loop-alloc : goal.decreases-loop-alloc
+decreases-loop-alloc g l = l.net.limit - l.net.totals.events
