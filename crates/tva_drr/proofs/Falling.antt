@@ -1,17 +1,21 @@
 -- The measure of the bytes that may still go falls at each take by what is taken.
-use Rattle.std.proofs.Common.{◌≡◌, ℕ, suc, ◌+◌, ◌-◌, ◌*◌, ◌<◌, ◌≤◌, Bool, true, false, cond, eqb, List, [], ◌∷◌, ◌++◌, length, refl, sym, ap, ◌∙◌, subst, inl, inr, mul_assoc, arith}
+use Rattle.std.proofs.Common.{◌≡◌, ℕ, suc, ◌+◌, ◌-◌, ◌*◌, ◌<◌, ◌≤◌, Bool, true, false, cond, eqb, leb, Option, Some, None, List, [], ◌∷◌, ◌++◌, length, refl, sym, ap, ◌∙◌, subst, inl, inr, mul_assoc, arith}
 use Rattle.std.specs.Int.{div_ceil}
 use Rattle.std.specs.Bool.{MatchBool}
+use Rattle.std.specs.List.{AllByRecursion}
+use Rattle.std.specs.Option.{option_map}
 use Rattle.std.proofs.Math.Nat.{mul-le-mul_right, add-mul, mul-add, mul_comm}
 use Rattle.std.proofs.lemmas.Bool.Decides.{leb_tells}
+use Rattle.std.proofs.lemmas.List.{length-map, map_push}
 use Rattle.tva_base.specs.declared.limits.DrrLimits.{DrrLimits}
 use Rattle.tva_base.specs.Plan.{AreDrrLimits}
-use Rattle.tva_drr.specs.Queues.{Queue, queue, fair, has_key, items_of}
+use Rattle.tva_drr.specs.Queues.{Queue, queue, fair, has_key, items_of, first}
 use Rattle.tva_drr.specs.Offer.{put, lacks_queue, lacks_room, offer_leaves}
-use Rattle.tva_drr.specs.Take.{refilled, popped, front_settled, taken}
+use Rattle.tva_drr.specs.Take.{refilled, settled, popped, front_settled, taken}
 use Rattle.tva_drr.specs.Fair.{AreBehind, AreFair}
 use Rattle.tva_drr.specs.Service.{is_front, first_bytes, head_bytes, most_until}
-use Rattle.tva_drr.specs.Ahead.{quanta_before, deficit_of, other_deficits, place_of, bytes_ahead, IsLeft}
+use Rattle.tva_drr.specs.Turns.{Turn, turn, deficit_of, other_deficits, place_of, quanta_before, ahead}
+use Rattle.tva_drr.specs.Ahead.{turns_of, bytes_ahead, IsLeft}
 use Rattle.tva_drr.proofs.Lists.{by_key}
 use Rattle.tva_drr.proofs.OrderLaws.{items_of-settled-own}
 use Rattle.tva_drr.proofs.Ceil.{ceil_le, ceil_some, ceil_less}
@@ -43,155 +47,293 @@ offered_either false false f g P x y = y
 most_is : (k m q x : ℕ) → k * (m * q + x) ≡ (m * k) * q + k * x
 most_is k m q x = mul-add k (m * q) x ∙ ap (λ z. z + k * x) (sym (mul_assoc k m q) ∙ ap (λ z. z * q) (mul_comm k m))
 
+-- ## a ring of turns, whatever waits behind them
+
+-- the key has a turn
+abbrev pub has : ℕ → List Turn → Bool
+has key [] = false
+has key (t ∷ ts) = cond (eqb t.key key) true (has key ts)
+
+-- the front gets the quantum
+abbrev pub refill : ℕ → List Turn → List Turn
+refill quantum [] = []
+refill quantum (t ∷ ts) = turn t.key (t.deficit + quantum) ∷ ts
+
+-- a front leaves where nothing waits behind it, goes last where what it sends next is longer than its deficit, or stays
+abbrev pub settle : ℕ → Option ℕ → Turn → List Turn → List Turn
+settle quantum None t ts = refill quantum ts
+settle quantum (Some m) t ts = cond (leb (suc t.deficit) m) (refill quantum (ts ++ t ∷ [])) (t ∷ ts)
+
+-- a key without a turn goes last
+abbrev pub join : ℕ → ℕ → List Turn → List Turn
+join start key [] = turn key start ∷ []
+join start key (t ∷ ts) = cond (eqb t.key key) (t ∷ ts) (t ∷ join 0 key ts)
+
+-- ## a turn that goes last
+
+other-push : (key : ℕ) (ts : List Turn) (p : Turn) → other_deficits key (ts ++ p ∷ []) ≡ other_deficits key ts + cond (eqb p.key key) 0 p.deficit
+other-push key [] p = omega arith
+other-push key (t ∷ ts) p = omega (arith, other-push key ts p)
+
+place-push : (key : ℕ) (ts : List Turn) (p : Turn) → has key ts ≡ true → place_of key (ts ++ p ∷ []) ≡ place_of key ts
+place-push key [] p h = absurd (cc)
+place-push key (t ∷ ts) p h =
+    by_test (eqb t.key key) (λ b. cond b true (has key ts) ≡ true → cond b 0 (suc (place_of key (ts ++ p ∷ []))) ≡ cond b 0 (suc (place_of key ts)))
+    (λ e k. refl) (λ e k. ap suc (place-push key ts p k)) h
+
+pub deficit-push : (key : ℕ) (ts : List Turn) (p : Turn) → has key ts ≡ true → deficit_of key (ts ++ p ∷ []) ≡ deficit_of key ts
+deficit-push key [] p h = absurd (cc)
+deficit-push key (t ∷ ts) p h =
+    by_test (eqb t.key key) (λ b. cond b true (has key ts) ≡ true → cond b t.deficit (deficit_of key (ts ++ p ∷ [])) ≡ cond b t.deficit (deficit_of key ts))
+    (λ e k. refl) (λ e k. deficit-push key ts p k) h
+
+place-push-own : (key : ℕ) (ts : List Turn) (p : Turn) → has key ts ≡ false → p.key ≡ key → place_of key (ts ++ p ∷ []) ≡ length ts
+place-push-own key [] p h e = by_key p.key key (λ b. cond b 0 (suc 0) ≡ 0) (λ _. refl) (λ n. absurd (n e))
+place-push-own key (t ∷ ts) p h e =
+    by_test (eqb t.key key) (λ b. cond b true (has key ts) ≡ false → cond b 0 (suc (place_of key (ts ++ p ∷ []))) ≡ suc (length ts))
+    (λ _ k. absurd (cc)) (λ _ k. ap suc (place-push-own key ts p k e)) h
+
+pub deficit-push-own : (key : ℕ) (ts : List Turn) (p : Turn) → has key ts ≡ false → p.key ≡ key → deficit_of key (ts ++ p ∷ []) ≡ p.deficit
+deficit-push-own key [] p h e = by_key p.key key (λ b. cond b p.deficit 0 ≡ p.deficit) (λ _. refl) (λ n. absurd (n e))
+deficit-push-own key (t ∷ ts) p h e =
+    by_test (eqb t.key key) (λ b. cond b true (has key ts) ≡ false → cond b t.deficit (deficit_of key (ts ++ p ∷ [])) ≡ p.deficit)
+    (λ _ k. absurd (cc)) (λ _ k. deficit-push-own key ts p k e) h
+
+pub has-push : (key : ℕ) (ts : List Turn) (p : Turn) → has key ts ≡ true → has key (ts ++ p ∷ []) ≡ true
+has-push key [] p h = absurd (cc)
+has-push key (t ∷ ts) p h = by_test (eqb t.key key) (λ b. cond b true (has key ts) ≡ true → cond b true (has key (ts ++ p ∷ [])) ≡ true) (λ e k. refl) (λ e k. has-push key ts p k) h
+
+pub has-push-own : (key : ℕ) (ts : List Turn) (p : Turn) → p.key ≡ key → has key (ts ++ p ∷ []) ≡ true
+has-push-own key [] p e = by_key p.key key (λ b. cond b true false ≡ true) (λ _. refl) (λ n. absurd (n e))
+has-push-own key (t ∷ ts) p e = by_test (eqb t.key key) (λ b. cond b true (has key (ts ++ p ∷ [])) ≡ true) (λ _. refl) (λ _. has-push-own key ts p e)
+
+place_below : (key : ℕ) (ts : List Turn) → has key ts ≡ true → place_of key ts < length ts
+place_below key [] h = absurd (cc)
+place_below key (t ∷ ts) h =
+    by_test (eqb t.key key) (λ b. cond b true (has key ts) ≡ true → cond b 0 (suc (place_of key ts)) < suc (length ts))
+    (λ _ k. omega arith) (λ _ k. omega (arith, place_below key ts k)) h
+
+-- ## a front that is to get the quantum
+
+-- the measure where the front is still to get its quantum
+abbrev pub ahead_unfilled : DrrLimits → ℕ → ℕ → List Turn → ℕ
+ahead_unfilled l key r ts = other_deficits key ts + r + (place_of key ts + (div_ceil (r - deficit_of key ts) l.quantum - 1) * (l.queues - 1)) * l.quantum
+
+ahead-refill : (l : DrrLimits) (key r : ℕ) (ts : List Turn) → 1 ≤ l.quantum → has key ts ≡ true → ahead l key r (refill l.quantum ts) ≡ ahead_unfilled l key r ts
+ahead-refill l key r [] n h = absurd (cc)
+ahead-refill l key r (p ∷ ps) n h =
+    by_test (eqb p.key key) (λ b.
+    cond b 0 (p.deficit + l.quantum) + other_deficits key ps + r + quanta_before (l.queues - 1) (cond b 0 (suc (place_of key ps))) (div_ceil (r - cond b (p.deficit + l.quantum) (deficit_of key ps)) l.quantum) * l.quantum
+    ≡ cond b 0 p.deficit + other_deficits key ps + r + (cond b 0 (suc (place_of key ps)) + (div_ceil (r - cond b p.deficit (deficit_of key ps)) l.quantum - 1) * (l.queues - 1)) * l.quantum)
+    (λ _. ap (λ z. 0 + other_deficits key ps + r + (z * (l.queues - 1)) * l.quantum) (later_turns r p.deficit l.quantum n)
+    ∙ same_lap (0 + other_deficits key ps) r (div_ceil (r - p.deficit) l.quantum - 1) l.quantum (l.queues - 1))
+    (λ _. next_lap p.deficit (other_deficits key ps) r (place_of key ps) ((div_ceil (r - deficit_of key ps) l.quantum - 1) * (l.queues - 1)) l.quantum)
+
+-- ## a take
+
+-- a front that isn't the key's adds its deficit
+ahead_behind : (l : DrrLimits) (key r : ℕ) (p : Turn) (ps : List Turn) → (p.key ≡ key → ⊥) → ahead l key r (p ∷ ps) ≡ p.deficit + ahead_unfilled l key r ps
+ahead_behind l key r p ps n =
+    by_key p.key key (λ b.
+    cond b 0 p.deficit + other_deficits key ps + r + quanta_before (l.queues - 1) (cond b 0 (suc (place_of key ps))) (div_ceil (r - cond b p.deficit (deficit_of key ps)) l.quantum) * l.quantum
+    ≡ p.deficit + ahead_unfilled l key r ps)
+    (λ e. absurd (n e))
+    (λ _. omega arith)
+
+-- the key's own turn at the front
+ahead_own : (l : DrrLimits) (key r : ℕ) (p : Turn) (ps : List Turn) → p.key ≡ key → ahead l key r (p ∷ ps) ≡ other_deficits key ps + r + (div_ceil (r - p.deficit) l.quantum * (l.queues - 1)) * l.quantum
+ahead_own l key r p ps e =
+    by_key p.key key (λ b.
+    cond b 0 p.deficit + other_deficits key ps + r + quanta_before (l.queues - 1) (cond b 0 (suc (place_of key ps))) (div_ceil (r - cond b p.deficit (deficit_of key ps)) l.quantum) * l.quantum
+    ≡ other_deficits key ps + r + (div_ceil (r - p.deficit) l.quantum * (l.queues - 1)) * l.quantum)
+    (λ _. omega arith)
+    (λ n. absurd (n e))
+
+unfilled-push : (l : DrrLimits) (key r : ℕ) (ts : List Turn) (p : Turn) → (p.key ≡ key → ⊥) → has key ts ≡ true → ahead_unfilled l key r (ts ++ p ∷ []) ≡ p.deficit + ahead_unfilled l key r ts
+unfilled-push l key r ts p n h =
+    rw (place-push key ts p h, deficit-push key ts p h)
+    (let o : other_deficits key (ts ++ p ∷ []) ≡ other_deficits key ts + p.deficit = other-push key ts p ∙ by_key p.key key (λ b. other_deficits key ts + cond b 0 p.deficit ≡ other_deficits key ts + p.deficit) (λ e. absurd (n e)) (λ _. refl) in
+    omega (arith, o))
+
+unfilled-push-own : (l : DrrLimits) (key r : ℕ) (ts : List Turn) (p : Turn) → p.key ≡ key → has key ts ≡ false
+    → ahead_unfilled l key r (ts ++ p ∷ []) ≡ other_deficits key ts + r + (length ts + (div_ceil (r - p.deficit) l.quantum - 1) * (l.queues - 1)) * l.quantum
+unfilled-push-own l key r ts p e h =
+    rw (place-push-own key ts p h e, deficit-push-own key ts p h e)
+    (let o : other_deficits key (ts ++ p ∷ []) ≡ other_deficits key ts = other-push key ts p ∙ by_key p.key key (λ b. other_deficits key ts + cond b 0 p.deficit ≡ other_deficits key ts) (λ _. omega arith) (λ n. absurd (n e)) in
+    omega (arith, o))
+
+pub has-refill : (key quantum : ℕ) (ts : List Turn) → has key (refill quantum ts) ≡ has key ts
+has-refill key quantum [] = refl
+has-refill key quantum (t ∷ ts) = refl
+
+module _ (l : DrrLimits) where
+  -- a take of another's bytes
+  pub falls_other : (key r n : ℕ) (next : Option ℕ) (t : Turn) (ts : List Turn) → 1 ≤ l.quantum → (t.key ≡ key → ⊥) → has key ts ≡ true → n ≤ t.deficit
+      → ahead l key r (settle l.quantum next (turn t.key (t.deficit - n)) ts) + n ≤ ahead l key r (t ∷ ts)
+  falls_other key r n None t ts q m h c = omega (arith, ahead-refill l key r ts q h, ahead_behind l key r t ts m)
+  falls_other key r n (Some y) t ts q m h c =
+      let p : Turn = turn t.key (t.deficit - n) in
+      elim (leb_tells (suc (t.deficit - n)) y) [
+        | inl w ↦ subst (λ b. ahead l key r (cond b (refill l.quantum (ts ++ p ∷ [])) (p ∷ ts)) + n ≤ ahead l key r (t ∷ ts)) (sym w.0)
+            (omega (arith, ahead-refill l key r (ts ++ p ∷ []) q (has-push key ts p h), unfilled-push l key r ts p m h, ahead_behind l key r t ts m))
+        | inr w ↦ subst (λ b. ahead l key r (cond b (refill l.quantum (ts ++ p ∷ [])) (p ∷ ts)) + n ≤ ahead l key r (t ∷ ts)) (sym w.0)
+            (omega (arith, ahead_behind l key r p ts m, ahead_behind l key r t ts m))
+      ]
+
+  -- a take of its own, where what it sends next is among what is left
+  pub falls_own : (r left n : ℕ) (next : Option ℕ) (t : Turn) (ts : List Turn) → 1 ≤ l.quantum → has t.key ts ≡ false → length ts ≤ l.queues - 1 → n ≤ t.deficit → n + left ≡ r
+      → ((y : ℕ) → next ≡ Some y → y ≤ left) → has t.key (settle l.quantum next (turn t.key (t.deficit - n)) ts) ≡ true
+      → ahead l t.key left (settle l.quantum next (turn t.key (t.deficit - n)) ts) + n ≤ ahead l t.key r (t ∷ ts)
+  falls_own r left n None t ts q h w c s m k = absurd (let g = sym (has-refill t.key l.quantum ts) ∙ k in cc)
+  falls_own r left n (Some y) t ts q h w c s m k =
+      let p : Turn = turn t.key (t.deficit - n) in
+      let own = ahead_own l t.key r t ts refl in
+      let next : y ≤ left = m y refl in
+      let same : left - (t.deficit - n) ≡ r - t.deficit = omega arith in
+      elim (leb_tells (suc (t.deficit - n)) y) [
+        | inl z ↦ subst (λ b. ahead l t.key left (cond b (refill l.quantum (ts ++ p ∷ [])) (p ∷ ts)) + n ≤ ahead l t.key r (t ∷ ts)) (sym z.0)
+            (let a = ahead-refill l t.key left (ts ++ p ∷ []) q (has-push-own t.key ts p refl) in
+            let b = unfilled-push-own l t.key left ts p refl h in
+            let some : 1 ≤ div_ceil (r - t.deficit) l.quantum = ceil_some (r - t.deficit) l.quantum q (omega (arith, z.1)) in
+            let lap = round_le (length ts) (div_ceil (r - t.deficit) l.quantum) (l.queues - 1) l.quantum some w in
+            let turns = ap (λ z. (length ts + (div_ceil z l.quantum - 1) * (l.queues - 1)) * l.quantum) same in
+            omega (arith, a, b, lap, turns, own))
+        | inr z ↦ subst (λ b. ahead l t.key left (cond b (refill l.quantum (ts ++ p ∷ [])) (p ∷ ts)) + n ≤ ahead l t.key r (t ∷ ts)) (sym z.0)
+            (let a = ahead_own l t.key left p ts refl in
+            let turns = ap (λ z. (div_ceil z l.quantum * (l.queues - 1)) * l.quantum) same in
+            omega (arith, a, turns, own))
+      ]
+
+  -- what the front sends is ahead, where it is the key's own among what the key has yet to send
+  pub front_ahead : (key r n : ℕ) (t : Turn) (ts : List Turn) → n ≤ t.deficit → (t.key ≡ key → n ≤ r) → n ≤ ahead l key r (t ∷ ts)
+  front_ahead key r n t ts c h = by_key t.key key (λ _. n ≤ ahead l key r (t ∷ ts)) (λ e. omega (arith, h e)) (λ m. omega (arith, c, ahead_behind l key r t ts m))
+
+  -- a key that joins leaves the measure of one that is there
+  other-join : (key k : ℕ) (ts : List Turn) → other_deficits key (join 0 k ts) ≡ other_deficits key ts
+  other-join key k [] = by_test (eqb k key) (λ b. cond b 0 0 + 0 ≡ 0) (λ _. refl) (λ _. refl)
+  other-join key k (p ∷ ps) =
+      by_test (eqb p.key k) (λ b. other_deficits key (cond b (p ∷ ps) (p ∷ join 0 k ps)) ≡ other_deficits key (p ∷ ps))
+      (λ _. refl) (λ _. ap (λ z. cond (eqb p.key key) 0 p.deficit + z) (other-join key k ps))
+
+  pub place-join : (key start k : ℕ) (ts : List Turn) → has key ts ≡ true → (place_of key (join start k ts) ≡ place_of key ts) × (deficit_of key (join start k ts) ≡ deficit_of key ts)
+  place-join key start k [] h = absurd (cc)
+  place-join key start k (p ∷ ps) h =
+      by_test (eqb p.key k) (λ b. (place_of key (cond b (p ∷ ps) (p ∷ join 0 k ps)) ≡ place_of key (p ∷ ps)) × (deficit_of key (cond b (p ∷ ps) (p ∷ join 0 k ps)) ≡ deficit_of key (p ∷ ps)))
+      (λ _. (refl, refl))
+      (λ _. by_test (eqb p.key key) (λ b. cond b true (has key ps) ≡ true → (cond b 0 (suc (place_of key (join 0 k ps))) ≡ cond b 0 (suc (place_of key ps))) × (cond b p.deficit (deficit_of key (join 0 k ps)) ≡ cond b p.deficit (deficit_of key ps)))
+      (λ _ w. (refl, refl))
+      (λ _ w. let r = place-join key 0 k ps w in (ap suc r.0, r.1)) h)
+
+  other-join-front : (key start k : ℕ) (ts : List Turn) → has key ts ≡ true → other_deficits key (join start k ts) ≡ other_deficits key ts
+  other-join-front key start k [] h = absurd (cc)
+  other-join-front key start k (p ∷ ps) h =
+      by_test (eqb p.key k) (λ b. other_deficits key (cond b (p ∷ ps) (p ∷ join 0 k ps)) ≡ other_deficits key (p ∷ ps))
+      (λ _. refl) (λ _. ap (λ z. cond (eqb p.key key) 0 p.deficit + z) (other-join key k ps))
+
+  pub ahead-join : (key r start k : ℕ) (ts : List Turn) → has key ts ≡ true → ahead l key r (join start k ts) ≡ ahead l key r ts
+  ahead-join key r start k ts h = let p = place-join key start k ts h in rw (p.0, p.1, other-join-front key start k ts h) refl
+
+  -- ## the bound
+
+  -- deficits below the greatest length, the front's with a quantum more
+  abbrev pub Stand : List Turn → Type 0
+  Stand [] = Unit {0}
+  Stand (t ∷ ts) = (length ts + 1 ≤ l.queues) × (t.deficit < l.max + l.quantum) × AllByRecursion (λ (t : Turn). t.deficit < l.max) ts
+
+  other_all : (key : ℕ) (ts : List Turn) → AllByRecursion (λ (t : Turn). t.deficit < l.max) ts → other_deficits key ts ≤ length ts * l.max
+  other_all key [] b = omega arith
+  other_all key (p ∷ ps) b = by_test (eqb p.key key) (λ t. cond t 0 p.deficit + other_deficits key ps ≤ length (p ∷ ps) * l.max) (λ _. omega (arith, b.0, other_all key ps b.1, add-mul (length ps) 1 l.max)) (λ _. omega (arith, b.0, other_all key ps b.1, add-mul (length ps) 1 l.max))
+
+  other_some : (key : ℕ) (ts : List Turn) → AllByRecursion (λ (t : Turn). t.deficit < l.max) ts → has key ts ≡ true → other_deficits key ts + l.max ≤ length ts * l.max
+  other_some key [] b h = absurd (cc)
+  other_some key (p ∷ ps) b h =
+      by_test (eqb p.key key) (λ t. cond t true (has key ps) ≡ true → cond t 0 p.deficit + other_deficits key ps + l.max ≤ length (p ∷ ps) * l.max)
+      (λ _ w. omega (arith, other_all key ps b.1, add-mul (length ps) 1 l.max))
+      (λ _ w. omega (arith, b.0, other_some key ps b.1 w, add-mul (length ps) 1 l.max)) h
+
+  most_own : (key r : ℕ) (t : Turn) (ts : List Turn) → 1 ≤ l.quantum → Stand (t ∷ ts) → t.key ≡ key → ahead l key r (t ∷ ts) ≤ most_until l r
+  most_own key r q qs n f e =
+      let a = ahead_own l key r q qs e in
+      let o = other_all key qs f.2 in
+      let w : length qs * l.max ≤ (l.queues - 1) * l.max = mul-le-mul_right l.max (omega (arith, f.0)) in
+      let t : (div_ceil (r - q.deficit) l.quantum * (l.queues - 1)) * l.quantum ≤ (div_ceil r l.quantum * (l.queues - 1)) * l.quantum = mul-le-mul_right l.quantum (mul-le-mul_right (l.queues - 1) (ceil_le (r - q.deficit) r l.quantum n (omega arith))) in
+      omega (arith, a, o, w, t, most_is (l.queues - 1) (div_ceil r l.quantum) l.quantum l.max)
+
+  most_other : (key r : ℕ) (t : Turn) (ts : List Turn) → 1 ≤ l.quantum → Stand (t ∷ ts) → (t.key ≡ key → ⊥) → has key ts ≡ true → 1 ≤ r → ahead l key r (t ∷ ts) ≤ most_until l r
+  most_other key r q qs n f e h s =
+      let a = ahead_behind l key r q qs e in
+      let o = other_some key qs f.2 h in
+      let w : length qs * l.max ≤ (l.queues - 1) * l.max = mul-le-mul_right l.max (omega (arith, f.0)) in
+      let p = place_below key qs h in
+      let m : 1 ≤ div_ceil r l.quantum = ceil_some r l.quantum n s in
+      let y : div_ceil (r - deficit_of key qs) l.quantum - 1 ≤ div_ceil r l.quantum - 1 = omega (arith, ceil_le (r - deficit_of key qs) r l.quantum n (omega arith)) in
+      let z = mul-le-mul_right (l.queues - 1) y in
+      let u : (suc (place_of key qs) + (div_ceil (r - deficit_of key qs) l.quantum - 1) * (l.queues - 1)) * l.quantum ≤ (suc (place_of key qs) + (div_ceil r l.quantum - 1) * (l.queues - 1)) * l.quantum = mul-le-mul_right l.quantum (omega (arith, z)) in
+      let t = round_le (suc (place_of key qs)) (div_ceil r l.quantum) (l.queues - 1) l.quantum m (omega (arith, f.0, p)) in
+      let x = next_lap 0 0 0 (place_of key qs) ((div_ceil (r - deficit_of key qs) l.quantum - 1) * (l.queues - 1)) l.quantum in
+      omega (arith, a, o, w, u, t, x, f.1, most_is (l.queues - 1) (div_ceil r l.quantum) l.quantum l.max)
+
+  pub most : (key r : ℕ) (ts : List Turn) → 1 ≤ l.quantum → Stand ts → has key ts ≡ true → 1 ≤ r → ahead l key r ts ≤ most_until l r
+  most key r [] n f h s = absurd (cc)
+  most key r (t ∷ ts) n f h s =
+      by_key t.key key (λ b. (eqb t.key key ≡ b) → ahead l key r (t ∷ ts) ≤ most_until l r)
+      (λ e _. most_own key r t ts n f e)
+      (λ m t'. most_other key r t ts n f m (subst (λ b. cond b true (has key ts) ≡ true) t' h) s)
+      refl
+
+-- ## queues
+
 module _ {T : Type 0} where
-  -- ## a queue that goes last
+  pub has-turns : (key : ℕ) (qs : List (Queue T)) → has key (turns_of qs) ≡ has_key key qs
+  has-turns key [] = refl
+  has-turns key (q ∷ qs) = ap (λ z. cond (eqb q.key key) true z) (has-turns key qs)
 
-  other-push : (key : ℕ) (qs : List (Queue T)) (p : Queue T) → other_deficits key (qs ++ p ∷ []) ≡ other_deficits key qs + cond (eqb p.key key) 0 p.deficit
-  other-push key [] p = omega arith
-  other-push key (q ∷ qs) p = omega (arith, other-push key qs p)
+  turns-refilled : (quantum : ℕ) (qs : List (Queue T)) → turns_of (refilled quantum qs) ≡ refill quantum (turns_of qs)
+  turns-refilled quantum [] = refl
+  turns-refilled quantum (q ∷ qs) = refl
 
-  place-push : (key : ℕ) (qs : List (Queue T)) (p : Queue T) → has_key key qs ≡ true → place_of key (qs ++ p ∷ []) ≡ place_of key qs
-  place-push key [] p h = absurd (cc)
-  place-push key (q ∷ qs) p h =
-      by_test (eqb q.key key) (λ b. cond b true (has_key key qs) ≡ true → cond b 0 (suc (place_of key (qs ++ p ∷ []))) ≡ cond b 0 (suc (place_of key qs)))
-      (λ e k. refl) (λ e k. ap suc (place-push key qs p k)) h
-
-  pub deficit-push : (key : ℕ) (qs : List (Queue T)) (p : Queue T) → has_key key qs ≡ true → deficit_of key (qs ++ p ∷ []) ≡ deficit_of key qs
-  deficit-push key [] p h = absurd (cc)
-  deficit-push key (q ∷ qs) p h =
-      by_test (eqb q.key key) (λ b. cond b true (has_key key qs) ≡ true → cond b q.deficit (deficit_of key (qs ++ p ∷ [])) ≡ cond b q.deficit (deficit_of key qs))
-      (λ e k. refl) (λ e k. deficit-push key qs p k) h
-
-  place-push-own : (key : ℕ) (qs : List (Queue T)) (p : Queue T) → has_key key qs ≡ false → p.key ≡ key → place_of key (qs ++ p ∷ []) ≡ length qs
-  place-push-own key [] p h e = by_key p.key key (λ b. cond b 0 (suc 0) ≡ 0) (λ _. refl) (λ n. absurd (n e))
-  place-push-own key (q ∷ qs) p h e =
-      by_test (eqb q.key key) (λ b. cond b true (has_key key qs) ≡ false → cond b 0 (suc (place_of key (qs ++ p ∷ []))) ≡ suc (length qs))
-      (λ _ k. absurd (cc)) (λ _ k. ap suc (place-push-own key qs p k e)) h
-
-  pub deficit-push-own : (key : ℕ) (qs : List (Queue T)) (p : Queue T) → has_key key qs ≡ false → p.key ≡ key → deficit_of key (qs ++ p ∷ []) ≡ p.deficit
-  deficit-push-own key [] p h e = by_key p.key key (λ b. cond b p.deficit 0 ≡ p.deficit) (λ _. refl) (λ n. absurd (n e))
-  deficit-push-own key (q ∷ qs) p h e =
-      by_test (eqb q.key key) (λ b. cond b true (has_key key qs) ≡ false → cond b q.deficit (deficit_of key (qs ++ p ∷ [])) ≡ p.deficit)
-      (λ _ k. absurd (cc)) (λ _ k. deficit-push-own key qs p k e) h
-
-  pub has-push : (key : ℕ) (qs : List (Queue T)) (p : Queue T) → has_key key qs ≡ true → has_key key (qs ++ p ∷ []) ≡ true
-  has-push key [] p h = absurd (cc)
-  has-push key (q ∷ qs) p h = by_test (eqb q.key key) (λ b. cond b true (has_key key qs) ≡ true → cond b true (has_key key (qs ++ p ∷ [])) ≡ true) (λ e k. refl) (λ e k. has-push key qs p k) h
-
-  pub has-push-own : (key : ℕ) (qs : List (Queue T)) (p : Queue T) → p.key ≡ key → has_key key (qs ++ p ∷ []) ≡ true
-  has-push-own key [] p e = by_key p.key key (λ b. cond b true false ≡ true) (λ _. refl) (λ n. absurd (n e))
-  has-push-own key (q ∷ qs) p e = by_test (eqb q.key key) (λ b. cond b true (has_key key (qs ++ p ∷ [])) ≡ true) (λ _. refl) (λ _. has-push-own key qs p e)
-
-  place_below : (key : ℕ) (qs : List (Queue T)) → has_key key qs ≡ true → place_of key qs < length qs
-  place_below key [] h = absurd (cc)
-  place_below key (q ∷ qs) h =
-      by_test (eqb q.key key) (λ b. cond b true (has_key key qs) ≡ true → cond b 0 (suc (place_of key qs)) < suc (length qs))
-      (λ _ k. omega arith) (λ _ k. omega (arith, place_below key qs k)) h
-
-  -- ## a front that is to get the quantum
-
-  -- the measure where the front is still to get its quantum
-  abbrev pub ahead_unfilled : DrrLimits → ℕ → ℕ → List (Queue T) → ℕ
-  ahead_unfilled l key r qs = other_deficits key qs + r + (place_of key qs + (div_ceil (r - deficit_of key qs) l.quantum - 1) * (l.queues - 1)) * l.quantum
-
-  ahead-refilled : (l : DrrLimits) (key r : ℕ) (qs : List (Queue T)) → 1 ≤ l.quantum → has_key key qs ≡ true → bytes_ahead l key r (refilled l.quantum qs) ≡ ahead_unfilled l key r qs
-  ahead-refilled l key r [] n h = absurd (cc)
-  ahead-refilled l key r (p ∷ ps) n h =
-      by_test (eqb p.key key) (λ b.
-      cond b 0 (p.deficit + l.quantum) + other_deficits key ps + r + quanta_before (l.queues - 1) (cond b 0 (suc (place_of key ps))) (div_ceil (r - cond b (p.deficit + l.quantum) (deficit_of key ps)) l.quantum) * l.quantum
-      ≡ cond b 0 p.deficit + other_deficits key ps + r + (cond b 0 (suc (place_of key ps)) + (div_ceil (r - cond b p.deficit (deficit_of key ps)) l.quantum - 1) * (l.queues - 1)) * l.quantum)
-      (λ _. ap (λ z. 0 + other_deficits key ps + r + (z * (l.queues - 1)) * l.quantum) (later_turns r p.deficit l.quantum n)
-      ∙ same_lap (0 + other_deficits key ps) r (div_ceil (r - p.deficit) l.quantum - 1) l.quantum (l.queues - 1))
-      (λ _. next_lap p.deficit (other_deficits key ps) r (place_of key ps) ((div_ceil (r - deficit_of key ps) l.quantum - 1) * (l.queues - 1)) l.quantum)
-
-  -- ## a take
-
-  -- a front that isn't the key's adds its deficit
-  ahead_behind : (l : DrrLimits) (key r : ℕ) (p : Queue T) (ps : List (Queue T)) → (p.key ≡ key → ⊥) → bytes_ahead l key r (p ∷ ps) ≡ p.deficit + ahead_unfilled l key r ps
-  ahead_behind l key r p ps n =
-      by_key p.key key (λ b.
-      cond b 0 p.deficit + other_deficits key ps + r + quanta_before (l.queues - 1) (cond b 0 (suc (place_of key ps))) (div_ceil (r - cond b p.deficit (deficit_of key ps)) l.quantum) * l.quantum
-      ≡ p.deficit + ahead_unfilled l key r ps)
-      (λ e. absurd (n e))
-      (λ _. omega arith)
-
-  -- the key's own queue at the front
-  ahead_own : (l : DrrLimits) (key r : ℕ) (p : Queue T) (ps : List (Queue T)) → p.key ≡ key → bytes_ahead l key r (p ∷ ps) ≡ other_deficits key ps + r + (div_ceil (r - p.deficit) l.quantum * (l.queues - 1)) * l.quantum
-  ahead_own l key r p ps e =
-      by_key p.key key (λ b.
-      cond b 0 p.deficit + other_deficits key ps + r + quanta_before (l.queues - 1) (cond b 0 (suc (place_of key ps))) (div_ceil (r - cond b p.deficit (deficit_of key ps)) l.quantum) * l.quantum
-      ≡ other_deficits key ps + r + (div_ceil (r - p.deficit) l.quantum * (l.queues - 1)) * l.quantum)
-      (λ _. omega arith)
-      (λ n. absurd (n e))
-
-  unfilled-push : (l : DrrLimits) (key r : ℕ) (qs : List (Queue T)) (p : Queue T) → (p.key ≡ key → ⊥) → has_key key qs ≡ true → ahead_unfilled l key r (qs ++ p ∷ []) ≡ p.deficit + ahead_unfilled l key r qs
-  unfilled-push l key r qs p n h =
-      rw (place-push key qs p h, deficit-push key qs p h)
-      (let o : other_deficits key (qs ++ p ∷ []) ≡ other_deficits key qs + p.deficit = other-push key qs p ∙ by_key p.key key (λ b. other_deficits key qs + cond b 0 p.deficit ≡ other_deficits key qs + p.deficit) (λ e. absurd (n e)) (λ _. refl) in
-      omega (arith, o))
-
-  unfilled-push-own : (l : DrrLimits) (key r : ℕ) (qs : List (Queue T)) (p : Queue T) → p.key ≡ key → has_key key qs ≡ false
-      → ahead_unfilled l key r (qs ++ p ∷ []) ≡ other_deficits key qs + r + (length qs + (div_ceil (r - p.deficit) l.quantum - 1) * (l.queues - 1)) * l.quantum
-  unfilled-push-own l key r qs p e h =
-      rw (place-push-own key qs p h e, deficit-push-own key qs p h e)
-      (let o : other_deficits key (qs ++ p ∷ []) ≡ other_deficits key qs = other-push key qs p ∙ by_key p.key key (λ b. other_deficits key qs + cond b 0 p.deficit ≡ other_deficits key qs) (λ _. omega arith) (λ n. absurd (n e)) in
-      omega (arith, o))
+  pub turns-put : (start key : ℕ) (x : T) (qs : List (Queue T)) → turns_of (put start key x qs) ≡ join start key (turns_of qs)
+  turns-put start key x [] = refl
+  turns-put start key x (q ∷ qs) =
+      by_test (eqb q.key key) (λ b. turns_of (cond b (queue q.key q.deficit (q.items ++ x ∷ []) ∷ qs) (q ∷ put 0 key x qs)) ≡ cond b (turns_of (q ∷ qs)) (turn q.key q.deficit ∷ join 0 key (turns_of qs)))
+      (λ _. refl) (λ _. ap (λ z. turn q.key q.deficit ∷ z) (turns-put 0 key x qs))
 
   module _ (measure : T → ℕ) (l : DrrLimits) where
-    served_other : (key r k d : ℕ) (xs : List T) (rest : List (Queue T)) → 1 ≤ l.quantum → (k ≡ key → ⊥) → has_key key rest ≡ true → first_bytes measure xs ≤ d
-        → bytes_ahead l key r (front_settled measure l.quantum (popped measure k d xs ∷ rest)) + first_bytes measure xs ≤ d + ahead_unfilled l key r rest
-    served_other key r k d [] rest q n h c = omega (arith, ahead-refilled l key r rest q h)
-    served_other key r k d (x ∷ []) rest q n h c = omega (arith, ahead-refilled l key r rest q h)
-    served_other key r k d (x ∷ (y ∷ ys)) rest q n h c =
-        let p : Queue T = queue k (d - measure x) (y ∷ ys) in
-        elim (leb_tells (suc (d - measure x)) (measure y)) [
-          | inl t ↦ subst (λ b. bytes_ahead l key r (cond b (refilled l.quantum (rest ++ p ∷ [])) (p ∷ rest)) + measure x ≤ d + ahead_unfilled l key r rest) (sym t.0)
-              (omega (arith, ahead-refilled l key r (rest ++ p ∷ []) q (has-push key rest p h), unfilled-push l key r rest p n h))
-          | inr t ↦ subst (λ b. bytes_ahead l key r (cond b (refilled l.quantum (rest ++ p ∷ [])) (p ∷ rest)) + measure x ≤ d + ahead_unfilled l key r rest) (sym t.0)
-              (omega (arith, ahead_behind l key r p rest n))
-        ]
+    turns-settled : (k d : ℕ) (xs : List T) (qs : List (Queue T)) → turns_of (settled measure l.quantum k d xs qs) ≡ settle l.quantum (option_map measure (first xs)) (turn k d) (turns_of qs)
+    turns-settled k d [] qs = turns-refilled l.quantum qs
+    turns-settled k d (x ∷ xs) qs =
+        let p : Queue T = queue k d (x ∷ xs) in
+        by_test (leb (suc d) (measure x)) (λ b. turns_of (cond b (refilled l.quantum (qs ++ p ∷ [])) (p ∷ qs)) ≡ cond b (refill l.quantum (turns_of qs ++ turn k d ∷ [])) (turn k d ∷ turns_of qs))
+        (λ _. turns-refilled l.quantum (qs ++ p ∷ []) ∙ ap (λ z. refill l.quantum z) (map_push (λ (q : Queue T). turn q.key q.deficit) qs p)) (λ _. refl)
 
-    served_own : (key r left k d : ℕ) (x y : T) (ys : List T) (rest : List (Queue T)) → 1 ≤ l.quantum → k ≡ key → has_key key rest ≡ false → length rest ≤ l.queues - 1 → measure x ≤ d → measure x + left ≡ r → measure y ≤ left
-        → bytes_ahead l key left (front_settled measure l.quantum (popped measure k d (x ∷ (y ∷ ys)) ∷ rest)) + measure x ≤ other_deficits key rest + r + (div_ceil (r - d) l.quantum * (l.queues - 1)) * l.quantum
-    served_own key r left k d x y ys rest q e h w c s m =
-        let p : Queue T = queue k (d - measure x) (y ∷ ys) in
-        let same : left - (d - measure x) ≡ r - d = omega arith in
-        elim (leb_tells (suc (d - measure x)) (measure y)) [
-          | inl t ↦ subst (λ b. bytes_ahead l key left (cond b (refilled l.quantum (rest ++ p ∷ [])) (p ∷ rest)) + measure x ≤ other_deficits key rest + r + (div_ceil (r - d) l.quantum * (l.queues - 1)) * l.quantum) (sym t.0)
-              (let a = ahead-refilled l key left (rest ++ p ∷ []) q (has-push-own key rest p e) in
-              let b = unfilled-push-own l key left rest p e h in
-              let some : 1 ≤ div_ceil (r - d) l.quantum = ceil_some (r - d) l.quantum q (omega (arith, t.1)) in
-              let lap = round_le (length rest) (div_ceil (r - d) l.quantum) (l.queues - 1) l.quantum some w in
-              let turns = ap (λ z. (length rest + (div_ceil z l.quantum - 1) * (l.queues - 1)) * l.quantum) same in
-              omega (arith, a, b, lap, turns))
-          | inr t ↦ subst (λ b. bytes_ahead l key left (cond b (refilled l.quantum (rest ++ p ∷ [])) (p ∷ rest)) + measure x ≤ other_deficits key rest + r + (div_ceil (r - d) l.quantum * (l.queues - 1)) * l.quantum) (sym t.0)
-              (let a = ahead_own l key left p rest e in
-              let turns = ap (λ z. (div_ceil z l.quantum * (l.queues - 1)) * l.quantum) same in
-              omega (arith, a, turns))
-        ]
+    -- the length of what a front sends next, after its take
+    abbrev pub later : List T → Option ℕ
+    later [] = None
+    later (x ∷ xs) = option_map measure (first xs)
 
-    -- a front that is settled without items leaves no queue of its key
-    pub has-refilled : (key quantum : ℕ) (qs : List (Queue T)) → has_key key (refilled quantum qs) ≡ has_key key qs
-    has-refilled key quantum [] = refl
-    has-refilled key quantum (p ∷ ps) = refl
-
-    falls_own : (key r left k d : ℕ) (xs : List T) (rest : List (Queue T)) → AreDrrLimits l → AreFair measure l (queue k d xs ∷ rest) → k ≡ key → first_bytes measure xs + left ≡ r
-        → has_key key (front_settled measure l.quantum (popped measure k d xs ∷ rest)) ≡ true → first_bytes measure (items_of key (front_settled measure l.quantum (popped measure k d xs ∷ rest))) ≤ left
-        → bytes_ahead l key left (front_settled measure l.quantum (popped measure k d xs ∷ rest)) + first_bytes measure xs ≤ bytes_ahead l key r (queue k d xs ∷ rest)
-    falls_own key r left k d [] rest v f e s h m = absurd (omega (arith, f.each.0.filled))
-    falls_own key r left k d (x ∷ []) rest v f e s h m =
-        let n : has_key key rest ≡ false = subst (λ z. has_key z rest ≡ false) e f.each.1 in
-        absurd (let g = sym (has-refilled key l.quantum rest) ∙ h in cc)
-    falls_own key r left k d (x ∷ (y ∷ ys)) rest v f e s h m =
-        let n : has_key key rest ≡ false = subst (λ z. has_key z rest ≡ false) e f.each.1 in
-        let i : items_of key (front_settled measure l.quantum (popped measure k d (x ∷ (y ∷ ys)) ∷ rest)) ≡ y ∷ ys =
-        subst (λ z. items_of z (front_settled measure l.quantum (popped measure k d (x ∷ (y ∷ ys)) ∷ rest)) ≡ y ∷ ys) e (items_of-settled-own measure l.quantum k (d - measure x) (y ∷ ys) rest f.each.1) in
-        let first : measure y ≤ left = subst (λ zs. first_bytes measure zs ≤ left) i m in
-        omega (arith, served_own key r left k d x y ys rest (omega (arith, v.quantum, v.max)) e n (omega (arith, f.few)) f.turn.0 s first, ahead_own l key r (queue k d (x ∷ (y ∷ ys))) rest e)
+    pub turns-taken : (k d : ℕ) (xs : List T) (qs : List (Queue T)) → turns_of (front_settled measure l.quantum (popped measure k d xs ∷ qs)) ≡ settle l.quantum (later xs) (turn k (d - first_bytes measure xs)) (turns_of qs)
+    turns-taken k d [] qs = turns-refilled l.quantum qs
+    turns-taken k d (x ∷ xs) qs = turns-settled k (d - measure x) xs qs
 
     pub first_covered : (k d : ℕ) (xs : List T) (rest : List (Queue T)) → AreFair measure l (queue k d xs ∷ rest) → first_bytes measure xs ≤ d
     first_covered k d [] rest f = omega arith
     first_covered k d (x ∷ xs) rest f = f.turn.0
+
+    first_left : (xs : List T) (y left : ℕ) → option_map measure (first xs) ≡ Some y → first_bytes measure xs ≤ left → y ≤ left
+    first_left [] y left e h = absurd (cc)
+    first_left (x ∷ xs) y left e h = let s : measure x ≡ y = cc in omega (arith, h, s)
+
+    taken_own : (r left k d : ℕ) (xs : List T) (rest : List (Queue T)) → AreDrrLimits l → AreFair measure l (queue k d xs ∷ rest) → first_bytes measure xs + left ≡ r
+        → has_key k (front_settled measure l.quantum (popped measure k d xs ∷ rest)) ≡ true → first_bytes measure (items_of k (front_settled measure l.quantum (popped measure k d xs ∷ rest))) ≤ left
+        → bytes_ahead l k left (front_settled measure l.quantum (popped measure k d xs ∷ rest)) + first_bytes measure xs ≤ bytes_ahead l k r (queue k d xs ∷ rest)
+    taken_own r left k d [] rest v f s h m = absurd (omega (arith, f.each.0.filled))
+    taken_own r left k d (x ∷ xs) rest v f s h m =
+        let new : List (Queue T) = settled measure l.quantum k (d - measure x) xs rest in
+        let e = turns-settled k (d - measure x) xs rest in
+        let within : first_bytes measure xs ≤ left = subst (λ zs. first_bytes measure zs ≤ left) (items_of-settled-own measure l.quantum k (d - measure x) xs rest f.each.1) m in
+        subst (λ z. ahead l k left z + measure x ≤ bytes_ahead l k r (queue k d (x ∷ xs) ∷ rest)) (sym e)
+        (falls_own l r left (measure x) (option_map measure (first xs)) (turn k d) (turns_of rest) (omega (arith, v.quantum, v.max)) (has-turns k rest ∙ f.each.1)
+        (omega (arith, f.few, length-map rest (λ (q : Queue T). turn q.key q.deficit))) f.turn.0 s (λ y g. first_left xs y left g within) (subst (λ z. has k z ≡ true) e (has-turns k new ∙ h)))
 
     -- a take
     pub taken_falls : (key r left : ℕ) (qs : List (Queue T)) → AreDrrLimits l → AreFair measure l qs → has_key key qs ≡ true → has_key key (taken measure l.quantum qs) ≡ true → IsLeft measure l key r left qs
@@ -200,97 +342,36 @@ module _ {T : Type 0} where
     taken_falls key r left (q ∷ qs) v f h w m =
         by_key q.key key (λ b. (eqb q.key key ≡ b) → MatchBool b ((head_bytes measure (q ∷ qs) + left ≡ r) × (first_bytes measure (items_of key (taken measure l.quantum (q ∷ qs))) ≤ left)) (left ≡ r)
         → bytes_ahead l key left (taken measure l.quantum (q ∷ qs)) + head_bytes measure (q ∷ qs) ≤ bytes_ahead l key r (q ∷ qs))
-        (λ e _ k. falls_own key r left q.key q.deficit q.items qs v f e k.0 w k.1)
+        (λ e _ k. subst (λ z. has_key z (taken measure l.quantum (q ∷ qs)) ≡ true → first_bytes measure (items_of z (taken measure l.quantum (q ∷ qs))) ≤ left
+        → bytes_ahead l z left (taken measure l.quantum (q ∷ qs)) + head_bytes measure (q ∷ qs) ≤ bytes_ahead l z r (q ∷ qs)) e (λ a b. taken_own r left q.key q.deficit q.items qs v f k.0 a b) w k.1)
         (λ n t k.
         let there : has_key key qs ≡ true = subst (λ b. cond b true (has_key key qs) ≡ true) t h in
-        omega (arith, ahead_behind l key r q qs n, served_other key left q.key q.deficit q.items qs (omega (arith, v.quantum, v.max)) n there (first_covered q.key q.deficit q.items qs f), ap (λ z. ahead_unfilled l key z qs) k))
+        subst (λ z. ahead l key left z + head_bytes measure (q ∷ qs) ≤ bytes_ahead l key r (q ∷ qs)) (sym (turns-taken q.key q.deficit q.items qs))
+        (subst (λ z. ahead l key z (settle l.quantum (later q.items) (turn q.key (q.deficit - first_bytes measure q.items)) (turns_of qs)) + head_bytes measure (q ∷ qs) ≤ bytes_ahead l key r (q ∷ qs)) (sym k)
+        (falls_other l key r (head_bytes measure (q ∷ qs)) (later q.items) (turn q.key q.deficit) (turns_of qs) (omega (arith, v.quantum, v.max)) n (has-turns key qs ∙ there) (first_covered q.key q.deficit q.items qs f))))
         refl m
-
-    -- ## an offer
-
-    other-put : (key k : ℕ) (x : T) (qs : List (Queue T)) → other_deficits key (put 0 k x qs) ≡ other_deficits key qs
-    other-put key k x [] = by_test (eqb k key) (λ b. cond b 0 0 + 0 ≡ 0) (λ _. refl) (λ _. refl)
-    other-put key k x (p ∷ ps) =
-        by_test (eqb p.key k) (λ b. other_deficits key (cond b (queue p.key p.deficit (p.items ++ x ∷ []) ∷ ps) (p ∷ put 0 k x ps)) ≡ other_deficits key (p ∷ ps))
-        (λ _. refl) (λ _. ap (λ z. cond (eqb p.key key) 0 p.deficit + z) (other-put key k x ps))
-
-    pub place-put : (key start k : ℕ) (x : T) (qs : List (Queue T)) → has_key key qs ≡ true → (place_of key (put start k x qs) ≡ place_of key qs) × (deficit_of key (put start k x qs) ≡ deficit_of key qs)
-    place-put key start k x [] h = absurd (cc)
-    place-put key start k x (p ∷ ps) h =
-        by_test (eqb p.key k) (λ b. (place_of key (cond b (queue p.key p.deficit (p.items ++ x ∷ []) ∷ ps) (p ∷ put 0 k x ps)) ≡ place_of key (p ∷ ps)) × (deficit_of key (cond b (queue p.key p.deficit (p.items ++ x ∷ []) ∷ ps) (p ∷ put 0 k x ps)) ≡ deficit_of key (p ∷ ps)))
-        (λ _. (refl, refl))
-        (λ _. by_test (eqb p.key key) (λ b. cond b true (has_key key ps) ≡ true → (cond b 0 (suc (place_of key (put 0 k x ps))) ≡ cond b 0 (suc (place_of key ps))) × (cond b p.deficit (deficit_of key (put 0 k x ps)) ≡ cond b p.deficit (deficit_of key ps)))
-        (λ _ w. (refl, refl))
-        (λ _ w. let r = place-put key 0 k x ps w in (ap suc r.0, r.1)) h)
-
-    other-put-front : (key start k : ℕ) (x : T) (qs : List (Queue T)) → has_key key qs ≡ true → other_deficits key (put start k x qs) ≡ other_deficits key qs
-    other-put-front key start k x [] h = absurd (cc)
-    other-put-front key start k x (p ∷ ps) h =
-        by_test (eqb p.key k) (λ b. other_deficits key (cond b (queue p.key p.deficit (p.items ++ x ∷ []) ∷ ps) (p ∷ put 0 k x ps)) ≡ other_deficits key (p ∷ ps))
-        (λ _. refl) (λ _. ap (λ z. cond (eqb p.key key) 0 p.deficit + z) (other-put key k x ps))
 
     -- an item that is put leaves the measure
     pub ahead-put : (key r start k : ℕ) (x : T) (qs : List (Queue T)) → has_key key qs ≡ true → bytes_ahead l key r (put start k x qs) ≡ bytes_ahead l key r qs
-    ahead-put key r start k x qs h =
-        let p = place-put key start k x qs h in
-        ap (λ z. z + r + quanta_before (l.queues - 1) (place_of key (put start k x qs)) (div_ceil (r - deficit_of key (put start k x qs)) l.quantum) * l.quantum) (other-put-front key start k x qs h)
-        ∙ (ap (λ z. other_deficits key qs + r + quanta_before (l.queues - 1) z (div_ceil (r - deficit_of key (put start k x qs)) l.quantum) * l.quantum) p.0
-        ∙ ap (λ z. other_deficits key qs + r + quanta_before (l.queues - 1) (place_of key qs) (div_ceil (r - z) l.quantum) * l.quantum) p.1)
+    ahead-put key r start k x qs h = ap (λ z. ahead l key r z) (turns-put start k x qs) ∙ ahead-join l key r start k (turns_of qs) (has-turns key qs ∙ h)
 
     pub ahead-offer : (key r k : ℕ) (x : T) (qs : List (Queue T)) → has_key key qs ≡ true → bytes_ahead l key r (offer_leaves measure (fair l qs) k x).queues ≡ bytes_ahead l key r qs
     ahead-offer key r k x qs h = offered_either (lacks_queue (fair l qs) k) (lacks_room measure (fair l qs) k x) (fair l qs) (fair l (put l.quantum k x qs)) (λ g. bytes_ahead l key r g.queues ≡ bytes_ahead l key r qs) refl (ahead-put key r l.quantum k x qs h)
 
-    -- ## the bound
+    behind_turns : (qs : List (Queue T)) → AreBehind measure l qs → AllByRecursion (λ (t : Turn). t.deficit < l.max) (turns_of qs)
+    behind_turns [] b = tt
+    behind_turns (q ∷ qs) b = (b.0, behind_turns qs b.1)
 
-    other_all : (key : ℕ) (qs : List (Queue T)) → AreBehind measure l qs → other_deficits key qs ≤ length qs * l.max
-    other_all key [] b = omega arith
-    other_all key (p ∷ ps) b = by_test (eqb p.key key) (λ t. cond t 0 p.deficit + other_deficits key ps ≤ length (p ∷ ps) * l.max) (λ _. omega (arith, b.0, other_all key ps b.1, add-mul (length ps) 1 l.max)) (λ _. omega (arith, b.0, other_all key ps b.1, add-mul (length ps) 1 l.max))
-
-    other_some : (key : ℕ) (qs : List (Queue T)) → AreBehind measure l qs → has_key key qs ≡ true → other_deficits key qs + l.max ≤ length qs * l.max
-    other_some key [] b h = absurd (cc)
-    other_some key (p ∷ ps) b h =
-        by_test (eqb p.key key) (λ t. cond t true (has_key key ps) ≡ true → cond t 0 p.deficit + other_deficits key ps + l.max ≤ length (p ∷ ps) * l.max)
-        (λ _ w. omega (arith, other_all key ps b.1, add-mul (length ps) 1 l.max))
-        (λ _ w. omega (arith, b.0, other_some key ps b.1 w, add-mul (length ps) 1 l.max)) h
-
-    bound_own : (key r : ℕ) (q : Queue T) (qs : List (Queue T)) → AreDrrLimits l → AreFair measure l (q ∷ qs) → q.key ≡ key → bytes_ahead l key r (q ∷ qs) ≤ most_until l r
-    bound_own key r q qs v f e =
-        let n : 1 ≤ l.quantum = omega (arith, v.quantum, v.max) in
-        let a = ahead_own l key r q qs e in
-        let o = other_all key qs f.turn.2 in
-        let w : length qs * l.max ≤ (l.queues - 1) * l.max = mul-le-mul_right l.max (omega (arith, f.few)) in
-        let t : (div_ceil (r - q.deficit) l.quantum * (l.queues - 1)) * l.quantum ≤ (div_ceil r l.quantum * (l.queues - 1)) * l.quantum = mul-le-mul_right l.quantum (mul-le-mul_right (l.queues - 1) (ceil_le (r - q.deficit) r l.quantum n (omega arith))) in
-        omega (arith, a, o, w, t, most_is (l.queues - 1) (div_ceil r l.quantum) l.quantum l.max)
-
-    bound_other : (key r : ℕ) (q : Queue T) (qs : List (Queue T)) → AreDrrLimits l → AreFair measure l (q ∷ qs) → (q.key ≡ key → ⊥) → has_key key qs ≡ true → 1 ≤ r → bytes_ahead l key r (q ∷ qs) ≤ most_until l r
-    bound_other key r q qs v f e h s =
-        let n : 1 ≤ l.quantum = omega (arith, v.quantum, v.max) in
-        let a = ahead_behind l key r q qs e in
-        let o = other_some key qs f.turn.2 h in
-        let w : length qs * l.max ≤ (l.queues - 1) * l.max = mul-le-mul_right l.max (omega (arith, f.few)) in
-        let p = place_below key qs h in
-        let m : 1 ≤ div_ceil r l.quantum = ceil_some r l.quantum n s in
-        let y : div_ceil (r - deficit_of key qs) l.quantum - 1 ≤ div_ceil r l.quantum - 1 = omega (arith, ceil_le (r - deficit_of key qs) r l.quantum n (omega arith)) in
-        let z = mul-le-mul_right (l.queues - 1) y in
-        let u : (suc (place_of key qs) + (div_ceil (r - deficit_of key qs) l.quantum - 1) * (l.queues - 1)) * l.quantum ≤ (suc (place_of key qs) + (div_ceil r l.quantum - 1) * (l.queues - 1)) * l.quantum = mul-le-mul_right l.quantum (omega (arith, z)) in
-        let t = round_le (suc (place_of key qs)) (div_ceil r l.quantum) (l.queues - 1) l.quantum m (omega (arith, f.few, p)) in
-        let x = next_lap 0 0 0 (place_of key qs) ((div_ceil (r - deficit_of key qs) l.quantum - 1) * (l.queues - 1)) l.quantum in
-        omega (arith, a, o, w, u, t, x, f.turn.1, most_is (l.queues - 1) (div_ceil r l.quantum) l.quantum l.max)
+    pub stand : (qs : List (Queue T)) → AreFair measure l qs → Stand l (turns_of qs)
+    stand [] f = tt
+    stand (q ∷ qs) f = (omega (arith, f.few, length-map qs (λ (q : Queue T). turn q.key q.deficit)), f.turn.1, behind_turns qs f.turn.2)
 
     -- just after an item was queued, the measure of what its queue has up to it is at most the bound
     pub ahead_most : (key r : ℕ) (qs : List (Queue T)) → AreDrrLimits l → AreFair measure l qs → has_key key qs ≡ true → 1 ≤ r → bytes_ahead l key r qs ≤ most_until l r
-    ahead_most key r [] v f h s = absurd (cc)
-    ahead_most key r (q ∷ qs) v f h s =
-        by_key q.key key (λ b. (eqb q.key key ≡ b) → bytes_ahead l key r (q ∷ qs) ≤ most_until l r)
-        (λ e _. bound_own key r q qs v f e)
-        (λ n t. bound_other key r q qs v f n (subst (λ b. cond b true (has_key key qs) ≡ true) t h) s)
-        refl
+    ahead_most key r qs v f h s = most l key r (turns_of qs) (omega (arith, v.quantum, v.max)) (stand qs f) (has-turns key qs ∙ h) s
 
     -- the next item is among what may go, where it is the key's own among what the key has yet to send
     pub head_ahead : (key r : ℕ) (qs : List (Queue T)) → AreFair measure l qs → (is_front key qs ≡ true → head_bytes measure qs ≤ r) → head_bytes measure qs ≤ bytes_ahead l key r qs
     head_ahead key r [] f h = omega arith
-    head_ahead key r (q ∷ qs) f h =
-        by_key q.key key (λ b. (eqb q.key key ≡ b) → head_bytes measure (q ∷ qs) ≤ bytes_ahead l key r (q ∷ qs))
-        (λ e t. omega (arith, h t))
-        (λ n _. omega (arith, ahead_behind l key r q qs n, first_covered q.key q.deficit q.items qs f))
-        refl
+    head_ahead key r (q ∷ qs) f h = front_ahead l key r (head_bytes measure (q ∷ qs)) (turn q.key q.deficit) (turns_of qs) (first_covered q.key q.deficit q.items qs f)
+        (λ e. h (by_key q.key key (λ b. b ≡ true) (λ _. refl) (λ n. absurd (n e))))

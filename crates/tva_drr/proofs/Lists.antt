@@ -1,5 +1,5 @@
 -- The first queue of a key, by its place.
-use Rattle.std.proofs.Common.{◌≡◌, ℕ, ◌+◌, ◌<◌, ◌≤◌, Bool, true, false, cond, eqb, List, [], ◌∷◌, ◌++◌, length, not, is_none, ◌&&◌, ◌||◌, leb, ltb, take, set, get_or, Option, Some, None, refl, sym, ap, ◌∙◌, subst, inl, inr, zero, suc, arith, ◌==◌}
+use Rattle.std.proofs.Common.{◌≡◌, ℕ, ◌+◌, ◌<◌, Bool, true, false, cond, eqb, List, [], ◌∷◌, ◌++◌, length, not, is_none, ◌&&◌, ◌||◌, leb, ltb, take, set, get_or, Option, Some, None, refl, sym, ap, ◌∙◌, subst, inl, inr, zero, suc, arith, ◌==◌}
 use Rattle.std.proofs.lemmas.Bool.Decides.{nat_tests, eqb_tells}
 use Rattle.std.proofs.lemmas.List.Sums.{sum_by-cons, sum_by_push}
 use Rattle.tva_base.specs.declared.limits.DrrLimits.{DrrLimits}
@@ -115,6 +115,3 @@ module _ {T : Type 0} where
 
   pub room_for : (l : DrrLimits) (key : ℕ) (qs : List (Queue T)) → lacks_queue (fair l qs) key ≡ false → has_key key qs ≡ false → length qs < l.queues
   room_for l key qs h n = grind (arith, nat_tests)
-
-  pub room_in : (measure : T → ℕ) (l : DrrLimits) (key : ℕ) (qs : List (Queue T)) (x : T) → lacks_room measure (fair l qs) key x ≡ false → (length (items_of key qs) < l.ring) × (bytes_in measure (items_of key qs) + measure x ≤ l.queue_bytes)
-  room_in measure l key qs x h = (grind (arith, nat_tests), grind (arith, nat_tests))

@@ -33,7 +33,7 @@ module _ {T : Type 0} where
       pub enough : n ≤ length (items_of key f.queues)
       pub bytes : bytes_in measure (take n (items_of key f.queues)) ≡ r
 
-    more_items : (key n r : ℕ) (xs ys : List T) (x : T) → ys ≡ xs ++ x ∷ [] → n ≤ length xs → bytes_in measure (take n xs) ≡ r → (n ≤ length ys) × (bytes_in measure (take n ys) ≡ r)
+    pub more_items : (key n r : ℕ) (xs ys : List T) (x : T) → ys ≡ xs ++ x ∷ [] → n ≤ length xs → bytes_in measure (take n xs) ≡ r → (n ≤ length ys) × (bytes_in measure (take n ys) ≡ r)
     more_items key n r xs ys x e h b =
         subst (λ zs. (n ≤ length zs) × (bytes_in measure (take n zs) ≡ r)) (sym e)
         (omega (arith, h, length-append xs (x ∷ [])), ap (λ zs. bytes_in measure zs) (take-append-le n xs (x ∷ []) h) ∙ b)
@@ -77,13 +77,13 @@ module _ {T : Type 0} where
           bytes = subst (λ zs. bytes_in measure (take n zs) ≡ r) (sym same) w.bytes;
         }
 
-    one_less : (n r : ℕ) (x : T) (xs ys : List T) → xs ≡ x ∷ ys → suc n ≤ length xs → bytes_in measure (take (suc n) xs) ≡ r → (n ≤ length ys) × (measure x + bytes_in measure (take n ys) ≡ r)
+    pub one_less : (n r : ℕ) (x : T) (xs ys : List T) → xs ≡ x ∷ ys → suc n ≤ length xs → bytes_in measure (take (suc n) xs) ≡ r → (n ≤ length ys) × (measure x + bytes_in measure (take n ys) ≡ r)
     one_less n r x xs ys e h b =
         let h2 : suc n ≤ length (x ∷ ys) = subst (λ zs. suc n ≤ length zs) e h in
         let b2 : bytes_in measure (x ∷ take n ys) ≡ r = subst (λ zs. bytes_in measure (take (suc n) zs) ≡ r) e b in
         (omega arith, omega (arith, b2, sum_by-cons measure x (take n ys)))
 
-    next_le : (n : ℕ) (ys : List T) → 1 ≤ n → n ≤ length ys → first_bytes measure ys ≤ bytes_in measure (take n ys)
+    pub next_le : (n : ℕ) (ys : List T) → 1 ≤ n → n ≤ length ys → first_bytes measure ys ≤ bytes_in measure (take n ys)
     next_le n [] h k = absurd (omega arith)
     next_le zero (y ∷ ys) h k = absurd (omega arith)
     next_le (suc n) (y ∷ ys) h k = omega (arith, sum_by-cons measure y (take n ys))
@@ -100,10 +100,6 @@ module _ {T : Type 0} where
 
     pub ahead_enough : (key r : ℕ) (qs : List (Queue T)) → r ≤ bytes_ahead l key r qs
     ahead_enough key r qs = omega arith
-
-    until_none : (key n : ℕ) (f : Fair T) (ss : List (Step T)) → n ≡ 0 → bytes_until measure key n f ss ≡ 0
-    until_none key zero f ss e = refl
-    until_none key (suc n) f ss e = absurd (omega arith)
 
     until_own : (key n r left : ℕ) (q : Queue T) (qs : List (Queue T)) (ss : List (Step T)) (x : T) → head_bytes measure (q ∷ qs) ≡ measure x → measure x + left ≡ r → eqb q.key key ≡ true → Waits key (suc n) r (fair l (q ∷ qs))
         → Waits key n left (fair l (taken measure l.quantum (q ∷ qs))) → (1 ≤ n → first_bytes measure (items_of key (taken measure l.quantum (q ∷ qs))) ≤ left)
@@ -145,7 +141,7 @@ module _ {T : Type 0} where
         ))
         refl
 
-    some_bytes : (n : ℕ) (xs : List T) → 1 ≤ n → n ≤ length xs → AreMeasured measure l xs → 1 ≤ bytes_in measure (take n xs)
+    pub some_bytes : (n : ℕ) (xs : List T) → 1 ≤ n → n ≤ length xs → AreMeasured measure l xs → 1 ≤ bytes_in measure (take n xs)
     some_bytes n [] h k m = absurd (omega arith)
     some_bytes zero (x ∷ xs) h k m = absurd (omega arith)
     some_bytes (suc n) (x ∷ xs) h k m = omega (arith, m.0, sum_by-cons measure x (take n xs))

@@ -4,9 +4,11 @@ pub mod Take
 pub mod Fair
 pub mod Order
 pub mod Service
+pub mod Turns
 pub mod Ahead
 pub mod Code
-pub mod Slots
 pub mod Places
-pub mod Keys
+pub mod Rows
 pub mod Front
+pub mod Sources
+pub mod Kept

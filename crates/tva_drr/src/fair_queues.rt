@@ -12,14 +12,12 @@ ghost use Rattle.tva_drr.specs.declared.offered.Offered.TheVariants.{Queued};
 use crate::front::{Front, front_of};
 use crate::measured::Measured;
 use crate::offered::Offered;
-use crate::places::{add_key, find_slot, lacks_room, lacks_slot, put_slot};
-use crate::slot::{Slot, slots};
-use crate::turns::{pop_slot, settle_slots};
+use crate::places::{find_slot, lacks_room, lacks_slot, put_item};
+use crate::row::Row;
+use crate::turning::Turns;
 use std::alloc::{AllocError, Global};
-use std::collections::VecDeque;
 use std::marker::Model;
 use tva_base::DrrLimits;
-use tva_index::KeyRing;
 
 /// Fair queues of items, by deficit round robin (Shreedhar and Varghese, 1996). Contracts see the
 /// limits and one list of keys, deficits and items in ring order, in which no queue is empty.
@@ -31,38 +29,29 @@ use tva_index::KeyRing;
 /// most 2^30 it fits in 32 bits.
 #[derive(Drop)]
 pub struct FairQueues<T: Measured> {
-    pub(crate) limits: DrrLimits,
     bytes: u32,
     front: Front,
-    pub(crate) waiting: VecDeque<Slot<T>>,
-    spare: Vec<Slot<T>>,
-    keys: KeyRing,
+    pub(crate) turns: Turns<Row<T>>,
 }
 
 impl<T: Measured> Model for FairQueues<T> {
-    ghost use Rattle.std.specs.Prelude.{◌≡◌, ◌≤◌, vec_capacity};
-    ghost use Rattle.std.specs.VecDeque.{deque_capacity};
+    ghost use Rattle.std.specs.Prelude.{◌≡◌};
     ghost use Rattle.tva_drr.specs.Queues.{Fair, fair, all_bytes};
     ghost use Rattle.tva_drr.specs.Fair.{IsFair};
     ghost use Rattle.tva_drr.specs.Code.{fair_code};
-    ghost use Rattle.tva_drr.specs.Slots.{queues_in, AreSlots};
-    ghost use Rattle.tva_drr.specs.Keys.{keys_in};
+    ghost use Rattle.tva_drr.specs.Rows.{queues_in};
     ghost use Rattle.tva_drr.specs.Front.{IsKnown};
-    ghost use Rattle.tva_index.specs.KeyRing.{ring};
 
     ghost Value = { Fair T };
 
     ghost coded = { fair_code T.code };
 
-    ghost view = { λ a. fair a.limits (queues_in a.waiting.items) };
+    ghost view = { λ a. fair a.turns.limits (queues_in a.turns.turns) };
 
-    ghost invariant = { λ a. IsFair T.measure (fair a.limits (queues_in a.waiting.items))
-        × (a.bytes ≡ all_bytes T.measure (queues_in a.waiting.items))
-        × AreSlots a.limits.queues a.limits.ring a.waiting.items a.spare.items
-        × (a.limits.queues ≤ deque_capacity a.waiting)
-        × (a.limits.queues ≤ vec_capacity a.spare)
-        × (a.keys ≡ ring a.limits.queues (keys_in (queues_in a.waiting.items)))
-        × IsKnown T.measure a.front (queues_in a.waiting.items) };
+    ghost invariant = { λ a. IsFair T.measure (fair a.turns.limits (queues_in a.turns.turns))
+        × (a.bytes ≡ all_bytes T.measure (queues_in a.turns.turns))
+        × (a.turns.places ≡ a.turns.limits.queues)
+        × IsKnown T.measure a.front (queues_in a.turns.turns) };
 }
 
 impl<T: Measured> FairQueues<T> {
@@ -74,17 +63,12 @@ impl<T: Measured> FairQueues<T> {
         ensures empty { IfOk result (λ queues. queues ≡ fair limits []) }
         ensures fair { IfOk result (λ queues. IsFair T.measure queues) }
     {
-        let waiting = VecDeque::with_capacity(alloc, limits.queues as usize)?;
-        let spare = slots(alloc, limits.queues, limits.ring)?;
-        let keys = KeyRing::with_places(alloc, limits.queues)?;
-        let front = front_of(&waiting);
+        let turns = Turns::with_places(alloc, limits.queues, limits)?;
+        let front = front_of(&turns);
         Ok(FairQueues {
-            limits,
             bytes: 0,
             front,
-            waiting,
-            spare,
-            keys,
+            turns,
         })
     }
 
@@ -102,24 +86,16 @@ impl<T: Measured> FairQueues<T> {
         ensures fair { IsFair T.measure self.new }
     {
         let length = item.length();
-        let place = find_slot(&self.keys, self.front, &self.waiting, key);
-        if lacks_slot(&self.limits, &place, &self.waiting) {
+        let place = find_slot(&self.turns, self.front, key);
+        if lacks_slot(&self.turns, &place) {
             return Offered::NoQueue(item);
         }
-        if lacks_room(&self.limits, &place, self.bytes, length) {
+        if lacks_room(&self.turns, &place, self.bytes, length) {
             return Offered::QueueFull(item);
         }
-        add_key(&mut self.keys, place.at, key);
-        put_slot(
-            &self.limits,
-            &mut self.waiting,
-            &mut self.spare,
-            place.at,
-            key,
-            item,
-        );
+        put_item(&mut self.turns, place.at, key, item);
         self.bytes += length;
-        self.front = front_of(&self.waiting);
+        self.front = front_of(&self.turns);
         Offered::Queued
     }
 
@@ -128,8 +104,8 @@ impl<T: Measured> FairQueues<T> {
     pub fn takes_key(&self, key: u32) -> bool
         ensures { result ≡ not (lacks_queue self.now key) }
     {
-        let place = find_slot(&self.keys, self.front, &self.waiting, key);
-        !lacks_slot(&self.limits, &place, &self.waiting)
+        let place = find_slot(&self.turns, self.front, key);
+        !lacks_slot(&self.turns, &place)
     }
 
     /// The length in bytes of what the next take gives, and none where nothing waits.
@@ -138,11 +114,7 @@ impl<T: Measured> FairQueues<T> {
         ensures none { IsNone result ↔ (self.now.queues ≡ []) }
         ensures fair { IsFair T.measure self.now }
     {
-        if self.waiting.is_empty() {
-            None
-        } else {
-            self.waiting[0].head_length()
-        }
+        self.turns.next_length()
     }
 
     /// Takes the front's first item, and none exactly where nothing waits. The front's deficit
@@ -161,14 +133,9 @@ impl<T: Measured> FairQueues<T> {
     {
         let length = self.head_length()?;
         self.bytes -= length;
-        let item = pop_slot(&mut self.waiting);
-        settle_slots(
-            &mut self.waiting,
-            &mut self.spare,
-            &mut self.keys,
-            self.limits.quantum,
-        );
-        self.front = front_of(&self.waiting);
+        let item = self.turns.pop();
+        self.turns.settle();
+        self.front = front_of(&self.turns);
         item
     }
 }

@@ -7,17 +7,23 @@
 #![tactic(auto)]
 
 mod fair_queues;
+mod fair_source;
 mod front;
 mod laws;
 mod measured;
 mod offered;
 mod places;
-mod slot;
+mod row;
+mod served;
+mod source;
 #[cfg(test)]
 mod tests;
-mod turns;
+mod turning;
 
 pub use fair_queues::FairQueues;
 pub use laws::{bytes_ahead_fall, items_go_within_bounds, queues_are_served_alike};
 pub use measured::Measured;
 pub use offered::Offered;
+pub use served::Served;
+pub use source::Source;
+pub use turning::Turns;

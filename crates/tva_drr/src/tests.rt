@@ -74,7 +74,7 @@ fn with_limits_of(rt: &impl Abort, alloc: Global, line: &str) -> Result<FairQueu
 
 /// Makes an offer of so many bytes, and gives its answer in words.
 fn offer(rt: &impl Abort, queues: &mut FairQueues<Parcel>, key: u32, bytes: u32) -> &'static str {
-    assert!(rt; 1 <= bytes && bytes <= queues.limits.max);
+    assert!(rt; 1 <= bytes && bytes <= queues.turns.limits().max);
     match queues.offer(key, Parcel { bytes }) {
         Offered::Queued => "Queued",
         Offered::NoQueue(parcel) => {
@@ -111,11 +111,13 @@ fn answer(
         }
     }
     text.push_str(" |")?;
-    if queues.waiting.is_empty() {
+    if queues.turns.len() == 0 {
         text.push_str(" -")?;
     }
-    for slot in queues.waiting.iter() {
-        slot.show(alloc, &mut text)?;
+    for at in 0..queues.turns.len() {
+        let turn = queues.turns.turn(at);
+        text.push_str(format!(in alloc; " {}/{}", turn.key, turn.deficit)?.as_str())?;
+        turn.source.show(alloc, &mut text)?;
     }
     Ok(text)
 }

@@ -1,7 +1,7 @@
 -- The group of an outer key, by its place, and what an offer to its queues does to the list.
-use Rattle.std.proofs.Common.{◌≡◌, ℕ, ◌+◌, ◌<◌, ◌≤◌, Bool, true, false, cond, eqb, List, [], ◌∷◌, ◌++◌, length, not, ◌&&◌, ◌||◌, leb, take, drop, set, get_or, Some, refl, sym, ap, ◌∙◌, subst, zero, suc, arith, length-append}
+use Rattle.std.proofs.Common.{◌≡◌, ℕ, ◌+◌, ◌<◌, ◌≤◌, Bool, true, false, cond, eqb, List, [], ◌∷◌, ◌++◌, length, not, ◌&&◌, ◌||◌, leb, take, set, get_or, Some, refl, sym, ap, ◌∙◌, zero, suc, arith}
 use Rattle.std.proofs.lemmas.Bool.Decides.{nat_tests}
-use Rattle.std.proofs.lemmas.List.{set-get_or, length-set}
+use Rattle.std.proofs.lemmas.List.{set-get_or}
 use Rattle.std.proofs.lemmas.List.Sums.{sum_by-cons}
 use Rattle.tva_base.specs.declared.limits.DrrLimits.{DrrLimits}
 use Rattle.tva_drr.specs.Queues.{Fair, fair, all_bytes}
@@ -10,7 +10,7 @@ use Rattle.tva_drr.proofs.Lists.{by_key, leaves_queued}
 use Rattle.tva_drr.proofs.Falling.{by_test}
 use Rattle.tva_hier.specs.Groups.{Group, group, hier, inner_limits, has_group, queues_of, group_bytes, all_group_bytes}
 use Rattle.tva_hier.specs.Offer.{lacks_place, changed}
-use Rattle.tva_hier.specs.Places.{IsGroupPlace, AreEmptyGroups, AreKept}
+use Rattle.tva_hier.specs.Places.{IsGroupPlace}
 
 pub none_true : (a b : Bool) → (a || b) ≡ false → (a ≡ false) × (b ≡ false)
 none_true true b h = absurd (cc)
@@ -206,53 +206,3 @@ module _ {T : Type 0} where
       ap (λ b. (not b && leb l.queues (length gs)) || lacks_queue (queues_of (inner_limits l n) key gs) inner) e
       ∙ (ap (λ f. leb l.queues (length gs) || lacks_queue f inner) (queues_of_none (inner_limits l n) key gs e)
       ∙ or_false (leb l.queues (length gs)) (leb n 0) some)
-
-  -- ## the groups that are kept
-
-  empty-push : (l : DrrLimits) (sp : List (Group T)) (g : Group T) → AreEmptyGroups l sp → g.queues ≡ fair l []
-      → AreEmptyGroups l (sp ++ g ∷ [])
-  empty-push l [] g h e = (e, tt)
-  empty-push l (p ∷ sp) g h e = (h.0, empty-push l sp g h.1 e)
-
-  empty-front : (l : DrrLimits) (sp : List (Group T)) (g : Group T) → AreEmptyGroups l (sp ++ g ∷ [])
-      → AreEmptyGroups l sp × (g.queues ≡ fair l [])
-  empty-front l [] g h = (tt, h.0)
-  empty-front l (p ∷ sp) g h = let r = empty-front l sp g h.1 in ((h.0, r.0), r.1)
-
-  -- a spare group that is taken
-  pub kept_taken : (l : DrrLimits) (count : ℕ) (ws sp rest : List (Group T)) (g : Group T) → AreKept l count ws sp → sp ≡ rest ++ g ∷ []
-      → AreEmptyGroups l rest × (g.queues ≡ fair l [])
-  kept_taken l count ws sp rest g a e = empty-front l rest g (subst (AreEmptyGroups l) e a.empty)
-
-  -- it waits now
-  pub kept-waiting : (l : DrrLimits) (count : ℕ) (ws sp rest : List (Group T)) (g new : Group T) → AreKept l count ws sp
-      → sp ≡ rest ++ g ∷ [] → AreKept l count (ws ++ new ∷ []) rest
-  kept-waiting l count ws sp rest g new a e = record {
-    total = omega (arith, a.total, ap length e, length-append rest (g ∷ []), length-append ws (new ∷ []));
-    empty = (kept_taken l count ws sp rest g a e).0;
-  }
-
-  -- it is spare again
-  pub kept-back : (l : DrrLimits) (count : ℕ) (ws sp rest : List (Group T)) (g new : Group T) → AreKept l count ws sp
-      → sp ≡ rest ++ g ∷ [] → new.queues ≡ fair l [] → AreKept l count ws (rest ++ new ∷ [])
-  kept-back l count ws sp rest g new a e n = record {
-    total = omega (arith, a.total, ap length e, length-append rest (g ∷ []), length-append rest (new ∷ []));
-    empty = empty-push l rest new (kept_taken l count ws sp rest g a e).0 n;
-  }
-
-  pub kept-set : (l : DrrLimits) (count at : ℕ) (ws sp : List (Group T)) (g : Group T) → AreKept l count ws sp
-      → AreKept l count (set ws at g) sp
-  kept-set l count at ws sp g a = record { total = omega (arith, a.total, length-set ws at g); empty = a.empty }
-
-  -- the front leaves, and its group is spare
-  pub kept-left : (l : DrrLimits) (count : ℕ) (ws sp new : List (Group T)) (g : Group T) → 0 < length ws → g ≡ get_or ws 0 g
-      → g.queues ≡ fair l [] → length new ≡ length (drop 1 ws) → AreKept l count ws sp → AreKept l count new (sp ++ take 1 ws)
-  kept-left l count [] sp new g n e i k a = absurd (omega arith)
-  kept-left l count (w ∷ ws) sp new g n e i k a = record {
-    total = omega (arith, a.total, k, length-append sp (w ∷ []));
-    empty = empty-push l sp w a.empty (ap (λ (x : Group T). x.queues) (sym e) ∙ i);
-  }
-
-  pub kept-same : (l : DrrLimits) (count : ℕ) (ws sp new : List (Group T)) → length new ≡ length ws → AreKept l count ws sp
-      → AreKept l count new sp
-  kept-same l count ws sp new e a = record { total = omega (arith, a.total, e); empty = a.empty }

@@ -1,10 +1,9 @@
 -- What is true of two-level queues stays true after an offer and after a take.
-use Rattle.std.proofs.Common.{◌≡◌, ℕ, ◌+◌, ◌-◌, ◌<◌, ◌≤◌, ◌^◌, suc, true, false, cond, eqb, leb, not, ◌&&◌, Some, None, List, [], ◌∷◌, ◌++◌, length, get_or, drop, take, slice_get, refl, sym, ap, ◌∙◌, subst, inl, inr, arith, length-append}
+use Rattle.std.proofs.Common.{◌≡◌, ℕ, ◌+◌, ◌-◌, ◌<◌, ◌≤◌, ◌^◌, suc, true, false, cond, eqb, leb, not, ◌&&◌, Some, List, [], ◌∷◌, ◌++◌, length, refl, sym, ap, subst, inl, inr, arith, length-append}
 use Rattle.std.proofs.lemmas.Bool.Decides.{nat_tests, leb_tells}
 use Rattle.std.proofs.lemmas.List.Sums.{sum_by-cons, sum_by_push}
 use Rattle.std.specs.List.{All, AllByRecursion}
-use Rattle.std.specs.Option.{option_map}
-use Rattle.std.proofs.lemmas.List.Elements.{All-from_recursion, recursion_from_All}
+use Rattle.std.proofs.lemmas.List.Elements.{All-from_recursion}
 use Rattle.tva_base.specs.declared.limits.DrrLimits.{DrrLimits}
 use Rattle.tva_base.specs.Plan.{AreDrrLimits}
 use Rattle.tva_drr.specs.Queues.{Queue, queue, Fair, fair, first, head, all_bytes}
@@ -17,7 +16,7 @@ use Rattle.tva_drr.proofs.Keeps.{keeps-offer, fair-taken, all_bytes-taken}
 use Rattle.tva_drr.proofs.Falling.{by_test}
 use Rattle.tva_hier.specs.Groups.{Group, group, hier, inner_limits, has_group, queues_of, group_bytes, all_group_bytes, next}
 use Rattle.tva_hier.specs.Offer.{lacks_group, lacks_place, lacks_space, changed}
-use Rattle.tva_hier.specs.Take.{group_refilled, group_popped, front_popped, group_settled, front_settled, groups_taken}
+use Rattle.tva_hier.specs.Take.{group_refilled, front_popped, group_settled, groups_taken}
 use Rattle.tva_hier.specs.Hier.{AreInner, AreGroups, AreGroupsBehind, HasGroupTurn, AreHier, IsHier}
 use Rattle.tva_hier.proofs.GroupLists.{none_true, has_group-push, has_group-changed, length-changed, bytes-changed, offered_is}
 
@@ -30,25 +29,13 @@ limits_inner l inner a i =
 module _ {T : Type 0} (measure : T → ℕ) where
   -- ## what fair queues send next
 
-  first_none : (xs : List T) → first xs ≡ None → first_bytes measure xs ≡ 0
-  first_none [] h = refl
-  first_none (x ∷ xs) h = absurd (cc)
-
   first_some : (xs : List T) (x : T) → first xs ≡ Some x → first_bytes measure xs ≡ measure x
   first_some [] x h = absurd (cc)
   first_some (y ∷ ys) x h = cc
 
-  pub head_none : (qs : List (Queue T)) → head qs ≡ None → head_bytes measure qs ≡ 0
-  head_none [] h = refl
-  head_none (q ∷ qs) h = first_none q.items h
-
   pub head_some : (qs : List (Queue T)) (x : T) → head qs ≡ Some x → head_bytes measure qs ≡ measure x
   head_some [] x h = absurd (cc)
   head_some (q ∷ qs) x h = first_some q.items x h
-
-  first_measured : (xs : List T) (n : ℕ) → option_map measure (first xs) ≡ Some n → first_bytes measure xs ≡ n
-  first_measured [] n h = absurd (cc)
-  first_measured (x ∷ xs) n h = cc
 
   first_most : (m : DrrLimits) (xs : List T) → AreMeasured measure m xs → first_bytes measure xs ≤ m.max
   first_most m [] h = omega arith
@@ -362,96 +349,3 @@ module _ {T : Type 0} (measure : T → ℕ) where
       omega
           (arith, bytes-taken gs x f, e),
     )
-
-  -- ## the front's turn, as it is found
-
-  pub front_is : (ws : List (Group T)) (g : Group T) → 0 < length ws → g ≡ get_or ws 0 g → ws ≡ g ∷ drop 1 ws
-  front_is [] g n e = absurd (omega arith)
-  front_is (w ∷ ws) g n e = ap (λ z. z ∷ ws) (sym e)
-
-  pub settled_empty : (quantum : ℕ) (ws : List (Group T)) (g : Group T) → 0 < length ws → g ≡ get_or ws 0 g → g.queues.queues ≡ []
-      → front_settled measure quantum ws ≡ group_refilled quantum (drop 1 ws)
-  settled_empty quantum ws g n e q = ap (λ z. front_settled measure quantum z) (front_is ws g n e) ∙ ap
-      (λ z. group_settled measure quantum g z (drop 1 ws)) q
-
-  settled_by : (quantum n : ℕ) (g : Group T) (qs : List (Queue T)) (gs : List (Group T)) → option_map measure (head qs) ≡ Some n
-      → group_settled measure quantum g qs gs ≡ cond (leb (suc g.deficit) n) (group_refilled quantum (gs ++ g ∷ [])) (g ∷ gs)
-  settled_by quantum n g [] gs h = absurd (cc)
-  settled_by quantum n g (q ∷ qs) gs h = ap (λ z. cond (leb (suc g.deficit) z) (group_refilled quantum (gs ++ g ∷ [])) (g ∷ gs))
-      (first_measured q.items n h)
-
-  front_taken : (ws : List (Group T)) (g : Group T) → 0 < length ws → g ≡ get_or ws 0 g → drop 1 ws ++ g ∷ [] ≡ drop 1 ws ++ take 1 ws
-  front_taken [] g n e = absurd (omega arith)
-  front_taken (w ∷ ws) g n e = ap (λ z. ws ++ z ∷ []) e
-
-  pub settled_last : (quantum n : ℕ) (ws : List (Group T)) (g : Group T) → 0 < length ws → g ≡ get_or ws 0 g
-      → option_map measure (head g.queues.queues) ≡ Some n → g.deficit < n
-      → front_settled measure quantum ws ≡ group_refilled quantum (drop 1 ws ++ take 1 ws)
-  settled_last quantum n ws g s e h d =
-      let test : leb (suc g.deficit) n ≡ true = grind (arith, nat_tests) in
-      ap (λ z. front_settled measure quantum z) (front_is ws g s e)
-      ∙ (settled_by quantum n g g.queues.queues (drop 1 ws) h
-      ∙ (ap (λ z. cond z (group_refilled quantum (drop 1 ws ++ g ∷ [])) (g ∷ drop 1 ws)) test ∙ ap (λ z. group_refilled quantum z)
-      (front_taken ws g s e)))
-
-  pub settled_stays : (quantum n : ℕ) (ws : List (Group T)) (g : Group T) → 0 < length ws → g ≡ get_or ws 0 g
-      → option_map measure (head g.queues.queues) ≡ Some n → n ≤ g.deficit → front_settled measure quantum ws ≡ ws
-  settled_stays quantum n ws g s e h d =
-      let test : leb (suc g.deficit) n ≡ false = grind (arith, nat_tests) in
-      ap (λ z. front_settled measure quantum z) (front_is ws g s e)
-      ∙ (settled_by quantum n g g.queues.queues (drop 1 ws) h
-      ∙ (ap (λ z. cond z (group_refilled quantum (drop 1 ws ++ g ∷ [])) (g ∷ drop 1 ws)) test ∙ sym (front_is ws g s e)))
-
-module _ {T : Type 0} where
-  pub group_first : (ws : List (Group T)) (g : Group T) → 0 < length ws → g ≡ get_or ws 0 g → slice_get ws 0 ≡ Some g
-  group_first [] g n e = absurd (omega arith)
-  group_first (w ∷ ws) g n e = ap (λ (x : Group T). Some x) (sym e)
-
-  pub same_front : (ws : List (Group T)) (g h : Group T) → 0 < length ws → g ≡ get_or ws 0 g → h ≡ get_or ws 0 h → g ≡ h
-  same_front [] g h n e f = absurd (omega arith)
-  same_front (w ∷ ws) g h n e f = e ∙ sym f
-
-  pub empty_is : (f : Fair T) (l : DrrLimits) → f.limits ≡ l → f.queues ≡ [] → f ≡ fair l []
-  empty_is f l e q = ap (λ z. fair z f.queues) e ∙ ap (λ z. fair l z) q
-
-  pub length-turned : (ws : List (Group T)) → length (drop 1 ws ++ take 1 ws) ≡ length ws
-  length-turned [] = refl
-  length-turned (w ∷ ws) = omega (arith, length-append ws (w ∷ []))
-
-  next_left : (P : Group T → Type 0) (ws : List (Group T)) → AllByRecursion P ws → (x : Group T) → slice_get (drop 1 ws) 0 ≡ Some x → P x
-  next_left P [] a x e = absurd (cc)
-  next_left P (w ∷ []) a x e = absurd (cc)
-  next_left P (w ∷ v ∷ vs) a x e = let q : v ≡ x = cc in subst P q a.1.0
-
-  pub next_after_leaving : (P : Group T → Type 0) (ws : List (Group T)) → All P ws → (x : Group T) → slice_get (drop 1 ws) 0 ≡ Some x
-      → P x
-  next_after_leaving P ws a x e = next_left P ws (recursion_from_All P ws a) x e
-
-  next_turned : (P : Group T → Type 0) (ws : List (Group T)) → AllByRecursion P ws → (x : Group T)
-      → slice_get (drop 1 ws ++ take 1 ws) 0 ≡ Some x → P x
-  next_turned P [] a x e = absurd (cc)
-  next_turned P (w ∷ []) a x e = let q : w ≡ x = cc in subst P q a.0
-  next_turned P (w ∷ v ∷ vs) a x e = let q : v ≡ x = cc in subst P q a.1.0
-
-  pub next_after_turn : (P : Group T → Type 0) (ws : List (Group T)) → All P ws → (x : Group T)
-      → slice_get (drop 1 ws ++ take 1 ws) 0 ≡ Some x → P x
-  next_after_turn P ws a x e = next_turned P ws (recursion_from_All P ws a) x e
-
-  -- ## the front, as it is found
-
-  pub front_covers : (measure : T → ℕ) (l : DrrLimits) (n : ℕ) (gs : List (Group T)) → HasGroupTurn measure l n gs
-      → (x : Group T) → slice_get gs 0 ≡ Some x → head_bytes measure x.queues.queues ≤ x.deficit
-  front_covers measure l n [] h x e = absurd (cc)
-  front_covers measure l n (g ∷ gs) h x e =
-      let q : g ≡ x = cc in subst (λ (z : Group T). head_bytes measure z.queues.queues ≤ z.deficit) q h.0
-
-  pub popped_limits : (measure : T → ℕ) (l : DrrLimits) (n : ℕ) (gs : List (Group T)) → AreGroups measure l n gs
-      → (x : Group T) → slice_get (front_popped measure gs) 0 ≡ Some x → x.queues.limits ≡ inner_limits l n
-  popped_limits measure l n [] h x e = absurd (cc)
-  popped_limits measure l n (g ∷ gs) h x e =
-      let q : group_popped measure g ≡ x = cc in subst (λ (z : Group T). z.queues.limits ≡ inner_limits l n) q h.0.limits
-
-  pub front_filled : (measure : T → ℕ) (l : DrrLimits) (n : ℕ) (gs : List (Group T)) (g : Group T) → AreGroups measure l n gs
-      → 0 < length gs → g ≡ get_or gs 0 g → 1 ≤ length g.queues.queues
-  front_filled measure l n [] g a h e = absurd (omega arith)
-  front_filled measure l n (p ∷ gs) g a h e = subst (λ (z : Group T). 1 ≤ length z.queues.queues) (sym e) a.0.filled

@@ -1,5 +1,5 @@
 pub mod GroupLists
-pub mod GroupKeys
+pub mod GroupTurns
 pub mod Keeping
 pub mod Orders
 pub mod Offering

@@ -1,23 +1,25 @@
 -- What two-level queues send next: an offer leaves it, a take of it leaves the other items, and it is ahead of what any two
 -- keys have yet to send.
-use Rattle.std.proofs.Common.{◌≡◌, ℕ, ◌≤◌, true, cond, eqb, List, [], ◌∷◌, length, Some, refl, sym, ◌∙◌, subst, arith}
+use Rattle.std.proofs.Common.{◌≡◌, ℕ, ◌≤◌, true, cond, eqb, List, [], ◌∷◌, length, Some, refl, subst, arith}
 use Rattle.std.specs.Bool.{MatchBool}
 use Rattle.tva_base.specs.declared.limits.DrrLimits.{DrrLimits}
-use Rattle.tva_drr.specs.Queues.{Fair, fair, has_key, items_of}
+use Rattle.tva_drr.specs.Queues.{Fair, fair, has_key}
 use Rattle.tva_drr.specs.Offer.{put, lacks_queue, lacks_room, offer_leaves}
 use Rattle.tva_drr.specs.Fair.{AreQueues, AreFair}
 use Rattle.tva_drr.specs.Service.{is_front, first_bytes, head_bytes}
 use Rattle.tva_drr.specs.Ahead.{bytes_ahead}
-use Rattle.tva_drr.proofs.Falling.{by_test}
+use Rattle.tva_drr.specs.Turns.{turn}
+use Rattle.tva_drr.proofs.Lists.{by_key}
+use Rattle.tva_drr.proofs.Falling.{by_test, front_ahead}
 use Rattle.tva_drr.proofs.Until.{offer_cases}
 use Rattle.tva_hier.specs.Groups.{Group, Hier, group, hier, inner_limits, queues_of, items_under, next}
 use Rattle.tva_hier.specs.Offer.{lacks_place, lacks_space, changed, put_under, left_by_offer}
 use Rattle.tva_hier.specs.Take.{groups_taken, left_by_take}
 use Rattle.tva_hier.specs.Hier.{IsHier}
-use Rattle.tva_hier.specs.Ahead.{next_alone, as_queues, bytes_ahead_under, are_front, next_bytes}
+use Rattle.tva_hier.specs.Ahead.{turns_of_groups, bytes_ahead_under, are_front, next_bytes}
 use Rattle.tva_hier.proofs.Keeping.{head_some, head_there, head-put, inner_there, hier-taken}
 use Rattle.tva_hier.proofs.Orders.{goes_first_under}
-use Rattle.tva_hier.proofs.Aheads.{wide, has-as, has_group_from, first_next, fair_as_all, head_ahead}
+use Rattle.tva_hier.proofs.Aheads.{has_group_from, next_ahead_of}
 use Rattle.tva_hier.proofs.Untils.{front_both, front_apart, front_key}
 
 module _ {T : Type 0} (measure : T → ℕ) (l : DrrLimits) (inner : ℕ) where
@@ -99,36 +101,18 @@ module _ {T : Type 0} (measure : T → ℕ) (l : DrrLimits) (inner : ℕ) where
 
   -- ## what is ahead
 
-  items_as : (outer : ℕ) (gs : List (Group T))
-      → items_of outer (as_queues gs) ≡ next_alone (queues_of (inner_limits l inner) outer gs).queues
-  items_as outer [] = refl
-  items_as outer (g ∷ gs) =
-      by_test (eqb g.key outer) (λ b. cond b (next_alone g.queues.queues) (items_of outer (as_queues gs))
-      ≡ next_alone (cond b g.queues (queues_of (inner_limits l inner) outer gs)).queues)
-      (λ _. refl) (λ _. items_as outer gs)
-
-  head_as : (gs : List (Group T)) → head_bytes measure (as_queues gs) ≡ next_bytes measure gs
-  head_as [] = refl
-  head_as (g ∷ gs) = first_next measure g.queues.queues
-
   -- the next item is ahead of so many bytes that two keys have yet to send
   pub next_ahead : (outer key bytes : ℕ) (gs : List (Group T)) → IsHier measure (hier l inner gs)
       → has_key key (queues_of (inner_limits l inner) outer gs).queues ≡ true
       → first_bytes measure (items_under (hier l inner gs) outer key) ≤ bytes
       → next_bytes measure gs ≤ bytes_ahead_under (hier l inner gs) outer key bytes
-  next_ahead outer key bytes gs h t n =
+  next_ahead outer key bytes [] h t n = absurd (cc)
+  next_ahead outer key bytes (g ∷ gs) h t n =
       let li : DrrLimits = inner_limits l inner in
-      let f : Fair T = queues_of li outer gs in
-      let there = has_group_from li outer key gs t in
-      let i = inner_there measure l inner outer gs h.groups.each there in
+      let f : Fair T = queues_of li outer (g ∷ gs) in
+      let i = inner_there measure l inner outer (g ∷ gs) h.groups.each (has_group_from li outer key (g ∷ gs) t) in
       let own : AreFair measure li f.queues = subst (λ z. AreFair measure z f.queues) i.limits i.fair.queues in
-      let within : head_bytes measure f.queues ≤ bytes_ahead li key bytes f.queues = head_ahead measure l inner li
-      key bytes f.queues own t n in
-      let first : first_bytes measure (items_of outer (as_queues gs)) ≤ bytes_ahead li key bytes f.queues =
-      subst (λ z. first_bytes measure z ≤ bytes_ahead li key bytes f.queues) (sym (items_as outer gs))
-      (omega (arith, first_next measure f.queues, within)) in
-      let whole : head_bytes measure (as_queues gs) ≤ bytes_ahead l outer (bytes_ahead li key bytes f.queues)
-      (as_queues gs) =
-      head_ahead measure l inner (wide l) outer (bytes_ahead li key bytes f.queues) (as_queues gs)
-      (fair_as_all measure l inner gs h.limits h.groups) (has-as outer gs ∙ there) first in
-      omega (arith, whole, head_as gs)
+      let within : head_bytes measure f.queues ≤ bytes_ahead li key bytes f.queues = next_ahead_of measure li key bytes f.queues own n in
+      front_ahead l outer (bytes_ahead li key bytes f.queues) (head_bytes measure g.queues.queues) (turn g.key g.deficit) (turns_of_groups gs) h.groups.turn.0
+      (λ e. by_key g.key outer (λ b. (eqb g.key outer ≡ b) → head_bytes measure g.queues.queues ≤ bytes_ahead li key bytes f.queues)
+      (λ _ s. subst (λ b. head_bytes measure (cond b g.queues (queues_of li outer gs)).queues ≤ bytes_ahead li key bytes f.queues) s within) (λ m _. absurd (m e)) refl)

@@ -1,16 +1,13 @@
 -- The bytes that go up to the n-th item under two keys, whatever is offered.
-use Rattle.std.proofs.Common.{◌≡◌, ℕ, zero, suc, ◌+◌, ◌≤◌, Bool, true, false, cond, eqb, ◌&&◌, List, [], ◌∷◌, ◌++◌, length, length-append, take, refl, sym, ap, ◌∙◌, subst, leb, arith}
-use Rattle.std.proofs.lemmas.List.{take-append-le}
-use Rattle.std.proofs.lemmas.List.Sums.{sum_by-cons}
+use Rattle.std.proofs.Common.{◌≡◌, ℕ, zero, suc, ◌+◌, ◌≤◌, Bool, true, false, cond, eqb, ◌&&◌, List, [], ◌∷◌, ◌++◌, length, take, refl, sym, ◌∙◌, subst, leb, arith}
 use Rattle.tva_base.specs.declared.limits.DrrLimits.{DrrLimits}
 use Rattle.tva_drr.specs.Queues.{Queue, Fair, has_key, bytes_in}
 use Rattle.tva_drr.specs.Offer.{lacks_queue, lacks_room}
-use Rattle.tva_drr.specs.Fair.{AreMeasured}
 use Rattle.tva_drr.specs.Order.{IsFront}
 use Rattle.tva_drr.specs.Service.{is_front, first_bytes}
 use Rattle.tva_drr.proofs.Lists.{by_key}
 use Rattle.tva_drr.proofs.Falling.{by_test}
-use Rattle.tva_drr.proofs.Until.{offer_cases, has_from_items, measured_items}
+use Rattle.tva_drr.proofs.Until.{offer_cases, has_from_items, measured_items, more_items, one_less, next_le, some_bytes}
 use Rattle.tva_hier.specs.Groups.{Group, Hier, hier, inner_limits, queues_of, all_group_bytes, items_under}
 use Rattle.tva_hier.specs.Offer.{lacks_group, lacks_place, lacks_space, put_under, left_by_offer}
 use Rattle.tva_hier.specs.Take.{groups_taken}
@@ -43,12 +40,6 @@ module _ {T : Type 0} (measure : T → ℕ) (l : DrrLimits) (inner : ℕ) where
   abbrev Wait : ℕ → ℕ → ℕ → ℕ → Hier T → Type 0
   Wait outer key n r h = (n ≤ length (items_under h outer key)) × (bytes_in measure (take n (items_under h outer key)) ≡ r)
 
-  more_items : (n r : ℕ) (xs ys : List T) (x : T) → ys ≡ xs ++ x ∷ [] → n ≤ length xs → bytes_in measure (take n xs) ≡ r
-      → (n ≤ length ys) × (bytes_in measure (take n ys) ≡ r)
-  more_items n r xs ys x e h b =
-      subst (λ zs. (n ≤ length zs) × (bytes_in measure (take n zs) ≡ r)) (sym e)
-      (omega (arith, h, length-append xs (x ∷ [])), ap (λ zs. bytes_in measure zs) (take-append-le n xs (x ∷ []) h) ∙ b)
-
   wait-last : (outer key n r o i : ℕ) (x : T) (old new : Hier T) → GoesLastUnder o i x old new → Wait outer key n r old
       → Wait outer key n r new
   wait-last outer key n r o i x old new g w =
@@ -56,7 +47,7 @@ module _ {T : Type 0} (measure : T → ℕ) (l : DrrLimits) (inner : ℕ) where
       (λ zs. (n ≤ length zs) × (bytes_in measure (take n zs) ≡ r)) (sym (g.others outer key k)) w in
       by_key o outer (λ _. Wait outer key n r new)
       (λ e. by_key i key (λ _. Wait outer key n r new)
-      (λ s. more_items n r (items_under old outer key) (items_under new outer key) x
+      (λ s. more_items measure l key n r (items_under old outer key) (items_under new outer key) x
       (subst (λ z. items_under new z key ≡ items_under old z key ++ x ∷ []) e
       (subst (λ z. items_under new o z ≡ items_under old o z ++ x ∷ []) s g.own)) w.0 w.1)
       (λ s. same (λ _ k. s (sym k))))
@@ -78,17 +69,8 @@ module _ {T : Type 0} (measure : T → ℕ) (l : DrrLimits) (inner : ℕ) where
   front_key [] h = absurd (omega arith)
   front_key (q ∷ qs) h = (q.key, (refl, λ key. refl))
 
-  one_less : (n r : ℕ) (x : T) (xs ys : List T) → xs ≡ x ∷ ys → suc n ≤ length xs → bytes_in measure (take (suc n) xs) ≡ r
-      → (n ≤ length ys) × (measure x + bytes_in measure (take n ys) ≡ r)
-  one_less n r x xs ys e h b =
-      let h2 : suc n ≤ length (x ∷ ys) = subst (λ zs. suc n ≤ length zs) e h in
-      let b2 : bytes_in measure (x ∷ take n ys) ≡ r = subst (λ zs. bytes_in measure (take (suc n) zs) ≡ r) e b in
-      (omega arith, omega (arith, b2, sum_by-cons measure x (take n ys)))
-
-  next_le : (n r : ℕ) (ys : List T) → 1 ≤ n → n ≤ length ys → bytes_in measure (take n ys) ≡ r → first_bytes measure ys ≤ r
-  next_le n r [] h k b = absurd (omega arith)
-  next_le zero r (y ∷ ys) h k b = absurd (omega arith)
-  next_le (suc n) r (y ∷ ys) h k b = omega (arith, b, sum_by-cons measure y (take n ys))
+  first_within : (n r : ℕ) (ys : List T) → 1 ≤ n → n ≤ length ys → bytes_in measure (take n ys) ≡ r → first_bytes measure ys ≤ r
+  first_within n r ys h k b = subst (λ z. first_bytes measure ys ≤ z) b (next_le measure l n ys h k)
 
   there : (outer key n r : ℕ) (gs : List (Group T)) → 1 ≤ n → Wait outer key n r (hier l inner gs)
       → has_key key (queues_of (inner_limits l inner) outer gs).queues ≡ true
@@ -107,7 +89,7 @@ module _ {T : Type 0} (measure : T → ℕ) (l : DrrLimits) (inner : ℕ) where
       let new : List (Group T) = groups_taken measure l.quantum (g ∷ gs) in
       let left_under : IsLeftUnder measure (hier l inner (g ∷ gs)) outer key r left = (
         subst (λ b. left + cond b (next_bytes measure (g ∷ gs)) 0 ≡ r) (sym t) s,
-        next_le (suc n) left
+        first_within (suc n) left
             (items_under (hier l inner new) outer key) (omega arith) v.0 v.1,
       ) in
       omega (
@@ -171,7 +153,7 @@ module _ {T : Type 0} (measure : T → ℕ) (l : DrrLimits) (inner : ℕ) where
       let own : items_under (hier l inner (g ∷ gs)) outer key ≡ x ∷ items_under (hier l inner new) outer key =
       subst (λ z. items_under (hier l inner (g ∷ gs)) z key ≡ x ∷ items_under (hier l inner new) z key) both.0
       (subst (λ z. items_under (hier l inner (g ∷ gs)) g.key z ≡ x ∷ items_under (hier l inner new) g.key z) both.1 more.1.own) in
-      let less = one_less n r x (items_under (hier l inner (g ∷ gs)) outer key) (items_under (hier l inner new) outer key) own w.0 w.1 in
+      let less = one_less measure l n r x (items_under (hier l inner (g ∷ gs)) outer key) (items_under (hier l inner new) outer key) own w.0 w.1 in
       let left : ℕ = bytes_in measure (take n (items_under (hier l inner new) outer key)) in
       until_own outer key n r left g gs ss h t (omega (arith, less.1, taken.1.1.0)) w (less.0, refl)
       (until_le outer key n left new ss o more.2 (less.0, refl)))
@@ -181,7 +163,7 @@ module _ {T : Type 0} (measure : T → ℕ) (l : DrrLimits) (inner : ℕ) where
       (sym (more.1.others outer key apart)) w in
       let stays : IsLeftUnder measure (hier l inner (g ∷ gs)) outer key r r = (
         subst (λ b. r + cond b (next_bytes measure (g ∷ gs)) 0 ≡ r) (sym t) (omega arith),
-        next_le (suc n) r
+        first_within (suc n) r
             (items_under (hier l inner new) outer key) (omega arith) v.0 v.1,
       ) in
       omega (
@@ -191,11 +173,6 @@ module _ {T : Type 0} (measure : T → ℕ) (l : DrrLimits) (inner : ℕ) where
             (there outer key (suc n) r new (omega arith) v) stays,
       ))
       refl
-
-  some_bytes : (m : DrrLimits) (n : ℕ) (xs : List T) → 1 ≤ n → n ≤ length xs → AreMeasured measure m xs → 1 ≤ bytes_in measure (take n xs)
-  some_bytes m n [] h k a = absurd (omega arith)
-  some_bytes m zero (x ∷ xs) h k a = absurd (omega arith)
-  some_bytes m (suc n) (x ∷ xs) h k a = omega (arith, a.0, sum_by-cons measure x (take n xs))
 
   -- nor more than the bound
   pub until_most : (outer key n : ℕ) (gs : List (Group T)) (ss : List (Step T)) → IsHier measure (hier l inner gs)
@@ -207,7 +184,7 @@ module _ {T : Type 0} (measure : T → ℕ) (l : DrrLimits) (inner : ℕ) where
       let f : Fair T = queues_of (inner_limits l inner) outer gs in
       let i = inner_of measure l inner outer gs h.limits h.inner h.groups.each in
       let r : ℕ = bytes_in measure (take (suc k) (items_under (hier l inner gs) outer key)) in
-      let some : 1 ≤ r = some_bytes f.limits (suc k) (items_under (hier l inner gs) outer key) (omega arith) n
+      let some : 1 ≤ r = some_bytes measure f.limits (suc k) (items_under (hier l inner gs) outer key) (omega arith) n
       (measured_items measure f.limits key f.queues i.1.queues.each) in
       omega (
         arith,

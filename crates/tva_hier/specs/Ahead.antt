@@ -1,10 +1,10 @@
 -- Product: how two-level queues serve the items under two keys, whatever is offered to them: a measure of the bytes
 -- that may still go, up to what the keys have yet to send. It falls at each take by what is taken, and no offer
 -- changes it.
-use Rattle.std.specs.Prelude.{◌≡◌, ℕ, zero, suc, ◌+◌, ◌≤◌, ◌==◌, Bool, false, ◌&&◌, if◌then◌else◌, List, [], ◌∷◌}
+use Rattle.std.specs.Prelude.{◌≡◌, ℕ, zero, suc, ◌+◌, ◌≤◌, ◌==◌, Bool, false, ◌&&◌, if◌then◌else◌, List, [], ◌∷◌, map}
 use Rattle.tva_base.specs.declared.limits.DrrLimits.{DrrLimits}
-use Rattle.tva_drr.specs.Queues.{Queue, queue}
 use Rattle.tva_drr.specs.Service.{is_front, first_bytes, head_bytes, most_until}
+use Rattle.tva_drr.specs.Turns.{Turn, turn, ahead}
 use Rattle.tva_drr.specs.Ahead.{bytes_ahead}
 use Rattle.tva_hier.specs.Groups.{Group, Hier, inner_limits, fair_of, items_under}
 use Rattle.tva_hier.specs.Offer.{left_by_offer}
@@ -16,26 +16,15 @@ pub data Step (T : Type 0) : Type 0 where
   Take : Step T
 
 module _ {T : Type 0} where
-  -- the first of some items, alone
-  abbrev pub alone : List T → List T
-  alone [] = []
-  alone (x ∷ xs) = x ∷ []
-
-  -- what fair queues send next, alone
-  abbrev pub next_alone : List (Queue T) → List T
-  next_alone [] = []
-  next_alone (q ∷ qs) = alone q.items
-
-  -- the groups as fair queues by the outer keys, each with what it sends next
-  abbrev pub as_queues : List (Group T) → List (Queue T)
-  as_queues [] = []
-  as_queues (g ∷ gs) = queue g.key g.deficit (next_alone g.queues.queues) ∷ as_queues gs
+  -- the turns of groups
+  abbrev pub turns_of_groups : List (Group T) → List Turn
+  turns_of_groups gs = map (λ g. turn g.key g.deficit) gs
 
   -- the bytes that may still go before and with the next so many bytes under two keys: what may go of
   -- their group before and with these, and what may go of all groups before and with that
   abbrev pub bytes_ahead_under : Hier T → ℕ → ℕ → ℕ → ℕ
   bytes_ahead_under h outer inner bytes =
-      bytes_ahead h.limits outer (bytes_ahead (inner_limits h.limits h.inner) inner bytes (fair_of h outer).queues) (as_queues h.groups)
+      ahead h.limits outer (bytes_ahead (inner_limits h.limits h.inner) inner bytes (fair_of h outer).queues) (turns_of_groups h.groups)
 
   -- the outer key's group stands at the front, and in it the inner key's queue
   abbrev pub are_front : ℕ → ℕ → List (Group T) → Bool

@@ -8,16 +8,12 @@ ghost use Rattle.tva_hier.specs.Offer.{lacks_place, answer_to_offer, left_by_off
 ghost use Rattle.tva_hier.specs.Take.{left_by_take};
 ghost use Rattle.tva_hier.specs.Hier.{IsHier};
 ghost use Rattle.tva_hier.specs.Order.{GoesLastUnder, GoesFirstUnder, AreFront};
-ghost use Rattle.tva_hier.specs.Places.{IsGroupPlace};
+ghost use Rattle.tva_hier.specs.Places.{IsGroupPlace, added};
 
-use crate::group_slot::{GroupSlot, group_slots};
-use crate::turns::{first_deficit, pop_front_item, settle_groups};
 use std::alloc::{AllocError, Global};
-use std::collections::VecDeque;
 use std::marker::Model;
 use tva_base::DrrLimits;
-use tva_drr::{Measured, Offered};
-use tva_index::KeyRing;
+use tva_drr::{FairQueues, Measured, Offered, Turns};
 
 /// Two-level fair queues of items, by deficit round robin (Shreedhar and Varghese, 1996). Contracts see
 /// the limits and one list of outer keys, deficits and fair queues in ring order, in which no group is
@@ -31,32 +27,26 @@ pub struct HierQueues<T: Measured> {
     pub(crate) limits: DrrLimits,
     inner: u32,
     bytes: u32,
-    waiting: VecDeque<GroupSlot<T>>,
-    spare: Vec<GroupSlot<T>>,
-    keys: KeyRing,
+    turns: Turns<FairQueues<T>>,
 }
 
 impl<T: Measured> Model for HierQueues<T> {
-    ghost use Rattle.std.specs.Prelude.{◌≡◌, ◌≤◌, vec_capacity};
-    ghost use Rattle.std.specs.VecDeque.{deque_capacity};
+    ghost use Rattle.std.specs.Prelude.{◌≡◌};
     ghost use Rattle.tva_hier.specs.Groups.{Hier, hier, inner_limits, all_group_bytes};
     ghost use Rattle.tva_hier.specs.Hier.{IsHier};
     ghost use Rattle.tva_hier.specs.Code.{hier_code};
-    ghost use Rattle.tva_hier.specs.Places.{outer_keys, AreKept};
-    ghost use Rattle.tva_index.specs.KeyRing.{ring};
+    ghost use Rattle.tva_hier.specs.Places.{groups_in};
 
     ghost Value = { Hier T };
 
     ghost coded = { hier_code T.code };
 
-    ghost view = { λ a. hier a.limits a.inner a.waiting.items };
+    ghost view = { λ a. hier a.limits a.inner (groups_in a.turns.turns) };
 
-    ghost invariant = { λ a. IsHier T.measure (hier a.limits a.inner a.waiting.items)
-        × (a.bytes ≡ all_group_bytes T.measure a.waiting.items)
-        × AreKept (inner_limits a.limits a.inner) a.limits.queues a.waiting.items a.spare.items
-        × (a.limits.queues ≤ deque_capacity a.waiting)
-        × (a.limits.queues ≤ vec_capacity a.spare)
-        × (a.keys ≡ ring a.limits.queues (outer_keys a.waiting.items)) };
+    ghost invariant = { λ a. IsHier T.measure (hier a.limits a.inner (groups_in a.turns.turns))
+        × (a.bytes ≡ all_group_bytes T.measure (groups_in a.turns.turns))
+        × (a.turns.limits ≡ inner_limits a.limits a.inner)
+        × (a.turns.places ≡ a.limits.queues) };
 }
 
 /// The limits of one group.
@@ -87,16 +77,12 @@ impl<T: Measured> HierQueues<T> {
         ensures empty { IfOk result (λ queues. queues ≡ hier limits inner []) }
         ensures hier { IfOk result (λ queues. IsHier T.measure queues) }
     {
-        let waiting = VecDeque::with_capacity(alloc, limits.queues as usize)?;
-        let spare = group_slots(alloc, limits.queues, limits_of_group(&limits, inner))?;
-        let keys = KeyRing::with_places(alloc, limits.queues)?;
+        let turns = Turns::with_places(alloc, limits.queues, limits_of_group(&limits, inner))?;
         Ok(HierQueues {
             limits,
             inner,
             bytes: 0,
-            waiting,
-            spare,
-            keys,
+            turns,
         })
     }
 
@@ -104,7 +90,7 @@ impl<T: Measured> HierQueues<T> {
     fn place(&self, outer: u32) -> Option<usize>
         ensures { IsGroupPlace outer self.now.groups result }
     {
-        self.keys.place(outer)
+        self.turns.place(outer)
     }
 
     /// Whether there is no group for the outer key, or no queue in its group for the inner key.
@@ -113,8 +99,8 @@ impl<T: Measured> HierQueues<T> {
         ensures { result ≡ lacks_place self.now outer inner }
     {
         match at {
-            Some(at) => !self.waiting[at].takes_key(inner),
-            None => self.limits.queues as usize <= self.waiting.len(),
+            Some(at) => !self.turns.turn(at).source.takes_key(inner),
+            None => self.limits.queues as usize <= self.turns.len(),
         }
     }
 
@@ -128,14 +114,9 @@ impl<T: Measured> HierQueues<T> {
         ensures left { self.new ≡ left_by_offer T.measure self.old outer inner item }
     {
         let length = item.length();
-        match self.waiting[at].offer(inner, item) {
-            Offered::Queued => {
-                self.bytes += length;
-                Offered::Queued
-            }
-            Offered::NoQueue(item) => Offered::NoQueue(item),
-            Offered::QueueFull(item) => Offered::QueueFull(item),
-        }
+        let answer = self.turns.put_at(at, inner, item);
+        self.bytes += added(&answer, length);
+        answer
     }
 
     /// Offers an item to a spare group, which goes last in the list where the item is queued.
@@ -147,30 +128,10 @@ impl<T: Measured> HierQueues<T> {
         ensures answer { result ≡ answer_to_offer T.measure self.old outer inner item }
         ensures left { self.new ≡ left_by_offer T.measure self.old outer inner item }
     {
-        let bytes = item.length();
-        let deficit = first_deficit(&self.waiting, self.limits.quantum);
-        match self.spare.pop() {
-            None => Offered::NoQueue(item),
-            Some(mut slot) => {
-                slot.give(outer, deficit);
-                match slot.offer(inner, item) {
-                    Offered::Queued => {
-                        self.bytes += bytes;
-                        self.waiting.push_back_reserved(slot);
-                        self.keys.push(outer);
-                        Offered::Queued
-                    }
-                    Offered::NoQueue(item) => {
-                        self.spare.push_reserved(slot);
-                        Offered::NoQueue(item)
-                    }
-                    Offered::QueueFull(item) => {
-                        self.spare.push_reserved(slot);
-                        Offered::QueueFull(item)
-                    }
-                }
-            }
-        }
+        let length = item.length();
+        let answer = self.turns.put_new(outer, inner, item);
+        self.bytes += added(&answer, length);
+        answer
     }
 
     /// Puts the item last among the items under its two keys; a new inner key goes last in its group, and
@@ -205,11 +166,7 @@ impl<T: Measured> HierQueues<T> {
         ensures none { IsNone result ↔ (self.now.groups ≡ []) }
         ensures hier { IsHier T.measure self.now }
     {
-        if self.waiting.is_empty() {
-            None
-        } else {
-            self.waiting[0].head_length()
-        }
+        self.turns.next_length()
     }
 
     /// Takes what the front's fair queues give, and none exactly where nothing waits. Both deficits fall
@@ -225,14 +182,21 @@ impl<T: Measured> HierQueues<T> {
             → IfSome result (λ item. GoesFirstUnder outer inner item self.old self.new) }
         ensures hier { IsHier T.measure self.new }
     {
-        let item = pop_front_item(&mut self.waiting)?;
-        self.bytes -= item.length();
-        settle_groups(
-            &mut self.waiting,
-            &mut self.spare,
-            &mut self.keys,
-            self.limits.quantum,
-        );
-        Some(item)
+        let length = self.head_length()?;
+        self.bytes -= length;
+        let item = self.turns.pop();
+        self.turns.settle();
+        item
+    }
+}
+
+// The bytes that are more after an offer with this answer.
+fn added<T: Measured>(answer: &Offered<T>, length: u32) -> u32
+    ensures value { result ≡ added answer.now length }
+    ensures within { result ≤ length }
+{
+    match answer {
+        Offered::Queued => length,
+        Offered::NoQueue(_) | Offered::QueueFull(_) => 0,
     }
 }

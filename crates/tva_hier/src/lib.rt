@@ -7,12 +7,10 @@
 //! memory is taken when the queues are made.
 #![tactic(auto)]
 
-mod group_slot;
 mod hier_queues;
 mod laws;
 #[cfg(test)]
 mod tests;
-mod turns;
 
 pub use hier_queues::HierQueues;
 pub use laws::{bytes_ahead_fall, items_go_within_bounds};

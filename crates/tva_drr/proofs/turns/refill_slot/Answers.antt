@@ -1,9 +1,0 @@
-use Rattle.std.proofs.Common.{◌<◌, length, arith}
-use Rattle.std.proofs.lemmas.Bool.Decides.{nat_tests}
-use Rattle.tva_drr.proofs.SlotLists.{first_of}
-use Rattle.tva_drr.proofs.turns.refill_slot.Goals as goal
-
-pub refill-requires : goal.refill-requires
-refill-requires g c =
-    let n : 0 < length c.args.waiting.now.items = grind (arith, nat_tests) in
-    c.requires c.index_mut.result.now.queue (first_of c.args.waiting.now.items c.index_mut.result.now n c.index_mut.ensures.value)
