@@ -1,13 +1,18 @@
 -- What a host makes of a packet is by the definitions.
-use Rattle.std.proofs.Common.{◌≡◌, ℕ, ◌++◌, ◌∷◌, [], true, false, eqb, Option, Some, refl, ap, subst, ◌∙◌}
+use Rattle.std.proofs.Common.{◌≡◌, ℕ, Bool, List, ◌++◌, ◌∷◌, [], true, false, not, eqb, Option, Some, None, append-nil, refl, sym, ap, subst, ⊎_elim, ◌∙◌}
+use Rattle.std.proofs.lemmas.Bool.{cases_Bool, false≢true}
 use Rattle.std.specs.Option.{is_some}
 use Rattle.tva_base.specs.declared.addresses.Address.{Address}
 use Rattle.tva_base.specs.declared.packet.Rights.{Rights}
 use Rattle.tva_base.specs.declared.packet.Upper.{Upper}
 use Rattle.tva_base.specs.declared.plan.HostPlan.{HostPlan}
 use Rattle.tva_shim.specs.declared.packets.Carried.{Carried}
+use Rattle.tva_shim.specs.declared.packets.Carried.TheVariants as carried
 use Rattle.tva_shim.specs.Packets.{PacketData}
-use Rattle.tva_policy.specs.Grants.{Decided, grant_decision}
+use Rattle.tva_policy.specs.Grants.{Deed, Decided, grant_decision, is_granted, lets_in, was_sent_to}
+use Rattle.tva_base.specs.declared.plan.PolicyKind.{PolicyKind}
+use Rattle.tva_base.specs.declared.plan.PolicyKind.TheVariants.{DenyAll, Client, Server}
+use Rattle.tva_base.specs.declared.plan.PolicyPlan.{PolicyPlan}
 use Rattle.tva_policy.specs.Notes as policy
 use Rattle.tva_base.specs.declared.event.WhatKind.{WhatKind}
 use Rattle.tva_base.specs.declared.event.BackKind.{BackKind}
@@ -17,7 +22,7 @@ use Rattle.tva_host.specs.declared.made.Receipt.{Receipt}
 use Rattle.tva_host.specs.History.{History}
 use Rattle.tva_host.specs.Stands.{HostData, Keeps}
 use Rattle.tva_shim.specs.Shows.{back_in}
-use Rattle.tva_host.specs.Receiving.{ClaimData, became_of, what_came, reply_of, claim_in, decided_on, answer_to_claim, brought_by, after_answer, after_reply, before_reply, stray, received, receipt_of, after_receipt}
+use Rattle.tva_host.specs.Receiving.{ClaimData, became_of, what_came, reply_of, claim_in, notice_for, granted, decided_on, answer_to_claim, brought_by, after_answer, after_reply, before_reply, stray, received, receipt_of, after_receipt}
 use Rattle.tva_host.proofs.Standing.{noted, keeps-deed}
 
 -- the policy decided on a claim
@@ -30,6 +35,40 @@ keeps-answer v notes h src carries claim rights k claims decides more =
     subst (λ (o : Option Rights). policy.StandsFor v.plan.policy notes (h.deeds ++ Decided src (is_some o) ∷ [])) decides more in
     subst (λ (o : Option ClaimData). Keeps (noted notes v) (record h { deeds = h.deeds ++ decided_on v.plan h.deeds src o })) claims
     (keeps-deed v notes (Decided src (is_some (grant_decision v.plan.policy h.deeds src claim.tags))) h k decided)
+
+-- a policy of a kind that lets nobody in grants nothing
+let_in_never : (kind : PolicyKind) (sent : Bool) → not (lets_in kind true) ≡ true → lets_in kind sent ≡ false
+let_in_never DenyAll sent e = refl
+let_in_never Client sent e = absurd (false≢true e)
+let_in_never Server sent e = absurd (false≢true e)
+
+grants-nobody : (plan : PolicyPlan) (deeds : List Deed) (src : Address) (tags : List ℕ) → not (lets_in plan.kind true) ≡ true → None ≡ grant_decision plan deeds src tags
+unfolding is_granted
+grants-nobody plan deeds src tags e = rw (let_in_never plan.kind (was_sent_to deeds src) e) refl
+
+-- what claims a grant is answered with no notice
+claims-unnoticed : (carries : Carried) (claim : ClaimData) → claim_in carries ≡ Some claim → notice_for carries ≡ None
+claims-unnoticed carried.Nothing claim e = refl
+claims-unnoticed (carried.Malformed m) claim e = refl
+claims-unnoticed (carried.Shim shim) claim e = ⊎_elim
+    (λ yes. absurd (cc (rw yes at e)))
+    (λ no. rw no refl)
+    (cases_Bool shim.demoted)
+
+-- so the answer is the notice alone
+pub answer-nobody : (plan : HostPlan) (deeds : List Deed) (src : Address) (carries : Carried) → not (lets_in plan.policy.kind true) ≡ true → notice_for carries ≡ answer_to_claim plan deeds src carries (claim_in carries)
+answer-nobody plan deeds src carries never = go (claim_in carries) refl where
+  go : (o : Option ClaimData) → claim_in carries ≡ o → notice_for carries ≡ answer_to_claim plan deeds src carries o
+  go None e = refl
+  go (Some claim) e = claims-unnoticed carries claim e ∙ ap (λ rights. granted rights claim.precaps) (grants-nobody plan.policy deeds src claim.tags never)
+
+pub keeps-nobody : (v : HostData) (h : History) (src : Address) (carries : Carried) → Keeps v h → not (lets_in v.plan.policy.kind true) ≡ true
+    → policy.StandsFor v.plan.policy v.policy (h.deeds ++ Decided src false ∷ []) → Keeps v (after_answer v.plan src carries h)
+keeps-nobody v h src carries k never more = go (claim_in carries) refl where
+  go : (o : Option ClaimData) → claim_in carries ≡ o → Keeps v (record h { deeds = h.deeds ++ decided_on v.plan h.deeds src o })
+  go None e = subst (λ deeds. Keeps v (record h { deeds = deeds })) (sym (append-nil h.deeds)) k
+  go (Some claim) e = subst (λ (o : Option ClaimData). Keeps v (record h { deeds = h.deeds ++ decided_on v.plan h.deeds src o })) e
+      (keeps-answer v v.policy h src carries claim None k (sym e) (grants-nobody v.plan.policy h.deeds src claim.tags never) more)
 
 -- a packet for another host
 pub receipt-stray : (node : ℕ) (plan : HostPlan) (h : History) (now : ℕ) (p : PacketData) (above : Upper) → eqb p.flow.dst.0 plan.address.0 ≡ false → stray ≡ receipt_of node plan h now p above

@@ -316,7 +316,8 @@ impl Host {
         self.sender.prepare(now, dst, body, offered)
     }
 
-    // What the host answers to what a packet carries. The policy decides on a claim.
+    // What the host answers to what a packet carries. The policy decides on a claim, whose tags and
+    // pre-capabilities aren't gathered for one that grants nobody.
     fn answer(
         &mut self,
         alloc: Global,
@@ -331,6 +332,9 @@ impl Host {
         ensures rest { self.new ≡ record self.old { policy = self.new.policy } }
         ensures err { OnErr result (self.new ≡ self.old) }
     {
+        if self.policy.grants_nobody() {
+            return Ok(notice_for(carried));
+        }
         let Some(claim) = claim_in(carried) else {
             return Ok(notice_for(carried));
         };

@@ -1,8 +1,8 @@
 // A policy: whom it granted, and whom it would grant.
-ghost use Rattle.std.specs.Prelude.{◌≡◌, true, List, [], ◌∷◌, ◌++◌, is_some, IfOk, IfNone, OnOk, OnErr};
+ghost use Rattle.std.specs.Prelude.{◌≡◌, Bool, true, List, [], ◌∷◌, ◌++◌, false, is_some, not, IfOk, IfNone, OnOk, OnErr};
 ghost use Rattle.tva_base.specs.declared.plan.PolicyPlan.{PolicyPlan};
 ghost use Rattle.tva_policy.specs.Grants.{Deed, Sent, Decided, grant_decision, has_address, lets_in};
-ghost use Rattle.tva_policy.specs.Notes.{StandsFor, lets_through};
+ghost use Rattle.tva_policy.specs.Notes.{StandsFor, denies};
 
 use crate::sets::{has_any, set_of};
 use std::alloc::{AllocError, Global};
@@ -14,8 +14,9 @@ use tva_base::{Address, PolicyKind, PolicyPlan, Rights};
 /// one place.
 const RECENT: usize = 64;
 
-/// Whom a host grants. It keeps the destinations that were noted and the grants to each source. One that
-/// was noted lately is noted again without a walk of the set, which waits for the memory of its nodes.
+/// Whom a host grants. It keeps the destinations that were noted, where its kind asks for them, and the grants
+/// to each source. One that was noted lately is noted again without a walk of the set, which waits for the
+/// memory of its nodes.
 #[derive(Drop)]
 pub struct Policy {
     kind: PolicyKind,
@@ -61,12 +62,25 @@ impl Policy {
         ensures stands { (plan : PolicyPlan) (h : List Deed) → StandsFor plan self.old h → OnOk result (StandsFor plan self.new (h ++ Sent dst ∷ [])) }
         ensures err { OnErr result (self.new ≡ self.old) }
     {
+        if !self.asks() {
+            return Ok(());
+        }
         if self.is_recent(dst) {
             return Ok(());
         }
         self.noted.insert(dst)?;
         self.recent[dst.0 as usize % RECENT] = Some(dst);
         Ok(())
+    }
+
+    // Whether its kind asks whom the host sent to.
+    fn asks(&self) -> bool
+        ensures { result ≡ false → (x y : Bool) → lets_in self.now.kind x ≡ lets_in self.now.kind y }
+    {
+        match self.kind {
+            PolicyKind::Client => true,
+            PolicyKind::DenyAll | PolicyKind::Server => false,
+        }
     }
 
     // Whether a destination is remembered. It was noted then.
@@ -92,11 +106,14 @@ impl Policy {
         ensures refused { IfOk result (λ answer. IfNone answer (self.new ≡ self.old)) }
         ensures err { OnErr result (self.new ≡ self.old) }
     {
+        if !self.lets_in(src) {
+            return Ok(None);
+        }
         let before = self.granted.get(&src).copied().unwrap_or(0);
         if before >= self.grants {
             return Ok(None);
         }
-        if !self.lets_through(src, tags) {
+        if self.denies(src, tags) {
             return Ok(None);
         }
         // The count stays at most `grants`, so it fits its width.
@@ -104,24 +121,32 @@ impl Policy {
         Ok(Some(self.rights))
     }
 
-    // Whether a source would be granted that wasn't granted too often.
-    fn lets_through(&self, src: Address, tags: &[u16]) -> bool
-        ensures { result ≡ lets_through self.now src tags.now }
+    /// Whether it grants nobody, by its kind. A decision then has no need of a packet's tags.
+    pub fn grants_nobody(&self) -> bool
+        ensures kind { (plan : PolicyPlan) (h : List Deed) → StandsFor plan self.now h → result ≡ not (lets_in plan.kind true) }
+        ensures stands { (plan : PolicyPlan) (h : List Deed) → StandsFor plan self.now h → result ≡ true → (src : Address) → StandsFor plan self.now (h ++ Decided src false ∷ []) }
     {
-        let is_noted = self.noted.contains(&src);
-        let is_denied = self.deny.contains(&src);
-        let has_denied = has_any(&self.deny_tags, tags);
-        lets_in(self.kind, is_noted) && !is_denied && !has_denied
+        match self.kind {
+            PolicyKind::DenyAll => true,
+            PolicyKind::Client | PolicyKind::Server => false,
+        }
     }
-}
 
-/// Whether the kind of a policy lets a source in that the host sent to before, or not.
-fn lets_in(kind: PolicyKind, is_noted: bool) -> bool
-    ensures { result ≡ lets_in kind is_noted }
-{
-    match kind {
-        PolicyKind::DenyAll => false,
-        PolicyKind::Client => is_noted,
-        PolicyKind::Server => true,
+    // Whether the kind lets a source in: one that the host sent to before, or not.
+    fn lets_in(&self, src: Address) -> bool
+        ensures { result ≡ lets_in self.now.kind (has_address self.now.noted src) }
+    {
+        match self.kind {
+            PolicyKind::DenyAll => false,
+            PolicyKind::Client => self.noted.contains(&src),
+            PolicyKind::Server => true,
+        }
+    }
+
+    // Whether a source is denied, or a tag of its packet.
+    fn denies(&self, src: Address, tags: &[u16]) -> bool
+        ensures { result ≡ denies self.now src tags.now }
+    {
+        self.deny.contains(&src) || has_any(&self.deny_tags, tags)
     }
 }

@@ -1,5 +1,5 @@
 -- Entries whose tags and pre-capabilities stand in two lists.
-use Rattle.std.proofs.Common.{◌≡◌, ℕ, ◌<◌, ◌≤◌, ◌+◌, ◌^◌, List, [], ◌∷◌, ◌++◌, length, get_or, take, All, refl, sym, ap, ◌∙◌, arith, length-append, min}
+use Rattle.std.proofs.Common.{◌≡◌, ℕ, ◌<◌, ◌≤◌, ◌+◌, ◌^◌, List, [], ◌∷◌, ◌++◌, length, get_or, map, take, All, refl, sym, ap, ◌∙◌, arith, length-append, min}
 use Rattle.std.proofs.lemmas.List.{length-take, length-take-le, take_all, take_more}
 use Rattle.std.proofs.lemmas.List.Elements.{All-nil, All-push}
 use Rattle.tva_shim.specs.declared.entries.Entry.{Entry}
@@ -30,6 +30,17 @@ none_fit tags precaps none nor = rw (none, nor) (refl, record { few = omega arit
 pub as_many : (tags precaps : List ℕ) (es : List Entry) → length tags ≡ length precaps → paired tags precaps ≡ es
     → length tags ≡ length es
 as_many tags precaps es same view = sym (length_paired tags precaps same) ∙ ap length view
+
+-- the tags of the entries
+tags_of : (tags precaps : List ℕ) → length tags ≡ length precaps → map (λ (e : Entry). e.tag) (paired tags precaps) ≡ tags
+tags_of [] [] h = refl
+tags_of [] (p ∷ ps) h = absurd (omega (arith, h))
+tags_of (t ∷ ts) [] h = absurd (omega (arith, h))
+tags_of (t ∷ ts) (p ∷ ps) h = ap (λ rest. t ∷ rest) (tags_of ts ps (omega (arith, h)))
+
+pub tags_paired : (tags precaps : List ℕ) (es : List Entry) → length tags ≡ length precaps → paired tags precaps ≡ es
+    → tags ≡ map (λ (e : Entry). e.tag) es
+tags_paired tags precaps es same view = sym (tags_of tags precaps same) ∙ ap (map (λ (e : Entry). e.tag)) view
 
 -- one entry more
 pub paired_more : (tags precaps : List ℕ) (es : List Entry) (e : Entry) → length tags ≡ length precaps → paired tags precaps ≡ es

@@ -39,11 +39,6 @@ abbrev pub nonce_in : Carried → ℕ
 nonce_in (carried.Shim shim) = kind_nonce shim.kind
 nonce_in _ = 0
 
--- the version of the shim that a packet carries, if any
-abbrev pub version_in : Carried → ℕ
-version_in (carried.Shim shim) = shim.version
-version_in _ = 0
-
 -- the return info that a packet shows
 abbrev pub back_in : Carried → ReturnInfo
 back_in (carried.Shim shim) = shim.back

@@ -1,5 +1,5 @@
 // The entries that routers add to a request.
-ghost use Rattle.std.specs.Prelude.{◌≡◌, ◌<◌, ◌↔◌, [], ◌∷◌, ◌++◌, length, IsErr, OnOk, OnErr};
+ghost use Rattle.std.specs.Prelude.{◌≡◌, ◌<◌, ◌↔◌, [], ◌∷◌, ◌++◌, length, map, IsErr, OnOk, OnErr};
 ghost use Rattle.tva_shim.specs.Widths.{AreEntries};
 
 use arrayvec::ArrayVec;
@@ -93,6 +93,13 @@ impl Entries {
             });
         }
         list
+    }
+
+    /// Their tags, in the order of the routers.
+    pub(crate) fn tags(&self) -> &[u16]
+        ensures { result.now ≡ map (λ entry. entry.tag) self.now }
+    {
+        self.tags.as_slice()
     }
 
     /// The same entries once more.

@@ -23,4 +23,4 @@ pub use laws::layouts_are_distinct;
 pub use limits::{HOPS_MAX, MALFORMED_MAX, PAYLOAD_MAX, limits_hold, packets_are_short};
 pub use packets::{Carried, Packet, class_of, length, upper_size};
 pub use shims::Shim;
-pub use shows::{inner_queue_key, queue_key, return_shown};
+pub use shows::{inner_queue_key, queue_key};

@@ -1,10 +1,10 @@
 // Shims.
-ghost use Rattle.std.specs.Prelude.{◌≡◌, if◌then◌else◌, nat_lt, ◌≤◌, ◌↔◌, length, IsErr, OnOk, OnErr};
+ghost use Rattle.std.specs.Prelude.{◌≡◌, if◌then◌else◌, nat_lt, ◌≤◌, ◌↔◌, filter, length, IsErr, OnOk, OnErr};
 ghost use Rattle.tva_base.specs.Versions.{IsVersion};
 ghost use Rattle.tva_shim.specs.Widths.{AreEntries, AreCaps};
 ghost use Rattle.tva_shim.specs.Shims.{IsShim, IsKind, IsReturn, entries_of, caps_of, granted_caps};
 ghost use Rattle.tva_shim.specs.Layout.{layout, shim_size, kind_size, return_size};
-ghost use Rattle.tva_shim.specs.Changes.{IsRequest, PointsAtOne, last_tag, tag_before, with_entry, with_next_pointer, with_fresh, with_mark};
+ghost use Rattle.tva_shim.specs.Changes.{IsRequest, PointsAtOne, last_but_one_or_zero, last_or_zero, last_tag, tag_before, with_entry, with_next_pointer, with_fresh, with_mark};
 
 use crate::entries::{Entry, PathFull};
 use crate::kinds::{Kind, ReturnInfo};
@@ -75,7 +75,7 @@ impl Shim {
         ensures { result ≡ last_tag (entries_of self.now.kind) }
     {
         match &self.kind {
-            Kind::Request(entries) => last_tag_of(entries.listed().as_slice()),
+            Kind::Request(entries) => last_tag_of(entries.tags()),
             _ => unreachable!(),
         }
     }
@@ -87,7 +87,7 @@ impl Shim {
         ensures { result ≡ tag_before (entries_of self.now.kind) }
     {
         match &self.kind {
-            Kind::Request(entries) => tag_before_of(entries.listed().as_slice()),
+            Kind::Request(entries) => tag_before_of(entries.tags()),
             _ => unreachable!(),
         }
     }
@@ -138,25 +138,25 @@ impl Shim {
 }
 
 // the last nonzero tag, else 0
-fn last_tag_of(entries: &[Entry]) -> u16
-    ensures { result ≡ last_tag entries.now }
+fn last_tag_of(tags: &[u16]) -> u16
+    ensures { result ≡ last_or_zero (filter (nat_lt 0) tags.now) }
 {
     let mut last = 0;
-    for entry in entries {
-        last = nonzero_or(entry.tag, last);
+    for tag in tags {
+        last = nonzero_or(*tag, last);
     }
     last
 }
 
 // the last nonzero tag but one, else 0
-fn tag_before_of(entries: &[Entry]) -> u16
-    ensures { result ≡ tag_before entries.now }
+fn tag_before_of(tags: &[u16]) -> u16
+    ensures { result ≡ last_but_one_or_zero (filter (nat_lt 0) tags.now) }
 {
     let mut before = 0;
     let mut last = 0;
-    for entry in entries {
-        before = where_tagged(entry.tag, last, before);
-        last = where_tagged(entry.tag, entry.tag, last);
+    for tag in tags {
+        before = where_tagged(*tag, last, before);
+        last = where_tagged(*tag, *tag, last);
     }
     before
 }

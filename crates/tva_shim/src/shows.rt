@@ -1,11 +1,9 @@
 // What a packet shows to the nodes that it passes.
-ghost use Rattle.std.specs.Prelude.{◌≡◌, IfSome, IfNone};
-ghost use Rattle.tva_shim.specs.declared.kinds.ReturnInfo.TheVariants as backs;
+ghost use Rattle.std.specs.Prelude.{◌≡◌};
 ghost use Rattle.tva_shim.specs.Changes.{last_tag};
-ghost use Rattle.tva_shim.specs.Shims.{IsReturn};
-ghost use Rattle.tva_shim.specs.Shows.{entries_in, key_of, inner_key_of, back_in, version_in};
+ghost use Rattle.tva_shim.specs.Shows.{entries_in, key_of, inner_key_of};
 
-use crate::kinds::{Kind, ReturnInfo};
+use crate::kinds::Kind;
 use crate::packets::{Carried, Packet};
 use tva_base::Class;
 
@@ -46,17 +44,5 @@ pub fn inner_queue_key(packet: &Packet) -> u32
             Kind::List(_) | Kind::Nonce(_) | Kind::Renewal(_) => 0,
         },
         Carried::Nothing | Carried::Malformed(_) => 0,
-    }
-}
-
-/// The return info that a packet shows. Without a shim there is none, and nothing is shown.
-pub fn return_shown(carried: &Carried) -> Option<&ReturnInfo>
-    ensures shown { IfSome result (λ back. back.now ≡ back_in carried.now) }
-    ensures fits { IfSome result (λ back. IsReturn (version_in carried.now) back.now) }
-    ensures none { IfNone result (back_in carried.now ≡ backs.Nothing) }
-{
-    match carried {
-        Carried::Shim(shim) => Some(&shim.back),
-        Carried::Nothing | Carried::Malformed(_) => None,
     }
 }

@@ -28,11 +28,11 @@ next_kept-same nexts source s transfer t e =
 pub knows_same : (v : CourierData) (files : Files) (nexts : List ((Address × ℕ) × ℕ)) → ((s : Address) (t : ℕ) → next_kept nexts s t ≡ next_kept v.nexts s t) → Knows v files → Knows (record v { nexts = nexts }) files
 knows_same v files nexts same k = record { transfers = k.transfers; nexts = λ s t. same s t ∙ k.nexts s t }
 
--- an entry is written once more
-pub next_kept-again : (old new : List ((Address × ℕ) × ℕ)) (source : Address) (transfer next : ℕ) → next ≡ next_kept old source transfer → ((s : Address) (t : ℕ) → next_kept new s t ≡ cond (eqb source.0 s.0 && eqb transfer t) next (next_kept old s t)) → (s : Address) (t : ℕ) → next_kept new s t ≡ next_kept old s t
-next_kept-again old new source transfer next is e s t = ⊎_elim
-    (λ here. e s t ∙ ap (λ b. cond b next (next_kept old s t)) here ∙ is ∙ sym (next_kept-same old source s transfer t here))
-    (λ there. e s t ∙ ap (λ b. cond b next (next_kept old s t)) there)
+-- an entry that says so already
+pub next_kept-still : (nexts : List ((Address × ℕ) × ℕ)) (source : Address) (transfer next : ℕ) → next ≡ next_kept nexts source transfer → (s : Address) (t : ℕ) → next_kept nexts s t ≡ cond (eqb source.0 s.0 && eqb transfer t) next (next_kept nexts s t)
+next_kept-still nexts source transfer next is s t = ⊎_elim
+    (λ here. rw here (next_kept-same nexts source s transfer t here ∙ sym is))
+    (λ there. rw there refl)
     (cases_Bool (eqb source.0 s.0 && eqb transfer t))
 
 pub range_of-kept : (v : CourierData) (files : Files) → Knows v files → (source : Address) (transfer first bytes : ℕ) → range_of files source (Data transfer first bytes) ≡ cond (eqb first (next_kept v.nexts source transfer)) (Some (record { transfer = transfer; first = first; bytes = bytes })) None

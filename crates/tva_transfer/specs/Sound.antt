@@ -1,11 +1,11 @@
 -- Kit: what holds of every courier of the program, for the invariant of its model.
-use Rattle.std.specs.Prelude.{ℕ, ◌≡◌, ◌≤◌, ◌==◌, ◌&&◌, Bool, false, List, slice_get, IsSome, Some}
+use Rattle.std.specs.Prelude.{ℕ, ◌≡◌, ◌≤◌, ◌==◌, ◌&&◌, Bool, false, List, slice_get, Some}
 use Rattle.std.specs.List.{list_any}
 use Rattle.std.specs.Map.{lookup}
 use Rattle.std.specs.Option.{option_map_or}
 use Rattle.tva_base.specs.declared.addresses.Address.{Address}
 use Rattle.tva_base.specs.declared.packet.Upper.{Upper}
-use Rattle.tva_base.specs.declared.packet.Upper.TheVariants.{Nothing, Data, Ack}
+use Rattle.tva_base.specs.declared.packet.Upper.TheVariants.{Data}
 use Rattle.tva_transfer.specs.declared.transfers.Transfer.{Transfer}
 use Rattle.tva_transfer.specs.Files.{is_due}
 
@@ -25,9 +25,8 @@ pub record IsSound (ts : List Transfer) (keys : List (Address × ℕ)) : Type 0 
   pub sized : (place : ℕ) (t : Transfer) → slice_get ts place ≡ Some t → IsSized t
   pub due : (dst : Address) (place : ℕ) → has_key keys dst place ≡ is_due_at ts dst place
 
--- there is room for where the next range begins of what a source sends
-abbrev pub HasRoom : List ((Address × ℕ) × ℕ) → Address → Upper → Type 0
-HasRoom nexts source Nothing = Unit {0}
-HasRoom nexts source (Data transfer first bytes) =
-    IsSome (lookup (λ key. (source.0 == key.0.0) && (transfer == key.1)) nexts)
-HasRoom nexts source (Ack transfer next) = Unit {0}
+-- where the next range begins of what a source sends is kept
+abbrev pub IsNext : List ((Address × ℕ) × ℕ) → Address → Upper → ℕ → Type 0
+IsNext nexts source (Data transfer first bytes) next =
+    lookup (λ key. (source.0 == key.0.0) && (transfer == key.1)) nexts ≡ Some next
+IsNext nexts source _ next = Unit {0}

@@ -8,8 +8,8 @@ ghost use Rattle.tva_host.specs.Sending.{intended, next_packet};
 ghost use Rattle.tva_host.specs.Receiving.{receipt_of};
 ghost use Rattle.tva_host.specs.Calls.{Call, Intended, Injected, Received, history_of};
 ghost use Rattle.tva_transfer.specs.Files.{Files, Act, Filed, Ticked, Came, after_upper, answer_to, answered, delivered, first_segment, heard, range_of, segment_due};
-ghost use Rattle.tva_transfer.specs.Stands.{Knows, StandsFor, call_with, known, next_kept, sent_with};
-ghost use Rattle.tva_transfer.specs.Sound.{HasRoom, has_key};
+ghost use Rattle.tva_transfer.specs.Stands.{CourierData, Knows, StandsFor, call_with, known, sent_with};
+ghost use Rattle.tva_transfer.specs.Sound.{IsNext, has_key};
 
 use crate::transfers::Transfer;
 use std::alloc::{AllocError, Global};
@@ -209,11 +209,11 @@ impl Courier {
     {
         let source = packet.flow.src;
         let upper = self.heard(&packet);
-        self.make_room(source, upper)?;
-        let range = self.range_of(source, upper);
-        let answer = self.answer_to(source, upper);
+        let next = self.next_of(source, upper)?;
+        let range = range_at(next, upper);
+        let answer = self.answer_to(source, next, upper);
         let receipt = self.host.receive_with(alloc, now, packet, answer)?;
-        self.keep(source, upper);
+        self.keep(source, next, upper);
         Ok(Landed { receipt, range })
     }
 
@@ -238,51 +238,26 @@ impl Courier {
         }
     }
 
-    // Makes room for where the next range begins of what the source sends.
-    fn make_room(&mut self, source: Address, upper: Upper) -> Result<(), AllocError>
+    // Where the next range begins of what the source sends. There is room then for where it begins next.
+    fn next_of(&mut self, source: Address, upper: Upper) -> Result<u32, AllocError>
         ensures knows { (files : Files) → Knows self.old files → Knows self.new files }
-        ensures room { IfOk result (λ _. HasRoom self.new.nexts source upper) }
+        ensures next { IfOk result (λ next. IsNext self.new.nexts source upper next) }
         ensures rest { self.new.host ≡ self.old.host }
     {
-        if let Upper::Data { transfer, .. } = upper {
-            let next = self.next_of(source, transfer);
-            self.nexts.insert((source, transfer), next)?;
-        }
-        Ok(())
-    }
-
-    // Where the next range begins of a source's transfer.
-    fn next_of(&self, source: Address, transfer: u16) -> u32
-        ensures { result ≡ next_kept self.now.nexts source transfer }
-    {
-        self.nexts.get(&(source, transfer)).copied().unwrap_or(0)
-    }
-
-    // The range that an upper part of a source delivers.
-    fn range_of(&self, source: Address, upper: Upper) -> Option<DataLine>
-        ensures { (files : Files) → Knows self.now files → result ≡ range_of files source upper }
-    {
-        let Upper::Data {
-            transfer,
-            first,
-            bytes,
-        } = upper
-        else {
-            return None;
+        let Upper::Data { transfer, .. } = upper else {
+            return Ok(0);
         };
-        if first != self.next_of(source, transfer) {
-            return None;
+        if let Some(next) = self.nexts.get(&(source, transfer)).copied() {
+            return Ok(next);
         }
-        Some(DataLine {
-            transfer,
-            first,
-            bytes,
-        })
+        self.nexts.insert((source, transfer), 0)?;
+        Ok(0)
     }
 
     // What an upper part of a source is answered with.
-    fn answer_to(&self, source: Address, upper: Upper) -> Upper
-        requires { IsUpper upper }
+    fn answer_to(&self, source: Address, next: u32, upper: Upper) -> Upper
+        requires upper { IsUpper upper }
+        requires next { IsNext self.now.nexts source upper next }
         ensures answer { (files : Files) → Knows self.now files → result ≡ answer_to files source upper }
         ensures fits { IsUpper result }
     {
@@ -294,7 +269,7 @@ impl Courier {
                 bytes,
             } => Upper::Ack {
                 transfer,
-                next: next_behind(self.next_of(source, transfer), first, bytes),
+                next: next_behind(next, first, bytes),
             },
             Upper::Ack { transfer, next } => self.segment_behind(source, transfer, next),
         }
@@ -317,9 +292,9 @@ impl Courier {
     }
 
     // Keeps what an upper part of a source says.
-    fn keep(&mut self, source: Address, upper: Upper)
+    fn keep(&mut self, source: Address, next: u32, upper: Upper)
         requires upper { IsUpper upper }
-        requires room { HasRoom self.old.nexts source upper }
+        requires next { IsNext self.old.nexts source upper next }
         ensures knows { (files : Files) → Knows self.old files → Knows self.new (after_upper files source upper) }
         ensures rest { self.new.host ≡ self.old.host }
     {
@@ -329,21 +304,25 @@ impl Courier {
                 transfer,
                 first,
                 bytes,
-            } => self.deliver(source, transfer, first, bytes),
+            } => self.deliver(source, next, transfer, first, bytes),
             Upper::Ack { transfer, next } => self.acknowledge(source, transfer, next),
         }
     }
 
-    // Keeps where the next range begins, once a range came.
-    fn deliver(&mut self, source: Address, transfer: u16, first: u32, bytes: u16)
+    // Keeps where the next range begins, once a range came that is the next one.
+    fn deliver(&mut self, source: Address, next: u32, transfer: u16, first: u32, bytes: u16)
         requires upper { IsUpper (Upper.Data transfer first bytes) }
-        requires room { HasRoom self.old.nexts source (Upper.Data transfer first bytes) }
+        requires next { IsNext self.old.nexts source (Upper.Data transfer first bytes) next }
         ensures knows { (files : Files) → Knows self.old files
             → Knows self.new (after_upper files source (Upper.Data transfer first bytes)) }
         ensures rest { self.new.host ≡ self.old.host }
     {
-        if let Some(next) = self.nexts.get_mut(&(source, transfer)) {
-            *next = next_behind(*next, first, bytes);
+        let behind = next_behind(next, first, bytes);
+        if behind == next {
+            return;
+        }
+        if let Some(kept) = self.nexts.get_mut(&(source, transfer)) {
+            *kept = behind;
         }
     }
 
@@ -366,6 +345,29 @@ impl Courier {
             self.due.remove(&(sent.dst, place));
         }
     }
+}
+
+// The range that an upper part delivers, by where the next one begins.
+fn range_at(next: u32, upper: Upper) -> Option<DataLine>
+    ensures { (v : CourierData) (files : Files) (source : Address) → Knows v files → IsNext v.nexts source upper next
+        → result ≡ range_of files source upper }
+{
+    let Upper::Data {
+        transfer,
+        first,
+        bytes,
+    } = upper
+    else {
+        return None;
+    };
+    if first != next {
+        return None;
+    }
+    Some(DataLine {
+        transfer,
+        first,
+        bytes,
+    })
 }
 
 // Where the next range begins after one that came: behind it, where it is the next one.

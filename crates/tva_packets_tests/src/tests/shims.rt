@@ -3,7 +3,7 @@ use std::test::Fail;
 use tva_base::{Address, Caps, Class, Flow, PacketId, Rights};
 use tva_shim::{
     Carried, Entries, Entry, Kind, Packet, PathFull, ReturnInfo, Shim, Shown, class_of, decode,
-    encode, inner_queue_key, length, queue_key, return_shown,
+    encode, inner_queue_key, length, queue_key,
 };
 
 const ID: PacketId = PacketId {
@@ -170,15 +170,13 @@ fn packets_show_their_key(rt: HostRuntime) -> Result<(), Fail> {
     for (text, class, key, bare) in SHOWN {
         let bytes = hex::decode(rt.alloc(), text).ok().ok_or(text)?;
         let shim = decode(&bytes).ok_or(text)?;
+        assert_eq!(rt; matches!(shim.back, ReturnInfo::Nothing), bare, "at {text}");
         let packet = Packet::new(ID, FLOW, 0, 0, Carried::Shim(shim));
         assert_eq!(rt; class_of(&packet), class, "at {text}");
         assert_eq!(rt; queue_key(class, &packet), key, "at {text}");
-        let nothing = matches!(return_shown(&packet.carried), Some(ReturnInfo::Nothing));
-        assert_eq!(rt; nothing, bare, "at {text}");
     }
     let legacy = Packet::new(ID, FLOW, 0, 0, Carried::Nothing);
     assert_eq!(rt; queue_key(Class::Legacy, &legacy), 0);
-    assert!(rt; return_shown(&legacy.carried).is_none());
     Ok(())
 }
 

@@ -1,7 +1,7 @@
-use Rattle.std.proofs.Common.{◌≡◌, take}
-use Rattle.tva_shim.specs.Changes.{last_tag}
+use Rattle.std.proofs.Common.{◌≡◌, filter, nat_lt, take}
+use Rattle.tva_shim.specs.Changes.{last_or_zero}
 use Rattle.tva_shim.proofs.shims.last_tag_of.Given as goal
 
--- the last nonzero tag of the entries so far
-abbrev pub invariant-loop-entry : goal.invariant-loop-entry
-invariant-loop-entry l = l.last ≡ last_tag (take l.entry-index l.entries)
+-- the last nonzero tag so far
+abbrev pub invariant-loop-tag : goal.invariant-loop-tag
+invariant-loop-tag l = l.last ≡ last_or_zero (filter (nat_lt 0) (take l.tag-index l.tags))

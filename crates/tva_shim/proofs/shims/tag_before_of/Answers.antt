@@ -1,9 +1,9 @@
-use Rattle.tva_shim.proofs.Tags.{last_tag-more, tag_before-more}
+use Rattle.tva_shim.proofs.Tags.{before-more, last-more}
 use Rattle.tva_shim.proofs.shims.tag_before_of.Goals as goal
 
-pub loop-entry-preserved : goal.loop-entry-preserved
-loop-entry-preserved c = (
-  last_tag-more _ _ _ _ _ c.loop-entry-test.true c.loop-entry.invariant.0 c.where_tagged-last.ensures,
-  tag_before-more _ _ _ _ _ _ c.loop-entry-test.true c.loop-entry.invariant.0 c.loop-entry.invariant.1
+pub loop-tag-preserved : goal.loop-tag-preserved
+loop-tag-preserved c = (
+  last-more _ _ _ _ _ c.loop-tag-test.true c.loop-tag.invariant.0 c.where_tagged-last.ensures,
+  before-more _ _ _ _ _ _ c.loop-tag-test.true c.loop-tag.invariant.0 c.loop-tag.invariant.1
       c.where_tagged-before.ensures,
 )

@@ -1,8 +1,8 @@
-use Rattle.std.proofs.Common.{◌≡◌, take}
-use Rattle.tva_shim.specs.Changes.{last_tag, tag_before}
+use Rattle.std.proofs.Common.{◌≡◌, filter, nat_lt, take}
+use Rattle.tva_shim.specs.Changes.{last_but_one_or_zero, last_or_zero}
 use Rattle.tva_shim.proofs.shims.tag_before_of.Given as goal
 
--- the last two nonzero tags of the entries so far
-abbrev pub invariant-loop-entry : goal.invariant-loop-entry
-invariant-loop-entry l = (l.last ≡ last_tag (take l.entry-index l.entries)) ×
-    (l.before ≡ tag_before (take l.entry-index l.entries))
+-- the last two nonzero tags so far
+abbrev pub invariant-loop-tag : goal.invariant-loop-tag
+invariant-loop-tag l = (l.last ≡ last_or_zero (filter (nat_lt 0) (take l.tag-index l.tags))) ×
+    (l.before ≡ last_but_one_or_zero (filter (nat_lt 0) (take l.tag-index l.tags)))

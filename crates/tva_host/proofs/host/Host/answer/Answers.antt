@@ -1,10 +1,10 @@
 use Rattle.std.proofs.Common.{sym, subst, ap, ◌∙◌}
 use Rattle.std.specs.Option.{is_some}
 use Rattle.tva_policy.specs.Grants.{Decided, grant_decision}
-use Rattle.tva_host.specs.Receiving.{after_answer}
+use Rattle.tva_host.specs.Receiving.{after_answer, answer_to_claim, claim_in}
 use Rattle.tva_host.specs.Stands.{HostData, host_data, Keeps}
 use Rattle.tva_host.proofs.Standing.{noted, rights-fit, some-fit, has-deed}
-use Rattle.tva_host.proofs.Hearing.{keeps-answer}
+use Rattle.tva_host.proofs.Hearing.{keeps-answer, answer-nobody, keeps-nobody}
 use Rattle.tva_host.proofs.host.Host.answer.Goals as goal
 
 pub granted-requires : goal.granted-requires
@@ -33,3 +33,18 @@ returns-clause-keeps c h k =
     (keeps-answer v c.decide.new.self h c.args.src c.args.carried.now _ c.in_ok-rights.rights kept c.in-Some.ensures
     (c.in_ok-rights.ensures.answer v.plan.policy h.deeds kept.policy ∙ ap (grant_decision v.plan.policy h.deeds c.args.src) c.as_slice.ensures.value)
     (c.in_ok-rights.ensures.stands v.plan.policy h.deeds kept.policy))
+
+pub returns-then-grants_nobody-clause-answer : goal.returns-then-grants_nobody-clause-answer
+returns-then-grants_nobody-clause-answer c h k =
+    let kept = subst (λ (w : HostData). Keeps w h) (sym c.self.view_is) k in
+    let never = sym (c.grants_nobody.ensures.kind c.self.inside.plan.policy h.deeds kept.policy) ∙ c.if-grants_nobody.true in
+    c.notice_for.ensures.answer
+    ∙ answer-nobody c.self.inside.plan h.deeds c.args.src c.args.carried.now never
+    ∙ ap (λ (w : HostData). answer_to_claim w.plan h.deeds c.args.src c.args.carried.now (claim_in c.args.carried.now)) c.self.view_is
+
+pub returns-then-grants_nobody-clause-keeps : goal.returns-then-grants_nobody-clause-keeps
+returns-then-grants_nobody-clause-keeps c h k =
+    let kept = subst (λ (w : HostData). Keeps w h) (sym c.self.view_is) k in
+    let never = sym (c.grants_nobody.ensures.kind c.self.inside.plan.policy h.deeds kept.policy) ∙ c.if-grants_nobody.true in
+    subst (λ (w : HostData). Keeps w (after_answer w.plan c.args.src c.args.carried.now h)) c.self.view_is
+    (keeps-nobody _ h c.args.src c.args.carried.now kept never (c.grants_nobody.ensures.stands c.self.inside.plan.policy h.deeds kept.policy c.if-grants_nobody.true c.args.src))

@@ -2,7 +2,7 @@ use Rattle.std.proofs.Common.{None, refl, ap, sym, ◌∙◌}
 use Rattle.std.proofs.lemmas.List.Elements.{All-replicate}
 use Rattle.std.specs.List.{list_any}
 use Rattle.std.specs.Ordering.{is_eq, nat_cmp}
-use Rattle.tva_policy.specs.Grants.{has_address}
+use Rattle.tva_policy.specs.Grants.{has_address, lets_in}
 use Rattle.tva_policy.specs.Notes.{IsNotedIn, grants_kept}
 use Rattle.tva_policy.proofs.Compared.{has_address_by, has_tag_by}
 use Rattle.tva_policy.proofs.policies.Policy.build.Goals as goal
@@ -14,7 +14,7 @@ returns c = record {
   grants = refl;
   deny = λ a. sym (has_address_by a _) ∙ c.in_ok-set_of.ensures a ∙ ap (λ list. list_any (λ d. is_eq (nat_cmp a.0 d.0)) list) c.as_slice.ensures ∙ has_address_by a _;
   deny_tags = λ tag. sym (has_tag_by tag _) ∙ c.in_ok-set_of-2.ensures tag ∙ ap (λ list. list_any (λ d. is_eq (nat_cmp tag d)) list) c.as_slice-2.ensures ∙ has_tag_by tag _;
-  noted = λ a. ap (λ keys. has_address keys a) c.new.ensures.empty;
+  noted = λ a. ap (λ keys. lets_in c.args.plan.now.kind (has_address keys a)) c.new.ensures.empty;
   granted = λ a. ap (λ entries. grants_kept entries a) c.new-2.ensures.empty;
 }
 
