@@ -21,6 +21,17 @@ def words_of(name, text):
     return words.parse_args().words
 
 
+def words_and_folder(name, text):
+    """The same, and the folder that `--csv` names, or None. A folder that isn't there ends the script."""
+    words = Words(name, text, usage=argparse.SUPPRESS)
+    words.add_argument("words", nargs="*", help=argparse.SUPPRESS)
+    words.add_argument("--csv", help=argparse.SUPPRESS)
+    given = words.parse_args()
+    if given.csv and not os.path.isdir(given.csv):
+        refuse(f"there is no folder {given.csv}", name)
+    return given.words, given.csv and os.path.abspath(given.csv)
+
+
 def unknown(word, parts):
     return f"there is no {word}" + (f": there are {' '.join(parts)}" if len(parts) < 40 else "")
 
