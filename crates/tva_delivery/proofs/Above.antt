@@ -5,7 +5,7 @@ use Rattle.std.specs.Prelude.{slice_get}
 use Rattle.std.specs.Option.{option_map, IfSome}
 use Rattle.std.specs.List.{AllByRecursion}
 use Rattle.std.proofs.lemmas.List.Elements.{filter_map-append}
-use Rattle.std.proofs.lemmas.Option.{slice_get_within}
+use Rattle.std.proofs.lemmas.Option.{slice_get_within, same_Some}
 use Rattle.tva_base.specs.declared.addresses.Address.{Address}
 use Rattle.tva_base.specs.declared.packet.Flow.{Flow}
 use Rattle.tva_base.specs.declared.packet.Upper.{Upper}
@@ -45,12 +45,11 @@ use Rattle.tva_log.specs.Contents.{arrived, content, content_by, hosted, made_fo
 use Rattle.tva_log.specs.NodeLog.{due}
 use Rattle.tva_run.specs.Reaching.{Logs, log_at, site_at}
 use Rattle.tva_run.specs.Run.{IsRunTo}
-use Rattle.tva_paths.specs.Origins.{made_in}
-use Rattle.tva_paths.proofs.Origins.{AnyRow, any_rows, onward_keeps}
-use Rattle.tva_paths.proofs.Walks.{IsEntryGood, all_good}
+use Rattle.tva_delivery.specs.Origins.{made_in}
+use Rattle.tva_delivery.proofs.Origins.{AnyRow, any_rows, onward_keeps}
+use Rattle.tva_delivery.proofs.Walks.{IsEntryGood, all_good}
 use Rattle.tva_delivery.specs.Delivery.{HasMade, IsHostAt, bytes_delivered, transfer_at}
 use Rattle.tva_delivery.proofs.Bytes.{HasBytes, IsFull, all_full, some_sent}
-use Rattle.tva_delivery.proofs.Lists.{some_same}
 use Rattle.tva_delivery.proofs.Ranges.{bytes-more, bytes_at, files_act, host_makes}
 use Rattle.tva_delivery.proofs.Counting.{few_transfers}
 
@@ -104,7 +103,7 @@ module _ (config : Config) (logs : Logs) where
   -- ## a router
 
   some_true : (q : PacketData) → IsTruePacket config logs q → (p : PacketData) → Some q ≡ Some p → IsTruePacket config logs p
-  some_true q k p e = subst (IsTruePacket config logs) (some_same q p e) k
+  some_true q k p e = subst (IsTruePacket config logs) (same_Some q p e) k
 
   none_true : (p : PacketData) → None ≡ Some p → IsTruePacket config logs p
   none_true p e = absurd (cc)
@@ -126,13 +125,13 @@ module _ (config : Config) (logs : Logs) where
   row_true number plan before now (Tick dst) c e = absurd (cc)
   row_true number plan before now (Inject flow payload carries) c e =
       let q : PacketData = made_packet (next_id number before) flow payload carries in
-      subst MakesTrue (some_same (arrived plan before now None q) c e) (injected_true plan before now q tt)
+      subst MakesTrue (same_Some (arrived plan before now None q) c e) (injected_true plan before now q tt)
 
   routed_true : (number : ℕ) (plan : RouterPlan) (before : List Entry) (i : Input) (c : Content)
       → routed number plan before i ≡ Some c → MakesTrue c
   routed_true number plan before (FromTrace row) c e = row_true number plan before row.time.0 row.what c e
   routed_true number plan before (Arrival time link packet) c e =
-      subst MakesTrue (some_same (arrived plan before time.0 (Some link) packet) c e) (passed_true plan before time.0 link packet)
+      subst MakesTrue (same_Some (arrived plan before time.0 (Some link) packet) c e) (passed_true plan before time.0 link packet)
 
   -- ## a host
 
@@ -150,7 +149,7 @@ module _ (config : Config) (logs : Logs) where
     MakesOwn c = (p : PacketData) → made_in c ≡ Some p → OwnPacket p
 
     some_own : (q : PacketData) → OwnPacket q → (p : PacketData) → Some q ≡ Some p → OwnPacket p
-    some_own q k p e = subst OwnPacket (some_same q p e) k
+    some_own q k p e = subst OwnPacket (same_Some q p e) k
 
     none_own : (p : PacketData) → None ≡ Some p → OwnPacket p
     none_own p e = absurd (cc)

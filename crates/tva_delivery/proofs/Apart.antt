@@ -2,6 +2,7 @@
 use Rattle.std.proofs.Common.{◌≡◌, ℕ, zero, suc, List, [], ◌∷◌, Contains, Option, Some, None, refl, sym, ap, subst, ◌∙◌, arith}
 use Rattle.std.specs.Prelude.{slice_get}
 use Rattle.std.specs.Option.{option_map}
+use Rattle.std.proofs.lemmas.Option.{same_Some}
 use Rattle.tva_base.specs.declared.plan.HostPlan.{HostPlan}
 use Rattle.tva_base.specs.Plan.{AreDistinct}
 use Rattle.tva_plan.specs.declared.config.Config.{Config}
@@ -11,7 +12,6 @@ use Rattle.tva_plan.specs.Valid.{IsConfig, addresses_at}
 use Rattle.tva_log.specs.Sites.{Site, site_of}
 use Rattle.tva_run.specs.Reaching.{links_out}
 use Rattle.tva_delivery.specs.Delivery.{IsHostAt}
-use Rattle.tva_delivery.proofs.Lists.{some_same}
 
 contained : (ps : List NodePlan) (n : ℕ) (p : HostPlan) → slice_get ps n ≡ Some (plans.Host p) → Contains (addresses_at ps) p.address
 contained [] n p here = absurd (cc)
@@ -41,7 +41,7 @@ plan_by : (config : Config) (n : ℕ) (site : Site) (plan : HostPlan) (o : Optio
     → option_map (λ p. site_of n p (links_out n config.links)) o ≡ Some site → site.plan ≡ plans.Host plan → o ≡ Some (plans.Host plan)
 plan_by config n site plan None h e = absurd (cc)
 plan_by config n site plan (Some p) h e =
-    ap Some (ap (λ (s : Site). s.plan) (some_same (site_of n p (links_out n config.links)) site h) ∙ e)
+    ap Some (ap (λ (s : Site). s.plan) (same_Some (site_of n p (links_out n config.links)) site h) ∙ e)
 
 -- hosts of one address are one
 pub hosts_apart : (config : Config) (n m : ℕ) (p q : HostPlan) → IsConfig config → IsHostAt config n p → IsHostAt config m q

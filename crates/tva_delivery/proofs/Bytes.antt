@@ -31,7 +31,8 @@ use Rattle.tva_log.specs.Entries.{Entry, Took, Started}
 use Rattle.tva_log.specs.Parts.{act_of, act_of_row, acts, files}
 use Rattle.tva_run.specs.Reaching.{Logs, log_at, site_at}
 use Rattle.tva_run.specs.Run.{IsRunTo}
-use Rattle.tva_paths.proofs.Walks.{IsEntryGood, all_good, at_place}
+use Rattle.tva_log.proofs.Walks.{at_place}
+use Rattle.tva_delivery.proofs.Walks.{IsEntryGood, all_good}
 
 -- ## what has bytes
 

@@ -4,9 +4,9 @@ use Rattle.std.specs.Prelude.{◌==◌, slice_get, slice_index_or}
 use Rattle.std.specs.Option.{option_and_then, option_map}
 use Rattle.std.specs.List.{AllByRecursion, cons_option}
 use Rattle.std.proofs.lemmas.Bool.{and_parts, eqb-true}
-use Rattle.std.proofs.lemmas.List.{append-nil, get_or_past}
+use Rattle.std.proofs.lemmas.List.{get_or_past}
 use Rattle.std.proofs.lemmas.List.Elements.{recursion_from_All}
-use Rattle.std.proofs.lemmas.Option.{slice_get_cases}
+use Rattle.std.proofs.lemmas.Option.{slice_get_cases, same_Some}
 use Rattle.tva_base.specs.declared.addresses.Address.{Address}
 use Rattle.tva_base.specs.declared.event.DataLine.{DataLine}
 use Rattle.tva_base.specs.declared.packet.Flow.{Flow}
@@ -36,14 +36,14 @@ use Rattle.tva_log.specs.Sites.{Site, site_of}
 use Rattle.tva_log.specs.Entries.{Content, Entry, Took, Started, entry_time}
 use Rattle.tva_log.specs.Parts.{act_of_row, acts, calls, files}
 use Rattle.tva_log.specs.Contents.{arrived, content, content_by, hosted, made_for, next_id, packet_of_row, routed}
-use Rattle.tva_log.specs.NodeLog.{GoesOn, due}
+use Rattle.tva_log.specs.NodeLog.{due}
 use Rattle.tva_log.proofs.Joins.{each-weaker}
 use Rattle.tva_run.specs.Reaching.{Logs, links_out, log_at, site_at}
 use Rattle.tva_run.specs.Run.{IsRunTo, logs_before}
-use Rattle.tva_paths.proofs.Origins.{AnyRow}
-use Rattle.tva_paths.proofs.Walks.{IsEntryGood, at_place}
+use Rattle.tva_delivery.proofs.Origins.{AnyRow}
+use Rattle.tva_log.proofs.Walks.{at_place, content_at_place}
+use Rattle.tva_delivery.proofs.Walks.{IsEntryGood}
 use Rattle.tva_delivery.specs.Delivery.{IsHostAt, IsOfFile, KeepsFiles, bytes_delivered, range_at, range_by, range_in, ranges}
-use Rattle.tva_delivery.proofs.Lists.{some_same}
 use Rattle.tva_delivery.proofs.Apart.{hosts_apart}
 use Rattle.tva_delivery.proofs.Ranges.{host_makes, log_follows, sent_none}
 use Rattle.tva_delivery.proofs.Above.{IsAnswer, IsSegment, IsTruePacket, IsTrueUpper, all_true}
@@ -105,37 +105,19 @@ row_none : (plan : RouterPlan) (before : List Entry) (now : ℕ) (o : Option Pac
     → option_map (arrived plan before now None) o ≡ Some c → TellsNone c
 row_none plan before now None c e = absurd (cc)
 row_none plan before now (Some p) c e =
-    subst TellsNone (some_same (arrived plan before now None p) c e) (arrived_none plan before now None p)
+    subst TellsNone (same_Some (arrived plan before now None p) c e) (arrived_none plan before now None p)
 
 routed_none : (number : ℕ) (plan : RouterPlan) (before : List Entry) (i : Input) (c : Content)
     → routed number plan before i ≡ Some c → TellsNone c
 routed_none number plan before (FromTrace row) c e =
     row_none plan before row.time.0 (packet_of_row (next_id number before) row.what) c e
 routed_none number plan before (Arrival time link p) c e =
-    subst TellsNone (some_same (arrived plan before time.0 (Some link) p) c e) (arrived_none plan before time.0 (Some link) p)
+    subst TellsNone (same_Some (arrived plan before time.0 (Some link) p) c e) (arrived_none plan before time.0 (Some link) p)
 
 module _ (site : Site) (plan : RouterPlan) (router : site.plan ≡ plans.Router plan) where
   content_none : (before : List Entry) (i : Input) (c : Content) → content site before i ≡ Some c → TellsNone c
   content_none before i c e =
       routed_none site.number plan before i c (subst (λ (p : NodePlan). content_by site p before i ≡ Some c) router e)
-
--- what an entry that takes something took
-content_at : (site : Site) (before : List Entry) (is : List Input) (front : List Entry) (i : Input) (c : Content) (rest : List Entry)
-    → GoesOn site before is (front ++ Took i c ∷ rest) → content site (before ++ front) i ≡ Some c
-content_at site before [] [] i c rest g = absurd g
-content_at site before (j ∷ is) [] i c rest g =
-    let made : content site before i ≡ Some c = subst (λ (x : Input). content site before x ≡ Some c) (sym g.0) g.1 in
-    subst (λ (log : List Entry). content site log i ≡ Some c) (sym (append-nil before)) made
-content_at site before [] (Took k d ∷ front) i c rest g = absurd g
-content_at site before (j ∷ is) (Took k d ∷ front) i c rest g =
-    subst (λ (log : List Entry). content site log i ≡ Some c) (append_assoc before (Took k d ∷ []) front)
-    (content_at site (before ++ Took k d ∷ []) is front i c rest g.2)
-content_at site before [] (Started u l k p ∷ front) i c rest g =
-    subst (λ (log : List Entry). content site log i ≡ Some c) (append_assoc before (Started u l k p ∷ []) front)
-    (content_at site (before ++ Started u l k p ∷ []) [] front i c rest g.1)
-content_at site before (j ∷ is) (Started u l k p ∷ front) i c rest g =
-    subst (λ (log : List Entry). content site log i ≡ Some c) (append_assoc before (Started u l k p ∷ []) front)
-    (content_at site (before ++ Started u l k p ∷ []) (j ∷ is) front i c rest g.1)
 
 -- a router's log tells none
 none_told : (log : List Entry)
@@ -165,7 +147,7 @@ brought known p s t (Data number first bytes) r e = by_place (first == next_of k
     by_name false is e = absurd (cc)
     by_name true is e =
         let parts = and_parts (p.flow.src.0 == s.0) (number == t) is in
-        let same : one ≡ r = some_same one r e in
+        let same : one ≡ r = same_Some one r e in
         (eqb-true p.flow.src.0 s.0 parts.0, ap (λ (n : ℕ). Data n first bytes) (eqb-true number t parts.1) ∙ ap (λ (x : DataLine). Data t x.first x.bytes) same)
 
     by_place : (b : Bool) → option_and_then (range_by s t p) (cond b (Some one) None) ≡ Some r
@@ -213,8 +195,7 @@ module _ (config : Config) (rows : List Row) (until : ℕ) (logs : Logs) (valid 
   router_tells node site plan kind is before (Started u l c p) rest split s t = refl
   router_tells node site plan kind is before (Took i c) rest split s t =
       let has = run.each node site is in
-      content_none site plan kind before i c (content_at site [] (due until has.inputs) before i c rest
-      (subst (GoesOn site [] (due until has.inputs)) split has.is_log.steps)) s t
+      content_none site plan kind before i c (content_at_place site (due until has.inputs) (log_at logs node) before i c rest has.is_log.steps split) s t
 
   -- at a host
   host_tells : (node : ℕ) (site : Site) (plan : HostPlan) → site.plan ≡ plans.Host plan → site_at config node ≡ Some site
@@ -237,8 +218,7 @@ module _ (config : Config) (rows : List Row) (until : ℕ) (logs : Logs) (valid 
   tells node site plan kind is before (Started u l c p) rest split = λ s t r e. absurd (cc)
   tells node site plan kind is before (Took i c) rest split =
       let has = run.each node site is in
-      let made = host_makes site plan kind before i c (content_at site [] (due until has.inputs) before i c rest
-      (subst (GoesOn site [] (due until has.inputs)) split has.is_log.steps)) in
+      let made = host_makes site plan kind before i c (content_at_place site (due until has.inputs) (log_at logs node) before i c rest has.is_log.steps split) in
       subst (λ (x : Content). IsOfItsFile node (Took i x)) made
       (host_tells node site plan kind is before i rest (split ∙ ap (λ (x : Content). before ++ Took i x ∷ rest) (sym made)))
 

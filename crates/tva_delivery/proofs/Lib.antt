@@ -1,3 +1,5 @@
+pub mod Walks
+pub mod Origins
 pub mod Lists
 pub mod Apart
 pub mod Bytes

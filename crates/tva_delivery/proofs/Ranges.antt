@@ -6,6 +6,7 @@ use Rattle.std.specs.List.{cons_option}
 use Rattle.std.proofs.lemmas.List.{append-nil, map-append}
 use Rattle.std.proofs.lemmas.List.Elements.{filter-append, filter_map-append}
 use Rattle.std.proofs.lemmas.List.Sums.{fold-append, sum_by-append, sum_by-cons}
+use Rattle.std.proofs.lemmas.Option.{same_Some}
 use Rattle.tva_base.specs.declared.addresses.Address.{Address}
 use Rattle.tva_base.specs.declared.event.DataLine.{DataLine}
 use Rattle.tva_base.specs.declared.packet.Upper.{Upper}
@@ -29,7 +30,7 @@ use Rattle.tva_log.specs.Parts.{act_of, act_of_row, acts, calls, files}
 use Rattle.tva_log.specs.Contents.{content, content_by, hosted, made_for, sent_out}
 use Rattle.tva_log.specs.NodeLog.{GoesOn}
 use Rattle.tva_delivery.specs.Delivery.{bytes_delivered, range_at, range_by, range_in, ranges}
-use Rattle.tva_delivery.proofs.Lists.{some_same}
+use Rattle.tva_log.proofs.Walks.{by_place, IsMade, AnyInput, any, made_at}
 
 -- ## what is known after more entries
 
@@ -148,7 +149,7 @@ module _ (site : Site) (plan : HostPlan) (host : site.plan ≡ plans.Host plan) 
   pub host_makes : (before : List Entry) (input : Input) (c : Content) → content site before input ≡ Some c
       → hosted site plan before input ≡ c
   host_makes before input c e =
-      some_same (hosted site plan before input) c (subst (λ (p : NodePlan). content_by site p before input ≡ Some c) host e)
+      same_Some (hosted site plan before input) c (subst (λ (p : NodePlan). content_by site p before input ≡ Some c) host e)
 
   one_told : (before : List Entry) (input : Input) (c : Content) → content site before input ≡ Some c → Tells plan before
       → Tells plan (before ++ Took input c ∷ [])
@@ -161,30 +162,28 @@ module _ (site : Site) (plan : HostPlan) (host : site.plan ≡ plans.Host plan) 
       none_told plan before e none
       (ap (λ (a : Option Act). (fold (after_act plan.address) (files plan before) (cons_option a [])).ranges) act) h
 
-  pub told : (before : List Entry) (is : List Input) (front back : List Entry) → GoesOn site before is (front ++ back)
-      → Tells plan before → Tells plan (before ++ front)
-  told before is [] back g h = subst (Tells plan) (sym (append-nil before)) h
-  told before [] (Took j c ∷ front) back g h = absurd g
-  told before (i ∷ is) (Took j c ∷ front) back g h =
-      let e : content site before j ≡ Some c = subst (λ (x : Input). content site before x ≡ Some c) (sym g.0) g.1 in
-      subst (Tells plan) (append_assoc before (Took j c ∷ []) front)
-      (told (before ++ Took j c ∷ []) is front back g.2 (one_told before j c e h))
-  told before [] (Started u l c p ∷ front) back g h =
-      subst (Tells plan) (append_assoc before (Started u l c p ∷ []) front)
-      (told (before ++ Started u l c p ∷ []) [] front back g.1 (start_told before (Started u l c p) (λ s t. refl) refl h))
-  told before (i ∷ is) (Started u l c p ∷ front) back g h =
-      subst (Tells plan) (append_assoc before (Started u l c p ∷ []) front)
-      (told (before ++ Started u l c p ∷ []) (i ∷ is) front back g.1 (start_told before (Started u l c p) (λ s t. refl) refl h))
+  entry_told : (before : List Entry) (e : Entry) → IsMade AnyInput site before e → Tells plan before → Tells plan (before ++ e ∷ [])
+  entry_told before (Took j c) m h = one_told before j c m.0 h
+  entry_told before (Started u l c p) m h = start_told before (Started u l c p) (λ s t. refl) refl h
+
+  told : (is : List Input) (front back : List Entry) → GoesOn site [] is (front ++ back) → Tells plan front
+  told is front back g =
+      by_place (Tells plan) [] front
+      (λ before e rest split h.
+      entry_told before e
+      (made_at AnyInput site is (front ++ back) before e (rest ++ back) g (any is)
+      (ap (λ (es : List Entry). es ++ back) split ∙ append_assoc before (e ∷ rest) back)) h)
+      (λ s t. refl)
 
   -- at each place of its log, as many bytes are delivered as the host knows of
   pub bytes_at : (is : List Input) (log front back : List Entry) → GoesOn site [] is log → log ≡ front ++ back → (s : Address) (t : ℕ)
       → bytes_delivered s t front ≡ next_of (files plan front) s t
   bytes_at is log front back g split s t =
-      ap (sum_by (λ (r : DataLine). r.bytes)) (told [] is front back (subst (GoesOn site [] is) split g) (λ x y. refl) s t)
+      ap (sum_by (λ (r : DataLine). r.bytes)) (told is front back (subst (GoesOn site [] is) split g) s t)
       ∙ sym (next_is (files plan front) s t)
 
   pub log_told : (is : List Input) (log : List Entry) → GoesOn site [] is log → Tells plan log
-  log_told is log g s t = told [] is log [] (subst (GoesOn site [] is) (sym (append-nil log)) g) (λ x y. refl) s t
+  log_told is log g s t = told is log [] (subst (GoesOn site [] is) (sym (append-nil log)) g) s t
 
   -- the ranges of a host's log follow one another
   pub log_follows : (is : List Input) (log : List Entry) → GoesOn site [] is log → (s : Address) (t : ℕ) → Follow 0 (ranges s t log)

@@ -20,7 +20,7 @@ use Rattle.tva_log.specs.Entries.{Content, Received, Entry, Took, Started, entry
 use Rattle.tva_log.specs.Parts.{files}
 use Rattle.tva_run.specs.Reaching.{Logs, log_at, site_at}
 use Rattle.tva_run.specs.Run.{logs_before}
-use Rattle.tva_paths.specs.Origins.{made_in}
+use Rattle.tva_delivery.specs.Origins.{made_in}
 
 -- the range of a source's transfer that a packet brought
 abbrev pub range_by : Address → ℕ → PacketData → DataLine → Option DataLine

@@ -3,6 +3,7 @@ use Rattle.std.proofs.Common.{◌≡◌, ◌⊎◌, inl, inr, ℕ, Bool, true, f
 use Rattle.std.specs.Option.{option_or, option_map, option_and_then}
 use Rattle.std.specs.List.{AllByRecursion, find}
 use Rattle.std.proofs.lemmas.Bool.{eqb-true}
+use Rattle.std.proofs.lemmas.Option.{same_Some}
 use Rattle.tva_base.specs.declared.packet.PacketId.{PacketId}
 use Rattle.tva_base.specs.declared.packet.Rights.{Rights}
 use Rattle.tva_shim.specs.declared.kinds.Kind.{Kind}
@@ -17,7 +18,6 @@ use Rattle.tva_flow.proofs.Same.{and_true}
 use Rattle.tva_honest.specs.Deals.{Deal, Prepared, Granted, Noticed, Coming}
 use Rattle.tva_honest.specs.Paths.{asks_kind, asks_in, ask_id, last_ask_id, same_id, come_as, ask_coming, IsNoGrant}
 use Rattle.tva_honest.specs.Narrow.{ask_came, granted_by, grant_came}
-use Rattle.tva_honest.proofs.Lists.{some_same}
 use Rattle.tva_honest.proofs.Dealt.{shape_of_kind, shape_in, contact_of}
 
 -- ## the last ask
@@ -96,7 +96,7 @@ asked_cond : (b : Bool) (t : ℕ) (p : PacketData) (ds : List Deal) (a : Asked)
     → cond b (Some (let x : Asked = record { time = t; id = p.id } in x)) None ≡ Some a → AskedAt (Prepared t p ∷ ds) a
 asked_cond true t p ds a e =
     let x : Asked = record { time = t; id = p.id } in
-    let same = some_same x a e in
+    let same = same_Some x a e in
     record {
       before = [];
       packet = p;
@@ -134,7 +134,7 @@ id_is a b e =
 
 found_here : (p : Coming → Bool) (P : Coming → Type 0) (x y : Coming) (xs : List Coming) (b : Bool) → p x ≡ b → P x
     → (find p xs ≡ Some y → P y × (p y ≡ true)) → cond b (Some x) (find p xs) ≡ Some y → P y × (p y ≡ true)
-found_here p P x y xs true is k rest e = let same = some_same x y e in (subst P same k, subst (λ (z : Coming). p z ≡ true) same is)
+found_here p P x y xs true is k rest e = let same = same_Some x y e in (subst P same k, subst (λ (z : Coming). p z ≡ true) same is)
 found_here p P x y xs false is k rest e = rest e
 
 found : (p : Coming → Bool) (P : Coming → Type 0) (xs : List Coming) (y : Coming) → AllByRecursion P xs → find p xs ≡ Some y → P y
@@ -240,7 +240,7 @@ pub record CameFor (seen : List Coming) (ds : List Deal) (came : ℕ) : Type 0 w
 came_for : (seen : List Coming) (ds : List Deal) (came : ℕ) (a : Asked) (o : Option Coming) → last_asked ds ≡ Some a
     → come_as seen a.id ≡ o → option_map (λ (x : Coming). x.time) o ≡ Some came → CameFor seen ds came
 came_for seen ds came a None l e t = absurd (cc)
-came_for seen ds came a (Some x) l e t = record { asked = a; coming = x; last = l; found = e; time = some_same x.time came t }
+came_for seen ds came a (Some x) l e t = record { asked = a; coming = x; last = l; found = e; time = same_Some x.time came t }
 
 came_asked : (seen : List Coming) (ds : List Deal) (came : ℕ) (o : Option Asked) → last_asked ds ≡ o
     → option_map (λ (x : Coming). x.time) (option_and_then (come_as seen) (option_map (λ (a : Asked). a.id) o)) ≡ Some came

@@ -19,11 +19,11 @@ use Rattle.tva_sender.specs.declared.shape.Shape.TheVariants as shape
 use Rattle.tva_sender.specs.Contacts.{Contact, Prepared, Taking, Use, uses_in, uses, after_notice, since_notice, first_nonce, life_of, asked_at, grant_held}
 use Rattle.tva_sender.specs.Shapes.{list_length, nonce_length, length_of, fits, is_alive, nonce_of, held, may_ask}
 use Rattle.tva_sender.specs.Played.{IsNext, AreNext, IsPrepared, IsPlayed}
-use Rattle.tva_log.proofs.Joins.{each-passes}
+use Rattle.tva_log.proofs.Joins.{each-passes, each-append}
 use Rattle.tva_honest.specs.Miles.{Mile, Went, Got, Told, contacts, paid_in, charges_in, since_got, after_told, since_notified}
 use Rattle.tva_honest.specs.SteadyMiles.{Way, grant_at, IsPaid, AreMiles, AreAuthorised, is_since, IsKnown, IsSteady, IsNarrow, IsListTaken, IsNonceTaken, IsTaken}
 use Rattle.tva_honest.proofs.Shown.{Allows, allows, no-taking}
-use Rattle.tva_honest.proofs.Charges.{each-append, each-weaker, last-of, bytes-none, bytes-own, credit_at, Pairs, pairs-end, life-since, end-behind, last-behind}
+use Rattle.tva_honest.proofs.Charges.{each-weaker, last-of, bytes-none, bytes-own, credit_at, Pairs, pairs-end, life-since, end-behind, last-behind}
 use Rattle.tva_honest.proofs.Seconds.{second-within}
 use Rattle.tva_honest.proofs.Stages.{Holds, Stage}
 use Rattle.tva_honest.proofs.EachMile.{valid, time-left, Spends, SpendsNonce, by-list, by-nonce, HasFirst, first-of, last-own, some-charge, no-life, walk}

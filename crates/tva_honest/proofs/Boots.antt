@@ -2,7 +2,7 @@
 use Rattle.std.proofs.Common.{◌≡◌, ◌≤◌, ℕ, Bool, true, false, cond, List, [], ◌∷◌, ◌++◌, length, map, is_some, Option, Some, None, refl, ap, sym, ◌∙◌, inl, inr, arith}
 use Rattle.std.specs.Prelude.{◌==◌, filter, IsSomeAnd}
 use Rattle.std.specs.Option.{option_map, option_and_then}
-use Rattle.std.specs.List.{AllByRecursion, filter_map, cons_option}
+use Rattle.std.specs.List.{filter_map, cons_option}
 use Rattle.std.proofs.lemmas.Bool.{cases_lt, le-leb, leb-true, eqb-true}
 use Rattle.std.proofs.lemmas.List.Sums.{length-filter}
 use Rattle.std.proofs.lemmas.Option.{cond_some}
@@ -14,11 +14,11 @@ use Rattle.tva_base.specs.declared.plan.RouterPlan.{RouterPlan}
 use Rattle.tva_base.specs.Changes.{last_of, has_come, boot_at, master_at, in_force}
 use Rattle.tva_base.specs.Clock.{router_second}
 use Rattle.tva_flow.specs.Charges.{Charge, same_flow, of_flow}
-use Rattle.tva_log.proofs.Joins.{filter_swap, each-passes}
+use Rattle.tva_log.proofs.Joins.{filter_swap, each-passes, each-filter}
 use Rattle.tva_router.specs.Boots.{charges_of_boot}
 use Rattle.tva_log.specs.Entries.{Entry}
 use Rattle.tva_log.specs.Parts.{charged, charges}
-use Rattle.tva_paths.proofs.Walks.{at_place}
+use Rattle.tva_log.proofs.Walks.{at_place}
 use Rattle.tva_honest.specs.Deals.{Deal, Prepared, Coming, comings}
 use Rattle.tva_honest.specs.Paths.{come_as, comings_at, since_noticed, shows_nonce, is_charged_since, charged_since, WasCharged, IsSteadyPath, LieInBoot}
 use Rattle.tva_honest.proofs.Lists.{place}
@@ -60,14 +60,6 @@ later_master plan a b l e =
     λ c h. le-leb c.0.0 b (let k : c.0.0 ≤ a = leb-true c.0.0 a h in omega (arith, k, l)) in
     ap (λ (cs : List (Time × List ℕ)). last_of plan.master (map (λ (c : Time × List ℕ). c.1) cs))
     (filters_same p q more plan.restarts (length-filter p plan.restarts ∙ (e ∙ sym (length-filter q plan.restarts))))
-
--- boots rise with time
-pub boots_rise : (plan : RouterPlan) (a b : ℕ) → a ≤ b → boot_at plan a ≤ boot_at plan b
-boots_rise plan a b l =
-    let p : Time × List ℕ → Bool = λ c. has_come a c.0 in
-    let q : Time × List ℕ → Bool = λ c. has_come b c.0 in
-    let some = fewer p q (λ c h. le-leb c.0.0 b (let k : c.0.0 ≤ a = leb-true c.0.0 a h in omega (arith, k, l))) plan.restarts in
-    omega (arith, some, length-filter p plan.restarts, length-filter q plan.restarts)
 
 -- in one boot one master is in force
 pub one_master : (plan : RouterPlan) (a b : ℕ) → boot_at plan a ≡ boot_at plan b → (in_force plan a).master ≡ (in_force plan b).master
@@ -147,14 +139,6 @@ boot_charges plan f boot log e =
     filter_swap (λ (c : Charge). same_flow c.grant.flow f) p (charges log)
     ∙ (ap (filter p) e ∙ charged_when (λ (t : ℕ). boot_at plan t == boot) (comings f log))
 
-pub each_passing : {X : Type 0} (P : X → Type 0) (q : X → Bool) (xs : List X) → AllByRecursion P xs → AllByRecursion P (filter q xs)
-each_passing P q [] k = tt
-each_passing P q (x ∷ xs) k = by (each_passing P q xs k.1) (q x)
-  where
-    by : AllByRecursion P (filter q xs) → (b : Bool) → AllByRecursion P (cond b (x ∷ filter q xs) (filter q xs))
-    by ih true = (k.0, ih)
-    by ih false = ih
-
 -- what counts for the life of a nonce alone lies in its boot
 pub in_boot : (host : HostPlan) (router : RouterPlan) (delay : ℕ) (own : List Deal) (seen : List Coming) (charged : List Charge)
     (x : Coming) (steady : IsSteadyPath host router delay own seen charged x) → shows_nonce x.packet.carried ≡ true
@@ -176,6 +160,6 @@ in_boot host router delay own seen charged x steady alone before sent packet aft
         let p : Coming → Bool = λ y. boot_at router y.time == boot_at router x.time in
         let passes =
         come_is (λ (y : Coming). p y ≡ true) (charged_since (router_second router.clock_offset steady.ask.time) (comings_at router x.time seen)) packet.id y
-        (each_passing (λ (y : Coming). p y ≡ true) (λ (y : Coming). is_charged_since (router_second router.clock_offset steady.ask.time) y.charge)
+        (each-filter (λ (y : Coming). p y ≡ true) (λ (y : Coming). is_charged_since (router_second router.clock_offset steady.ask.time) y.charge)
         (comings_at router x.time seen) (each-passes p seen)) e in
         (eqb-true (boot_at router y.time) (boot_at router x.time) passes.0, k)

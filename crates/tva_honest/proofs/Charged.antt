@@ -28,7 +28,7 @@ use Rattle.tva_log.specs.Parts.{charged, charges, port_logs}
 use Rattle.tva_log.specs.Contents.{handled}
 use Rattle.tva_run.specs.Reaching.{log_at}
 use Rattle.tva_promises.proofs.Entries.{fate_is}
-use Rattle.tva_paths.proofs.Walks.{at_place}
+use Rattle.tva_log.proofs.Walks.{at_place}
 use Rattle.tva_honest.specs.Miles.{Mile, contacts, charges_in, last_came}
 use Rattle.tva_honest.specs.SteadyMiles.{IsPaid, IsTaken}
 use Rattle.tva_honest.specs.Deals.{Deal, Prepared, Coming, coming, comings}
@@ -49,7 +49,7 @@ use Rattle.tva_shim.specs.declared.kinds.Kind.{Kind}
 use Rattle.tva_sender.specs.Shapes.{may_ask}
 use Rattle.tva_sender.specs.Played.{IsPrepared, IsPlayed}
 use Rattle.tva_host.specs.Receiving.{shows_grant}
-use Rattle.tva_paths.specs.Origins.{KeepsKind, Keeps}
+use Rattle.tva_delivery.specs.Origins.{KeepsKind, Keeps}
 use Rattle.tva_honest.proofs.Shown.{IsBare, none_held, allows}
 use Rattle.tva_shim.specs.declared.kinds.Kind.TheVariants as kinds
 use Rattle.tva_sender.specs.Contacts as contact

@@ -12,10 +12,6 @@ use Rattle.tva_flow.specs.Charges.{Charge, same_grant, last_or, last_charge, byt
 use Rattle.tva_flow.proofs.Same.{by_bool, same_is, same_grant-self}
 use Rattle.tva_sender.specs.Contacts.{Contact, Use, uses_in, uses, is_notice, after_notice, since_notice, life_of}
 
-pub each-append : {X : Type 0} (P : X → Type 0) (xs ys : List X) → AllByRecursion P xs → AllByRecursion P ys → AllByRecursion P (xs ++ ys)
-each-append P [] ys k l = l
-each-append P (x ∷ xs) ys k l = (k.0, each-append P xs ys k.1 l)
-
 pub each-weaker : {X : Type 0} (P Q : X → Type 0) (xs : List X) → ((x : X) → P x → Q x) → AllByRecursion P xs → AllByRecursion Q xs
 each-weaker P Q [] f k = tt
 each-weaker P Q (x ∷ xs) f k = (f x k.0, each-weaker P Q xs f k.1)

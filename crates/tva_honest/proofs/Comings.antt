@@ -5,7 +5,7 @@ use Rattle.std.specs.Option.{option_map, option_and_then, IfSome}
 use Rattle.std.specs.List.{AllByRecursion, filter_map, cons_option, find}
 use Rattle.std.proofs.lemmas.Bool.{le-leb}
 use Rattle.std.proofs.lemmas.Bool.Decides.{nat_tests}
-use Rattle.std.proofs.lemmas.Option.{cond_some}
+use Rattle.std.proofs.lemmas.Option.{cond_some, same_Some}
 use Rattle.tva_base.specs.declared.packet.Fate.{Fate}
 use Rattle.tva_base.specs.declared.packet.Flow.{Flow}
 use Rattle.tva_base.specs.declared.packet.Grant.{Grant}
@@ -40,7 +40,7 @@ use Rattle.tva_honest.specs.Deals.{Deal, Prepared, Granted, Noticed}
 use Rattle.tva_honest.specs.Paths.{shows, is_nonce, shows_nonce, come_as, same_id, is_charged_since, charged_since, WasCharged}
 use Rattle.tva_honest.specs.Narrow.{those_charged}
 use Rattle.tva_honest.proofs.Charges.{last-of}
-use Rattle.tva_honest.proofs.Lists.{some_same, place}
+use Rattle.tva_honest.proofs.Lists.{place}
 
 -- ## what was charged
 
@@ -267,7 +267,7 @@ since_first (x ∷ xs) = ap₂ (λ (b : Bool) (ys : List Coming). cond b (x ∷ 
 find_by : (p q : Coming → Bool) (x y : Coming) (xs : List Coming) (a : Bool) → q x ≡ a → (find q xs ≡ Some y → find q (filter p xs) ≡ Some y)
     → cond a (Some x) (find q xs) ≡ Some y → p y ≡ true → find q (cond (p x) (x ∷ filter p xs) (filter p xs)) ≡ Some y
 find_by p q x y xs true is rest e k =
-    let same : x ≡ y = some_same x y e in
+    let same : x ≡ y = same_Some x y e in
     let passes : p x ≡ true = ap p same ∙ k in
     subst (λ (b : Bool). find q (cond b (x ∷ filter p xs) (filter p xs)) ≡ Some y) (sym passes)
     (subst (λ (a : Bool). cond a (Some x) (find q (filter p xs)) ≡ Some y) (sym is) e)
@@ -351,7 +351,7 @@ since_early second (x ∷ xs) ys k = early_by second x xs ys x.charge refl k (λ
 pub charge_parts : (x : Coming) (o : Option Grant) (c : Charge) → x.charge ≡ o → option_map (charged x.time x.packet) o ≡ Some c
     → (g : Grant) × (x.charge ≡ Some g) × (charged x.time x.packet g ≡ c)
 charge_parts x None c e k = absurd (cc)
-charge_parts x (Some g) c e k = (g, e, some_same (charged x.time x.packet g) c k)
+charge_parts x (Some g) c e k = (g, e, same_Some (charged x.time x.packet g) c k)
 
 -- what was charged to grants of no earlier second was charged
 paying_by : (second : ℕ) (x : Coming) (o : Option Grant) → is_charged_since second o ≡ true

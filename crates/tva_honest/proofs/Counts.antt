@@ -37,7 +37,7 @@ use Rattle.tva_log.specs.Told.{at_time}
 use Rattle.tva_run.specs.Reaching.{Logs, log_at, links_out, site_at, rows_at, arrivals, arrivals_at, reaches}
 use Rattle.tva_run.specs.Run.{IsRunTo}
 use Rattle.tva_run.proofs.Sites.{link_out_is}
-use Rattle.tva_promises.proofs.Links.{port_time}
+use Rattle.tva_log.proofs.Links.{port_time}
 use Rattle.tva_honest.proofs.Lists.{few_rise, rises_from}
 use Rattle.tva_honest.proofs.Given.{AreGiven}
 use Rattle.tva_honest.proofs.Hosts.{takes, takes-all}
@@ -77,41 +77,24 @@ by_sources (suc n) most xs a k =
 
 -- ## what a link starts
 
+queued_times : (link time : ℕ) (xs : List port.Entry) (outcome : Outcome) (class : Class) (p : PacketData)
+    → start_times (cons_option (queued_at link time outcome class p) xs) ≡ start_times xs
+queued_times link time xs (Queued on) class p =
+    elim (link == on) as (λ b. start_times (cons_option (cond b (Some (port.Queued time class (key_of class p) p)) None) xs) ≡ start_times xs)
+    [ true ↦ refl | false ↦ refl ]
+queued_times link time xs (Dropped why) class p = refl
+
 content_times : (link time : ℕ) (c : Content) (xs : List port.Entry)
     → start_times (cons_option (content_at link time c) xs) ≡ start_times xs
-content_times link time (Arrived from packet fate onward) xs = queued_times fate.outcome fate.class onward
-  where
-    queued_times : (outcome : Outcome) (class : Class) (p : PacketData)
-        → start_times (cons_option (queued_at link time outcome class p) xs) ≡ start_times xs
-    queued_times (Queued on) class p =
-        elim (link == on) as (λ b. start_times
-        (cons_option (cond b
-        (Some (port.Queued time class (key_of class p) p)) None) xs) ≡ start_times xs) [ true ↦ refl | false ↦ refl ]
-    queued_times (Dropped why) class p = refl
-content_times link time (Sent made outcome) xs = queued_times outcome (class_by_shim made.packet.carried) made.packet
-  where
-    queued_times : (outcome : Outcome) (class : Class) (p : PacketData)
-        → start_times (cons_option (queued_at link time outcome class p) xs) ≡ start_times xs
-    queued_times (Queued on) class p =
-        elim (link == on) as (λ b. start_times
-        (cons_option (cond b
-        (Some (port.Queued time class (key_of class p) p)) None) xs) ≡ start_times xs) [ true ↦ refl | false ↦ refl ]
-    queued_times (Dropped why) class p = refl
+content_times link time (Arrived from packet fate onward) xs = queued_times link time xs fate.outcome fate.class onward
+content_times link time (Sent made outcome) xs = queued_times link time xs outcome (class_by_shim made.packet.carried) made.packet
 content_times link time Ticked xs = refl
 content_times link time (Received from packet receipt went range) xs = by receipt.reply went
   where
-    queued_times : (outcome : Outcome) (class : Class) (p : PacketData)
-        → start_times (cons_option (queued_at link time outcome class p) xs) ≡ start_times xs
-    queued_times (Queued on) class p =
-        elim (link == on) as (λ b. start_times
-        (cons_option (cond b
-        (Some (port.Queued time class (key_of class p) p)) None) xs) ≡ start_times xs) [ true ↦ refl | false ↦ refl ]
-    queued_times (Dropped why) class p = refl
-
     by : (reply : Option Made) (went : Option Outcome) → start_times (cons_option (reply_at link time reply went) xs) ≡ start_times xs
     by None went = refl
     by (Some made) None = refl
-    by (Some made) (Some outcome) = queued_times outcome (class_by_shim made.packet.carried) made.packet
+    by (Some made) (Some outcome) = queued_times link time xs outcome (class_by_shim made.packet.carried) made.packet
 
 module _ (number : ℕ) (link : LinkPlan) where
   turned : (on : ℕ) → (on == number) ≡ (number == on)

@@ -14,6 +14,7 @@ use Rattle.tva_caps.specs.Check.{check_of}
 use Rattle.tva_caps.specs.Formula.{precap_of, capability_of}
 use Rattle.tva_caps.proofs.Lasts.{lasts}
 use Rattle.tva_flow.specs.Charges.{Charge, last_or, last_charge}
+use Rattle.tva_flow.proofs.Same.{and_true}
 use Rattle.tva_sender.specs.declared.shape.Held.{Held}
 use Rattle.tva_sender.specs.declared.shape.Shape.{Shape}
 use Rattle.tva_sender.specs.declared.shape.Shape.TheVariants as shape
@@ -55,10 +56,6 @@ pub time-left : (w : Way) (asked came sent at t : ℕ) → ComesIn w asked came 
     → at + 1000000000 ≤ came + t * 1000000000
 time-left w asked came sent at t ask packet left = omega (arith, ask.from, packet.until, left)
 
-both : (a b : Bool) → (a && b) ≡ true → (a ≡ true) × (b ≡ true)
-both true b e = (refl, e)
-both false b e = absurd (cc)
-
 up_to : (a b : ℕ) → leb a b ≡ true → a ≤ b
 up_to a b e = grind (arith, nat_tests)
 
@@ -79,7 +76,7 @@ spends : (w : Way) (ms : List Mile) (k : Holds w ms) (sent bytes nonce offered :
     → nonce ≡ nonce_of (grant_of (taking_of w ms k)) offered → Spends w ms k sent bytes nonce
 spends w ms k sent bytes nonce offered fit shown =
     let g = grant_of (taking_of w ms k) in
-    let parts = both (leb (sent + w.margin + 1000000000) (g.asked.0 + g.rights.t * 1000000000)) (leb (g.used + bytes) (1024 * g.rights.n)) fit in
+    let parts = and_true (leb (sent + w.margin + 1000000000) (g.asked.0 + g.rights.t * 1000000000)) (leb (g.used + bytes) (1024 * g.rights.n)) fit in
     let left : sent + w.margin + 1000000000 ≤ g.asked.0 + g.rights.t * 1000000000 = up_to _ _ parts.0 in
     record {
       offered = offered;

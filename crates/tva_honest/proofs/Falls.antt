@@ -1,5 +1,5 @@
 -- The times that a log tells: those of a host's calls never fall, and what came to a router before an entry came no later.
-use Rattle.std.proofs.Common.{◌≤◌, ℕ, Bool, true, false, not, ◌&&◌, cond, List, [], ◌∷◌, ◌++◌, Option, Some, None, refl, arith}
+use Rattle.std.proofs.Common.{◌≤◌, ℕ, Bool, true, false, not, ◌&&◌, cond, List, [], ◌∷◌, Option, Some, None, arith}
 use Rattle.std.specs.Option.{option_map}
 use Rattle.std.specs.List.{AllByRecursion, cons_option}
 use Rattle.tva_base.specs.declared.packet.Flow.{Flow}
@@ -14,7 +14,6 @@ use Rattle.tva_log.proofs.Joins.{each-weaker, times_from}
 use Rattle.tva_log.specs.declared.kinds.Input.TheVariants.{FromTrace, Arrival}
 use Rattle.tva_log.specs.Entries.{Arrived, Sent, Ticked, Received, Entry, Took, Started, entry_time, entry_rank}
 use Rattle.tva_log.specs.Parts.{call_of_row, calls, packet_sent}
-use Rattle.tva_paths.proofs.Walks.{at_place}
 use Rattle.tva_honest.specs.Deals.{Coming, coming, came_at, comings}
 
 row_falls : (from now : ℕ) (what : RowWhat) (p : PacketData) (es : List Entry) → from ≤ now → NeverFall now (calls es)
@@ -44,16 +43,6 @@ never_fall from (Started at link class packet ∷ es) a o = never_fall from es a
 pub from_zero : (es : List Entry) → AllByRecursion (λ e. 0 ≤ entry_time e) es
 from_zero [] = tt
 from_zero (e ∷ es) = (omega arith, from_zero es)
-
--- in order, none comes later than what stands behind it
-pub none_later : (es : List Entry) (e : Entry) (rest : List Entry) → IsInOrder entry_time entry_rank (es ++ e ∷ rest)
-    → AllByRecursion (λ x. entry_time x ≤ entry_time e) es
-none_later [] e rest o = tt
-none_later (x ∷ xs) e rest o = (
-  at_place (λ (y : Entry). entry_time x ≤ entry_time y) (x ∷ (xs ++ e ∷ rest)) (x ∷ xs) e rest refl
-      (times_from entry_time entry_rank x (xs ++ e ∷ rest) o),
-  none_later xs e rest o.1,
-)
 
 come_picked : (n : ℕ) (b : Bool) (x : Coming) (xs : List Coming) → x.time ≤ n → AllByRecursion (λ (y : Coming). y.time ≤ n) xs
     → AllByRecursion (λ (y : Coming). y.time ≤ n) (cons_option (cond b (Some x) None) xs)

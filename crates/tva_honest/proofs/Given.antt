@@ -1,7 +1,7 @@
 -- What is known of the rows of a trace and of the nodes of its runs.
-use Rattle.std.proofs.Common.{◌≡◌, ◌≤◌, ℕ, Bool, List, [], ◌∷◌, length, All, Some}
+use Rattle.std.proofs.Common.{◌≡◌, ◌≤◌, ℕ, Bool, List, length, Some}
 use Rattle.std.specs.List.{AllByRecursion}
-use Rattle.std.proofs.lemmas.List.Elements.{All-head, All-tail}
+use Rattle.std.proofs.lemmas.List.Elements.{recursion_from_All}
 use Rattle.tva_base.proofs.Widths.{some_rights}
 use Rattle.tva_shim.specs.declared.kinds.ReturnInfo.{ReturnInfo}
 use Rattle.tva_shim.specs.declared.kinds.ReturnInfo.TheVariants as backs
@@ -19,6 +19,7 @@ use Rattle.tva_shim.specs.Packets.{IsWithinWidths}
 use Rattle.tva_rows.specs.Valid.{IsRowWhat, IsRow, AreTraceRows}
 use Rattle.tva_log.specs.Sites.{Site}
 use Rattle.tva_run.specs.Reaching.{Logs, log_at, site_at}
+use Rattle.tva_log.proofs.Joins.{each-weaker}
 use Rattle.tva_run.specs.Run.{IsRunTo}
 use Rattle.tva_promises.specs.Promises.{KeepsPromises}
 use Rattle.tva_promises.proofs.Runs.{run_keeps}
@@ -53,19 +54,13 @@ what_returns at_host (Inject flow payload carries) w = carried_returns carries w
 what_returns at_host (File dst size segment) w = tt
 what_returns at_host (Tick dst) w = tt
 
-rows_return : (config : Config) (rows : List Row) → All (IsRow config) rows → AllByRecursion (λ (row : Row). RowReturns row.what) rows
-rows_return config [] a = tt
-rows_return config (row ∷ rows) a = (
-  what_returns (is_host config.nodes row.node) row.what (All-head (IsRow config) row rows a).what,
-  rows_return config rows
-      (All-tail (IsRow config) row rows a),
-)
-
 -- so it is with the rows of a trace
 pub given : (config : Config) (rows : List Row) (until : ℕ) (logs : Logs) → IsConfig config → AreTraceRows config rows
     → IsRunTo config rows until logs → AreGiven config rows until logs
 given config rows until logs valid trace run = record {
   few = trace.few;
-  back = rows_return config rows trace.each;
+  back =
+      each-weaker (IsRow config) (λ (row : Row). RowReturns row.what) (λ row r. what_returns (is_host config.nodes row.node) row.what r.what) rows
+      (recursion_from_All (IsRow config) rows trace.each);
   keeps = λ node site is. run_keeps config rows until logs valid trace run node site is;
 }

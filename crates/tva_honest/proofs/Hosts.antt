@@ -1,10 +1,11 @@
 -- What is told of a host by its log: its deals with a peer are its contacts, and what it makes has ordinals that rise.
-use Rattle.std.proofs.Common.{◌≡◌, ◌≤◌, ◌<◌, ℕ, suc, ◌+◌, Bool, true, false, cond, eqb, List, [], ◌∷◌, ◌++◌, map, length, Option, Some, None, refl, ap, sym, subst, ◌∙◌, arith, append_assoc, append-nil}
+use Rattle.std.proofs.Common.{◌≡◌, ◌≤◌, ◌<◌, ℕ, suc, ◌+◌, Bool, true, false, cond, eqb, List, [], ◌∷◌, ◌++◌, map, length, Option, Some, None, refl, ap, sym, subst, ◌∙◌, arith, append-nil}
 use Rattle.std.specs.Prelude.{min}
 use Rattle.std.specs.Option.{option_map, IfSome}
 use Rattle.std.specs.List.{AllByRecursion, filter_map, cons_option}
 use Rattle.std.proofs.lemmas.Grind.{flat_map-append}
 use Rattle.std.proofs.lemmas.List.Elements.{filter_map-append}
+use Rattle.std.proofs.lemmas.Option.{same_Some}
 use Rattle.tva_base.specs.declared.addresses.Address.{Address}
 use Rattle.tva_base.specs.declared.event.BackKind.{BackKind}
 use Rattle.tva_base.specs.declared.event.BackKind.TheVariants as became
@@ -41,9 +42,10 @@ use Rattle.tva_log.specs.Entries.{Content, Received, Entry, Took, Started}
 use Rattle.tva_log.specs.Parts.{call_of_row, call_of_input, call_of, calls, files}
 use Rattle.tva_log.specs.Contents.{content, content_by, hosted, made_for, sent_with, sent_out}
 use Rattle.tva_log.specs.NodeLog.{GoesOn}
-use Rattle.tva_paths.specs.Origins.{made_in}
+use Rattle.tva_log.proofs.Walks.{by_place, IsMade, AnyInput, any, made_at as is_made}
+use Rattle.tva_delivery.specs.Origins.{made_in}
 use Rattle.tva_honest.specs.Deals.{Deal, Prepared, Granted, Noticed, sent_for, granted_in, brought, replied, dealt_in, dealt_at, deals}
-use Rattle.tva_honest.proofs.Lists.{some_same, Rises, rises-push}
+use Rattle.tva_honest.proofs.Lists.{Rises, rises-push}
 use Rattle.tva_honest.proofs.Dealt.{contact_of, row_deal, receipt_deal, map_more}
 use Rattle.tva_transfer.specs.Files as transfers
 use Rattle.tva_transfer.specs.Files.{Files, answered, segment_due}
@@ -350,7 +352,7 @@ module _ (site : Site) (plan : HostPlan) (is : site.plan ≡ plans.Host plan) (p
       → content site before input ≡ Some c → Step before input c
   taken_step before input c rest here e =
       let by_plan : Some (hosted site plan before input) ≡ Some c = sym (ap (λ (p : NodePlan). content_by site p before input) is) ∙ e in
-      let same : hosted site plan before input ≡ c = some_same (hosted site plan before input) c by_plan in
+      let same : hosted site plan before input ≡ c = same_Some (hosted site plan before input) c by_plan in
       subst (Step before input) same (hosted_step before input rest (here ∙ ap (λ (x : Content). before ++ Took input x ∷ rest) (sym same)))
 
   few_before : (before : List Entry) (e : Entry) (rest : List Entry) → log ≡ before ++ e ∷ rest → (hist before).made ≤ takes before
@@ -462,24 +464,12 @@ module _ (site : Site) (plan : HostPlan) (is : site.plan ≡ plans.Host plan) (p
         each = subst (AllByRecursion (IsTrue log)) (sym dealt) tt;
       })
 
-  one_more : (before : List Entry) (e : Entry) (es : List Entry) → log ≡ before ++ e ∷ es → log ≡ (before ++ e ∷ []) ++ es
-  one_more before e es w = w ∙ sym (append_assoc before (e ∷ []) es)
-
-  walk : (before : List Entry) (is : List Input) (es : List Entry) → log ≡ before ++ es → GoesOn site before is es → Told before → Told log
-  walk before [] [] w g t = subst Told (sym (w ∙ append-nil before)) t
-  walk before (i ∷ is) [] w g t = absurd g
-  walk before [] (Took j c ∷ es) w g t = absurd g
-  walk before (i ∷ is) (Took j c ∷ es) w g t =
-      let taken : content site before j ≡ Some c = subst (λ (x : Input). content site before x ≡ Some c) (sym g.0) g.1 in
-      walk (before ++ Took j c ∷ []) is es (one_more before (Took j c) es w) g.2
-      (told_more before (Took j c) t (took_more before j c es w taken t))
-  walk before [] (Started u l c p ∷ es) w g t =
-      walk (before ++ Started u l c p ∷ []) [] es (one_more before (Started u l c p) es w) g.1
-      (told_more before (Started u l c p) t (started_more before (Started u l c p) refl refl refl t))
-  walk before (i ∷ is) (Started u l c p ∷ es) w g t =
-      walk (before ++ Started u l c p ∷ []) (i ∷ is) es (one_more before (Started u l c p) es w) g.1
-      (told_more before (Started u l c p) t (started_more before (Started u l c p) refl refl refl t))
+  entry_told : (before : List Entry) (e : Entry) (rest : List Entry) → log ≡ before ++ e ∷ rest → IsMade AnyInput site before e → Told before
+      → Told (before ++ e ∷ [])
+  entry_told before (Took j c) rest split m t = told_more before (Took j c) t (took_more before j c rest split m.0 t)
+  entry_told before (Started u l c p) rest split m t = told_more before (Started u l c p) t (started_more before (Started u l c p) refl refl refl t)
 
   -- what the whole log tells
   pub told : (is : List Input) → GoesOn site [] is log → Told log
-  told is g = walk [] is log refl g begins
+  told is g =
+      by_place Told [] log (λ before e rest split t. entry_told before e rest split (is_made AnyInput site is log before e rest g (any is) split) t) begins

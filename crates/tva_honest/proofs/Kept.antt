@@ -1,6 +1,7 @@
 -- A packet that shows a grant, as it comes unmarked to a router, shows what it was prepared with.
 use Rattle.std.proofs.Common.{◌≡◌, ℕ, ◌+◌, ◌*◌, Bool, true, false, cond, List, length, slice_get, Option, Some, None, refl, ap, ap₂, sym, subst, ◌∙◌, arith}
 use Rattle.std.specs.Option.{option_map, IfSome}
+use Rattle.std.proofs.lemmas.Option.{same_Some}
 use Rattle.tva_base.specs.declared.packet.Grant.{Grant}
 use Rattle.tva_base.specs.declared.packet.Rights.{Rights}
 use Rattle.tva_base.specs.declared.plan.RouterPlan.{RouterPlan}
@@ -27,11 +28,10 @@ use Rattle.tva_router.specs.Marks.{is_marked}
 use Rattle.tva_host.specs.Sending.{is_legacy}
 use Rattle.tva_host.specs.Receiving.{shows_grant}
 use Rattle.tva_promises.specs.Fates.{NoRowRefusesShown, NoRowRefusesNonce, NoRowRefusesKind, NoRowRefuses}
-use Rattle.tva_paths.specs.Origins.{KeepsShown, KeepsKind, KeepsShim, KeepsCarried, Keeps}
+use Rattle.tva_delivery.specs.Origins.{KeepsShown, KeepsKind, KeepsShim, KeepsCarried, Keeps}
 use Rattle.tva_honest.specs.Miles.{Mile, charges_in, last_came}
 use Rattle.tva_honest.specs.SteadyMiles.{Way, checked, IsShown, OfNonce}
 use Rattle.tva_honest.specs.Paths.{shows, is_nonce, shows_nonce, IsMinted, ShowsMintedKind, ShowsMinted}
-use Rattle.tva_honest.proofs.Lists.{some_same}
 use Rattle.tva_honest.proofs.Regular.{ShowsShape, ShowsGrant}
 use Rattle.tva_honest.proofs.Dealt.{shape_of_kind, shape_in, counted}
 
@@ -136,7 +136,7 @@ checked_by : (w : Way) (router : RouterPlan) (q : PacketData) (ms : List Mile) (
 checked_by w router q ms h now a on made came g None k r m = tt
 checked_by w router q ms h now a on made came g (Some t) k r m =
     let cap : r.cap ≡ capability_of (precap_of router.master q.flow
-    (router_second router.clock_offset t)) came.rights = some_same r.cap _ (sym r.shows ∙ m) in
+    (router_second router.clock_offset t)) came.rights = same_Some r.cap _ (sym r.shows ∙ m) in
     let shown : check_of router.master (router_second router.clock_offset now) q.flow
     (capability_of (precap_of router.master q.flow (router_second router.clock_offset t)) came.rights) came.rights ≡ Valid g =
     ap (λ c. check_of router.master (router_second router.clock_offset now) q.flow c came.rights) (sym cap) ∙ r.valid in

@@ -25,7 +25,6 @@ pub mod Charged
 pub mod Steady
 pub mod Narrower
 pub mod Wholly
-pub mod Read
 pub mod Walkable
 pub mod Runs
 pub mod Walking

@@ -5,9 +5,7 @@ use Rattle.std.specs.List.{AllByRecursion, filter_map, cons_option}
 use Rattle.std.proofs.lemmas.List.Elements.{recursion_from_All, All-from_recursion}
 use Rattle.tva_log.proofs.Joins.{each-append}
 use Rattle.tva_port.specs.Keeps.{AreRising}
-
-pub some_same : {X : Type 0} (x y : X) → Some x ≡ Some y → x ≡ y
-some_same x y e = cc
+use Rattle.tva_log.proofs.Walks.{each_front}
 
 head_same : {X : Type 0} (x y : X) (xs ys : List X) → x ∷ xs ≡ y ∷ ys → x ≡ y
 head_same x y xs ys e = cc
@@ -64,10 +62,6 @@ each_rest P (Some x) xs h = h.1
 pub rises_rest : (o : Option ℕ) (ns : List ℕ) → Rises (cons_option o ns) → Rises ns
 rises_rest None ns h = h
 rises_rest (Some n) ns h = h.1
-
-pub each_front : {X : Type 0} (P : X → Type 0) (xs ys : List X) → AllByRecursion P (xs ++ ys) → AllByRecursion P xs
-each_front P [] ys h = tt
-each_front P (x ∷ xs) ys h = (h.0, each_front P xs ys h.1)
 
 pub rises_front : (ns ms : List ℕ) → Rises (ns ++ ms) → Rises ns
 rises_front [] ms r = tt

@@ -5,6 +5,7 @@ use Rattle.std.specs.Option.{option_map, IfSome}
 use Rattle.std.specs.List.{AllByRecursion, filter_map}
 use Rattle.std.proofs.lemmas.Bool.{le-leb}
 use Rattle.std.proofs.lemmas.List.Elements.{filter_map-append}
+use Rattle.std.proofs.lemmas.Option.{same_Some}
 use Rattle.tva_base.specs.declared.packet.Grant.{Grant}
 use Rattle.tva_base.specs.declared.packet.Time.{Time}
 use Rattle.tva_base.specs.Changes.{in_force}
@@ -19,18 +20,18 @@ use Rattle.tva_router.proofs.InForce.{force_clock}
 use Rattle.tva_plan.specs.declared.config.Config.{Config}
 use Rattle.tva_plan.specs.Valid.{IsConfig}
 use Rattle.tva_rows.specs.declared.rows.Row.{Row}
-use Rattle.tva_log.proofs.Joins.{each-weaker}
+use Rattle.tva_log.proofs.Joins.{each-weaker, each-filter}
 use Rattle.tva_log.specs.Entries.{input_time}
 use Rattle.tva_run.specs.Reaching.{Logs, log_at}
 use Rattle.tva_run.specs.Run.{IsRunTo}
-use Rattle.tva_paths.proofs.Walks.{at_place}
+use Rattle.tva_log.proofs.Walks.{at_place, each_front}
 use Rattle.tva_honest.specs.Miles.{Mile, contacts, charges_in, since_got}
 use Rattle.tva_honest.specs.SteadyMiles.{ComesIn, grant_at, AreAuthorised, IsNarrow}
 use Rattle.tva_honest.specs.Deals.{Deal, Prepared, Granted, Noticed, Coming}
 use Rattle.tva_honest.specs.Paths.{ComesInTime, shows_nonce, ask_coming, IsNoGrant, ShowsMinted, ComesUnder, is_charged_since, charged_since, WasCharged, IsSteadyPath}
 use Rattle.tva_honest.specs.Narrow.{ask_came, grant_came, since_granted, IsNarrowPath, AreNarrowSteady}
 use Rattle.tva_honest.proofs.Given.{AreGiven}
-use Rattle.tva_honest.proofs.Lists.{some_same, Rises, rises-push, rising_from, rises_front, each_front}
+use Rattle.tva_honest.proofs.Lists.{Rises, rises-push, rising_from, rises_front}
 use Rattle.tva_honest.proofs.Dealt.{shape_in, contact_of, played_front, map_place}
 use Rattle.tva_honest.proofs.Hosts.{deal_key, IsTrue}
 use Rattle.tva_honest.proofs.Matching.{In, come_key, keys, AreIn, Matches, in_place, matched, matches_in, in_at, SplitMatch, split_match, keys_passing, rises_passing}
@@ -39,7 +40,6 @@ use Rattle.tva_honest.proofs.Comings.{paid_of, claim_at, since_first, since_each
 use Rattle.tva_honest.proofs.Authorised.{each-behind, Front, front, none, narrow-honest}
 use Rattle.tva_honest.proofs.Stages.{Holds, Stage}
 use Rattle.tva_honest.proofs.EachMile.{old-before, walk}
-use Rattle.tva_honest.proofs.Boots.{each_passing}
 use Rattle.tva_honest.proofs.Beside.{authorised, since_last, since_known, each_since}
 use Rattle.tva_honest.proofs.DealtMiles.{IsWalkable, each_walkable, Run, run_none, At, along}
 use Rattle.tva_honest.proofs.Kept.{at_router, shows_as_made}
@@ -276,7 +276,7 @@ module _ (m : Passage) where
     each_so : AllByRecursion (ComesUnder host router delay last_at.under the_ask.ask.time) (charged_since second_so (boot m))
     each_so =
         subst (AllByRecursion (ComesUnder host router delay last_at.under the_ask.ask.time)) (sym recent_is)
-        (each_passing (ComesUnder host router delay last_at.under the_ask.ask.time) (λ (y : Coming). is_charged_since second_so y.charge) news
+        (each-filter (ComesUnder host router delay last_at.under the_ask.ask.time) (λ (y : Coming). is_charged_since second_so y.charge) news
         (each_with (λ (y : Coming). In last_at.under y.packet.id) (Steadily m) (ComesUnder host router delay last_at.under the_ask.ask.time) comes_under
         news (matches_in last_at.under news parts.back)
         (each-behind (Steadily m) olds news (subst (AllByRecursion (Steadily m)) parts.is each_charged))))
@@ -308,7 +308,7 @@ module _ (m : Passage) where
 
     same_second : router_second router.clock_offset holds_so.came ≡ second_so
     same_second =
-        ap (router_second router.clock_offset) (some_same holds_so.came the_ask.ask.time
+        ap (router_second router.clock_offset) (same_Some holds_so.came the_ask.ask.time
         (sym holds_so.came_is ∙ (miles_before.came ∙ came_is_so)))
 
     paid_so : AllByRecursion (WasCharged (charged_since second_so (boot m))) last_at.under
@@ -330,7 +330,7 @@ module _ (m : Passage) where
         record { flow = packet.flow; rights = regular_so.rights; second = router_second router.clock_offset regular_so.came } in
         let cl =
         claim_at to router to_plan until (log_at logs node) (keeps m) past input on packet fate onward rest here g regular_so.charge in
-        let came_same : regular_so.came ≡ the_ask.ask.time = some_same regular_so.came the_ask.ask.time (sym regular_so.asked ∙ came_is_so) in
+        let came_same : regular_so.came ≡ the_ask.ask.time = same_Some regular_so.came the_ask.ask.time (sym regular_so.asked ∙ came_is_so) in
         let late : router_second router.clock_offset regular_so.came ≡ second_so = ap (router_second router.clock_offset) came_same in
         held_by (holder (held m) packet.flow) g second_so late (held_nonce (ruling m) (held m) (arrival (now m) on packet) packet.carried g cl e)
       where

@@ -3,6 +3,7 @@ use Rattle.std.proofs.Common.{◌≡◌, ◌<◌, ℕ, true, false, List, [], �
 use Rattle.std.specs.Prelude.{IsSomeAnd}
 use Rattle.std.specs.Option.{option_map, IfSome}
 use Rattle.std.specs.List.{filter_map}
+use Rattle.std.proofs.lemmas.Option.{same_Some}
 use Rattle.tva_base.specs.declared.packet.Fate.{Fate}
 use Rattle.tva_base.specs.declared.packet.Outcome.{Outcome}
 use Rattle.tva_base.specs.declared.packet.PacketId.{PacketId}
@@ -37,16 +38,16 @@ use Rattle.tva_run.specs.Reaching.{Logs, log_at, site_at}
 use Rattle.tva_run.specs.Run.{IsRunTo}
 use Rattle.tva_run.proofs.Sites.{site_is}
 use Rattle.tva_promises.specs.Promises.{KeepsPromises}
-use Rattle.tva_paths.specs.Origins.{made_in, Keeps, HasOrigin}
-use Rattle.tva_paths.proofs.Walks.{at_place}
-use Rattle.tva_paths.proofs.Origins.{origin_at}
+use Rattle.tva_delivery.specs.Origins.{made_in, Keeps, HasOrigin}
+use Rattle.tva_log.proofs.Walks.{at_place}
+use Rattle.tva_delivery.proofs.Origins.{origin_at}
 use Rattle.tva_honest.specs.Miles.{Mile, contacts}
 use Rattle.tva_honest.specs.SteadyMiles.{Way, ComesIn}
 use Rattle.tva_honest.specs.Deals.{Deal, Prepared, Granted, Noticed, Coming, coming, deals, comings}
 use Rattle.tva_honest.specs.Paths.{shows, ask_coming, ComesInTime, comings_at}
 use Rattle.tva_honest.specs.Narrow.{ask_came, ComesSteadily}
 use Rattle.tva_honest.proofs.Given.{AreGiven}
-use Rattle.tva_honest.proofs.Lists.{some_same, Rises, one_place}
+use Rattle.tva_honest.proofs.Lists.{Rises, one_place}
 use Rattle.tva_honest.proofs.Falls.{never_fall, from_zero}
 use Rattle.tva_honest.proofs.Dealt.{contact_of, played_front, map_place}
 use Rattle.tva_honest.proofs.Hosts.{ordinal_of, made_at, entry_key, deal_key, takes, IsMadeIn, IsTrue, Told, told}
@@ -265,7 +266,7 @@ module _ (m : Passage) where
       one_place entry_key m.before (Took m.input m.content) m.rest from_origin.before
       (Took from_origin.input from_origin.content) from_origin.rest q.id.ordinal (sym m.here ∙ there) key other
       (subst (λ (es : List Entry). Rises (filter_map entry_key es)) m.here told_all.entries) in
-      let made : q ≡ from_origin.made = some_same q from_origin.made (sym m.makes ∙ (ap made_at s.here ∙ from_origin.makes)) in
+      let made : q ≡ from_origin.made = same_Some q from_origin.made (sym m.makes ∙ (ap made_at s.here ∙ from_origin.makes)) in
       subst (λ (z : PacketData). Keeps z p) (sym made) from_origin.keeps
 
   -- the place at which it was prepared is that of the steady path

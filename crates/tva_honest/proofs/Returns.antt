@@ -2,6 +2,7 @@
 use Rattle.std.proofs.Common.{◌≡◌, ℕ, true, false, ◌&&◌, cond, eqb, List, ◌∷◌, ◌++◌, Option, Some, None, refl, sym, subst}
 use Rattle.std.specs.Option.{option_map, IfSome}
 use Rattle.std.specs.List.{AllByRecursion}
+use Rattle.std.proofs.lemmas.Option.{same_Some}
 use Rattle.tva_base.specs.declared.addresses.Address.{Address}
 use Rattle.tva_base.specs.declared.packet.Outcome.{Outcome}
 use Rattle.tva_base.specs.declared.packet.Rights.{Rights}
@@ -44,10 +45,10 @@ use Rattle.tva_log.specs.Contents.{arrived, content, content_by, hosted, made_fo
 use Rattle.tva_run.specs.Reaching.{Logs, log_at, site_at}
 use Rattle.tva_run.specs.Run.{IsRunTo}
 use Rattle.tva_run.proofs.Sites.{site_is}
-use Rattle.tva_paths.specs.Origins.{KeepsCarried, made_in}
-use Rattle.tva_paths.proofs.Walks.{IsInputGood, IsEntryGood, all_good, at_place}
-use Rattle.tva_paths.proofs.Origins.{onward_keeps}
-use Rattle.tva_honest.proofs.Lists.{some_same}
+use Rattle.tva_delivery.specs.Origins.{KeepsCarried, made_in}
+use Rattle.tva_log.proofs.Walks.{at_place}
+use Rattle.tva_delivery.proofs.Walks.{IsInputGood, IsEntryGood, all_good}
+use Rattle.tva_delivery.proofs.Origins.{onward_keeps}
 use Rattle.tva_honest.proofs.Given.{RowReturns, AreGiven}
 use Rattle.tva_transfer.specs.Files.{Files, answered, first_segment, segment_due}
 use Rattle.tva_base.specs.declared.packet.Upper.{Upper}
@@ -86,7 +87,7 @@ row_made number plan before now (File dst size segment) c k e = absurd (cc)
 row_made number plan before now (Tick dst) c k e = absurd (cc)
 row_made number plan before now (Inject flow payload carries) c k e =
     let p : PacketData = made_packet (next_id number before) flow payload carries in
-    subst Makes (some_same (arrived plan before now None p) c e) (λ q i. subst Returns (some_same p q i) k)
+    subst Makes (same_Some (arrived plan before now None p) c e) (λ q i. subst Returns (same_Some p q i) k)
 
 came_made : (plan : RouterPlan) (before : List Entry) (now link : ℕ) (p : PacketData) → Makes (arrived plan before now (Some link) p)
 unfolding arrived
@@ -96,7 +97,7 @@ routed_made : (number : ℕ) (plan : RouterPlan) (before : List Entry) (i : Inpu
     → routed number plan before i ≡ Some c → Makes c
 routed_made number plan before (FromTrace row) c k e = row_made number plan before row.time.0 row.what c k e
 routed_made number plan before (Arrival time link packet) c k e =
-    subst Makes (some_same (arrived plan before time.0 (Some link) packet) c e) (came_made plan before time.0 link packet)
+    subst Makes (same_Some (arrived plan before time.0 (Some link) packet) c e) (came_made plan before time.0 link packet)
 
 sent_returns : (version : ℕ) (s : Shape) → IsReturn 2 (back_in (carried_by version s))
 sent_returns version s =
@@ -171,12 +172,12 @@ receipt_returns number plan h now p above k =
 reply_made : (reply : Option Made) → IfSome reply (λ (made : Made). Returns made.packet) → (p : PacketData)
     → option_map (λ (made : Made). made.packet) reply ≡ Some p → Returns p
 reply_made None k p e = absurd (cc)
-reply_made (Some made) k p e = subst Returns (some_same made.packet p e) k
+reply_made (Some made) k p e = subst Returns (same_Some made.packet p e) k
 
 sent_made : (site : Site) (plan : HostPlan) (before : List Entry) (made : Option Made)
     → IfSome made (λ (m : Made). Returns m.packet) → Makes (sent_out site plan before made)
 sent_made site plan before None k p e = absurd (cc)
-sent_made site plan before (Some made) k p e = subst Returns (some_same made.packet p e) k
+sent_made site plan before (Some made) k p e = subst Returns (same_Some made.packet p e) k
 
 hosted_made : (site : Site) (plan : HostPlan) (before : List Entry) (i : Input) → AreSomeRights plan.policy.rights
     → IsInputGood Returns RowReturns i → Makes (hosted site plan before i)
@@ -194,7 +195,7 @@ made_by : (site : Site) (plan : NodePlan) (before : List Entry) (i : Input) (c :
     → IsInputGood Returns RowReturns i → content_by site plan before i ≡ Some c → Makes c
 made_by site (plans.Router plan) before i c planned k e = routed_made site.number plan before i c k e
 made_by site (plans.Host plan) before i c planned k e =
-    subst Makes (some_same (hosted site plan before i) c e)
+    subst Makes (same_Some (hosted site plan before i) c e)
     (hosted_made site plan before i (some_rights plan.version plan.policy.rights planned.0.rights) k)
 
 -- ## in a run

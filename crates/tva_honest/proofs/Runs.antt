@@ -1,12 +1,14 @@
 -- How worked logs are shown to be a run: their order, that all is early and that no start is left out, each by a test.
-use Rattle.std.proofs.Common.{◌≡◌, ◌≤◌, ◌<◌, ◌⊎◌, inl, inr, ℕ, suc, Bool, true, false, ◌&&◌, ◌||◌, cond, eqb, ltb, leb, List, [], ◌∷◌, ◌++◌, Option, Some, None, refl, ap, sym, subst, ◌∙◌, arith, append-nil, append_assoc}
+use Rattle.std.proofs.Common.{◌≡◌, ◌≤◌, ◌<◌, ◌+◌, ◌⊎◌, inl, inr, ℕ, zero, suc, Bool, true, false, ◌&&◌, ◌||◌, cond, eqb, ltb, leb, List, [], ◌∷◌, ◌++◌, Option, Some, None, refl, ap, sym, subst, ◌∙◌, arith, append-nil, append_assoc}
 use Rattle.std.specs.Prelude.{nat_le, nat_lt}
 use Rattle.std.specs.Option.{option_and_then, option_map}
 use Rattle.std.specs.List.{AllByRecursion, find}
 use Rattle.std.proofs.lemmas.Bool.{cases_lt, lt-ltb, ltb-true, leb-true, eqb-true}
 use Rattle.std.proofs.lemmas.Bool.Decides.{nat_tests}
 use Rattle.tva_base.specs.declared.limits.LinkLimits.{LinkLimits}
+use Rattle.tva_base.specs.declared.plan.HostPlan.{HostPlan}
 use Rattle.tva_base.specs.declared.plan.LinkPlan.{LinkPlan}
+use Rattle.tva_shim.specs.Packets.{PacketData}
 use Rattle.tva_flow.proofs.Same.{and_true}
 use Rattle.tva_port.specs.declared.requests.RequestQueues.{RequestQueues}
 use Rattle.tva_port.specs.declared.requests.RequestQueues.TheVariants.{OneLevel, TwoLevels}
@@ -26,6 +28,8 @@ use Rattle.tva_log.specs.Parts.{port_logs}
 use Rattle.tva_log.specs.NodeLog.{GoesOn, due, start_of, start_after}
 use Rattle.tva_run.specs.Reaching.{Logs, reaches}
 use Rattle.tva_run.specs.Run.{HasLog}
+use Rattle.tva_honest.specs.Deals.{Deal, Prepared, Coming}
+use Rattle.tva_honest.specs.Paths.{ComesInTime}
 
 -- ## order, by a test
 
@@ -74,6 +78,34 @@ each_apart most s (i ∷ is) l e =
 -- none comes from a source past them
 pub none_from : (most s : ℕ) (inputs : List Input) → most < s → are_within most inputs ≡ true → from_source input_source s inputs ≡ []
 none_from most s inputs l e = filter-none (λ (i : Input). eqb (input_source i) s) inputs (each_apart most s inputs l e)
+
+-- what holds of the first numbers, and of those past them, holds of each
+abbrev pub Below : ℕ → (ℕ → Type 0) → Type 0
+Below zero P = Unit {0}
+Below (suc k) P = P zero × Below k (λ s. P (suc s))
+
+abbrev pub Past : ℕ → (ℕ → Type 0) → Type 0
+Past zero P = (n : ℕ) → P n
+Past (suc k) P = Past k (λ s. P (suc s))
+
+pub by_number : (k : ℕ) (P : ℕ → Type 0) → Below k P → Past k P → (s : ℕ) → P s
+by_number zero P b p s = p s
+by_number (suc k) P b p zero = b.0
+by_number (suc k) P b p (suc s) = by_number k (λ n. P (suc n)) b.1 p s
+
+-- triples and pairs as calls: a chain of them nests to the right, and stands on few lines
+pub triple : {A B C : Type 0} → A → B → C → A × B × C
+triple a b c = (a, b, c)
+
+pub pair : {A B : Type 0} → A → B → A × B
+pair a b = (a, b)
+
+-- what came in time, by the deal that prepared it and those before and behind that
+abbrev pub came_so : {host : HostPlan} {delay : ℕ} {own : List Deal} {x : Coming} → (before : List Deal) (sent : ℕ) (packet : PacketData)
+    (after : List Deal) → own ≡ before ++ Prepared sent packet ∷ after → packet.id ≡ x.packet.id → sent + delay ≤ x.time
+    → x.time ≤ sent + delay + host.margin → ComesInTime host delay own x
+came_so before sent packet after place same from until =
+    record { before = before; sent = sent; packet = packet; after = after; place = place; same = same; from = from; until = until }
 
 -- ## times
 

@@ -14,8 +14,9 @@ use Rattle.tva_sender.specs.Book.{Keeps}
 use Rattle.tva_sender.proofs.Pushes.{time_of, last_taking-push, taking_more, uses-push}
 use Rattle.tva_honest.specs.Miles.{Mile, contact_in, contacts, paid_in, charges_in, ask_came_in, last_came, since_got}
 use Rattle.tva_honest.specs.SteadyMiles.{Way, ComesIn, grant_at, AreAuthorised}
-use Rattle.tva_honest.proofs.Charges.{each-append, each-weaker}
+use Rattle.tva_honest.proofs.Charges.{each-weaker}
 use Rattle.tva_honest.proofs.Pushes.{contacts-push, charges-push, came-same, authorised-front}
+use Rattle.tva_log.proofs.Joins.{each-append}
 
 -- no grant was taken so far, so no packet showed one
 pub record IsFresh (ms : List Mile) : Type 0 where

@@ -5,6 +5,7 @@ use Rattle.std.specs.Option.{option_map, IfSome}
 use Rattle.std.specs.List.{AllByRecursion}
 use Rattle.std.proofs.lemmas.Bool.{le-leb}
 use Rattle.std.proofs.lemmas.List.Elements.{filter_map-append}
+use Rattle.std.proofs.lemmas.Option.{same_Some}
 use Rattle.tva_base.specs.declared.packet.Class.TheVariants as class
 use Rattle.tva_base.specs.declared.packet.Grant.{Grant}
 use Rattle.tva_base.specs.declared.packet.Rights.{Rights}
@@ -22,7 +23,7 @@ use Rattle.tva_log.proofs.Joins.{each-weaker}
 use Rattle.tva_log.specs.Entries.{input_time}
 use Rattle.tva_run.specs.Reaching.{Logs, log_at}
 use Rattle.tva_run.specs.Run.{IsRunTo}
-use Rattle.tva_paths.proofs.Walks.{at_place}
+use Rattle.tva_log.proofs.Walks.{at_place, each_front}
 use Rattle.tva_honest.specs.Miles.{contacts, charges_in, last_came, since_got, since_notified}
 use Rattle.tva_honest.specs.SteadyMiles as kit
 use Rattle.tva_honest.specs.SteadyMiles.{ComesIn, is_since, IsSteady}
@@ -30,7 +31,7 @@ use Rattle.tva_honest.specs.Deals.{Deal, Prepared, Granted, Coming}
 use Rattle.tva_honest.specs.Paths.{shows_nonce, since_noticed, IsNoGrant, ShowsMinted, ComesUnder, charged_since, WasCharged, IsSteadyPath, AreHonestRegular}
 use Rattle.tva_honest.specs.Narrow.{ask_came, grant_came, since_granted}
 use Rattle.tva_honest.proofs.Given.{AreGiven}
-use Rattle.tva_honest.proofs.Lists.{some_same, Rises, rises_front, each_front}
+use Rattle.tva_honest.proofs.Lists.{Rises, rises_front}
 use Rattle.tva_honest.proofs.Dealt.{shape_in}
 use Rattle.tva_honest.proofs.Hosts.{deal_key, IsTrue}
 use Rattle.tva_honest.proofs.Matching.{In, keys, AreIn, Matches, in_place, matched}
@@ -240,12 +241,12 @@ module _ (m : Passage) where
     -- the last grant among them is that of the path
     rights_here : regular_here.rights ≡ steady.rights
     rights_here =
-        some_same regular_here.rights steady.rights (sym regular_here.granted
+        same_Some regular_here.rights steady.rights (sym regular_here.granted
         ∙ rights-under steady.first steady.rights steady.caps under steady.no_other)
 
     came_here : regular_here.came ≡ asked_time
     came_here =
-        some_same regular_here.came asked_time (sym regular_here.asked
+        same_Some regular_here.came asked_time (sym regular_here.asked
         ∙ (ap (grant_came (seen m) []) split ∙ came_behind under steady.no_other))
 
     abbrev grant_of : Rights → ℕ → Grant

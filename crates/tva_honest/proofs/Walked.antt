@@ -11,11 +11,12 @@ use Rattle.tva_shim.specs.Layout.{layout, two_bytes, six_bytes, eight_bytes, num
 use Rattle.tva_shim.specs.Packets.{PacketData}
 use Rattle.tva_log.specs.declared.kinds.Input.TheVariants.{FromTrace}
 use Rattle.tva_log.specs.Entries.{Arrived, Took, Started}
-use Rattle.tva_paths.proofs.Walks.{at_place}
+use Rattle.tva_log.proofs.Walks.{at_place}
 use Rattle.tva_honest.specs.Deals.{Deal, Prepared, Granted, Coming, coming, deals}
 use Rattle.tva_honest.specs.Paths.{ask_coming, IsNoGrant, ComesInTime, ComesUnder}
 use Rattle.tva_honest.specs.Whole.{IsBegun}
 use Rattle.tva_honest.specs.Walk.{walk_b, walk_flow, walk_rights, walk_router, walk_host_a, walk_cap, walk_precap, walk_grant, walk_fate, walk_request, walk_list, walk_bare, walk_spoofed, walk_nonce, walk_renewal, walk_passes, walk_before_list, walk_before_nonce, walk_before_renewal, walk_log_a, walk_list_comes, walk_nonce_comes, walk_renewal_comes, IsSteadyBehind, IsListWhole}
+use Rattle.tva_honest.proofs.Runs.{came_so}
 
 abbrev own : List Deal
 own = deals walk_b walk_log_a
@@ -50,16 +51,7 @@ abbrev renewed : Deal
 renewed = Prepared 6000000000 (walk_renewal 0 0 (walk_cap walk_flow))
 
 abbrev request_in_time : InTime (record { time = 1001000; packet = walk_request 0 []; charge = None })
-request_in_time = record {
-  before = [];
-  sent = 0;
-  packet = walk_request 0 [];
-  after = granted ∷ listed ∷ named ∷ renewed ∷ [];
-  place = refl;
-  same = refl;
-  from = omega arith;
-  until = omega arith;
-}
+request_in_time = came_so [] 0 (walk_request 0 []) (granted ∷ listed ∷ named ∷ renewed ∷ []) refl refl (omega arith) (omega arith)
 
 -- ## the grant under which they were prepared
 
@@ -71,40 +63,13 @@ abbrev dealt : List Deal
 dealt = listed ∷ named ∷ renewed ∷ []
 
 abbrev list_under : (ds : List Deal) → ComesInTime walk_host_a 1000520 (listed ∷ ds) list_coming
-list_under ds = record {
-  before = [];
-  sent = 4002900;
-  packet = walk_list 0 0;
-  after = ds;
-  place = refl;
-  same = refl;
-  from = omega arith;
-  until = omega arith;
-}
+list_under ds = came_so [] 4002900 (walk_list 0 0) ds refl refl (omega arith) (omega arith)
 
 abbrev nonce_under : (ds : List Deal) → ComesInTime walk_host_a 1000520 (listed ∷ named ∷ ds) nonce_coming
-nonce_under ds = record {
-  before = listed ∷ [];
-  sent = 10000000;
-  packet = walk_nonce 0;
-  after = ds;
-  place = refl;
-  same = refl;
-  from = omega arith;
-  until = omega arith;
-}
+nonce_under ds = came_so (listed ∷ []) 10000000 (walk_nonce 0) ds refl refl (omega arith) (omega arith)
 
 abbrev renewal_under : ComesInTime walk_host_a 1000520 dealt renewal_coming
-renewal_under = record {
-  before = listed ∷ named ∷ [];
-  sent = 6000000000;
-  packet = walk_renewal 0 0 (walk_cap walk_flow);
-  after = [];
-  place = refl;
-  same = refl;
-  from = omega arith;
-  until = omega arith;
-}
+renewal_under = came_so (listed ∷ named ∷ []) 6000000000 (walk_renewal 0 0 (walk_cap walk_flow)) [] refl refl (omega arith) (omega arith)
 
 -- ## the paths
 
@@ -164,16 +129,7 @@ list_begun = record {
 pub whole_list : IsListWhole
 whole_list = record {
   each = (request_in_time, tt);
-  last = record {
-    before = asked ∷ granted ∷ [];
-    sent = 4002900;
-    packet = walk_list 0 0;
-    after = named ∷ renewed ∷ [];
-    place = refl;
-    same = refl;
-    from = omega arith;
-    until = omega arith;
-  };
+  last = came_so (asked ∷ granted ∷ []) 4002900 (walk_list 0 0) (named ∷ renewed ∷ []) refl refl (omega arith) (omega arith);
   order = (All-nil (λ n. 2 < n), tt);
   begun = λ first rights caps rest e it.
       let is = only_grant 0 (walk_request 0 []) walk_rights (walk_cap walk_flow ∷ []) dealt (tt, (tt, (tt, tt))) first rights caps rest e in

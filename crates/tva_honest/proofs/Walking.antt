@@ -1,5 +1,6 @@
 -- The logs of the worked walk are a run.
 use Rattle.std.proofs.Common.{◌≡◌, ℕ, zero, suc, List, [], ◌∷◌, Some, refl, subst, arith}
+use Rattle.std.proofs.lemmas.Option.{same_Some}
 use Rattle.tva_base.specs.declared.packet.Class.TheVariants.{Regular}
 use Rattle.tva_base.specs.Changes.{in_force}
 use Rattle.tva_base.specs.Credit.{credit_of}
@@ -30,8 +31,7 @@ use Rattle.tva_run.specs.Run.{HasLog, IsRunTo}
 use Rattle.tva_honest.specs.SteadyMiles.{Way}
 use Rattle.tva_honest.specs.Walk.{walk_flow, walk_back, walk_rights, walk_router, walk_host_a, walk_host_b, walk_config, walk_first, walk_spoofed, walk_second, walk_third, walk_rows, walk_cap, walk_grant, walk_fate, walk_entry, walk_request, walk_reply, walk_list, walk_bare, walk_nonce, walk_renewal, walk_precap, walk_before_list, walk_before_renewal, walk_log_a, walk_log_b, walk_log_router, walk_logs, walk_until, walk_list_comes, walk_nonce_comes, walk_renewal_comes}
 use Rattle.tva_honest.proofs.EachMile.{valid}
-use Rattle.tva_honest.proofs.Lists.{some_same}
-use Rattle.tva_honest.proofs.Runs.{none_from, has_by}
+use Rattle.tva_honest.proofs.Runs.{none_from, has_by, by_number}
 use Rattle.tva_transfer.specs.Files.{segment_due, range_of, after_upper, answer_to}
 
 -- ## inputs
@@ -67,30 +67,15 @@ Gives node inputs s = from_source input_source s inputs ≡ due walk_until (reac
 
 router_gives : (s : ℕ) → Gives 0 router_inputs s
 unfolding layout two_bytes six_bytes eight_bytes number_bytes
-router_gives zero = refl
-router_gives (suc zero) = refl
-router_gives (suc (suc zero)) = refl
-router_gives (suc (suc (suc zero))) = refl
-router_gives (suc (suc (suc (suc zero)))) = refl
-router_gives (suc (suc (suc (suc (suc n))))) = none_from 4 (suc (suc (suc (suc (suc n))))) router_inputs (omega arith) refl
+router_gives = by_number 5 (Gives 0 router_inputs) (refl, (refl, (refl, (refl, (refl, tt))))) (λ n. none_from 4 (suc (suc (suc (suc (suc n))))) router_inputs (omega arith) refl)
 
 a_gives : (s : ℕ) → Gives 1 a_inputs s
 unfolding layout two_bytes six_bytes eight_bytes number_bytes
-a_gives zero = refl
-a_gives (suc zero) = refl
-a_gives (suc (suc zero)) = refl
-a_gives (suc (suc (suc zero))) = refl
-a_gives (suc (suc (suc (suc zero)))) = refl
-a_gives (suc (suc (suc (suc (suc n))))) = none_from 4 (suc (suc (suc (suc (suc n))))) a_inputs (omega arith) refl
+a_gives = by_number 5 (Gives 1 a_inputs) (refl, (refl, (refl, (refl, (refl, tt))))) (λ n. none_from 4 (suc (suc (suc (suc (suc n))))) a_inputs (omega arith) refl)
 
 b_gives : (s : ℕ) → Gives 2 b_inputs s
 unfolding layout two_bytes six_bytes eight_bytes number_bytes
-b_gives zero = refl
-b_gives (suc zero) = refl
-b_gives (suc (suc zero)) = refl
-b_gives (suc (suc (suc zero))) = refl
-b_gives (suc (suc (suc (suc zero)))) = refl
-b_gives (suc (suc (suc (suc (suc n))))) = none_from 4 (suc (suc (suc (suc (suc n))))) b_inputs (omega arith) refl
+b_gives = by_number 5 (Gives 2 b_inputs) (refl, (refl, (refl, (refl, (refl, tt))))) (λ n. none_from 4 (suc (suc (suc (suc (suc n))))) b_inputs (omega arith) refl)
 
 -- ## what each node makes of them
 
@@ -169,9 +154,9 @@ b_has = has_by walk_config walk_rows walk_logs walk_until b_site b_inputs walk_l
     (record { turns = refl; gives = b_gives; order = refl; early = refl; steps = b_steps; calm = (refl, tt) })
 
 has : (node : ℕ) (site : Site) → site_at walk_config node ≡ Some site → Has site (log_at walk_logs node)
-has zero site e = subst (λ (s : Site). Has s walk_log_router) (some_same router_site site e) router_has
-has (suc zero) site e = subst (λ (s : Site). Has s walk_log_a) (some_same a_site site e) a_has
-has (suc (suc zero)) site e = subst (λ (s : Site). Has s walk_log_b) (some_same b_site site e) b_has
+has zero site e = subst (λ (s : Site). Has s walk_log_router) (same_Some router_site site e) router_has
+has (suc zero) site e = subst (λ (s : Site). Has s walk_log_a) (same_Some a_site site e) a_has
+has (suc (suc zero)) site e = subst (λ (s : Site). Has s walk_log_b) (same_Some b_site site e) b_has
 has (suc (suc (suc n))) site e = absurd (cc)
 
 pub is_run : IsRunTo walk_config walk_rows walk_until walk_logs

@@ -17,25 +17,25 @@ use Rattle.tva_router.proofs.InForce.{force_clock}
 use Rattle.tva_plan.specs.declared.config.Config.{Config}
 use Rattle.tva_plan.specs.Valid.{IsConfig}
 use Rattle.tva_rows.specs.declared.rows.Row.{Row}
-use Rattle.tva_log.specs.Joins.{IsInOrder}
-use Rattle.tva_log.proofs.Joins.{filter_swap, filter-all}
-use Rattle.tva_log.specs.Entries.{Arrived, Took, input_time, entry_time, entry_rank}
+use Rattle.tva_log.proofs.Joins.{filter_swap, filter-all, each-filter}
+use Rattle.tva_log.specs.Entries.{Arrived, Took, input_time}
 use Rattle.tva_log.specs.Parts.{charges}
 use Rattle.tva_run.specs.Reaching.{Logs, log_at}
 use Rattle.tva_run.specs.Run.{IsRunTo}
-use Rattle.tva_paths.proofs.Walks.{at_place}
+use Rattle.tva_log.proofs.Walks.{at_place, each_front, past_at}
 use Rattle.tva_honest.specs.Deals.{Deal, Prepared, Granted, Noticed, Coming}
 use Rattle.tva_honest.specs.Paths.{shows, same_id, come_as, last_ask_id, ask_coming, IsNoGrant, ShowsMinted, ComesInTime, comings_at, WasCharged}
 use Rattle.tva_honest.specs.Narrow.{grant_came, since_granted, those_charged, IsNarrowPath}
 use Rattle.tva_honest.specs.Whole.{IsBegun, IsWholePath, AreWholeSteady}
 use Rattle.tva_honest.proofs.Given.{AreGiven}
-use Rattle.tva_honest.proofs.Falls.{none_later, come_by}
-use Rattle.tva_honest.proofs.Lists.{each_at, each_kept, Rises, rises_from, rising_from, rises-push, rises_last, each_front}
+use Rattle.tva_honest.proofs.Falls.{come_by}
+use Rattle.tva_honest.proofs.Lists.{each_at, each_kept, Rises, rises_from, rising_from, rises-push, rises_last}
 use Rattle.tva_honest.proofs.Matching.{In, in_right, come_key, keys, AreBefore, in_place, in_append, in_front, InAt, in_at, key_kept, keys_passing, rises_passing, keys_push}
 use Rattle.tva_honest.proofs.Asks.{behind_last, came-last, come_is, come_id, came-under, LastAt, split_last}
 use Rattle.tva_honest.proofs.Comings.{claim, claim_at, find_passing}
 use Rattle.tva_honest.proofs.Authorised.{front}
-use Rattle.tva_honest.proofs.Boots.{one_master, boots_rise, each_passing}
+use Rattle.tva_honest.proofs.Boots.{one_master}
+use Rattle.tva_log.proofs.Boots.{boots_rise}
 use Rattle.tva_honest.proofs.Beside.{since_last}
 use Rattle.tva_honest.proofs.Kept.{minted_with}
 use Rattle.tva_honest.proofs.Passage.{Passage, passage, later, among, own, seen, last, now, boot, held, InTime, Steadily, rises, keeps, came}
@@ -74,8 +74,8 @@ module _ (m : Passage) where
   -- and came before the packet
   times : AllByRecursion (λ (y : Coming). y.time ≤ now m) (seen m)
   times =
-      come_by packet.flow (now m) past (none_later past (Took input (Arrived on packet fate onward)) rest
-      (subst (IsInOrder entry_time entry_rank) here (run.each node to is_to).is_log.in_order))
+      come_by packet.flow (now m) past (past_at (log_at logs node) past (Took input (Arrived on packet fate onward)) rest
+      (run.each node to is_to).is_log.in_order here)
 
   -- what is behind a place in the host's order is among the deals behind it
   in_rest : (before : List Deal) (t : ℕ) (q : PacketData) (after : List Deal) (id : PacketId) → own m ≡ before ++ Prepared t q ∷ after
@@ -213,7 +213,7 @@ module _ (m : Passage) where
         let was : Coming → Bool = λ y. is_some y.charge in
         sym (filter-all Shows (those_charged (boot m))
         (each_kept (λ y. Shows y ≡ true) was (boot m)
-        (each_passing (λ y. is_some y.charge ≡ true → Shows y ≡ true) in_boot (seen m) shows_so)))
+        (each-filter (λ y. is_some y.charge ≡ true → Shows y ≡ true) in_boot (seen m) shows_so)))
         ∙ (filter_swap Shows was (boot m) ∙ ap (filter was) (filter_swap Shows in_boot (seen m)))
 
     order_so : AreRising (map (λ (y : Coming). y.packet.id.ordinal) (those_charged (boot m) ++ last m ∷ []))

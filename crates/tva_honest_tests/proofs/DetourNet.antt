@@ -21,6 +21,7 @@ use Rattle.tva_rows.specs.Valid.{IsRow, AreTraceRows}
 use Rattle.tva_honest.specs.Walk.{walk_a, walk_b, walk_route, walk_host_b, walk_link}
 use Rattle.tva_honest.proofs.Walkable.{absent, limits_fine, host_fine, policy_fine, none_begins}
 use Rattle.tva_honest_tests.specs.Detour.{first_router, second_router, detour_config, detour_row, detour_rows}
+use Rattle.tva_honest.proofs.Runs.{pair}
 
 -- ## lists without doubles, by a number of each
 
@@ -167,18 +168,9 @@ pub traced : AreTraceRows detour_config detour_rows
 traced = record {
   few = omega arith;
   each = All-from_recursion (IsRow detour_config) detour_rows (
-    sent 0 77 (omega arith) (omega arith),
-    (
-      sent 5000000 1000 (omega arith) (omega arith),
-      (
-        sent 10000000 1000 (omega arith) (omega arith),
-        (
-          sent 20000000 1000 (omega arith) (omega arith),
-          (sent 2100000000 77 (omega arith) (omega arith), (sent 2110000000 1000 (omega arith) (omega arith), tt)),
-        ),
-      ),
-    ),
-  );
+      pair (sent 0 77 (omega arith) (omega arith)) (pair (sent 5000000 1000 (omega arith) (omega arith)) (pair
+      (sent 10000000 1000 (omega arith) (omega arith)) (pair (sent 20000000 1000 (omega arith) (omega arith)) (pair
+      (sent 2100000000 77 (omega arith) (omega arith)) (pair (sent 2110000000 1000 (omega arith) (omega arith)) tt))))));
   order = (omega arith, (omega arith, (omega arith, (omega arith, (omega arith, (omega arith, tt))))));
   files = λ node. (let none = none_begins node detour_rows (refl, (refl, (refl, (refl, (refl, (refl, tt)))))) in omega (arith, none));
 }

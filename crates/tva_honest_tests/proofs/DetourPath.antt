@@ -11,6 +11,7 @@ use Rattle.tva_honest.specs.Walk.{walk_rights}
 use Rattle.tva_honest_tests.specs.Steady.{IsSteadyIn}
 use Rattle.tva_honest_tests.specs.Restarts.{charged_to}
 use Rattle.tva_honest_tests.specs.Detour.{to_first, to_second, detour_logs, first_before_list, second_before_list, asked, narrow_caps, wide_caps, narrow_list, narrow_nonce, wide_list, by_first}
+use Rattle.tva_honest.proofs.Runs.{came_so}
 
 -- what A had before it asked anew
 abbrev earlier : List Deal
@@ -48,27 +49,9 @@ steady_first = record {
     place = refl;
     ask = record { time = 2101001000; packet = asked 5 0 []; charge = None };
     came = refl;
-    in_time = record {
-      before = earlier;
-      sent = 2100000000;
-      packet = asked 5 0 [];
-      after = Granted walk_rights wide_caps ∷ listed ∷ [];
-      place = refl;
-      same = refl;
-      from = omega arith;
-      until = omega arith;
-    };
+    in_time = came_so earlier 2100000000 (asked 5 0 []) (Granted walk_rights wide_caps ∷ listed ∷ []) refl refl (omega arith) (omega arith);
     last = record {
-      in_time = record {
-        before = [];
-        sent = 2110000000;
-        packet = wide_list 0 0;
-        after = [];
-        place = refl;
-        same = refl;
-        from = omega arith;
-        until = omega arith;
-      };
+      in_time = came_so [] 2110000000 (wide_list 0 0) [] refl refl (omega arith) (omega arith);
       behind = omega arith;
       minted = refl;
     };
@@ -98,27 +81,9 @@ steady_second = record {
     place = refl;
     ask = record { time = 2102002100; packet = asked 5 1 (by_first 2); charge = None };
     came = refl;
-    in_time = record {
-      before = earlier;
-      sent = 2100000000;
-      packet = asked 5 0 [];
-      after = Granted walk_rights wide_caps ∷ listed ∷ [];
-      place = refl;
-      same = refl;
-      from = omega arith;
-      until = omega arith;
-    };
+    in_time = came_so earlier 2100000000 (asked 5 0 []) (Granted walk_rights wide_caps ∷ listed ∷ []) refl refl (omega arith) (omega arith);
     last = record {
-      in_time = record {
-        before = [];
-        sent = 2110000000;
-        packet = wide_list 0 0;
-        after = [];
-        place = refl;
-        same = refl;
-        from = omega arith;
-        until = omega arith;
-      };
+      in_time = came_so [] 2110000000 (wide_list 0 0) [] refl refl (omega arith) (omega arith);
       behind = omega arith;
       minted = refl;
     };

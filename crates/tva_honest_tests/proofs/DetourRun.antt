@@ -1,5 +1,6 @@
 -- The logs of the walk by a changed route are a run.
 use Rattle.std.proofs.Common.{◌≡◌, ℕ, zero, suc, true, false, List, [], ◌∷◌, take, Some, refl, subst, arith}
+use Rattle.std.proofs.lemmas.Option.{same_Some}
 use Rattle.tva_base.specs.declared.packet.Cause.TheVariants.{NoCapability}
 use Rattle.tva_base.specs.declared.packet.Fate.{Fate}
 use Rattle.tva_base.specs.Changes.{in_force}
@@ -28,8 +29,7 @@ use Rattle.tva_run.specs.Reaching.{links_out, log_at, reaches, site_at}
 use Rattle.tva_run.specs.Run.{HasLog, IsRunTo}
 use Rattle.tva_transfer.specs.Files.{segment_due, range_of, after_upper, answer_to}
 use Rattle.tva_honest.specs.Walk.{walk_host_b}
-use Rattle.tva_honest.proofs.Lists.{some_same}
-use Rattle.tva_honest.proofs.Runs.{none_from, has_by}
+use Rattle.tva_honest.proofs.Runs.{none_from, has_by, by_number, triple, pair}
 use Rattle.tva_honest_tests.specs.Restarts.{denying_a, charged_to}
 use Rattle.tva_honest_tests.specs.Detour.{first_router, second_router, detour_config, detour_rows, detour_row, detour_logs, detour_log_a, detour_log_b, log_first, log_second, first_before_again, first_before_list, second_before_list, detour_until, asked, answered, narrow_caps, wide_caps, narrow_list, narrow_nonce, wide_list, told, refused, by_first, by_second, back_by_first}
 use Rattle.tva_honest_tests.proofs.Nodes.{lasts}
@@ -86,47 +86,19 @@ Gives node inputs s = from_source input_source s inputs ≡ due detour_until (re
 
 first_gives : (s : ℕ) → Gives 0 first_inputs s
 unfolding layout two_bytes six_bytes eight_bytes number_bytes
-first_gives zero = refl
-first_gives (suc zero) = refl
-first_gives (suc (suc zero)) = refl
-first_gives (suc (suc (suc zero))) = refl
-first_gives (suc (suc (suc (suc zero)))) = refl
-first_gives (suc (suc (suc (suc (suc zero))))) = refl
-first_gives (suc (suc (suc (suc (suc (suc zero)))))) = refl
-first_gives (suc (suc (suc (suc (suc (suc (suc n))))))) = none_from 6 (suc (suc (suc (suc (suc (suc (suc n))))))) first_inputs (omega arith) refl
+first_gives = by_number 7 (Gives 0 first_inputs) (refl, (refl, (refl, (refl, (refl, (refl, (refl, tt))))))) (λ n. none_from 6 (suc (suc (suc (suc (suc (suc (suc n))))))) first_inputs (omega arith) refl)
 
 second_gives : (s : ℕ) → Gives 1 second_inputs s
 unfolding layout two_bytes six_bytes eight_bytes number_bytes
-second_gives zero = refl
-second_gives (suc zero) = refl
-second_gives (suc (suc zero)) = refl
-second_gives (suc (suc (suc zero))) = refl
-second_gives (suc (suc (suc (suc zero)))) = refl
-second_gives (suc (suc (suc (suc (suc zero))))) = refl
-second_gives (suc (suc (suc (suc (suc (suc zero)))))) = refl
-second_gives (suc (suc (suc (suc (suc (suc (suc n))))))) = none_from 6 (suc (suc (suc (suc (suc (suc (suc n))))))) second_inputs (omega arith) refl
+second_gives = by_number 7 (Gives 1 second_inputs) (refl, (refl, (refl, (refl, (refl, (refl, (refl, tt))))))) (λ n. none_from 6 (suc (suc (suc (suc (suc (suc (suc n))))))) second_inputs (omega arith) refl)
 
 a_gives : (s : ℕ) → Gives 2 a_inputs s
 unfolding layout two_bytes six_bytes eight_bytes number_bytes
-a_gives zero = refl
-a_gives (suc zero) = refl
-a_gives (suc (suc zero)) = refl
-a_gives (suc (suc (suc zero))) = refl
-a_gives (suc (suc (suc (suc zero)))) = refl
-a_gives (suc (suc (suc (suc (suc zero))))) = refl
-a_gives (suc (suc (suc (suc (suc (suc zero)))))) = refl
-a_gives (suc (suc (suc (suc (suc (suc (suc n))))))) = none_from 6 (suc (suc (suc (suc (suc (suc (suc n))))))) a_inputs (omega arith) refl
+a_gives = by_number 7 (Gives 2 a_inputs) (refl, (refl, (refl, (refl, (refl, (refl, (refl, tt))))))) (λ n. none_from 6 (suc (suc (suc (suc (suc (suc (suc n))))))) a_inputs (omega arith) refl)
 
 b_gives : (s : ℕ) → Gives 3 b_inputs s
 unfolding layout two_bytes six_bytes eight_bytes number_bytes
-b_gives zero = refl
-b_gives (suc zero) = refl
-b_gives (suc (suc zero)) = refl
-b_gives (suc (suc (suc zero))) = refl
-b_gives (suc (suc (suc (suc zero)))) = refl
-b_gives (suc (suc (suc (suc (suc zero))))) = refl
-b_gives (suc (suc (suc (suc (suc (suc zero)))))) = refl
-b_gives (suc (suc (suc (suc (suc (suc (suc n))))))) = none_from 6 (suc (suc (suc (suc (suc (suc (suc n))))))) b_inputs (omega arith) refl
+b_gives = by_number 7 (Gives 3 b_inputs) (refl, (refl, (refl, (refl, (refl, (refl, (refl, tt))))))) (λ n. none_from 6 (suc (suc (suc (suc (suc (suc (suc n))))))) b_inputs (omega arith) refl)
 
 -- ## what each node makes of them
 
@@ -168,77 +140,11 @@ second_passes = rw (lasts second_router.master 2102002100 2112020960 (omega arit
 
 first_steps : GoesOn first_site [] first_inputs log_first
 unfolding layout two_bytes six_bytes eight_bytes number_bytes credit_of nonce_verdict link_to answer_to_nonce judged_shim handle arrived decision start_after in_force
-first_steps = (
-  refl,
-  refl,
-  (
-    refl,
-    (
-      refl,
-      refl,
-      (
-        refl,
-        (
-          refl,
-          list_passes,
-          (
-            refl,
-            (
-              refl,
-              refl,
-              (
-                refl,
-                (
-                  refl,
-                  refl,
-                  (
-                    refl,
-                    (
-                      refl,
-                      again_passes,
-                      (
-                        refl,
-                        (
-                          refl,
-                          refl,
-                          (
-                            refl,
-                            (
-                              refl,
-                              refl,
-                              (
-                                refl,
-                                (
-                                  refl,
-                                  refl,
-                                  (
-                                    refl,
-                                    (
-                                      refl,
-                                      wide_passes,
-                                      (
-                                        refl,
-                                        tt,
-                                      ),
-                                    ),
-                                  ),
-                                ),
-                              ),
-                            ),
-                          ),
-                        ),
-                      ),
-                    ),
-                  ),
-                ),
-              ),
-            ),
-          ),
-        ),
-      ),
-    ),
-  ),
-)
+first_steps =
+    triple refl refl (pair refl (triple refl refl (pair refl (triple refl list_passes (pair refl
+    (triple refl refl (pair refl (triple refl refl (pair refl (triple refl again_passes (pair refl
+    (triple refl refl (pair refl (triple refl refl (pair refl (triple refl refl (pair refl (triple
+    refl wide_passes (pair refl tt)))))))))))))))))))
 
 second_steps : GoesOn second_site [] second_inputs log_second
 unfolding layout two_bytes six_bytes eight_bytes number_bytes credit_of nonce_verdict link_to answer_to_nonce judged_shim handle arrived decision start_after in_force
@@ -247,47 +153,10 @@ second_steps =
 
 a_steps : GoesOn a_site [] a_inputs detour_log_a
 unfolding layout two_bytes six_bytes eight_bytes number_bytes credit_of is_granted under_grant decision link_to intended after_intending receipt_of after_receipt segment_due range_of after_upper answer_to start_after
-a_steps = (
-  refl,
-  refl,
-  (
-    refl,
-    (
-      refl,
-      refl,
-      (
-        refl,
-        refl,
-        (
-          refl,
-          (
-            refl,
-            refl,
-            (
-              refl,
-              (
-                refl,
-                refl,
-                (
-                  refl,
-                  refl,
-                  (
-                    refl,
-                    (
-                      refl,
-                      refl,
-                      (refl, refl, (refl, (refl, refl, (refl, refl, (refl, tt))))),
-                    ),
-                  ),
-                ),
-              ),
-            ),
-          ),
-        ),
-      ),
-    ),
-  ),
-)
+a_steps =
+    triple refl refl (pair refl (triple refl refl (triple refl refl (pair refl (triple refl refl
+    (pair refl (triple refl refl (triple refl refl (pair refl (triple refl refl (triple refl refl
+    (pair refl (triple refl refl (triple refl refl (pair refl tt)))))))))))))))
 
 b_steps : GoesOn b_site [] b_inputs detour_log_b
 unfolding layout two_bytes six_bytes eight_bytes number_bytes credit_of is_granted under_grant decision link_to intended after_intending receipt_of after_receipt segment_due range_of after_upper answer_to start_after
@@ -320,10 +189,10 @@ b_has = has_by detour_config detour_rows detour_logs detour_until b_site b_input
     (record { turns = refl; gives = b_gives; order = refl; early = refl; steps = b_steps; calm = (refl, tt) })
 
 has : (node : ℕ) (site : Site) → site_at detour_config node ≡ Some site → Has site (log_at detour_logs node)
-has zero site e = subst (λ (s : Site). Has s log_first) (some_same first_site site e) first_has
-has (suc zero) site e = subst (λ (s : Site). Has s log_second) (some_same second_site site e) second_has
-has (suc (suc zero)) site e = subst (λ (s : Site). Has s detour_log_a) (some_same a_site site e) a_has
-has (suc (suc (suc zero))) site e = subst (λ (s : Site). Has s detour_log_b) (some_same b_site site e) b_has
+has zero site e = subst (λ (s : Site). Has s log_first) (same_Some first_site site e) first_has
+has (suc zero) site e = subst (λ (s : Site). Has s log_second) (same_Some second_site site e) second_has
+has (suc (suc zero)) site e = subst (λ (s : Site). Has s detour_log_a) (same_Some a_site site e) a_has
+has (suc (suc (suc zero))) site e = subst (λ (s : Site). Has s detour_log_b) (same_Some b_site site e) b_has
 has (suc (suc (suc (suc n)))) site e = absurd (cc)
 
 pub is_run : IsRunTo detour_config detour_rows detour_until detour_logs

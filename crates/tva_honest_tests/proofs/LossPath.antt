@@ -11,6 +11,7 @@ use Rattle.tva_honest.specs.Walk.{walk_rights}
 use Rattle.tva_honest_tests.specs.Steady.{IsSteadyIn}
 use Rattle.tva_honest_tests.specs.Restarts.{a_request, a_list, a_nonce, first_cap, charged_to}
 use Rattle.tva_honest_tests.specs.Loss.{loss_walk, loss_logs, loss_before_renewal, late_renewal, late_renewed}
+use Rattle.tva_honest.proofs.Runs.{came_so}
 
 abbrev asked : Deal
 asked = Prepared 0 (a_request 1 0 [])
@@ -48,73 +49,28 @@ steady = record {
     place = refl;
     ask = record { time = 1001000; packet = a_request 1 0 []; charge = None };
     came = refl;
-    in_time = record {
-      before = [];
-      sent = 0;
-      packet = a_request 1 0 [];
-      after = Granted walk_rights (first_cap ∷ []) ∷ listed ∷ named ∷ waited ∷ lost ∷ renews ∷ [];
-      place = refl;
-      same = refl;
-      from = omega arith;
-      until = omega arith;
-    };
+    in_time = came_so [] 0 (a_request 1 0 []) (Granted walk_rights (first_cap ∷ []) ∷ listed ∷ named ∷ waited ∷ lost ∷ renews ∷ []) refl refl (omega arith) (omega arith);
     last = record {
-      in_time = record {
-        before = listed ∷ named ∷ waited ∷ lost ∷ [];
-        sent = 6000000000;
-        packet = late_renewal;
-        after = [];
-        place = refl;
-        same = refl;
-        from = omega arith;
-        until = omega arith;
-      };
+      in_time = came_so (listed ∷ named ∷ waited ∷ lost ∷ []) 6000000000 late_renewal [] refl refl (omega arith) (omega arith);
       behind = omega arith;
       minted = refl;
     };
     no_other = (tt, (tt, (tt, (tt, tt))));
     each = (
       record {
-        in_time = record {
-          before = [];
-          sent = 5000000;
-          packet = a_list 2 2 0 0 first_cap;
-          after = named ∷ waited ∷ lost ∷ [];
-          place = refl;
-          same = refl;
-          from = omega arith;
-          until = omega arith;
-        };
+        in_time = came_so [] 5000000 (a_list 2 2 0 0 first_cap) (named ∷ waited ∷ lost ∷ []) refl refl (omega arith) (omega arith);
         behind = omega arith;
         minted = refl;
       },
       (
         record {
-          in_time = record {
-            before = listed ∷ [];
-            sent = 10000000;
-            packet = a_nonce 3 0 false;
-            after = waited ∷ lost ∷ [];
-            place = refl;
-            same = refl;
-            from = omega arith;
-            until = omega arith;
-          };
+          in_time = came_so (listed ∷ []) 10000000 (a_nonce 3 0 false) (waited ∷ lost ∷ []) refl refl (omega arith) (omega arith);
           behind = omega arith;
           minted = tt;
         },
         (
           record {
-            in_time = record {
-              before = listed ∷ named ∷ [];
-              sent = 10001000;
-              packet = a_nonce 4 0 false;
-              after = lost ∷ [];
-              place = refl;
-              same = refl;
-              from = omega arith;
-              until = omega arith;
-            };
+            in_time = came_so (listed ∷ named ∷ []) 10001000 (a_nonce 4 0 false) (lost ∷ []) refl refl (omega arith) (omega arith);
             behind = omega arith;
             minted = tt;
           },

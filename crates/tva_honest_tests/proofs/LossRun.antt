@@ -1,6 +1,7 @@
 -- The network of the walk with a loss is valid, and its logs are a run.
 use Rattle.std.proofs.Common.{◌≡◌, ◌≤◌, ℕ, zero, suc, false, List, [], ◌∷◌, Some, refl, subst, arith}
 use Rattle.std.proofs.lemmas.List.Elements.{All-from_recursion}
+use Rattle.std.proofs.lemmas.Option.{same_Some}
 use Rattle.tva_base.specs.declared.plan.PolicyKind.TheVariants.{DenyAll}
 use Rattle.tva_base.specs.Changes.{in_force}
 use Rattle.tva_base.specs.Credit.{credit_of}
@@ -32,8 +33,7 @@ use Rattle.tva_run.specs.Reaching.{links_out, log_at, reaches, site_at}
 use Rattle.tva_run.specs.Run.{HasLog, IsRunTo}
 use Rattle.tva_transfer.specs.Files.{segment_due, range_of, after_upper, answer_to}
 use Rattle.tva_honest.specs.Walk.{walk_router}
-use Rattle.tva_honest.proofs.Lists.{some_same}
-use Rattle.tva_honest.proofs.Runs.{none_from, has_by}
+use Rattle.tva_honest.proofs.Runs.{none_from, has_by, by_number, pair}
 use Rattle.tva_honest.proofs.Walkable.{limits_fine, link_fine, config_with, valid_with, none_begins}
 use Rattle.tva_honest_tests.specs.Restarts.{denying_a, sends, a_request, a_list, a_nonce, b_grant, first_cap, first_request, first_grant, charged_to}
 use Rattle.tva_honest_tests.specs.Loss.{short_link, loss_config, loss_rows, loss_logs, loss_log_a, loss_log_b, loss_log_router, loss_before_renewal, loss_until, late_renewal, late_renewed}
@@ -112,18 +112,9 @@ pub traced : AreTraceRows loss_config loss_rows
 traced = record {
   few = omega arith;
   each = All-from_recursion (IsRow loss_config) loss_rows (
-    sent 0 77 (omega arith) (omega arith),
-    (
-      sent 5000000 1000 (omega arith) (omega arith),
-      (
-        sent 10000000 1000 (omega arith) (omega arith),
-        (
-          sent 10001000 1000 (omega arith) (omega arith),
-          (sent 10002000 1000 (omega arith) (omega arith), (sent 6000000000 1000 (omega arith) (omega arith), tt)),
-        ),
-      ),
-    ),
-  );
+      pair (sent 0 77 (omega arith) (omega arith)) (pair (sent 5000000 1000 (omega arith) (omega arith)) (pair
+      (sent 10000000 1000 (omega arith) (omega arith)) (pair (sent 10001000 1000 (omega arith) (omega arith)) (pair
+      (sent 10002000 1000 (omega arith) (omega arith)) (pair (sent 6000000000 1000 (omega arith) (omega arith)) tt))))));
   order = (omega arith, (omega arith, (omega arith, (omega arith, (omega arith, (omega arith, tt))))));
   files = λ node. (let none = none_begins node loss_rows (refl, (refl, (refl, (refl, (refl, (refl, tt)))))) in omega (arith, none));
 }
@@ -164,30 +155,15 @@ Gives node inputs s = from_source input_source s inputs ≡ due loss_until (reac
 
 router_gives : (s : ℕ) → Gives 0 router_inputs s
 unfolding layout two_bytes six_bytes eight_bytes number_bytes
-router_gives zero = refl
-router_gives (suc zero) = refl
-router_gives (suc (suc zero)) = refl
-router_gives (suc (suc (suc zero))) = refl
-router_gives (suc (suc (suc (suc zero)))) = refl
-router_gives (suc (suc (suc (suc (suc n))))) = none_from 4 (suc (suc (suc (suc (suc n))))) router_inputs (omega arith) refl
+router_gives = by_number 5 (Gives 0 router_inputs) (refl, (refl, (refl, (refl, (refl, tt))))) (λ n. none_from 4 (suc (suc (suc (suc (suc n))))) router_inputs (omega arith) refl)
 
 a_gives : (s : ℕ) → Gives 1 a_inputs s
 unfolding layout two_bytes six_bytes eight_bytes number_bytes
-a_gives zero = refl
-a_gives (suc zero) = refl
-a_gives (suc (suc zero)) = refl
-a_gives (suc (suc (suc zero))) = refl
-a_gives (suc (suc (suc (suc zero)))) = refl
-a_gives (suc (suc (suc (suc (suc n))))) = none_from 4 (suc (suc (suc (suc (suc n))))) a_inputs (omega arith) refl
+a_gives = by_number 5 (Gives 1 a_inputs) (refl, (refl, (refl, (refl, (refl, tt))))) (λ n. none_from 4 (suc (suc (suc (suc (suc n))))) a_inputs (omega arith) refl)
 
 b_gives : (s : ℕ) → Gives 2 b_inputs s
 unfolding layout two_bytes six_bytes eight_bytes number_bytes
-b_gives zero = refl
-b_gives (suc zero) = refl
-b_gives (suc (suc zero)) = refl
-b_gives (suc (suc (suc zero))) = refl
-b_gives (suc (suc (suc (suc zero)))) = refl
-b_gives (suc (suc (suc (suc (suc n))))) = none_from 4 (suc (suc (suc (suc (suc n))))) b_inputs (omega arith) refl
+b_gives = by_number 5 (Gives 2 b_inputs) (refl, (refl, (refl, (refl, (refl, tt))))) (λ n. none_from 4 (suc (suc (suc (suc (suc n))))) b_inputs (omega arith) refl)
 
 -- ## what each node makes of them
 
@@ -245,9 +221,9 @@ b_has = has_by loss_config loss_rows loss_logs loss_until b_site b_inputs loss_l
     (record { turns = refl; gives = b_gives; order = refl; early = refl; steps = b_steps; calm = (refl, tt) })
 
 has : (node : ℕ) (site : Site) → site_at loss_config node ≡ Some site → Has site (log_at loss_logs node)
-has zero site e = subst (λ (s : Site). Has s loss_log_router) (some_same loss_router site e) router_has
-has (suc zero) site e = subst (λ (s : Site). Has s loss_log_a) (some_same loss_a site e) a_has
-has (suc (suc zero)) site e = subst (λ (s : Site). Has s loss_log_b) (some_same b_site site e) b_has
+has zero site e = subst (λ (s : Site). Has s loss_log_router) (same_Some loss_router site e) router_has
+has (suc zero) site e = subst (λ (s : Site). Has s loss_log_a) (same_Some loss_a site e) a_has
+has (suc (suc zero)) site e = subst (λ (s : Site). Has s loss_log_b) (same_Some b_site site e) b_has
 has (suc (suc (suc n))) site e = absurd (cc)
 
 pub is_run : IsRunTo loss_config loss_rows loss_until loss_logs

@@ -11,6 +11,7 @@ use Rattle.tva_honest.specs.Walk.{walk_rights}
 use Rattle.tva_honest_tests.specs.Steady.{IsSteadyIn}
 use Rattle.tva_honest_tests.specs.Restarts.{restart_walk, a_request, a_list, a_nonce, first_cap, charged_to}
 use Rattle.tva_honest_tests.specs.NewMaster.{new_master, new_logs, new_before_list, new_list, second_cap}
+use Rattle.tva_honest.proofs.Runs.{came_so}
 
 -- what A had before it asked anew
 abbrev pub earlier : List Deal
@@ -48,27 +49,9 @@ steady = record {
     place = refl;
     ask = record { time = 2101001000; packet = a_request 5 0 []; charge = None };
     came = refl;
-    in_time = record {
-      before = earlier;
-      sent = 2100000000;
-      packet = a_request 5 0 [];
-      after = Granted walk_rights (second_cap ∷ []) ∷ listed ∷ [];
-      place = refl;
-      same = refl;
-      from = omega arith;
-      until = omega arith;
-    };
+    in_time = came_so earlier 2100000000 (a_request 5 0 []) (Granted walk_rights (second_cap ∷ []) ∷ listed ∷ []) refl refl (omega arith) (omega arith);
     last = record {
-      in_time = record {
-        before = [];
-        sent = 2110000000;
-        packet = new_list 0 0;
-        after = [];
-        place = refl;
-        same = refl;
-        from = omega arith;
-        until = omega arith;
-      };
+      in_time = came_so [] 2110000000 (new_list 0 0) [] refl refl (omega arith) (omega arith);
       behind = omega arith;
       minted = refl;
     };

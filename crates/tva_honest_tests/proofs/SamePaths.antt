@@ -13,6 +13,7 @@ use Rattle.tva_honest.specs.Walk.{walk_b, walk_router, walk_rights}
 use Rattle.tva_honest_tests.specs.Steady.{IsSteadyIn}
 use Rattle.tva_honest_tests.specs.Restarts.{restart_walk, denying_a, a_request, a_list, a_nonce, b_grant, first_cap, asking, charged_to, passes, grant_of}
 use Rattle.tva_honest_tests.specs.SameMaster.{same_logs, same_log_a, again, renewal, renewed, renewed_cap, renewed_grant, renewed_list, before_again, before_nonce, before_list}
+use Rattle.tva_honest.proofs.Runs.{came_so}
 
 -- ## what A did
 
@@ -51,31 +52,13 @@ abbrev request_coming : Coming
 request_coming = record { time = 1001000; packet = a_request 1 0 []; charge = None }
 
 abbrev request_in_time : ComesInTime denying_a 1000520 own request_coming
-request_in_time = record {
-  before = [];
-  sent = 0;
-  packet = a_request 1 0 [];
-  after = Granted walk_rights (first_cap ∷ []) ∷ noticed ++ shown ∷ behind;
-  place = refl;
-  same = refl;
-  from = omega arith;
-  until = omega arith;
-}
+request_in_time = came_so [] 0 (a_request 1 0 []) (Granted walk_rights (first_cap ∷ []) ∷ noticed ++ shown ∷ behind) refl refl (omega arith) (omega arith)
 
 abbrev again_coming : Coming
 again_coming = record { time = 21010400; packet = again 0 0; charge = Some (grant_of 0) }
 
 abbrev again_under : (ds : List Deal) → ComesInTime denying_a 1000520 (noticed ++ shown ∷ ds) again_coming
-again_under ds = record {
-  before = noticed;
-  sent = 20000000;
-  packet = again 0 0;
-  after = ds;
-  place = refl;
-  same = refl;
-  from = omega arith;
-  until = omega arith;
-}
+again_under ds = came_so noticed 20000000 (again 0 0) ds refl refl (omega arith) (omega arith)
 
 -- ## the paths
 
@@ -134,16 +117,7 @@ steady_nonce = record {
     came = refl;
     in_time = request_in_time;
     last = record {
-      in_time = record {
-        before = noticed ++ shown ∷ [];
-        sent = 30000000;
-        packet = a_nonce 5 0 false;
-        after = renews ∷ Granted walk_rights (renewed_cap ∷ []) ∷ last_listed ∷ [];
-        place = refl;
-        same = refl;
-        from = omega arith;
-        until = omega arith;
-      };
+      in_time = came_so (noticed ++ shown ∷ []) 30000000 (a_nonce 5 0 false) (renews ∷ Granted walk_rights (renewed_cap ∷ []) ∷ last_listed ∷ []) refl refl (omega arith) (omega arith);
       behind = omega arith;
       minted = tt;
     };
@@ -173,27 +147,9 @@ steady_renewed = record {
     place = refl;
     ask = record { time = 6001010400; packet = renewal; charge = Some (grant_of 0) };
     came = refl;
-    in_time = record {
-      before = asked ∷ Granted walk_rights (first_cap ∷ []) ∷ noticed ++ shown ∷ named ∷ [];
-      sent = 6000000000;
-      packet = renewal;
-      after = Granted walk_rights (renewed_cap ∷ []) ∷ last_listed ∷ [];
-      place = refl;
-      same = refl;
-      from = omega arith;
-      until = omega arith;
-    };
+    in_time = came_so (asked ∷ Granted walk_rights (first_cap ∷ []) ∷ noticed ++ shown ∷ named ∷ []) 6000000000 renewal (Granted walk_rights (renewed_cap ∷ []) ∷ last_listed ∷ []) refl refl (omega arith) (omega arith);
     last = record {
-      in_time = record {
-        before = [];
-        sent = 6010000000;
-        packet = renewed_list 0 0;
-        after = [];
-        place = refl;
-        same = refl;
-        from = omega arith;
-        until = omega arith;
-      };
+      in_time = came_so [] 6010000000 (renewed_list 0 0) [] refl refl (omega arith) (omega arith);
       behind = omega arith;
       minted = refl;
     };

@@ -1,6 +1,7 @@
 -- The logs of the walk over a restart with the same master are a run.
 use Rattle.std.proofs.Common.{◌≡◌, ℕ, zero, suc, true, false, List, [], ◌∷◌, Some, refl, subst, arith}
 use Rattle.std.proofs.lemmas.List.Elements.{All-from_recursion}
+use Rattle.std.proofs.lemmas.Option.{same_Some}
 use Rattle.tva_base.specs.Changes.{in_force}
 use Rattle.tva_base.specs.Credit.{credit_of}
 use Rattle.tva_shim.specs.Packets.{PacketData}
@@ -27,8 +28,7 @@ use Rattle.tva_run.specs.Reaching.{log_at, reaches, site_at}
 use Rattle.tva_run.specs.Run.{HasLog, IsRunTo}
 use Rattle.tva_transfer.specs.Files.{segment_due, range_of, after_upper, answer_to}
 use Rattle.tva_honest.specs.Walk.{walk_router}
-use Rattle.tva_honest.proofs.Lists.{some_same}
-use Rattle.tva_honest.proofs.Runs.{none_from, has_by}
+use Rattle.tva_honest.proofs.Runs.{none_from, has_by, by_number, triple, pair}
 use Rattle.tva_honest.proofs.Walkable.{none_begins}
 use Rattle.tva_honest_tests.specs.Restarts.{restart_config, sends, a_request, a_list, a_nonce, b_grant, b_notice, first_cap, first_request, first_grant, charged_to}
 use Rattle.tva_honest_tests.specs.SameMaster.{same_rows, same_logs, same_log_a, same_log_b, same_log_router, same_until, again, renewal, renewed, renewed_cap, renewed_grant, renewed_list, before_again, before_renewal, before_list}
@@ -41,24 +41,13 @@ pub traced : AreTraceRows (restart_config walk_router.master) same_rows
 traced = record {
   few = omega arith;
   each = All-from_recursion (IsRow (restart_config walk_router.master)) same_rows (
-    sent walk_router.master 0 77 (omega arith) (omega arith),
-    (
-      sent walk_router.master 5000000 1000 (omega arith) (omega arith),
-      (
-        sent walk_router.master 10000000 1000 (omega arith) (omega arith),
-        (
-          sent walk_router.master 20000000 1000 (omega arith) (omega arith),
-          (
-            sent walk_router.master 30000000 1000 (omega arith) (omega arith),
-            (
-              sent walk_router.master 6000000000 1000 (omega arith) (omega arith),
-              (sent walk_router.master 6010000000 1000 (omega arith) (omega arith), tt),
-            ),
-          ),
-        ),
-      ),
-    ),
-  );
+      pair (sent walk_router.master 0 77 (omega arith) (omega arith)) (pair
+      (sent walk_router.master 5000000 1000 (omega arith) (omega arith)) (pair
+      (sent walk_router.master 10000000 1000 (omega arith) (omega arith)) (pair
+      (sent walk_router.master 20000000 1000 (omega arith) (omega arith)) (pair
+      (sent walk_router.master 30000000 1000 (omega arith) (omega arith)) (pair
+      (sent walk_router.master 6000000000 1000 (omega arith) (omega arith)) (pair
+      (sent walk_router.master 6010000000 1000 (omega arith) (omega arith)) tt)))))));
   order = (omega arith, (omega arith, (omega arith, (omega arith, (omega arith, (omega arith, (omega arith, tt)))))));
   files = λ node. (let none = none_begins node same_rows (refl, (refl, (refl, (refl, (refl, (refl, (refl, tt))))))) in omega (arith, none));
 }
@@ -108,30 +97,15 @@ Gives node inputs s = from_source input_source s inputs ≡ due same_until (reac
 
 router_gives : (s : ℕ) → Gives 0 router_inputs s
 unfolding layout two_bytes six_bytes eight_bytes number_bytes
-router_gives zero = refl
-router_gives (suc zero) = refl
-router_gives (suc (suc zero)) = refl
-router_gives (suc (suc (suc zero))) = refl
-router_gives (suc (suc (suc (suc zero)))) = refl
-router_gives (suc (suc (suc (suc (suc n))))) = none_from 4 (suc (suc (suc (suc (suc n))))) router_inputs (omega arith) refl
+router_gives = by_number 5 (Gives 0 router_inputs) (refl, (refl, (refl, (refl, (refl, tt))))) (λ n. none_from 4 (suc (suc (suc (suc (suc n))))) router_inputs (omega arith) refl)
 
 a_gives : (s : ℕ) → Gives 1 a_inputs s
 unfolding layout two_bytes six_bytes eight_bytes number_bytes
-a_gives zero = refl
-a_gives (suc zero) = refl
-a_gives (suc (suc zero)) = refl
-a_gives (suc (suc (suc zero))) = refl
-a_gives (suc (suc (suc (suc zero)))) = refl
-a_gives (suc (suc (suc (suc (suc n))))) = none_from 4 (suc (suc (suc (suc (suc n))))) a_inputs (omega arith) refl
+a_gives = by_number 5 (Gives 1 a_inputs) (refl, (refl, (refl, (refl, (refl, tt))))) (λ n. none_from 4 (suc (suc (suc (suc (suc n))))) a_inputs (omega arith) refl)
 
 b_gives : (s : ℕ) → Gives 2 b_inputs s
 unfolding layout two_bytes six_bytes eight_bytes number_bytes
-b_gives zero = refl
-b_gives (suc zero) = refl
-b_gives (suc (suc zero)) = refl
-b_gives (suc (suc (suc zero))) = refl
-b_gives (suc (suc (suc (suc zero)))) = refl
-b_gives (suc (suc (suc (suc (suc n))))) = none_from 4 (suc (suc (suc (suc (suc n))))) b_inputs (omega arith) refl
+b_gives = by_number 5 (Gives 2 b_inputs) (refl, (refl, (refl, (refl, (refl, tt))))) (λ n. none_from 4 (suc (suc (suc (suc (suc n))))) b_inputs (omega arith) refl)
 
 -- ## what each node makes of them
 
@@ -153,96 +127,19 @@ renewed_passes = rw (lasts walk_router.master 6001010400 6011010400 (omega arith
 
 router_steps : GoesOn (router_site walk_router.master) [] router_inputs same_log_router
 unfolding layout two_bytes six_bytes eight_bytes number_bytes credit_of nonce_verdict link_to answer_to_nonce judged_shim handle arrived decision start_after in_force
-router_steps = (
-  refl,
-  refl,
-  (
-    refl,
-    (
-      refl,
-      refl,
-      (
-        refl,
-        (
-          refl,
-          first_passes walk_router.master,
-          (
-            refl,
-            (
-              refl,
-              refl,
-              (
-                refl,
-                (
-                  refl,
-                  refl,
-                  (
-                    refl,
-                    (
-                      refl,
-                      again_passes,
-                      (
-                        refl,
-                        (
-                          refl,
-                          refl,
-                          (
-                            refl,
-                            (refl, renewal_passes, (refl, (refl, refl, (refl, (refl, renewed_passes, (refl, tt)))))),
-                          ),
-                        ),
-                      ),
-                    ),
-                  ),
-                ),
-              ),
-            ),
-          ),
-        ),
-      ),
-    ),
-  ),
-)
+router_steps =
+    triple refl refl (pair refl (triple refl refl (pair refl (triple refl
+    (first_passes walk_router.master) (pair refl (triple refl refl (pair refl (triple refl refl (pair
+    refl (triple refl again_passes (pair refl (triple refl refl (pair refl (triple refl renewal_passes
+    (pair refl (triple refl refl (pair refl (triple refl renewed_passes (pair refl
+    tt)))))))))))))))))))
 
 a_steps : GoesOn a_site [] a_inputs same_log_a
 unfolding layout two_bytes six_bytes eight_bytes number_bytes credit_of is_granted under_grant decision link_to intended after_intending receipt_of after_receipt segment_due range_of after_upper answer_to start_after
-a_steps = (
-  refl,
-  refl,
-  (
-    refl,
-    (
-      refl,
-      refl,
-      (
-        refl,
-        refl,
-        (
-          refl,
-          (
-            refl,
-            refl,
-            (
-              refl,
-              (
-                refl,
-                refl,
-                (
-                  refl,
-                  refl,
-                  (
-                    refl,
-                    (refl, refl, (refl, (refl, refl, (refl, (refl, refl, (refl, refl, (refl, tt))))))),
-                  ),
-                ),
-              ),
-            ),
-          ),
-        ),
-      ),
-    ),
-  ),
-)
+a_steps =
+    triple refl refl (pair refl (triple refl refl (triple refl refl (pair refl (triple refl refl
+    (pair refl (triple refl refl (triple refl refl (pair refl (triple refl refl (pair refl (triple
+    refl refl (pair refl (triple refl refl (triple refl refl (pair refl tt))))))))))))))))
 
 b_steps : GoesOn b_site [] b_inputs same_log_b
 unfolding layout two_bytes six_bytes eight_bytes number_bytes credit_of is_granted under_grant decision link_to intended after_intending receipt_of after_receipt segment_due range_of after_upper answer_to start_after
@@ -269,9 +166,9 @@ b_has = has_by (restart_config walk_router.master) same_rows same_logs same_unti
     (record { turns = refl; gives = b_gives; order = refl; early = refl; steps = b_steps; calm = (refl, tt) })
 
 has : (node : ℕ) (site : Site) → site_at (restart_config walk_router.master) node ≡ Some site → Has site (log_at same_logs node)
-has zero site e = subst (λ (s : Site). Has s same_log_router) (some_same (router_site walk_router.master) site e) router_has
-has (suc zero) site e = subst (λ (s : Site). Has s same_log_a) (some_same a_site site e) a_has
-has (suc (suc zero)) site e = subst (λ (s : Site). Has s same_log_b) (some_same b_site site e) b_has
+has zero site e = subst (λ (s : Site). Has s same_log_router) (same_Some (router_site walk_router.master) site e) router_has
+has (suc zero) site e = subst (λ (s : Site). Has s same_log_a) (same_Some a_site site e) a_has
+has (suc (suc zero)) site e = subst (λ (s : Site). Has s same_log_b) (same_Some b_site site e) b_has
 has (suc (suc (suc n))) site e = absurd (cc)
 
 pub is_run : IsRunTo (restart_config walk_router.master) same_rows same_until same_logs

@@ -12,13 +12,13 @@ use Rattle.tva_port.specs.Log as port
 use Rattle.tva_port.specs.Decide.{decision, MissesNone, RestsAt}
 use Rattle.tva_port.specs.Legal as ports
 use Rattle.tva_port.proofs.Logs.{goes_on-push, legal-here}
-use Rattle.tva_log.specs.Joins.{IsInOrder, cut}
-use Rattle.tva_log.proofs.Joins.{each-append, each-weaker, times_from}
+use Rattle.tva_log.specs.Joins.{cut}
+use Rattle.tva_log.proofs.Joins.{each-weaker}
+use Rattle.tva_log.proofs.Walks.{at_place, by_place, past_at, IsMade, AnyInput, any, made_at}
 use Rattle.tva_log.specs.declared.kinds.Input.{Input}
 use Rattle.tva_log.specs.Sites.{Site, IsSite, limits_out}
-use Rattle.tva_log.specs.Entries.{Entry, Took, Started, entry_time, entry_rank}
+use Rattle.tva_log.specs.Entries.{Entry, Took, Started, entry_time}
 use Rattle.tva_log.specs.Parts.{port_entry, port_logs}
-use Rattle.tva_log.specs.Contents.{content}
 use Rattle.tva_log.specs.NodeLog.{start_of, start_after, starts, due, GoesOn, IsNodeLog}
 use Rattle.tva_log.specs.Legal.{HasLink, Takes, IsLegalLog, IsShort, AreShort}
 use Rattle.tva_log.proofs.Ports.{resting_starts_none}
@@ -53,63 +53,22 @@ legal_option l log (Some x) g k = goes_on-push l [] log x g k
 legal_more : (l : LinkLimits) (log : List Entry) (e : Entry) (link : ℕ) → ports.IsLegal l (port_logs log link) → IfHas link (ports.Follows l (port_logs log link)) e → ports.IsLegal l (port_logs (log ++ e ∷ []) link)
 legal_more l log e link g k = subst (λ (z : List port.Entry). ports.IsLegal l z) (sym (filter_map-append (port_entry link) log (e ∷ []))) (legal_option l (port_logs log link) (port_entry link e) g k)
 
--- what an entry is after those before it
-abbrev IsMade : Site → List Entry → Entry → Type 0
-IsMade site before (Took input made) = content site before input ≡ Some made
-IsMade site before (Started time link class packet) = starts site before link time ≡ Some (class, packet)
-
--- the entries that follow, all at one time or later, in order
-record Rest (m : ℕ) (es : List Entry) : Type 0 where
-  late : AllByRecursion (λ e. m ≤ entry_time e) es
-  order : IsInOrder entry_time entry_rank es
-
-rest_more : (m : ℕ) (e : Entry) (es : List Entry) → Rest m (e ∷ es) → Rest (entry_time e) es
-rest_more m e es r = record { late = (times_from entry_time entry_rank e es r.order).1; order = r.order.1 }
-
-earlier : (m : ℕ) (e : Entry) (before : List Entry) → m ≤ entry_time e → AllByRecursion (λ x. entry_time x ≤ m) before → AllByRecursion (λ x. entry_time x ≤ entry_time e) before
-earlier m e before l b = each-weaker (λ (x : Entry). entry_time x ≤ m) (λ (x : Entry). entry_time x ≤ entry_time e) (λ x k. omega arith) before b
-
-before_more : (e : Entry) (before : List Entry) → AllByRecursion (λ x. entry_time x ≤ entry_time e) before → AllByRecursion (λ x. entry_time x ≤ entry_time e) (before ++ e ∷ [])
-before_more e before b = each-append (λ (x : Entry). entry_time x ≤ entry_time e) before (e ∷ []) b (omega arith, tt)
-
-from_zero : (es : List Entry) → AllByRecursion (λ e. 0 ≤ entry_time e) es
-from_zero [] = tt
-from_zero (e ∷ es) = (omega arith, from_zero es)
-
 module _ (site : Site) (valid : IsSite site) (link : ℕ) (l : LinkLimits) (out : limits_out site link ≡ Some (link, l)) where
-  may_follow : (before : List Entry) (e : Entry) → AllByRecursion (λ x. entry_time x ≤ entry_time e) before → IsMade site before e → IfHas link (MayFollow l (port_logs before link)) e
-  may_follow before (Took input made) past m = took_follows site link l before input made valid out (logs_past link (entry_time (Took input made)) before past) m
+  may_follow : (before : List Entry) (e : Entry) → AllByRecursion (λ x. entry_time x ≤ entry_time e) before → IsMade AnyInput site before e → IfHas link (MayFollow l (port_logs before link)) e
+  may_follow before (Took input made) past m = took_follows site link l before input made valid out (logs_past link (entry_time (Took input made)) before past) m.0
   may_follow before (Started time on class packet) past m = started_follows site link on l before time class packet out (logs_past link time before past) m
-
-  step : (before : List Entry) (e : Entry) → AllByRecursion (λ x. entry_time x ≤ entry_time e) before → IsMade site before e → IfHas link IsShort e → ports.IsLegal l (port_logs before link) → ports.IsLegal l (port_logs (before ++ e ∷ []) link)
-  step before e past m s g = legal_more l before e link g (both_some l (port_logs before link) (port_entry link e) (may_follow before e past m) s)
-
-  along : (m : ℕ) (before : List Entry) (is : List Input) (es : List Entry) → AllByRecursion (λ x. entry_time x ≤ m) before → Rest m es → AllByRecursion (IfHas link IsShort) es → GoesOn site before is es
-      → ports.IsLegal l (port_logs before link) → ports.IsLegal l (port_logs (before ++ es) link)
-  along m before [] [] b r s g k = subst (λ (z : List Entry). ports.IsLegal l (port_logs z link)) (sym (append-nil before)) k
-  along m before (i ∷ is) [] b r s g k = absurd g
-  along m before [] (Took j c ∷ es) b r s g k = absurd g
-  along m before (i ∷ is) (Took j c ∷ es) b r s g k =
-      let e : Entry = Took j c in
-      let past = earlier m e before r.late.0 b in
-      let made : IsMade site before e = subst (λ (x : Input). content site before x ≡ Some c) (sym g.0) g.1 in
-      subst (λ (z : List Entry). ports.IsLegal l (port_logs z link)) (append_assoc before (e ∷ []) es)
-      (along (entry_time e) (before ++ e ∷ []) is es (before_more e before past) (rest_more m e es r) s.1 g.2 (step before e past made s.0 k))
-  along m before [] (Started t on c p ∷ es) b r s g k =
-      let e : Entry = Started t on c p in
-      let past = earlier m e before r.late.0 b in
-      subst (λ (z : List Entry). ports.IsLegal l (port_logs z link)) (append_assoc before (e ∷ []) es)
-      (along (entry_time e) (before ++ e ∷ []) [] es (before_more e before past) (rest_more m e es r) s.1 g.1 (step before e past g.0 s.0 k))
-  along m before (i ∷ is) (Started t on c p ∷ es) b r s g k =
-      let e : Entry = Started t on c p in
-      let past = earlier m e before r.late.0 b in
-      subst (λ (z : List Entry). ports.IsLegal l (port_logs z link)) (append_assoc before (e ∷ []) es)
-      (along (entry_time e) (before ++ e ∷ []) (i ∷ is) es (before_more e before past) (rest_more m e es r) s.1 g.1 (step before e past g.0 s.0 k))
 
   legal_on : (inputs : List Input) (until : ℕ) (log : List Entry) → All IsShort (port_logs log link) → IsNodeLog site inputs until log → ports.IsLegal l (port_logs log link)
   legal_on inputs until log s h =
-      along 0 [] (due until inputs) log tt (record { late = from_zero log; order = h.in_order })
-      (each_has link IsShort log (recursion_from_All IsShort (port_logs log link) s)) h.steps tt
+      let short = each_has link IsShort log (recursion_from_All IsShort (port_logs log link) s) in
+      by_place (λ (z : List Entry). ports.IsLegal l (port_logs z link)) [] log
+      (λ before e rest split k.
+      legal_more l before e link k
+      (both_some l (port_logs before link) (port_entry link e)
+      (may_follow before e (past_at log before e rest h.in_order split)
+      (made_at AnyInput site (due until inputs) log before e rest h.steps (any (due until inputs)) split))
+      (at_place (IfHas link IsShort) log before e rest split short)))
+      tt
 
 -- none of a node's log is as late as its end
 pub none_later : (site : Site) (inputs : List Input) (until : ℕ) (log : List Entry) (link : ℕ) → IsNodeLog site inputs until log → port.NoneLater until (port_logs log link)

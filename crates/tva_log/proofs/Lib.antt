@@ -1,4 +1,5 @@
 pub mod Joins
+pub mod Walks
 pub mod Putting
 pub mod Joined
 pub mod Places

@@ -5,6 +5,7 @@ use Rattle.std.specs.Option.{option_map, option_and_then, IfSome}
 use Rattle.std.specs.List.{AllByRecursion, find, cons_option}
 use Rattle.std.proofs.lemmas.Bool.{cond-true, cond-false, cases_Bool, eqb-true, le-leb, leb-true, lt-ltb, le-ltb, cases_lt}
 use Rattle.std.proofs.lemmas.List.Elements.{All-from_recursion}
+use Rattle.std.proofs.lemmas.Option.{same_Some}
 use Rattle.tva_base.specs.declared.addresses.Address.{Address}
 use Rattle.tva_base.specs.declared.limits.LinkLimits.{LinkLimits}
 use Rattle.tva_base.specs.declared.packet.Class.{Class}
@@ -46,9 +47,6 @@ use Rattle.tva_log.specs.Contents.{packet_of_row, next_id, arrived, routed, goes
 use Rattle.tva_log.specs.Legal.{IsShort}
 use Rattle.tva_log.specs.NodeLog.{start_of, start_after, starts, LeavesNone}
 
-some_same : {X : Type 0} (x y : X) → Some x ≡ Some y → x ≡ y
-some_same x y e = cc
-
 -- ## links out
 
 abbrev limited : ℕ × LinkPlan → ℕ × LinkLimits
@@ -59,14 +57,14 @@ found_number link o [] e = absurd (cc)
 found_number link o (x ∷ xs) e = elim (cases_Bool (x.0 == link)) [
   | inl a ↦
       let here : Some x ≡ Some o = sym (cond-true (x.0 == link) (Some x) (find (λ y. y.0 == link) xs) a) ∙ e in
-      ap (λ (y : ℕ × LinkPlan). y.0) (sym (some_same x o here)) ∙ eqb-true x.0 link a
+      ap (λ (y : ℕ × LinkPlan). y.0) (sym (same_Some x o here)) ∙ eqb-true x.0 link a
   | inr a ↦ found_number link o xs (sym (cond-false (x.0 == link) (Some x) (find (λ y. y.0 == link) xs) a) ∙ e)
 ]
 
 number_by : (site : Site) (link : ℕ) (found : Option (ℕ × LinkPlan)) (x : ℕ × LinkLimits) → find (λ o. o.0 == link) site.links ≡ found → option_map limited found ≡ Some x → x.0 ≡ link
 number_by site link None x f e = absurd (cc)
 number_by site link (Some o) x f e =
-    let same : limited o ≡ x = some_same (limited o) x e in
+    let same : limited o ≡ x = same_Some (limited o) x e in
     ap (λ (y : ℕ × LinkLimits). y.0) (sym same) ∙ found_number link o site.links f
 
 -- a link out has its number
@@ -127,7 +125,7 @@ reply_time link time None went = tt
 reply_time link time (Some m) None = tt
 reply_time link time (Some m) (Some outcome) = queued_time link time outcome (class_by_shim m.packet.carried) m.packet
 
-port_time : (link : ℕ) (e : Entry) → IfSome (port_entry link e) (λ x. port.entry_time x ≡ entry_time e)
+pub port_time : (link : ℕ) (e : Entry) → IfSome (port_entry link e) (λ x. port.entry_time x ≡ entry_time e)
 port_time link (Took input (Arrived from packet fate onward)) = queued_time link (input_time input) fate.outcome fate.class onward
 port_time link (Took input (entry.Sent m outcome)) = queued_time link (input_time input) outcome (class_by_shim m.packet.carried) m.packet
 port_time link (Took input entry.Ticked) = tt
@@ -179,7 +177,7 @@ queued_by_link site link l logs time class p k m o false out way past e t q = tt
 queued_by_link site link l logs time class p k m o true out way past e t q = λ short.
     let same : link ≡ k = eqb-true link k t in
     let here : limits_out site link ≡ Some (link, m) = subst (λ j. limits_out site j ≡ Some (j, m)) (sym same) way in
-    let limits : m ≡ l = ap (λ (x : ℕ × LinkLimits). x.1) (some_same {X = ℕ × LinkLimits} (link, m) (link, l) (sym here ∙ out)) in
+    let limits : m ≡ l = ap (λ (x : ℕ × LinkLimits). x.1) (same_Some {A = ℕ × LinkLimits} (link, m) (link, l) (sym here ∙ out)) in
     let offer : offered l (logs link) class p ≡ offers.Queued =
     ap (λ (x : LinkLimits). offered x (logs link) class p) (sym limits) ∙ (ap (λ (j : ℕ). offered m (logs j) class p) same ∙ (e ∙ q)) in
     record { order = past; sized = (omega arith, short); offer = offer }
@@ -207,11 +205,11 @@ record Came (plan : RouterPlan) (before : List Entry) (now : ℕ) (made : Conten
 
 came_row : (number : ℕ) (plan : RouterPlan) (before : List Entry) (now : ℕ) (made : Content) (p : Option PacketData) → option_map (arrived plan before now None) p ≡ Some made → Came plan before now made
 came_row number plan before now made None e = absurd (cc)
-came_row number plan before now made (Some p) e = record { from = None; packet = p; is = some_same (arrived plan before now None p) made e }
+came_row number plan before now made (Some p) e = record { from = None; packet = p; is = same_Some (arrived plan before now None p) made e }
 
 came : (number : ℕ) (plan : RouterPlan) (before : List Entry) (input : Input) (made : Content) → routed number plan before input ≡ Some made → Came plan before (input_time input) made
 came number plan before (FromTrace row) made e = came_row number plan before row.time.0 made (packet_of_row (next_id number before) row.what) e
-came number plan before (Arrival time link packet) made e = record { from = Some link; packet = packet; is = some_same (arrived plan before time.0 (Some link) packet) made e }
+came number plan before (Arrival time link packet) made e = record { from = Some link; packet = packet; is = same_Some (arrived plan before time.0 (Some link) packet) made e }
 
 -- what an input leaves in the log of a link follows those before
 abbrev FollowsAt : LinkLimits → List Entry → ℕ → ℕ → Content → Type 0
@@ -263,7 +261,7 @@ took_by site (plans.Router plan) link l before input made valid e out past c =
     let k = came site.number plan before input made c in
     subst (FollowsAt l before link (input_time input)) k.is (arrived_follows site plan link l before (input_time input) k.from k.packet valid e out past)
 took_by site (plans.Host plan) link l before input made valid e out past c =
-    subst (FollowsAt l before link (input_time input)) (some_same (hosted site plan before input) made c) (hosted_follows site plan link l before input out past)
+    subst (FollowsAt l before link (input_time input)) (same_Some (hosted site plan before input) made c) (hosted_follows site plan link l before input out past)
 
 -- what a node takes, where it queues a packet on a link, has its place there
 pub took_follows : (site : Site) (link : ℕ) (l : LinkLimits) (before : List Entry) (input : Input) (made : Content) → IsSite site → limits_out site link ≡ Some (link, l)
@@ -274,7 +272,7 @@ took_follows site link l before input made valid out past c = took_by site site.
 
 start_is : (d : Decision) (class : Class) (p : PacketData) → start_of d ≡ Some (class, p) → d ≡ Start class p
 start_is (Start c q) class p e =
-    let same : (let x : Class × PacketData = (c, q) in x) ≡ (class, p) = some_same {X = Class × PacketData} (c, q) (class, p) e in
+    let same : (let x : Class × PacketData = (c, q) in x) ≡ (class, p) = same_Some {A = Class × PacketData} (c, q) (class, p) e in
     (λ i. Start ((ap (λ (x : Class × PacketData). x.0) same) i) ((ap (λ (x : Class × PacketData). x.1) same) i))
 start_is (WaitUntil time) class p e = absurd (cc)
 start_is Idle class p e = absurd (cc)

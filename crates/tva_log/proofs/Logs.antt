@@ -5,6 +5,7 @@ use Rattle.std.specs.List.{AllByRecursion, filter_map}
 use Rattle.std.proofs.lemmas.Bool.{lt-ltb, le-ltb, ne_eqb, cases_lt, cases_order}
 use Rattle.std.proofs.lemmas.List.{append-nil, append_assoc}
 use Rattle.std.proofs.lemmas.List.Elements.{filter-append, filter_map-append}
+use Rattle.std.proofs.lemmas.Option.{same_Some}
 use Rattle.tva_base.specs.declared.packet.Class.{Class}
 use Rattle.tva_shim.specs.Packets.{PacketData}
 use Rattle.tva_port.specs.Log as port
@@ -20,9 +21,6 @@ use Rattle.tva_log.specs.NodeLog.{starts, due, GoesOn, LeavesNone, IsNodeLog}
 -- inputs in order
 abbrev pub AreInOrder : List Input → Type 0
 AreInOrder inputs = IsInOrder input_time input_source inputs
-
-some_same : {X : Type 0} (x y : X) → Some x ≡ Some y → x ≡ y
-some_same x y e = cc
 
 pair_same : {X Y : Type 0} (a b : X) (c d : Y) → (let p : X × Y = (a, c) in p) ≡ (b, d) → (a ≡ b) × (c ≡ d)
 pair_same a b c d e = (ap (λ p. p.0) e, ap (λ p. p.1) e)
@@ -183,7 +181,7 @@ module _ (site : Site) where
         elim (cases_order t u) [
           | inl time ↦ elim (cases_order l k) [
             | inl link ↦
-                let packet = pair_same c d p q (some_same (c, p) (d, q) (sym gx ∙ (ap₂ (λ v w. starts site before v w) link time ∙ gy))) in
+                let packet = pair_same c d p q (same_Some (c, p) (d, q) (sym gx ∙ (ap₂ (λ v w. starts site before v w) link time ∙ gy))) in
                 (λ i. Started (time i) (link i) (packet.0 i) (packet.1 i))
             | inr order ↦ elim order [
               | inl less ↦ absurd (missing l t m c p before (Started u k d q ∷ ys) x.early.0 x.late.0 b gx y (after_all t l (Started u k d q) ys y.order (inr (time, omega arith))))
@@ -207,7 +205,7 @@ module _ (site : Site) where
     lockstep m before [] [] (Started t l c p ∷ ys) b x y gx gy = absurd (missing l t m c p before [] y.early.0 y.late.0 b gy.0 x tt)
     lockstep m before [] (Started t l c p ∷ xs) [] b x y gx gy = absurd (missing l t m c p before [] x.early.0 x.late.0 b gx.0 y tt)
     lockstep m before (i ∷ is) (Took j c ∷ xs) (Took k d ∷ ys) b x y gx gy =
-        let same : Took j c ≡ Took k d = ap₂ Took (gx.0 ∙ sym gy.0) (some_same c d (sym gx.1 ∙ gy.1)) in
+        let same : Took j c ≡ Took k d = ap₂ Took (gx.0 ∙ sym gy.0) (same_Some c d (sym gx.1 ∙ gy.1)) in
         ap₂ ◌∷◌ same (lockstep (input_time j) (before ++ Took j c ∷ []) is xs ys (before_more m before (Took j c) x.late.0 b) (rest_more until m before (Took j c) xs x)
         (subst (λ e. Rest until (entry_time e) (before ++ e ∷ []) ys) (sym same) (rest_more until m before (Took k d) ys y)) gx.2
         (subst (λ e. GoesOn site (before ++ e ∷ []) is ys) (sym same) gy.2))

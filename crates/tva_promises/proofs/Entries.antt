@@ -1,22 +1,19 @@
--- What a node makes of an input: what goes to its links has its place there, and is within the sizes of a network.
-use Rattle.std.proofs.Common.{◌≡◌, ℕ, ◌≤◌, List, [], Option, Some, None, refl, sym, ap, ap₂, ◌∙◌, subst, inl, inr, arith}
+-- What a node makes of an input: what goes on is within the sizes of a network.
+use Rattle.std.proofs.Common.{◌≡◌, ℕ, ◌≤◌, List, [], Option, Some, None, refl, sym, ap, ap₂, ◌∙◌, subst, arith}
 use Rattle.std.specs.Option.{option_map, IfSome}
-use Rattle.std.proofs.lemmas.Bool.{cases_lt}
-use Rattle.tva_base.specs.declared.limits.LinkLimits.{LinkLimits}
+use Rattle.std.proofs.lemmas.Option.{same_Some}
 use Rattle.tva_base.specs.declared.packet.Fate.{Fate}
 use Rattle.tva_base.specs.declared.packet.Grant.{Grant}
-use Rattle.tva_base.specs.declared.packet.Outcome.{Outcome}
 use Rattle.tva_base.specs.declared.plan.RouterPlan.{RouterPlan}
 use Rattle.tva_base.specs.declared.plan.HostPlan.{HostPlan}
 use Rattle.tva_base.specs.Changes.{in_force}
 use Rattle.tva_base.specs.Plan.{IsRouterPlan, IsHostPlan}
-use Rattle.tva_shim.specs.Packets.{PacketData, IsSizedPacket, class_by_shim, made_packet}
+use Rattle.tva_shim.specs.Packets.{PacketData, IsSizedPacket, made_packet}
 use Rattle.tva_shim.proofs.Lengths.{carried_fits}
 use Rattle.tva_flow.specs.Charges.{Charge}
 use Rattle.tva_flow.specs.Stands.{NoChargeLater, IsNext, AreNext}
 use Rattle.tva_flow.specs.Budget.{IsWithinSeconds, AreTimely}
-use Rattle.tva_port.specs.Log as port
-use Rattle.tva_router.specs.Handling.{PortLogs, Handled, handle, arrival, way_to}
+use Rattle.tva_router.specs.Handling.{PortLogs, handle, arrival}
 use Rattle.tva_router.specs.Boots.{charges_at}
 use Rattle.tva_router.proofs.InForce.{force_valid}
 use Rattle.tva_host.specs.declared.made.Made.{Made}
@@ -29,21 +26,18 @@ use Rattle.tva_rows.specs.declared.rows.RowWhat.{RowWhat}
 use Rattle.tva_rows.specs.declared.rows.RowWhat.TheVariants.{Send, Inject, File, Tick}
 use Rattle.tva_log.specs.declared.kinds.Input.{Input}
 use Rattle.tva_log.specs.declared.kinds.Input.TheVariants.{FromTrace, Arrival}
-use Rattle.tva_log.specs.Sites.{Site, IsSite, IsPlanned, limits_out}
+use Rattle.tva_log.specs.Sites.{Site, IsSite, IsPlanned}
 use Rattle.tva_log.specs.Entries.{Content, Arrived, Entry, Took, input_time}
-use Rattle.tva_log.specs.Parts.{charged, charge_of, charges, calls, content_at, queued_at, reply_at, port_logs, files}
-use Rattle.tva_log.specs.Contents.{packet_of_row, next_id, handled, arrived, routed, goes_out, made_for, hosted, sent_out, content_by, content}
+use Rattle.tva_log.specs.Parts.{charged, charge_of, charges, calls, port_logs, files}
+use Rattle.tva_log.specs.Contents.{packet_of_row, next_id, handled, arrived, routed, made_for, hosted, sent_out, content_by, content}
+use Rattle.tva_run.proofs.Walks.{IsReplyGood, Leaves}
 use Rattle.tva_promises.specs.Sizes.{IsSizedWhat, IsSizedInput}
 use Rattle.tva_promises.specs.Promises.{IsHandled}
 use Rattle.tva_promises.proofs.Packets.{sized_length, onward_sized}
 use Rattle.tva_promises.proofs.Transfers.{AreSizedFiles, answered_upper}
 use Rattle.tva_promises.proofs.Made.{AreMet, IsSizedMade, made_sized, receipt_sized}
 use Rattle.tva_promises.proofs.Charging.{IsReady, charge_next}
-use Rattle.tva_promises.proofs.Fates.{at_limit, on_way, is_fate}
-use Rattle.tva_promises.proofs.Links.{IsGood, link_way, router_way, queued_good}
-
-same_some : {X : Type 0} (x y : X) → Some x ≡ Some y → x ≡ y
-same_some x y e = cc
+use Rattle.tva_promises.proofs.Fates.{is_fate}
 
 -- ## at a router
 
@@ -64,7 +58,7 @@ came_row number plan before now (Inject flow payload carried) made e =
       from = None;
       packet = p;
       sized = λ s. record { packet = record { hops = omega arith; payload = s.0; carried = carried_fits carried s.1; upper = tt; fills = tt }; widths = s.1 };
-      is = same_some (arrived plan before now None p) made e;
+      is = same_Some (arrived plan before now None p) made e;
     }
 
 came : (number : ℕ) (plan : RouterPlan) (before : List Entry) (input : Input) (made : Content) → routed number plan before input ≡ Some made → Came (IsSizedInput input) plan before (input_time input) made
@@ -73,11 +67,8 @@ came number plan before (Arrival time link packet) made e = record {
   from = Some link;
   packet = packet;
   sized = λ s. s;
-  is = same_some (arrived plan before time.0 (Some link) packet) made e;
+  is = same_Some (arrived plan before time.0 (Some link) packet) made e;
 }
-
-abbrev IsGoodAt : LinkLimits → List Entry → ℕ → ℕ → Content → Type 0
-IsGoodAt l before link now made = IfSome (content_at link now made) (IsGood l (port_logs before link))
 
 -- the plan of a router that there may be, and that of a host
 router_valid : (site : Site) (plan : RouterPlan) → IsSite site → site.plan ≡ plans.Router plan → IsRouterPlan plan
@@ -86,52 +77,29 @@ router_valid site plan valid e = let planned : IsPlanned (plans.Router plan) sit
 pub host_valid : (site : Site) (plan : HostPlan) → IsSite site → site.plan ≡ plans.Host plan → IsHostPlan plan
 host_valid site plan valid e = let planned : IsPlanned (plans.Host plan) site.links = subst (λ (p : NodePlan). IsPlanned p site.links) e valid.planned in planned.0
 
-arrived_good : (site : Site) (plan : RouterPlan) (link : ℕ) (l : LinkLimits) (before : List Entry) (now : ℕ) (from : Option ℕ) (p : PacketData) → IsSite site → site.plan ≡ plans.Router plan → limits_out site link ≡ Some (link, l)
-    → port.NoneLater now (port_logs before link) → IsSizedPacket p → IsGoodAt l before link now (arrived plan before now from p)
+arrived_sized : (plan : RouterPlan) (before : List Entry) (now : ℕ) (from : Option ℕ) (p : PacketData) → IsRouterPlan plan → IsSizedPacket p → Leaves IsSizedPacket (arrived plan before now from p)
 unfolding arrived
-arrived_good site plan link l before now from p valid e out past s =
-    let q : RouterPlan = in_force plan now in
-    let h : List Charge = charges_at plan now (charges before) in
-    let is : Handled = handle q h (port_logs before) now from p in
-    let good : Outcome → Type 0 = λ o. IfSome (queued_at link now o is.fate.class is.onward) (IsGood l (port_logs before link)) in
-    elim (cases_lt p.hops 32) [
-      | inl below ↦
-          subst good (sym (on_way q h (port_logs before) now from p below))
-          (queued_good site link l (port_logs before) now is.fate.class is.onward (way_to q p.flow.dst) out (router_way site plan now p.flow.dst valid e) past (onward_sized q h (port_logs before) now from p (force_valid plan now (router_valid site plan valid e)) s))
-      | inr limit ↦ subst good (sym (at_limit q h (port_logs before) now from p limit).2) tt
-    ]
-
-router_good : (site : Site) (plan : RouterPlan) (link : ℕ) (l : LinkLimits) (before : List Entry) (input : Input) (made : Content) → IsSite site → site.plan ≡ plans.Router plan → limits_out site link ≡ Some (link, l)
-    → port.NoneLater (input_time input) (port_logs before link) → IsSizedInput input → routed site.number plan before input ≡ Some made → IsGoodAt l before link (input_time input) made
-router_good site plan link l before input made valid e out past s c =
-    let k = came site.number plan before input made c in
-    subst (IsGoodAt l before link (input_time input)) k.is (arrived_good site plan link l before (input_time input) k.from k.packet valid e out past (k.sized s))
+arrived_sized plan before now from p v s = onward_sized (in_force plan now) (charges_at plan now (charges before)) (port_logs before) now from p (force_valid plan now v) s
 
 -- ## at a host
 
-sent_good : (site : Site) (plan : HostPlan) (link : ℕ) (l : LinkLimits) (before : List Entry) (now : ℕ) (p : PacketData) → limits_out site link ≡ Some (link, l) → port.NoneLater now (port_logs before link) → IsSizedPacket p
-    → IfSome (queued_at link now (goes_out site plan before p) (class_by_shim p.carried) p) (IsGood l (port_logs before link))
-sent_good site plan link l before now p out past s = queued_good site link l (port_logs before) now (class_by_shim p.carried) p (limits_out site plan.uplink) out (link_way site plan.uplink) past s
+reply_sized : (reply : Option Made) → IfSome reply IsSizedMade → IsReplyGood IsSizedPacket reply
+reply_sized None s = tt
+reply_sized (Some m) s = s
 
-reply_good : (site : Site) (plan : HostPlan) (link : ℕ) (l : LinkLimits) (before : List Entry) (now : ℕ) (reply : Option Made) → limits_out site link ≡ Some (link, l) → port.NoneLater now (port_logs before link) → IfSome reply (λ m. IsSizedPacket m.packet)
-    → IfSome (reply_at link now reply (option_map (λ m. goes_out site plan before m.packet) reply)) (IsGood l (port_logs before link))
-reply_good site plan link l before now None out past s = tt
-reply_good site plan link l before now (Some m) out past s = sent_good site plan link l before now m.packet out past s
+sent_sized : (site : Site) (plan : HostPlan) (before : List Entry) (made : Option Made) → IfSome made IsSizedMade → Leaves IsSizedPacket (sent_out site plan before made)
+sent_sized site plan before None s = tt
+sent_sized site plan before (Some m) s = s
 
-row_good : (site : Site) (plan : HostPlan) (link : ℕ) (l : LinkLimits) (before : List Entry) (now : ℕ) (made : Option Made) → limits_out site link ≡ Some (link, l) → port.NoneLater now (port_logs before link) → IfSome made IsSizedMade
-    → IsGoodAt l before link now (sent_out site plan before made)
-row_good site plan link l before now None out past s = tt
-row_good site plan link l before now (Some m) out past s = sent_good site plan link l before now m.packet out past s
-
-host_good : (site : Site) (plan : HostPlan) (link : ℕ) (l : LinkLimits) (before : List Entry) (input : Input) → limits_out site link ≡ Some (link, l) → port.NoneLater (input_time input) (port_logs before link) → IsHostPlan plan → AreMet plan.version (history_of plan (calls before)).contacts
-    → AreSizedFiles (files plan before) → IsSizedInput input → IsGoodAt l before link (input_time input) (hosted site plan before input)
-host_good site plan link l before (FromTrace row) out past v met known s =
+host_sized : (site : Site) (plan : HostPlan) (before : List Entry) (input : Input) → IsHostPlan plan → AreMet plan.version (history_of plan (calls before)).contacts
+    → AreSizedFiles (files plan before) → IsSizedInput input → Leaves IsSizedPacket (hosted site plan before input)
+host_sized site plan before (FromTrace row) v met known s =
     let h = history_of plan (calls before) in
-    row_good site plan link l before row.time.0 (made_for site.number plan h (files plan before) row.time.0 row.what) out past (made_sized site.number plan h (files plan before) row.time.0 row.what s v met known)
-host_good site plan link l before (Arrival time from packet) out past v met known s =
+    sent_sized site plan before (made_for site.number plan h (files plan before) row.time.0 row.what) (made_sized site.number plan h (files plan before) row.time.0 row.what s v met known)
+host_sized site plan before (Arrival time from packet) v met known s =
     let h = history_of plan (calls before) in
     let above = answered plan.address (files plan before) packet in
-    reply_good site plan link l before time.0 (receipt_of site.number plan h time.0 packet above).reply out past
+    reply_sized (receipt_of site.number plan h time.0 packet above).reply
     (receipt_sized site.number plan h time.0 packet above v met s (answered_upper plan.address (files plan before) packet known))
 
 -- ## at a node
@@ -144,16 +112,18 @@ HasMet site before = (plan : HostPlan) → site.plan ≡ plans.Host plan → Are
 abbrev pub HasSizedFiles : List Entry → Type 0
 HasSizedFiles before = (plan : HostPlan) → AreSizedFiles (files plan before)
 
-took_by : (site : Site) (plan : NodePlan) (link : ℕ) (l : LinkLimits) (before : List Entry) (input : Input) (made : Content) → IsSite site → site.plan ≡ plan → limits_out site link ≡ Some (link, l)
-    → port.NoneLater (input_time input) (port_logs before link) → HasMet site before → HasSizedFiles before → IsSizedInput input → content_by site plan before input ≡ Some made → IsGoodAt l before link (input_time input) made
-took_by site (plans.Router plan) link l before input made valid e out past met known s c = router_good site plan link l before input made valid e out past s c
-took_by site (plans.Host plan) link l before input made valid e out past met known s c =
-    subst (IsGoodAt l before link (input_time input)) (same_some (hosted site plan before input) made c) (host_good site plan link l before input out past (host_valid site plan valid e) (met plan e) (known plan) s)
+took_by : (site : Site) (plan : NodePlan) (before : List Entry) (input : Input) (made : Content) → IsSite site → site.plan ≡ plan → HasMet site before → HasSizedFiles before
+    → IsSizedInput input → content_by site plan before input ≡ Some made → Leaves IsSizedPacket made
+took_by site (plans.Router plan) before input made valid e met known s c =
+    let k = came site.number plan before input made c in
+    subst (Leaves IsSizedPacket) k.is (arrived_sized plan before (input_time input) k.from k.packet (router_valid site plan valid e) (k.sized s))
+took_by site (plans.Host plan) before input made valid e met known s c =
+    subst (Leaves IsSizedPacket) (same_Some (hosted site plan before input) made c) (host_sized site plan before input (host_valid site plan valid e) (met plan e) (known plan) s)
 
--- what goes to a link has its place there
-pub took_good : (site : Site) (link : ℕ) (l : LinkLimits) (before : List Entry) (input : Input) (made : Content) → IsSite site → limits_out site link ≡ Some (link, l)
-    → port.NoneLater (input_time input) (port_logs before link) → HasMet site before → HasSizedFiles before → IsSizedInput input → content site before input ≡ Some made → IsGoodAt l before link (input_time input) made
-took_good site link l before input made valid out past met known s c = took_by site site.plan link l before input made valid refl out past met known s c
+-- what goes on is within the sizes
+pub took_sized : (site : Site) (before : List Entry) (input : Input) (made : Content) → IsSite site → HasMet site before → HasSizedFiles before
+    → IsSizedInput input → content site before input ≡ Some made → Leaves IsSizedPacket made
+took_sized site before input made valid met known s c = took_by site site.plan before input made valid refl met known s c
 
 -- ## charges
 

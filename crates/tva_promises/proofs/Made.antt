@@ -152,10 +152,10 @@ record FitsBack (version : ℕ) (back : ReturnInfo) : Type 0 where
   fits : IsReturn version back
   caps : AreCaps (granted_caps back)
 
-no_entries : AreEntries []
+pub no_entries : AreEntries []
 no_entries = record { few = omega arith; each = All-nil IsEntry }
 
-no_caps : AreCaps []
+pub no_caps : AreCaps []
 no_caps = record { few = omega arith; each = All-nil IsCap }
 
 nothing_fits : (version : ℕ) → FitsBack version backs.Nothing

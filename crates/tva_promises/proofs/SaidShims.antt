@@ -8,6 +8,7 @@ use Rattle.byteorder.specs.Numbers.{big_from-lt}
 use Rattle.hex.specs.Hex.{IsBytes, decode_sized}
 use Rattle.hex.specs.declared.error.FromHexError.{FromHexError}
 use Rattle.hex.proofs.HexLemmas.{decode_of-ok, decode_sized-ok, decode_sized-twice}
+use Rattle.std.proofs.lemmas.Option.{same_Some}
 use Rattle.tva_base.specs.declared.packet.Flow.{Flow}
 use Rattle.tva_base.specs.declared.packet.Rights.{Rights}
 use Rattle.tva_base.specs.Addresses.{parted}
@@ -16,9 +17,10 @@ use Rattle.tva_base.specs.Options.{◌>>=◌}
 use Rattle.tva_base.specs.Versions.{AreSomeRights, IsVersion, carries, seconds_max, units_max, version_for}
 use Rattle.tva_base.proofs.Widths.{least_rights}
 use Rattle.tva_shim.specs.declared.kinds.Shown.{Shown}
+use Rattle.tva_shim.specs.declared.kinds.Kind.{Kind}
 use Rattle.tva_shim.specs.declared.kinds.Kind.TheVariants as shims
-use Rattle.tva_shim.specs.Widths.{IsEntry, IsCap, AreEntries, AreCaps}
-use Rattle.tva_shim.specs.Shims.{IsShown, IsShim}
+use Rattle.tva_shim.specs.Widths.{IsCap, AreEntries, AreCaps}
+use Rattle.tva_shim.specs.Shims.{IsKind, IsShown, IsShim, caps_of, entries_of}
 use Rattle.tva_caps.specs.Formula.{capability_of, precap_of}
 use Rattle.tva_caps.proofs.Stamps.{capability_of-lt, precap_of-lt}
 use Rattle.tva_plan.specs.declared.config.NodePlan.{NodePlan}
@@ -29,11 +31,9 @@ use Rattle.tva_trace.specs.declared.said.SaidShim.TheVariants.{Bytes, Built}
 use Rattle.tva_trace.specs.Items.{caps_of_items, decoded, each_of, few, hex_bytes_of, hex_number_of, item_in, item_of, items_in, minted_of, plain_shim, raw_of, rights_from, rights_of, row_shim, shown_from, shown_of}
 use Rattle.tva_trace.specs.Names.{master_named}
 use Rattle.tva_trace.specs.Valid.{IsSaidShim}
+use Rattle.tva_promises.proofs.Made.{no_caps, no_entries}
 
 -- ## steps that gave something
-
-some_one : {A : Type 0} (x y : A) → Some x ≡ Some y → x ≡ y
-some_one x y e = cc
 
 -- a chain of steps: each value is a variable where the next step is looked at
 when_some : {A B : Type 0} (P : B → Type 0) (o : Option A) (next : A → Option B) (y : B)
@@ -44,12 +44,12 @@ when_some P (Some x) next y gave go = go x refl gave
 when_mapped : {A B : Type 0} (P : B → Type 0) (f : A → B) (o : Option A) (y : B)
     → option_map f o ≡ Some y → ((x : A) → o ≡ Some x → P (f x)) → P y
 when_mapped P f None y gave go = absurd (cc)
-when_mapped P f (Some x) y gave go = subst P (some_one (f x) y gave) (go x refl)
+when_mapped P f (Some x) y gave go = subst P (same_Some (f x) y gave) (go x refl)
 
 -- ## numbers
 
 number_fits : (b : Bool) (v max n : ℕ) → (b ≡ true → v ≤ max) → cond b (Some v) None ≡ Some n → n ≤ max
-number_fits true v max n fits gave = let same : v ≡ n = some_one v n gave in omega (arith, same, fits refl)
+number_fits true v max n fits gave = let same : v ≡ n = same_Some v n gave in omega (arith, same, fits refl)
 number_fits false v max n fits gave = absurd (cc)
 
 -- a number that is read is at most the greatest
@@ -62,7 +62,7 @@ decimal_fits text max n gave =
 -- ## bytes
 
 decoded_is : (r : Result (List ℕ) FromHexError) (bytes : List ℕ) → decoded r ≡ Some bytes → r ≡ Ok bytes
-decoded_is (Ok xs) bytes gave = let same : xs ≡ bytes = some_one xs bytes gave in ap Ok same
+decoded_is (Ok xs) bytes gave = let same : xs ≡ bytes = same_Some xs bytes gave in ap Ok same
 decoded_is (Err e) bytes gave = absurd (cc)
 
 bytes_are : (count : ℕ) (text bytes : List ℕ) → hex_bytes_of count text ≡ Some bytes → (length bytes ≡ count) × IsBytes bytes
@@ -90,7 +90,7 @@ raw_few text bytes gave = raw_at (nat_le (length text) 800) text bytes (leb-true
 -- ## capabilities
 
 few_at : (b : Bool) (all items : List (List ℕ)) → (b ≡ true → length all ≤ 16) → cond b (Some all) None ≡ Some items → length items ≤ 16
-few_at true all items short gave = subst (λ (xs : List (List ℕ)). length xs ≤ 16) (some_one all items gave) (short refl)
+few_at true all items short gave = subst (λ (xs : List (List ℕ)). length xs ≤ 16) (same_Some all items gave) (short refl)
 few_at false all items short gave = absurd (cc)
 
 few_items : (all items : List (List ℕ)) → few all ≡ Some items → length items ≤ 16
@@ -99,14 +99,14 @@ few_items all items gave = few_at (nat_le (length all) 16) all items (leb-true (
 each_long : (plans : List NodePlan) (flow : Flow) (rights : Rights) (items : List (List ℕ)) (caps : List ℕ)
     → each_of plans flow rights items ≡ Some caps → length caps ≡ length items
 each_long plans flow rights [] caps gave =
-    let same : [] ≡ caps = some_one [] caps gave in subst (λ (xs : List ℕ). length xs ≡ length {A = List ℕ} []) same refl
+    let same : [] ≡ caps = same_Some [] caps gave in subst (λ (xs : List ℕ). length xs ≡ length {A = List ℕ} []) same refl
 each_long plans flow rights (item ∷ items) caps gave =
     let Q : List ℕ → Type 0 = λ xs. length xs ≡ length (item ∷ items) in
     when_some Q (item_of plans flow rights item) _ caps gave (λ cap k1 g1.
     when_some Q (each_of plans flow rights items) _ caps g1 (λ more k2 g2.
     let shorter = each_long plans flow rights items more k2 in
     let longer : length (cap ∷ more) ≡ length (item ∷ items) = omega (arith, shorter) in
-    subst Q (some_one (cap ∷ more) caps g2) longer))
+    subst Q (same_Some (cap ∷ more) caps g2) longer))
 
 minted_fits : (plans : List NodePlan) (flow : Flow) (rights : Rights) (parts : List ℕ × List ℕ) (cap : ℕ) → minted_of plans flow rights parts ≡ Some cap → IsCap cap
 unfolding minted_of
@@ -114,7 +114,7 @@ minted_fits plans flow rights parts cap gave =
     when_some IsCap (master_named plans parts.0) _ cap gave (λ master k1 g1.
     when_some IsCap (decimal_of parts.1 2000000) _ cap g1 (λ second k2 g2.
     let made : ℕ = capability_of (precap_of master flow second) rights in
-    subst IsCap (some_one made cap g2) (capability_of-lt (precap_of master flow second) rights (precap_of-lt master flow second))))
+    subst IsCap (same_Some made cap g2) (capability_of-lt (precap_of master flow second) rights (precap_of-lt master flow second))))
 
 item_in_fits : (plans : List NodePlan) (flow : Flow) (rights : Rights) (text : List ℕ) (parts : Option (List ℕ × List ℕ)) (cap : ℕ) → item_in plans flow rights text parts ≡ Some cap → IsCap cap
 item_in_fits plans flow rights text None cap gave = number_short 8 text cap gave
@@ -126,12 +126,12 @@ item_fits plans flow rights text cap gave = item_in_fits plans flow rights text 
 
 each_fits : (plans : List NodePlan) (flow : Flow) (rights : Rights) (items : List (List ℕ)) (caps : List ℕ)
     → each_of plans flow rights items ≡ Some caps → All IsCap caps
-each_fits plans flow rights [] caps gave = subst (All IsCap) (some_one [] caps gave) (All-nil IsCap)
+each_fits plans flow rights [] caps gave = subst (All IsCap) (same_Some [] caps gave) (All-nil IsCap)
 each_fits plans flow rights (item ∷ items) caps gave =
     when_some (All IsCap) (item_of plans flow rights item) _ caps gave (λ cap k1 g1.
     when_some (All IsCap) (each_of plans flow rights items) _ caps g1 (λ more k2 g2.
     let all : All IsCap (cap ∷ more) = All-cons IsCap cap more (item_fits plans flow rights item cap k1) (each_fits plans flow rights items more k2) in
-    subst (All IsCap) (some_one (cap ∷ more) caps g2) all))
+    subst (All IsCap) (same_Some (cap ∷ more) caps g2) all))
 
 caps_fit : (plans : List NodePlan) (flow : Flow) (rights : Rights) (text caps : List ℕ) → caps_of_items plans flow rights text ≡ Some caps → AreCaps caps
 unfolding caps_of_items
@@ -148,7 +148,7 @@ rights_fit units seconds rights gave =
     when_some AreSomeRights (decimal_of seconds (seconds_max 2)) _ rights g1 (λ t k2 g2.
     let made : Rights = rights_from n t in
     let some : AreSomeRights made = record { units = decimal_fits units (units_max 2) n k1; seconds = decimal_fits seconds (seconds_max 2) t k2 } in
-    subst AreSomeRights (some_one made rights g2) some))
+    subst AreSomeRights (same_Some made rights g2) some))
 
 -- what is shown has the widths of version 2
 record AreShown (s : Shown) : Type 0 where
@@ -173,7 +173,7 @@ shown_fits plans flow text s gave =
       rights = rights_fit second.0 third.0 rights k6;
     } in
     let are : AreShown made = record { shows = shows; caps = caps_fit plans flow rights fourth.1 caps k7 } in
-    subst AreShown (some_one made s g8) are))))))))
+    subst AreShown (same_Some made s g8) are))))))))
 
 -- ## shims
 
@@ -184,44 +184,10 @@ least_version r = elim (carries 1 r) as (λ b. IsVersion (cond b 1 2)) [ true �
 least_shown : (s : Shown) → AreShown s → IsShown (version_for s.rights) s
 least_shown s k = record { nonce = k.shows.nonce; pointer = k.shows.pointer; rights = least_rights s.rights k.shows.rights }
 
-no_entries : AreEntries []
-no_entries = record { few = omega arith; each = All-nil IsEntry }
-
-no_caps : AreCaps []
-no_caps = record { few = omega arith; each = All-nil IsCap }
-
-list_fits : (s : Shown) → AreShown s → IsShim (plain_shim (version_for s.rights) (shims.List s))
-list_fits s k = record {
-  version = least_version s.rights;
-  protocol = omega arith;
-  kind = least_shown s k;
-  entries = no_entries;
-  caps = k.caps;
-  back = tt;
-  granted = no_caps;
-}
-
-renewal_fits : (s : Shown) → AreShown s → IsShim (plain_shim (version_for s.rights) (shims.Renewal s))
-renewal_fits s k = record {
-  version = least_version s.rights;
-  protocol = omega arith;
-  kind = least_shown s k;
-  entries = no_entries;
-  caps = k.caps;
-  back = tt;
-  granted = no_caps;
-}
-
-nonce_fits : (nonce : ℕ) → nonce < 2 ^ 48 → IsShim (plain_shim 1 (shims.Nonce nonce))
-nonce_fits nonce short = record {
-  version = record { from = omega arith; to = omega arith };
-  protocol = omega arith;
-  kind = short;
-  entries = no_entries;
-  caps = no_caps;
-  back = tt;
-  granted = no_caps;
-}
+plain_fits : (version : ℕ) (kind : Kind) → IsVersion version → IsKind version kind → AreEntries (entries_of kind) → AreCaps (caps_of kind)
+    → IsShim (plain_shim version kind)
+plain_fits version kind v k es cs =
+    record { version = v; protocol = omega arith; kind = k; entries = es; caps = cs; back = tt; granted = no_caps }
 
 pub shim_fits : (plans : List NodePlan) (k : kinds.RowKind) (flow : Flow) (text : List ℕ) (s : SaidShim)
     → row_shim plans k flow text ≡ Some s → IsSaidShim s
@@ -232,9 +198,10 @@ shim_fits plans kind.Tick flow text s gave = absurd (cc)
 shim_fits plans kind.Raw flow text s gave = when_mapped IsSaidShim Bytes (raw_of text) s gave (λ bytes k. raw_few text bytes k)
 shim_fits plans kind.List flow text s gave =
     when_mapped IsSaidShim (λ shown. Built (plain_shim (version_for shown.rights) (shims.List shown))) (shown_of plans flow text) s gave
-    (λ shown k. list_fits shown (shown_fits plans flow text shown k))
+    (λ shown k. let s = shown_fits plans flow text shown k in plain_fits (version_for shown.rights) (shims.List shown) (least_version shown.rights) (least_shown shown s) no_entries s.caps)
 shim_fits plans kind.Renew flow text s gave =
     when_mapped IsSaidShim (λ shown. Built (plain_shim (version_for shown.rights) (shims.Renewal shown))) (shown_of plans flow text) s gave
-    (λ shown k. renewal_fits shown (shown_fits plans flow text shown k))
+    (λ shown k. let s = shown_fits plans flow text shown k in plain_fits (version_for shown.rights) (shims.Renewal shown) (least_version shown.rights) (least_shown shown s) no_entries s.caps)
 shim_fits plans kind.Nonce flow text s gave =
-    when_mapped IsSaidShim (λ nonce. Built (plain_shim 1 (shims.Nonce nonce))) (hex_number_of 6 text) s gave (λ nonce k. nonce_fits nonce (number_short 6 text nonce k))
+    when_mapped IsSaidShim (λ nonce. Built (plain_shim 1 (shims.Nonce nonce))) (hex_number_of 6 text) s gave
+    (λ nonce k. plain_fits 1 (shims.Nonce nonce) (record { from = omega arith; to = omega arith }) (number_short 6 text nonce k) no_entries no_caps)

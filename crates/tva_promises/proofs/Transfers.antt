@@ -1,5 +1,5 @@
 -- What a host knows of files is within the sizes of a network, and so is each upper part that it sends.
-use Rattle.std.proofs.Common.{◌≡◌, ℕ, ◌≤◌, ◌<◌, Bool, true, false, ◌&&◌, cond, eqb, List, [], ◌∷◌, ◌++◌, length, Option, Some, None, All, refl, sym, subst, arith}
+use Rattle.std.proofs.Common.{◌≡◌, ℕ, ◌≤◌, ◌<◌, Bool, true, false, ◌&&◌, cond, eqb, List, [], ◌∷◌, length, Option, Some, None, All, refl, subst, arith}
 use Rattle.std.specs.Prelude.{fold, nat_lt, position, slice_get, slice_set}
 use Rattle.std.specs.Option.{option_map, option_map_or, option_and_then, IfSome}
 use Rattle.std.specs.List.{AllByRecursion, cons_option}
@@ -21,10 +21,9 @@ use Rattle.tva_rows.specs.declared.rows.RowWhat.{RowWhat}
 use Rattle.tva_rows.specs.declared.rows.RowWhat.TheVariants.{Send, Inject, File, Tick}
 use Rattle.tva_log.specs.declared.kinds.Input.{Input}
 use Rattle.tva_log.specs.declared.kinds.Input.TheVariants.{FromTrace, Arrival}
-use Rattle.tva_log.specs.Sites.{Site}
 use Rattle.tva_log.specs.Entries.{Content, Entry, Took, Started}
 use Rattle.tva_log.specs.Parts.{act_of, act_of_row, acts, files}
-use Rattle.tva_log.specs.NodeLog.{due, GoesOn, IsNodeLog}
+use Rattle.tva_log.specs.NodeLog.{due}
 use Rattle.tva_promises.specs.Sizes.{IsSizedWhat, IsSizedInput}
 
 -- ## what is sent
@@ -162,23 +161,3 @@ files_sized plan log s = acts_keep plan.address no_files log s (All-nil IsSized)
 pub input_taken : (input : Input) (content : Content) → IsSizedInput input → IsSizedTaken (Took input content)
 input_taken (FromTrace row) content s = s
 input_taken (Arrival time link packet) content s = tt
-
-taken_on : (site : Site) (before : List Entry) (is : List Input) (es : List Entry) → GoesOn site before is es → AllByRecursion IsSizedInput is → AllByRecursion IsSizedTaken es
-taken_on site before [] [] g s = tt
-taken_on site before (i ∷ is) [] g s = absurd g
-taken_on site before [] (Took j c ∷ es) g s = absurd g
-taken_on site before (i ∷ is) (Took j c ∷ es) g s =
-    (input_taken j c (subst IsSizedInput (sym g.0) s.0), taken_on site (before ++ Took j c ∷ []) is es g.2 s.1)
-taken_on site before [] (Started u l c p ∷ es) g s = (tt, taken_on site (before ++ Started u l c p ∷ []) [] es g.1 s)
-taken_on site before (i ∷ is) (Started u l c p ∷ es) g s = (tt, taken_on site (before ++ Started u l c p ∷ []) (i ∷ is) es g.1 s)
-
-each_front : {X : Type 0} (P : X → Type 0) (xs ys : List X) → AllByRecursion P (xs ++ ys) → AllByRecursion P xs
-each_front P [] ys h = tt
-each_front P (x ∷ xs) ys h = (h.0, each_front P xs ys h.1)
-
--- so they are at each place of a node's log, where its inputs before its end are within the sizes
-pub files_at : (site : Site) (inputs : List Input) (until : ℕ) (log before rest : List Entry) → AllByRecursion IsSizedInput (due until inputs) → IsNodeLog site inputs until log
-    → log ≡ before ++ rest → (plan : HostPlan) → AreSizedFiles (files plan before)
-files_at site inputs until log before rest s h split plan =
-    files_sized plan before (each_front IsSizedTaken before rest
-    (subst (λ (es : List Entry). AllByRecursion IsSizedTaken es) split (taken_on site [] (due until inputs) log h.steps s)))

@@ -5,7 +5,7 @@ use Rattle.std.specs.Option.{option_and_then, option_map_or}
 use Rattle.std.specs.List.{AllByRecursion, flat_map}
 use Rattle.std.proofs.lemmas.Bool.{lt-ltb, cases_lt}
 use Rattle.std.proofs.lemmas.Bool.Decides.{nat_tests}
-use Rattle.std.proofs.lemmas.List.{append-nil, append_assoc}
+use Rattle.std.proofs.lemmas.List.{append-nil}
 use Rattle.std.proofs.lemmas.List.Elements.{filter-append}
 use Rattle.std.proofs.lemmas.List.Folds.{flat_map-map}
 use Rattle.tva_base.specs.declared.event.Event.{Event}
@@ -19,7 +19,7 @@ use Rattle.tva_port.specs.declared.decision.Decision.TheVariants.{Start, WaitUnt
 use Rattle.tva_plan.specs.declared.config.Config.{Config}
 use Rattle.tva_rows.specs.declared.rows.Row.{Row}
 use Rattle.tva_log.specs.Joins.{IsInOrder, cut}
-use Rattle.tva_log.proofs.Joins.{filter-true, filter-false, filter-all, filter-none, each-filter, each-append, each-weaker, cut-early, cut-late, times_from}
+use Rattle.tva_log.proofs.Joins.{filter-true, filter-false, filter-all, filter-none, each-filter, each-weaker, cut-early, cut-late, times_from}
 use Rattle.tva_log.proofs.Putting.{each_from_sources, each-both}
 use Rattle.tva_log.specs.declared.kinds.Input.{Input}
 use Rattle.tva_log.specs.Sites.{Site, limits_out}
@@ -29,6 +29,7 @@ use Rattle.tva_log.specs.NodeLog.{starts, start_of, start_after, due, GoesOn}
 use Rattle.tva_log.specs.Next.{next_by, next_decision, next_on}
 use Rattle.tva_log.specs.Told.{events}
 use Rattle.tva_log.proofs.Ports.{busy_starts_none, free_starts, next_busy, next_free, next_unused}
+use Rattle.tva_log.proofs.Walks.{each_place, IsMade, made_at}
 use Rattle.tva_run.specs.Reaching.{Logs, log_at, site_at, reaches}
 use Rattle.tva_run.specs.Run.{IsRunTo}
 use Rattle.tva_run.specs.Report.{event_time, event_node, AreEvents}
@@ -107,9 +108,6 @@ module _ (config : Config) (rows : List Row) (logs : Logs) (node : ℕ) (site : 
       (each-filter (λ i. IsWork config rows logs (input_time i)) (λ i. nat_lt (input_time i) until) (reaches config rows logs node s)
       (contained input_time (λ t. IsWork config rows logs t) (reaches config rows logs node s) (input_work s))))
 
-  one_more : (before : List Entry) (e : Entry) (es : List Entry) → log_at logs node ≡ before ++ e ∷ es → log_at logs node ≡ (before ++ e ∷ []) ++ es
-  one_more before e es h = h ∙ sym (append_assoc before (e ∷ []) es)
-
   start_here : (before : List Entry) (u link : ℕ) (class : Class) (packet : PacketData) (es : List Entry) → IsInOrder entry_time entry_rank (log_at logs node) → log_at logs node ≡ before ++ Started u link class packet ∷ es
       → AllByRecursion (λ e. IsWork config rows logs (entry_time e)) before → starts site before link u ≡ Some (class, packet) → IsWork config rows logs u
   start_here before u link class packet es order is done starts_it =
@@ -125,19 +123,18 @@ module _ (config : Config) (rows : List Row) (logs : Logs) (node : ℕ) (site : 
         | inr p ↦ p
       ]
 
-  walk : (before : List Entry) (is : List Input) (es : List Entry) → IsInOrder entry_time entry_rank (log_at logs node) → log_at logs node ≡ before ++ es → GoesOn site before is es
-      → AllByRecursion (λ i. IsWork config rows logs (input_time i)) is → AllByRecursion (λ e. IsWork config rows logs (entry_time e)) before → AllByRecursion (λ e. IsWork config rows logs (entry_time e)) es
-  walk before is [] o h g a b = tt
-  walk before [] (Took j c ∷ es) o h g a b = absurd g
-  walk before (i ∷ is) (Took j c ∷ es) o h g a b =
-      let work : IsWork config rows logs (input_time j) = subst (λ x. IsWork config rows logs (input_time x)) (sym g.0) a.0 in
-      (work, walk (before ++ Took j c ∷ []) is es o (one_more before (Took j c) es h) g.2 a.1 (each-append (λ e. IsWork config rows logs (entry_time e)) before (Took j c ∷ []) b (work, tt)))
-  walk before [] (Started u k c p ∷ es) o h g a b =
-      let work = start_here before u k c p es o h b g.0 in
-      (work, walk (before ++ Started u k c p ∷ []) [] es o (one_more before (Started u k c p) es h) g.1 a (each-append (λ e. IsWork config rows logs (entry_time e)) before (Started u k c p ∷ []) b (work, tt)))
-  walk before (i ∷ is) (Started u k c p ∷ es) o h g a b =
-      let work = start_here before u k c p es o h b g.0 in
-      (work, walk (before ++ Started u k c p ∷ []) (i ∷ is) es o (one_more before (Started u k c p) es h) g.1 a (each-append (λ e. IsWork config rows logs (entry_time e)) before (Started u k c p ∷ []) b (work, tt)))
+  entry_work : (before : List Entry) (e : Entry) (rest : List Entry) → IsInOrder entry_time entry_rank (log_at logs node) → log_at logs node ≡ before ++ e ∷ rest
+      → AllByRecursion (λ x. IsWork config rows logs (entry_time x)) before → IsMade (λ i. IsWork config rows logs (input_time i)) site before e → IsWork config rows logs (entry_time e)
+  entry_work before (Took j c) rest order split done m = m.1
+  entry_work before (Started u k c p) rest order split done m = start_here before u k c p rest order split done m
+
+  walk : (is : List Input) → IsInOrder entry_time entry_rank (log_at logs node) → GoesOn site [] is (log_at logs node)
+      → AllByRecursion (λ i. IsWork config rows logs (input_time i)) is → AllByRecursion (λ e. IsWork config rows logs (entry_time e)) (log_at logs node)
+  walk is order g works =
+      each_place (λ e. IsWork config rows logs (entry_time e)) (log_at logs node)
+      (λ before e rest split done.
+      entry_work before e rest order split done
+      (made_at (λ i. IsWork config rows logs (input_time i)) site is (log_at logs node) before e rest g works split))
 
 -- ## the windows hold all
 
@@ -158,7 +155,7 @@ events_work_by config rows until logs node (Some site) e run =
     let works_due = each-filter (λ i. IsWork config rows logs (input_time i)) (λ i. nat_lt (input_time i) until) h.inputs works in
     told_each (λ t. HappensAt config rows logs until t) site (log_at logs node)
     (each-both (λ x. IsWork config rows logs (entry_time x)) (λ x. entry_time x < until) (λ x. HappensAt config rows logs until (entry_time x)) (λ x a b. (a, b)) (log_at logs node)
-    (walk config rows logs node site e [] (due until h.inputs) (log_at logs node) h.is_log.in_order refl h.is_log.steps works_due tt) h.is_log.early)
+    (walk config rows logs node site e (due until h.inputs) h.is_log.in_order h.is_log.steps works_due) h.is_log.early)
 
 -- each event of a run comes where there is work, before the run's end
 pub events_work : (config : Config) (rows : List Row) (until : ℕ) (logs : Logs) (told : List Event) → IsRunTo config rows until logs → AreEvents config logs told → AllByRecursion (λ e. HappensAt config rows logs until (event_time e)) told

@@ -8,4 +8,5 @@ pub mod Holding
 pub mod Rising
 pub mod Reaches
 pub mod Queued
+pub mod Walks
 pub mod Names

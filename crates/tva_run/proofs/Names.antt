@@ -1,18 +1,16 @@
 -- The nodes and links that the events of a run name are the configuration's.
-use Rattle.std.proofs.Common.{◌≡◌, ℕ, zero, suc, ◌+◌, ◌*◌, ◌<◌, ◌≤◌, Bool, true, false, cond, List, [], ◌∷◌, ◌++◌, length, map, filter, Option, Some, None, All, refl, sym, ap, subst, ◌∙◌, arith, inl, inr}
-use Rattle.std.specs.Prelude.{nat_le, nat_lt, ◌==◌, slice_get}
+use Rattle.std.proofs.Common.{◌≡◌, ℕ, ◌+◌, ◌<◌, ◌≤◌, Bool, true, false, cond, List, [], ◌∷◌, length, map, Option, Some, None, All, refl, sym, ap, subst, ◌∙◌, arith}
+use Rattle.std.specs.Prelude.{nat_le, ◌==◌, slice_get}
 use Rattle.std.specs.Option.{option_map, option_map_or, option_and_then}
 use Rattle.std.specs.List.{AllByRecursion, cons_option, find}
 use Rattle.std.proofs.lemmas.Bool.{eqb-true}
-use Rattle.std.proofs.lemmas.List.{get_or_past}
 use Rattle.std.proofs.lemmas.List.Elements.{All-from_recursion}
-use Rattle.std.proofs.lemmas.Option.{slice_get_cases, slice_get_within}
+use Rattle.std.proofs.lemmas.Option.{slice_get_within, same_Some}
 use Rattle.tva_base.specs.declared.addresses.Address.{Address}
 use Rattle.tva_base.specs.declared.event.Event.{Event}
 use Rattle.tva_base.specs.declared.limits.LinkLimits.{LinkLimits}
 use Rattle.tva_base.specs.declared.packet.Class.{Class}
-use Rattle.tva_base.specs.declared.packet.Outcome.{Outcome}
-use Rattle.tva_base.specs.declared.packet.Outcome.TheVariants.{Queued, Dropped}
+use Rattle.tva_base.specs.declared.packet.Outcome.TheVariants.{Queued}
 use Rattle.tva_base.specs.declared.packet.PacketId.{PacketId}
 use Rattle.tva_base.specs.declared.packet.Upper.{Upper}
 use Rattle.tva_base.specs.declared.packet.Upper.TheVariants as upper
@@ -21,8 +19,7 @@ use Rattle.tva_base.specs.declared.plan.LinkPlan.{LinkPlan}
 use Rattle.tva_base.specs.declared.plan.RouterPlan.{RouterPlan}
 use Rattle.tva_base.specs.Changes.{in_force}
 use Rattle.tva_shim.specs.declared.kinds.ReturnInfo.{ReturnInfo}
-use Rattle.tva_shim.specs.Packets.{PacketData, packet_length, class_by_shim, made_packet, upper_size}
-use Rattle.tva_shim.specs.Shows.{key_of}
+use Rattle.tva_shim.specs.Packets.{PacketData, class_by_shim, made_packet, upper_size}
 use Rattle.tva_flow.specs.Charges.{Charge}
 use Rattle.tva_drr.specs.declared.offered.Offered as offer
 use Rattle.tva_drr.specs.declared.offered.Offered.TheVariants as offers
@@ -50,34 +47,27 @@ use Rattle.tva_rows.specs.declared.rows.Row.{Row}
 use Rattle.tva_rows.specs.declared.rows.RowWhat.{RowWhat}
 use Rattle.tva_rows.specs.declared.rows.RowWhat.TheVariants.{Send, Inject, File, Tick}
 use Rattle.tva_lines.specs.Lines.{HasEvent, HasHappened, HasLink, HasNode, HasOutcome, HasReply, HasSource}
-use Rattle.tva_log.specs.Joins.{cut}
-use Rattle.tva_log.proofs.Joins.{each-append, each-filter, cut-zero}
 use Rattle.tva_log.proofs.Putting.{each_from_sources}
 use Rattle.tva_log.specs.declared.kinds.Input.{Input}
 use Rattle.tva_log.specs.declared.kinds.Input.TheVariants.{FromTrace, Arrival}
 use Rattle.tva_log.specs.Sites.{Site, site_of, link_out, limits_out, IsPlanned}
-use Rattle.tva_log.specs.Entries.{Content, Entry, Took, Started, input_time, input_source, entry_time, entry_rank}
-use Rattle.tva_log.specs.Entries as entry
-use Rattle.tva_log.specs.Parts.{charges, queued_at, reply_at, content_at, port_entry, port_logs, calls, files}
+use Rattle.tva_log.specs.Entries.{Content, Entry, Took, Started}
+use Rattle.tva_log.specs.Parts.{charges, port_logs, calls, files}
 use Rattle.tva_log.specs.Contents.{arrived, content, content_by, goes_out, hosted, made_for, next_id, packet_of_row, routed, sent_out, sent_with}
-use Rattle.tva_log.specs.NodeLog.{GoesOn, due, starts, start_after}
-use Rattle.tva_log.specs.Told.{at_time, content_told, events, reply_told}
-use Rattle.tva_log.proofs.Logs.{IsNodeLog-cut, cut_same}
-use Rattle.tva_run.specs.Reaching.{Logs, log_at, links_out, link_from, site_at, rows_at, arrivals, arrivals_at, reaches}
+use Rattle.tva_log.specs.NodeLog.{due, start_after}
+use Rattle.tva_log.specs.Told.{content_told, events, reply_told}
+use Rattle.tva_log.proofs.Walks.{IsMade}
+use Rattle.tva_run.specs.Reaching.{Logs, log_at, links_out, link_from, site_at}
 use Rattle.tva_run.specs.Run.{IsRunTo}
 use Rattle.tva_run.specs.Report.{AreEvents, AreEventsTo, event_node, event_time}
-use Rattle.tva_run.proofs.Queued.{Brings, start_good}
-use Rattle.tva_run.proofs.Runs.{are_delayed, arrivals-cut, source_due}
+use Rattle.tva_run.proofs.Walks.{IsReplyGood, Leaves, LeavesAt, starts_good, holds}
 use Rattle.tva_run.proofs.Sites.{site_is}
-
-some_same : {X : Type 0} (x y : X) → Some x ≡ Some y → x ≡ y
-some_same x y e = cc
 
 -- what is found passes the test, and what holds of each holds of it
 found_here : {X : Type 0} (p : X → Bool) (Q : X → Type 0) (y x : X) (ys : List X) (b : Bool) → p y ≡ b → Q y
     → (find p ys ≡ Some x → Q x × (p x ≡ true)) → cond b (Some y) (find p ys) ≡ Some x → Q x × (p x ≡ true)
 found_here p Q y x ys true is q rest e =
-    let same : y ≡ x = some_same y x e in
+    let same : y ≡ x = same_Some y x e in
     (subst Q same q, subst (λ z. p z ≡ true) same is)
 found_here p Q y x ys false is q rest e = rest e
 
@@ -96,20 +86,9 @@ module _ (config : Config) where
   abbrev IsKnown : PacketData → Type 0
   IsKnown p = HasNode config p.id.node
 
-  abbrev IsReplyKnown : Option Made → Type 0
-  IsReplyKnown None = Unit {0}
-  IsReplyKnown (Some made) = IsKnown made.packet
-
-  -- the packet that goes on, or that a host makes
-  abbrev Makes : Content → Type 0
-  Makes (entry.Arrived from packet fate onward) = IsKnown onward
-  Makes (entry.Sent made outcome) = IsKnown made.packet
-  Makes entry.Ticked = Unit {0}
-  Makes (entry.Received from packet receipt went range) = IsReplyKnown receipt.reply
-
   -- a content names nodes and links of the configuration, and so does what it makes
   abbrev IsNamed : Content → Type 0
-  IsNamed made = HasHappened config (content_told made) × Makes made
+  IsNamed made = HasHappened config (content_told made) × Leaves IsKnown made
 
   abbrev IsEntryNamed : Entry → Type 0
   IsEntryNamed (Took input content) = IsNamed content
@@ -118,48 +97,6 @@ module _ (config : Config) where
   abbrev IsInputKnown : Input → Type 0
   IsInputKnown (FromTrace row) = Unit {0}
   IsInputKnown (Arrival time link packet) = IsKnown packet × HasLink config link
-
-  -- ## the logs of ports
-
-  queued_on : (b : Bool) (time key : ℕ) (class : Class) (packet : PacketData) → IsKnown packet
-      → AllByRecursion (Brings IsKnown) (cons_option (cond b (Some (port.Queued time class key packet)) None) [])
-  queued_on true time key class packet k = (k, tt)
-  queued_on false time key class packet k = tt
-
-  queued_known : (link time : ℕ) (outcome : Outcome) (class : Class) (packet : PacketData) → IsKnown packet
-      → AllByRecursion (Brings IsKnown) (cons_option (queued_at link time outcome class packet) [])
-  queued_known link time (Queued on) class packet k = queued_on (link == on) time (key_of class packet) class packet k
-  queued_known link time (Dropped why) class packet k = tt
-
-  reply_known : (link time : ℕ) (reply : Option Made) (went : Option Outcome) → IsReplyKnown reply
-      → AllByRecursion (Brings IsKnown) (cons_option (reply_at link time reply went) [])
-  reply_known link time None went k = tt
-  reply_known link time (Some made) None k = tt
-  reply_known link time (Some made) (Some outcome) k = queued_known link time outcome (class_by_shim made.packet.carried) made.packet k
-
-  content_known : (link time : ℕ) (c : Content) → Makes c → AllByRecursion (Brings IsKnown) (cons_option (content_at link time c) [])
-  content_known link time (entry.Arrived from packet fate onward) k = queued_known link time fate.outcome fate.class onward k
-  content_known link time (entry.Sent made outcome) k = queued_known link time outcome (class_by_shim made.packet.carried) made.packet k
-  content_known link time entry.Ticked k = tt
-  content_known link time (entry.Received from packet receipt went range) k = reply_known link time receipt.reply went k
-
-  started_on : (b : Bool) (time : ℕ) (class : Class) (packet : PacketData)
-      → AllByRecursion (Brings IsKnown) (cons_option (cond b (Some (port.Started time class packet)) None) [])
-  started_on true time class packet = (tt, tt)
-  started_on false time class packet = tt
-
-  entry_known : (link : ℕ) (e : Entry) → IsEntryNamed e → AllByRecursion (Brings IsKnown) (cons_option (port_entry link e) [])
-  entry_known link (Took input content) k = content_known link (input_time input) content k.1
-  entry_known link (Started time on class packet) k = started_on (link == on) time class packet
-
-  one_more : (o : Option port.Entry) (xs : List port.Entry) → AllByRecursion (Brings IsKnown) (cons_option o []) → AllByRecursion (Brings IsKnown) xs
-      → AllByRecursion (Brings IsKnown) (cons_option o xs)
-  one_more None xs h k = k
-  one_more (Some e) xs h k = (h.0, k)
-
-  logs_known : (link : ℕ) (log : List Entry) → AllByRecursion IsEntryNamed log → AllByRecursion (Brings IsKnown) (port_logs log link)
-  logs_known link [] k = tt
-  logs_known link (e ∷ es) k = one_more (port_entry link e) (port_logs es link) (entry_known link e k.0) (logs_known link es k.1)
 
   -- ## where packets go
 
@@ -205,14 +142,14 @@ module _ (config : Config) where
   limits_by link links (Some x) o h e f =
       let here = found (λ (y : ℕ × LinkPlan). y.0 == link) (λ (y : ℕ × LinkPlan). HasLink config y.0) links x h e in
       let own : ℕ × LinkLimits = (x.0, x.1.limits) in
-      let same : own ≡ o = some_same own o f in
+      let same : own ≡ o = same_Some own o f in
       let number : x.0 ≡ o.0 = ap (λ (y : ℕ × LinkLimits). y.0) same in
       (subst (HasLink config) number here.0, sym number ∙ eqb-true x.0 link here.1)
 
   limits_known : (site : Site) (link : ℕ) (o : ℕ × LinkLimits) → IsPlaced site → limits_out site link ≡ Some o → HasLink config o.0 × (o.0 ≡ link)
   limits_known site link o h e = limits_by link site.links (link_out site link) o h.links refl e
 
-  module _ (site : Site) (placed : IsPlaced site) (before : List Entry) (known : AllByRecursion IsEntryNamed before) where
+  module _ (site : Site) (placed : IsPlaced site) (before : List Entry) where
     -- at a router
     arrived_named : (plan : RouterPlan) (now : ℕ) (from : Option ℕ) (packet : PacketData) → AllByRecursion (λ (x : ℕ × LinkLimits). HasLink config x.0) plan.outgoing
         → IsKnown packet → HasSource config from → IsNamed (arrived plan before now from packet)
@@ -228,13 +165,13 @@ module _ (config : Config) where
     row_named plan now (Tick dst) made out e = absurd (cc)
     row_named plan now (Inject flow payload carried) made out e =
         let packet : PacketData = made_packet (next_id site.number before) flow payload carried in
-        subst IsNamed (some_same (arrived plan before now None packet) made e) (arrived_named plan now None packet out placed.number tt)
+        subst IsNamed (same_Some (arrived plan before now None packet) made e) (arrived_named plan now None packet out placed.number tt)
 
     routed_named : (plan : RouterPlan) (i : Input) (made : Content) → AllByRecursion (λ (x : ℕ × LinkLimits). HasLink config x.0) plan.outgoing
         → IsInputKnown i → routed site.number plan before i ≡ Some made → IsNamed made
     routed_named plan (FromTrace row) made out k e = row_named plan row.time.0 row.what made out e
     routed_named plan (Arrival time link packet) made out k e =
-        subst IsNamed (some_same (arrived plan before time.0 (Some link) packet) made e) (arrived_named plan time.0 (Some link) packet out k.0 k.1)
+        subst IsNamed (same_Some (arrived plan before time.0 (Some link) packet) made e) (arrived_named plan time.0 (Some link) packet out k.0 k.1)
 
     -- at a host
     out_known : (plan : HostPlan) (packet : PacketData) → HasOutcome config (goes_out site plan before packet)
@@ -246,38 +183,38 @@ module _ (config : Config) where
     unfolding intended
     intended_known plan h now dst payload above = placed.number
 
-    with_known : (plan : HostPlan) (h : History) (now : ℕ) (dst : Address) (due : Option Upper) → IsReplyKnown (option_map (sent_with site.number plan h now dst) due)
+    with_known : (plan : HostPlan) (h : History) (now : ℕ) (dst : Address) (due : Option Upper) → IsReplyGood IsKnown (option_map (sent_with site.number plan h now dst) due)
     with_known plan h now dst None = tt
     with_known plan h now dst (Some above) = intended_known plan h now dst (upper_size above) above
 
-    made_known : (plan : HostPlan) (h : History) (known : Files) (now : ℕ) (w : RowWhat) → IsReplyKnown (made_for site.number plan h known now w)
+    made_known : (plan : HostPlan) (h : History) (known : Files) (now : ℕ) (w : RowWhat) → IsReplyGood IsKnown (made_for site.number plan h known now w)
     made_known plan h known now (Send dst payload) = intended_known plan h now dst payload upper.Nothing
     made_known plan h known now (Inject flow payload carried) = placed.number
     made_known plan h known now (File dst size segment) =
         intended_known plan h now dst (upper_size (first_segment known dst size segment)) (first_segment known dst size segment)
     made_known plan h known now (Tick dst) = with_known plan h now dst (segment_due known dst)
 
-    sent_named : (plan : HostPlan) (made : Option Made) → IsReplyKnown made → IsNamed (sent_out site plan before made)
+    sent_named : (plan : HostPlan) (made : Option Made) → IsReplyGood IsKnown made → IsNamed (sent_out site plan before made)
     sent_named plan None k = (tt, tt)
     sent_named plan (Some made) k = ((k, out_known plan made.packet), k)
 
     reply_made : (plan : HostPlan) (h : History) (now : ℕ) (src : Address) (back : Option ReturnInfo) (above : Upper)
-        → IsReplyKnown (reply_of site.number plan h now src back above)
+        → IsReplyGood IsKnown (reply_of site.number plan h now src back above)
     reply_made plan h now src None above = tt
     reply_made plan h now src (Some back) above = placed.number
 
-    receipt_by : (b : Bool) (r s : Receipt) → IsReplyKnown r.reply → IsReplyKnown s.reply → IsReplyKnown (cond b r s).reply
+    receipt_by : (b : Bool) (r s : Receipt) → IsReplyGood IsKnown r.reply → IsReplyGood IsKnown s.reply → IsReplyGood IsKnown (cond b r s).reply
     receipt_by true r s h k = h
     receipt_by false r s h k = k
 
-    receipt_known : (plan : HostPlan) (h : History) (now : ℕ) (p : PacketData) (above : Upper) → IsReplyKnown (receipt_of site.number plan h now p above).reply
+    receipt_known : (plan : HostPlan) (h : History) (now : ℕ) (p : PacketData) (above : Upper) → IsReplyGood IsKnown (receipt_of site.number plan h now p above).reply
     unfolding receipt_of
     receipt_known plan h now p above =
         receipt_by (p.flow.dst.0 == plan.address.0) (receiving.received site.number plan h now p.flow.src p.carried above) stray
         (reply_made plan (before_reply plan p.flow.src p.carried h) now p.flow.src
         (brought_by above (answer_to_claim plan h.deeds p.flow.src p.carried (claim_in p.carried))) above) tt
 
-    told_known : (plan : HostPlan) (reply : Option Made) → IsReplyKnown reply
+    told_known : (plan : HostPlan) (reply : Option Made) → IsReplyGood IsKnown reply
         → HasReply config (reply_told reply (option_map (λ (made : Made). goes_out site plan before made.packet) reply))
     told_known plan None k = tt
     told_known plan (Some made) k = (k, out_known plan made.packet)
@@ -289,7 +226,7 @@ module _ (config : Config) where
     hosted_named plan (Arrival time link packet) k =
         let above : Upper = answered plan.address (files plan before) packet in
         let receipt : Receipt = receipt_of site.number plan (history_of plan (calls before)) time.0 packet above in
-        let own : IsReplyKnown receipt.reply = receipt_known plan (history_of plan (calls before)) time.0 packet above in
+        let own : IsReplyGood IsKnown receipt.reply = receipt_known plan (history_of plan (calls before)) time.0 packet above in
         ((k.0, k.1, told_known plan receipt.reply own), own)
 
     -- at a node
@@ -300,61 +237,34 @@ module _ (config : Config) where
 
     named_by : (plan : NodePlan) (i : Input) (made : Content) → IsPlanned plan site.links → IsInputKnown i → content_by site plan before i ≡ Some made → IsNamed made
     named_by (plans.Router plan) i made planned k e = routed_named plan i made (outgoing_known plan planned.1) k e
-    named_by (plans.Host plan) i made planned k e = subst IsNamed (some_same (hosted site plan before i) made e) (hosted_named plan i k)
+    named_by (plans.Host plan) i made planned k e = subst IsNamed (same_Some (hosted site plan before i) made e) (hosted_named plan i k)
 
     -- what starts
-    starts_by : (time link : ℕ) (s : Class × PacketData) (r : Option (ℕ × LinkLimits)) → ((o : ℕ × LinkLimits) → r ≡ Some o → HasLink config o.0 × (o.0 ≡ link))
-        → option_and_then (λ (o : ℕ × LinkLimits). start_after o.1 (port_logs before link) time) r ≡ Some s → IsKnown s.1 × HasLink config link
-    starts_by time link s None out e = absurd (cc)
-    starts_by time link s (Some o) out e =
-        let here = out o refl in
-        (start_good IsKnown o.1 (port_logs before link) time s (logs_known link before known) e, subst (HasLink config) here.1 here.0)
+    out_by : (log : List port.Entry) (time link : ℕ) (s : Class × PacketData) (r : Option (ℕ × LinkLimits)) → ((o : ℕ × LinkLimits) → r ≡ Some o → HasLink config o.0 × (o.0 ≡ link))
+        → option_and_then (λ (o : ℕ × LinkLimits). start_after o.1 log time) r ≡ Some s → HasLink config link
+    out_by log time link s None out e = absurd (cc)
+    out_by log time link s (Some o) out e = let here = out o refl in subst (HasLink config) here.1 here.0
 
-    start_named : (time link : ℕ) (class : Class) (packet : PacketData) → starts site before link time ≡ Some (class, packet) → IsEntryNamed (Started time link class packet)
-    start_named time link class packet e =
-        let s : Class × PacketData = (class, packet) in
-        starts_by time link s (limits_out site link) (λ o f. limits_known site link o placed f) e
+  leaves : (e : Entry) → IsEntryNamed e → LeavesAt IsKnown e
+  leaves (Took input content) k = k.1
+  leaves (Started time link class packet) k = tt
 
   -- ## a node's log
 
   module _ (site : Site) (placed : IsPlaced site) (planned : IsPlanned site.plan site.links) where
-    walk : (before : List Entry) (is : List Input) (es : List Entry) → GoesOn site before is es → AllByRecursion IsInputKnown is → AllByRecursion IsEntryNamed before
-        → AllByRecursion IsEntryNamed es
-    walk before [] [] g h k = tt
-    walk before (i ∷ is) [] g h k = absurd g
-    walk before [] (Took j c ∷ es) g h k = absurd g
-    walk before (i ∷ is) (Took j c ∷ es) g h k =
-        let own : IsNamed c = named_by site placed before k site.plan i c planned h.0 g.1 in
-        (own, walk (before ++ Took j c ∷ []) is es g.2 h.1 (each-append IsEntryNamed before (Took j c ∷ []) k (own, tt)))
-    walk before [] (Started u l c p ∷ es) g h k =
-        let own = start_named site placed before k u l c p g.0 in
-        (own, walk (before ++ Started u l c p ∷ []) [] es g.1 h (each-append IsEntryNamed before (Started u l c p ∷ []) k (own, tt)))
-    walk before (i ∷ is) (Started u l c p ∷ es) g h k =
-        let own = start_named site placed before k u l c p g.0 in
-        (own, walk (before ++ Started u l c p ∷ []) (i ∷ is) es g.1 h (each-append IsEntryNamed before (Started u l c p ∷ []) k (own, tt)))
+    entry_named : (before : List Entry) (e : Entry) → AllByRecursion IsEntryNamed before → IsMade IsInputKnown site before e → IsEntryNamed e
+    entry_named before (Took i made) k m = named_by site placed before site.plan i made planned m.1 m.0
+    entry_named before (Started time link class packet) k m =
+        let s : Class × PacketData = (class, packet) in (
+          starts_good IsKnown IsEntryNamed leaves site before time link class packet k m,
+          out_by site placed before (port_logs before link) time link s (limits_out site link) (λ o f. limits_known site link o placed f) m,
+        )
 
     -- what is told of a log
     told_named : (log : List Entry) → AllByRecursion IsEntryNamed log → AllByRecursion (HasEvent config) (events site log)
     told_named [] k = tt
     told_named (Took j c ∷ es) k = ((placed.number, k.0.0), told_named es k.1)
     told_named (Started u l c p ∷ es) k = ((placed.number, k.0), told_named es k.1)
-
-  -- ## what reaches a node
-
-  arrives_on : (b : Bool) (time number : ℕ) (packet : PacketData) (is : List Input) → IsKnown packet → HasLink config number → AllByRecursion IsInputKnown is
-      → AllByRecursion IsInputKnown (cons_option (cond b (Some (Arrival (at_time time) number packet)) None) is)
-  arrives_on true time number packet is k h rest = ((k, h), rest)
-  arrives_on false time number packet is k h rest = rest
-
-  arrivals_known : (number : ℕ) (link : LinkPlan) (log : List Entry) → HasLink config number → AllByRecursion IsEntryNamed log → AllByRecursion IsInputKnown (arrivals number link log)
-  arrivals_known number link [] h k = tt
-  arrivals_known number link (Took j c ∷ es) h k = arrivals_known number link es h k.1
-  arrivals_known number link (Started u on c p ∷ es) h k =
-      arrives_on (on == number) (u + packet_length p * link.limits.ns_per_byte + link.delay) number p (arrivals number link es) k.0.0 h (arrivals_known number link es h k.1)
-
-  rows_known : (rows : List Row) → AllByRecursion IsInputKnown (map FromTrace rows)
-  rows_known [] = tt
-  rows_known (row ∷ rows) = (tt, rows_known rows)
 
   -- ## a run
 
@@ -370,68 +280,31 @@ module _ (config : Config) where
   site_placed : (n : ℕ) (p : NodePlan) → n < length config.nodes → IsPlaced (site_of n p (links_out n config.links))
   site_placed n p l = record { number = l; links = within n 0 (length config.links) config.links (omega arith) }
 
+  placed_by : (n : ℕ) (site : Site) (o : Option NodePlan) → slice_get config.nodes n ≡ o
+      → option_map (λ (p : NodePlan). site_of n p (links_out n config.links)) o ≡ Some site → IsPlaced site
+  placed_by n site None here e = absurd (cc)
+  placed_by n site (Some p) here e =
+      subst IsPlaced (same_Some (site_of n p (links_out n config.links)) site e) (site_placed n p (slice_get_within config.nodes n p here))
+
+  site_at_placed : (n : ℕ) (site : Site) → site_at config n ≡ Some site → IsPlaced site
+  site_at_placed n site there = placed_by n site (slice_get config.nodes n) refl there
+
   module _ (rows : List Row) (until : ℕ) (logs : Logs) (valid : IsConfig config) (run : IsRunTo config rows until logs) where
-    abbrev KnownTo : ℕ → Type 0
-    KnownTo t = (node : ℕ) → AllByRecursion IsEntryNamed (cut entry_time t (log_at logs node))
+    rows_known : (rs : List Row) → AllByRecursion (λ (row : Row). IsInputKnown (FromTrace row)) rs
+    rows_known [] = tt
+    rows_known (row ∷ rs) = (tt, rows_known rs)
 
-    link_reach : (t : ℕ) → KnownTo t → (number : ℕ) (link : LinkPlan) → slice_get config.links number ≡ Some link → (b : Bool)
-        → AllByRecursion IsInputKnown (due (suc t) (cond b (arrivals number link (log_at logs link.from)) []))
-    link_reach t h number link here false = tt
-    link_reach t h number link here true =
-        let d = are_delayed config valid number link here in
-        let early : due (suc t) (arrivals number link (log_at logs link.from)) ≡ due (suc t) (arrivals number link (cut entry_time t (log_at logs link.from))) =
-        arrivals-cut number link t (suc t) (log_at logs link.from) (omega arith) in
-        subst (λ (is : List Input). AllByRecursion IsInputKnown is) (sym early)
-        (each-filter IsInputKnown (λ (i : Input). nat_lt (input_time i) (suc t)) (arrivals number link (cut entry_time t (log_at logs link.from)))
-        (arrivals_known number link (cut entry_time t (log_at logs link.from)) (slice_get_within config.links number link here) (h link.from)))
-
-    reach_by : (t : ℕ) → KnownTo t → (node number : ℕ) (o : Option LinkPlan) → slice_get config.links number ≡ o
-        → AllByRecursion IsInputKnown (due (suc t) (option_map_or (arrivals_at logs node number) o []))
-    reach_by t h node number None here = tt
-    reach_by t h node number (Some link) here = link_reach t h number link here (link.to == node)
-
-    reach_known : (t : ℕ) → KnownTo t → (node source : ℕ) → AllByRecursion IsInputKnown (due (suc t) (reaches config rows logs node source))
-    reach_known t h node zero =
-        each-filter IsInputKnown (λ (i : Input). nat_lt (input_time i) (suc t)) (rows_at rows node) (rows_known (filter (λ (row : Row). row.node == node) rows))
-    reach_known t h node (suc number) = reach_by t h node number (slice_get config.links number) refl
-
-    at_site : (t : ℕ) → suc t ≤ until → KnownTo t → (node : ℕ) (plan : NodePlan) → slice_get config.nodes node ≡ Some plan
-        → AllByRecursion IsEntryNamed (cut entry_time (suc t) (log_at logs node))
-    at_site t l h node plan here =
-        let site : Site = site_of node plan (links_out node config.links) in
-        let there : site_at config node ≡ Some site = ap (option_map (λ (p : NodePlan). site_of node p (links_out node config.links))) here in
-        let has = run.each node site there in
-        let log = IsNodeLog-cut site has.inputs (suc t) until (log_at logs node) has.join.in_order l has.is_log in
-        let inputs : AllByRecursion IsInputKnown (due (suc t) has.inputs) =
-        each_from_sources input_time input_source IsInputKnown (due (suc t) has.inputs)
-        (λ s. subst (λ (is : List Input). AllByRecursion IsInputKnown is) (sym (source_due config rows until (suc t) logs node s has.inputs l has.join)) (reach_known t h node s)) in
-        walk site (site_placed node plan (slice_get_within config.nodes node plan here)) (site_is config node site valid there).1.planned
-        [] (due (suc t) has.inputs) (cut entry_time (suc t) (log_at logs node)) log.steps inputs tt
-
-    step : (t : ℕ) → suc t ≤ until → KnownTo t → KnownTo (suc t)
-    step t l h node =
-        elim (slice_get_cases config.nodes node).1 [
-          | inl in' ↦ at_site t l h node in'.0 in'.2
-          | inr past ↦
-              let c = run.count in
-              let p = past.0 in
-              let none : log_at logs node ≡ [] = get_or_past logs node [] (omega arith) in
-              subst (λ (log : List Entry). AllByRecursion IsEntryNamed (cut entry_time (suc t) log)) (sym none) tt
-        ]
-
-    known_to : (t : ℕ) → t ≤ until → KnownTo t
-    known_to zero l node = subst (λ (log : List Entry). AllByRecursion IsEntryNamed log) (sym (cut-zero entry_time entry_rank (log_at logs node))) tt
-    known_to (suc t) l node = step t l (known_to t (omega arith)) node
+    all_named : (node : ℕ) (site : Site) → site_at config node ≡ Some site → AllByRecursion IsEntryNamed (log_at logs node)
+    all_named = holds config rows until logs valid run IsInputKnown IsEntryNamed (rows_known rows)
+        (λ number link here time on at class packet k. (k.0, slice_get_within config.links number link here))
+        (λ node site there before e rest split k m. entry_named site (site_at_placed node site there) (site_is config node site valid there).1.planned before e k m)
 
     node_named : (node : ℕ) (plan : NodePlan) → slice_get config.nodes node ≡ Some plan
         → AllByRecursion (HasEvent config) (events (site_of node plan (links_out node config.links)) (log_at logs node))
     node_named node plan here =
         let site : Site = site_of node plan (links_out node config.links) in
         let there : site_at config node ≡ Some site = ap (option_map (λ (p : NodePlan). site_of node p (links_out node config.links))) here in
-        let has = run.each node site there in
-        let all : AllByRecursion IsEntryNamed (log_at logs node) =
-        subst (λ (log : List Entry). AllByRecursion IsEntryNamed log) (cut_same site has.inputs until (log_at logs node) has.is_log) (known_to until (omega arith) node) in
-        told_named site (site_placed node plan (slice_get_within config.nodes node plan here)) (site_is config node site valid there).1.planned (log_at logs node) all
+        told_named site (site_placed node plan (slice_get_within config.nodes node plan here)) (site_is config node site valid there).1.planned (log_at logs node) (all_named node site there)
 
     events_by : (node : ℕ) (o : Option NodePlan) → slice_get config.nodes node ≡ o
         → AllByRecursion (HasEvent config)

@@ -3,6 +3,7 @@ use Rattle.std.proofs.Common.{◌≡◌, ℕ, Bool, true, false, cond, List, [],
 use Rattle.std.specs.Prelude.{nat_le, count_by}
 use Rattle.std.specs.List.{AllByRecursion, fold, filter_map}
 use Rattle.std.proofs.lemmas.List.Elements.{All-drop, All-from_recursion, recursion_from_All}
+use Rattle.std.proofs.lemmas.Option.{same_Some}
 use Rattle.tva_base.specs.declared.limits.LinkLimits.{LinkLimits}
 use Rattle.tva_base.specs.declared.packet.Class.{Class}
 use Rattle.tva_base.specs.declared.packet.Class.TheVariants.{Request, Regular, Legacy}
@@ -20,9 +21,6 @@ use Rattle.tva_port.specs.Log.{Entry, Queued, Started, free_after}
 use Rattle.tva_port.specs.Waiting.{Waiting, same_class, request_step, regular_step, queued_legacy, is_legacy_start, waiting_after, next_request}
 use Rattle.tva_port.specs.Decide.{covered, start_or, wait_for, credit_after, decision}
 use Rattle.tva_log.specs.NodeLog.{start_of, start_after}
-
-some_same : {X : Type 0} (x y : X) → Some x ≡ Some y → x ≡ y
-some_same x y e = cc
 
 -- for whatever holds of each packet that was queued
 module _ (P : PacketData → Type 0) where
@@ -73,10 +71,10 @@ module _ (P : PacketData → Type 0) where
   started class None other s known rest e = rest e
   started class (Some p) other s known rest e =
       let own : Class × PacketData = (class, p) in
-      subst (λ (x : Class × PacketData). P x.1) (some_same own s e) (known p refl)
+      subst (λ (x : Class × PacketData). P x.1) (same_Some own s e) (known p refl)
 
   covered_one : (b : Bool) (q p : PacketData) → cond b (Some q) None ≡ Some p → q ≡ p
-  covered_one true q p e = some_same q p e
+  covered_one true q p e = same_Some q p e
   covered_one false q p e = absurd (cc)
 
   covered_good : (l : LinkLimits) (credit : ℕ) (o : Option PacketData) → ((p : PacketData) → o ≡ Some p → P p)

@@ -4,7 +4,7 @@ use Rattle.std.specs.Prelude.{◌==◌, slice_get}
 use Rattle.std.specs.Option.{option_map, option_and_then}
 use Rattle.std.specs.List.{AllByRecursion, cons_option}
 use Rattle.std.proofs.lemmas.Bool.{cases_lt, eqb-true, eq-eqb, ne_eqb}
-use Rattle.std.proofs.lemmas.List.{append-nil, append_assoc}
+use Rattle.std.proofs.lemmas.List.{append-nil}
 use Rattle.std.proofs.lemmas.List.Elements.{filter_map-append}
 use Rattle.tva_base.specs.declared.limits.LinkLimits.{LinkLimits}
 use Rattle.tva_base.specs.declared.plan.LinkPlan.{LinkPlan}
@@ -27,6 +27,7 @@ use Rattle.tva_log.specs.Parts.{queued_at, reply_at, content_at, port_entry, por
 use Rattle.tva_log.specs.NodeLog.{starts, start_after, due, GoesOn}
 use Rattle.tva_log.specs.Told.{at_time}
 use Rattle.tva_log.proofs.Ports.{busy_starts_none}
+use Rattle.tva_log.proofs.Walks.{by_place, IsMade, AnyInput, any, made_at}
 use Rattle.tva_plan.specs.declared.config.Config.{Config}
 use Rattle.tva_plan.specs.declared.config.NodePlan.{NodePlan}
 use Rattle.tva_plan.specs.Valid.{IsConfig, IsLinkPlan}
@@ -124,22 +125,14 @@ module _ (number : ℕ) (link : LinkPlan) (site : Site) (out : link_out site num
         bound = rw (arrives, free') (each-append (λ x. input_time x ≤ end + link.delay) (arrivals number link before) (i ∷ []) early (now, tt));
       }
 
-  one_more : (log before : List Entry) (e : Entry) (es : List Entry) → log ≡ before ++ e ∷ es → log ≡ (before ++ e ∷ []) ++ es
-  one_more log before e es h = h ∙ sym (append_assoc before (e ∷ []) es)
-
-  walk : (log before : List Entry) (is : List Input) (es : List Entry) → log ≡ before ++ es → GoesOn site before is es → IsRising before → IsRising log
-  walk log before is [] w g h = let same_log : log ≡ before = w ∙ append-nil before in rw same_log h
-  walk log before [] (Took j c ∷ es) w g h = absurd g
-  walk log before (i ∷ is) (Took j c ∷ es) w g h =
-      walk log (before ++ Took j c ∷ []) is es (one_more log before (Took j c) es w) g.2
-      (same before (Took j c) refl (content_free link.limits (port_logs before number) number (input_time j) c) h)
-  walk log before [] (Started u k c p ∷ es) w g h =
-      walk log (before ++ Started u k c p ∷ []) [] es (one_more log before (Started u k c p) es w) g.1 (sent_on before u k c p (k == number) refl g.0 h)
-  walk log before (i ∷ is) (Started u k c p ∷ es) w g h =
-      walk log (before ++ Started u k c p ∷ []) (i ∷ is) es (one_more log before (Started u k c p) es w) g.1 (sent_on before u k c p (k == number) refl g.0 h)
+  one_more : (before : List Entry) (e : Entry) → IsMade AnyInput site before e → IsRising before → IsRising (before ++ e ∷ [])
+  one_more before (Took j c) m h = same before (Took j c) refl (content_free link.limits (port_logs before number) number (input_time j) c) h
+  one_more before (Started u k c p) m h = sent_on before u k c p (k == number) refl m h
 
   pub arrivals_rise : (is : List Input) (log : List Entry) → GoesOn site [] is log → NeverFalls input_time (arrivals number link log)
-  arrivals_rise is log g = (walk log [] is log refl g (record { rises = tt; bound = tt })).rises
+  arrivals_rise is log g =
+      (by_place IsRising [] log (λ before e rest split h. one_more before e (made_at AnyInput site is log before e rest g (any is) split) h)
+      (record { rises = tt; bound = tt })).rises
 
 -- the node before a link
 node_before : (config : Config) (number : ℕ) (link : LinkPlan) → IsConfig config → slice_get config.links number ≡ Some link → link.from < length config.nodes

@@ -6,7 +6,7 @@ use Rattle.std.specs.Option.{option_map, option_map_or}
 use Rattle.std.specs.List.{cons_option}
 use Rattle.std.proofs.lemmas.Bool.{lt-ltb, le-ltb, cases_lt}
 use Rattle.std.proofs.lemmas.List.{ext_get_or, get_or_past, length-map}
-use Rattle.std.proofs.lemmas.Option.{slice_get_cases}
+use Rattle.std.proofs.lemmas.Option.{slice_get_cases, same_Some}
 use Rattle.tva_base.specs.declared.plan.LinkPlan.{LinkPlan}
 use Rattle.tva_shim.specs.Packets.{PacketData, packet_length}
 use Rattle.tva_plan.specs.declared.config.Config.{Config}
@@ -28,14 +28,11 @@ use Rattle.tva_run.specs.Run.{IsRunTo, logs_before}
 
 -- ## what arrives
 
-some_same : {X : Type 0} (x y : X) → Some x ≡ Some y → x ≡ y
-some_same x y e = cc
-
 started_later : (number time : ℕ) (link : LinkPlan) (packet : PacketData) (b : Bool) (i : Input)
     → cond b (Some (Arrival (at_time (time + packet_length packet * link.limits.ns_per_byte + link.delay)) number packet)) None ≡ Some i → time + link.delay ≤ input_time i
 started_later number time link packet false i e = absurd (cc)
 started_later number time link packet true i e =
-    let same = some_same (Arrival (at_time (time + packet_length packet * link.limits.ns_per_byte + link.delay)) number packet) i e in
+    let same = same_Some (Arrival (at_time (time + packet_length packet * link.limits.ns_per_byte + link.delay)) number packet) i e in
     subst (λ x. time + link.delay ≤ input_time x) same (omega arith)
 
 due_cons : (until : ℕ) (o : Option Input) (xs ys : List Input) → due until xs ≡ due until ys → due until (cons_option o xs) ≡ due until (cons_option o ys)
@@ -91,6 +88,20 @@ module _ (config : Config) (rows : List Row) (t until node : ℕ) (far : (number
   reaches_same zero = refl
   reaches_same (suc number) = arrivals_same number (slice_get config.links number) refl
 
+-- what holds of no log, and of that of each node, holds at each number
+pub at_nodes : (config : Config) (rows : List Row) (until : ℕ) (logs : Logs) → IsRunTo config rows until logs → (Q : List Entry → Type 0) → Q []
+    → ((node : ℕ) (site : Site) → site_at config node ≡ Some site → Q (log_at logs node)) → (node : ℕ) → Q (log_at logs node)
+at_nodes config rows until logs run Q none some node = elim (slice_get_cases config.nodes node).1 [
+  | inl in' ↦
+      some node (site_of node in'.0 (links_out node config.links))
+      (ap (option_map (λ (p : NodePlan). site_of node p (links_out node config.links))) in'.2)
+  | inr past ↦
+      let c = run.count in
+      let p = past.0 in
+      let nothing : log_at logs node ≡ [] = get_or_past logs node [] (omega arith) in
+      subst Q (sym nothing) none
+]
+
 -- ## at most one run
 
 pub source_due : (config : Config) (rows : List Row) (until t : ℕ) (logs : Logs) (node source : ℕ) (inputs : List Input) → t ≤ until
@@ -135,18 +146,8 @@ module _ (config : Config) (rows : List Row) (until : ℕ) (a b : Logs) (delayed
   -- a run has nothing at its end or later
   ends : (logs : Logs) → IsRunTo config rows until logs → (node : ℕ) → cut entry_time until (log_at logs node) ≡ log_at logs node
   ends logs r node =
-      elim (slice_get_cases config.nodes node).1 [
-        | inl in' ↦
-            let site : Site = site_of node in'.0 (links_out node config.links) in
-            let there : site_at config node ≡ Some site = ap (option_map (λ (p : NodePlan). site_of node p (links_out node config.links))) in'.2 in
-            let h = r.each node site there in
-            cut_same site h.inputs until (log_at logs node) h.is_log
-        | inr past ↦
-            let c = r.count in
-            let p = past.0 in
-            let none : log_at logs node ≡ [] = get_or_past logs node [] (omega arith) in
-            rw none refl
-      ]
+      at_nodes config rows until logs r (λ (log : List Entry). cut entry_time until log ≡ log) refl
+      (λ n site there. let h = r.each n site there in cut_same site h.inputs until (log_at logs n) h.is_log) node
 
   pub one_run_is : a ≡ b
   one_run_is =

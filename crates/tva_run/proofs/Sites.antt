@@ -5,7 +5,7 @@ use Rattle.std.specs.Option.{option_map}
 use Rattle.std.specs.List.{AllByRecursion, cons_option, find}
 use Rattle.std.proofs.lemmas.Bool.{eqb-true, eq-eqb, ne_eqb}
 use Rattle.std.proofs.lemmas.List.Elements.{All-from_recursion, recursion_from_All}
-use Rattle.std.proofs.lemmas.Option.{slice_get_within}
+use Rattle.std.proofs.lemmas.Option.{slice_get_within, same_Some}
 use Rattle.tva_base.specs.declared.limits.LinkLimits.{LinkLimits}
 use Rattle.tva_base.specs.declared.plan.LinkPlan.{LinkPlan}
 use Rattle.tva_base.specs.Plan.{links_of}
@@ -25,9 +25,6 @@ use Rattle.tva_log.specs.Entries.{Entry, Took, Started}
 use Rattle.tva_log.specs.Told.{at_time, arrives, sendings}
 use Rattle.tva_log.specs.Sites.{Site, site_of, link_out, AreRising, IsLinkOut, IsPlanned, IsSite}
 use Rattle.tva_run.specs.Reaching.{link_from, links_out, site_at, arrivals, arrival}
-
-some_same : {X : Type 0} (x y : X) → Some x ≡ Some y → x ≡ y
-some_same x y e = cc
 
 module _ (n : ℕ) where
   -- ## the links out are the configuration's
@@ -110,7 +107,7 @@ site_by : (config : Config) (n : ℕ) (site : Site) (o : Option NodePlan) → Is
     → option_map (λ p. site_of n p (links_out n config.links)) o ≡ Some site → (site.number ≡ n) × IsSite site
 site_by config n site None valid here h = absurd (cc)
 site_by config n site (Some p) valid here h =
-    let same = some_same (site_of n p (links_out n config.links)) site h in
+    let same = same_Some (site_of n p (links_out n config.links)) site h in
     (ap (λ (s : Site). s.number) (sym same), subst IsSite same (site_valid config n p valid here))
 
 pub site_is : (config : Config) (n : ℕ) (site : Site) → IsConfig config → site_at config n ≡ Some site → (site.number ≡ n) × IsSite site
@@ -118,7 +115,7 @@ site_is config n site valid there = site_by config n site (slice_get config.node
 
 number_by : (config : Config) (n : ℕ) (site : Site) (o : Option NodePlan) → option_map (λ p. site_of n p (links_out n config.links)) o ≡ Some site → site.number ≡ n
 number_by config n site None h = absurd (cc)
-number_by config n site (Some p) h = ap (λ (s : Site). s.number) (sym (some_same (site_of n p (links_out n config.links)) site h))
+number_by config n site (Some p) h = ap (λ (s : Site). s.number) (sym (same_Some (site_of n p (links_out n config.links)) site h))
 
 pub site_number : (config : Config) (n : ℕ) (site : Site) → site_at config n ≡ Some site → site.number ≡ n
 site_number config n site there = number_by config n site (slice_get config.nodes n) there
@@ -134,7 +131,7 @@ found : (n k : ℕ) (links : List LinkPlan) (i : ℕ) (link : LinkPlan) → slic
     → find (λ (o : ℕ × LinkPlan). o.0 == k + i) (picked (link_from n) k links) ≡ Some (k + i, link)
 found n k [] i link h e = absurd (cc)
 found n k (l ∷ ls) zero link h e =
-    let same : l ≡ link = some_same l link h in
+    let same : l ≡ link = same_Some l link h in
     let from : (l.from == n) ≡ true = eq-eqb l.from n (ap (λ (x : LinkPlan). x.from) same ∙ e) in
     let place : k ≡ k + 0 = omega arith in
     rw (from, eq-eqb k (k + 0) place) (ap₂ (λ (m : ℕ) (x : LinkPlan). Some (let o : ℕ × LinkPlan = (m, x) in o)) place same)
@@ -147,7 +144,7 @@ out_by : (config : Config) (number : ℕ) (link : LinkPlan) (site : Site) (o : O
     → option_map (λ p. site_of link.from p (links_out link.from config.links)) o ≡ Some site → link_out site number ≡ Some (number, link)
 out_by config number link site None here h = absurd (cc)
 out_by config number link site (Some p) here h =
-    let same = some_same (site_of link.from p (links_out link.from config.links)) site h in
+    let same = same_Some (site_of link.from p (links_out link.from config.links)) site h in
     let place : 0 + number ≡ number = omega arith in
     subst (λ (s : Site). link_out s number ≡ Some (number, link)) same
     (subst (λ (m : ℕ). find (λ (o : ℕ × LinkPlan). o.0 == m) (picked (link_from link.from) 0 config.links) ≡ Some (m, link)) place (found link.from 0 config.links number link here refl))

@@ -1,5 +1,5 @@
-use Rattle.tva_paths.proofs.Origins.{origin_at}
-use Rattle.tva_paths.proofs.laws.packets_have_origins.Goals as goal
+use Rattle.tva_delivery.proofs.Origins.{origin_at}
+use Rattle.tva_delivery.proofs.packets.packets_have_origins.Goals as goal
 
 pub returns : goal.returns
 returns c = λ config rows until logs valid run node site is before input content rest here packet comes.

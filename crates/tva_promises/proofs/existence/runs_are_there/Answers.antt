@@ -1,5 +1,5 @@
-use Rattle.tva_existence.proofs.Whole.{read_run, traced_run}
-use Rattle.tva_existence.proofs.laws.runs_are_there.Goals as goal
+use Rattle.tva_promises.proofs.Whole.{read_run, traced_run}
+use Rattle.tva_promises.proofs.existence.runs_are_there.Goals as goal
 
 pub returns-clause-traced : goal.returns-clause-traced
 returns-clause-traced c = λ config rows until valid trace within. traced_run config rows valid trace until within

@@ -9,7 +9,7 @@ ghost use Rattle.tva_log.specs.Sites.{Site};
 ghost use Rattle.tva_log.specs.Entries.{Content, Entry, Took};
 ghost use Rattle.tva_run.specs.Reaching.{Logs, log_at, site_at};
 ghost use Rattle.tva_run.specs.Run.{IsRunTo};
-ghost use Rattle.tva_paths.specs.Origins.{HasOrigin, comes_in};
+ghost use Rattle.tva_delivery.specs.Origins.{HasOrigin, comes_in};
 
 /// In every run up to a time, in nanoseconds, each packet that comes to a node was made at the node that
 /// its identity names, for a row or as a reply. It still has its flow, its payload, its upper part, its

@@ -1,11 +1,12 @@
 -- Each time has a run up to it: from the run up to a time each node's log goes on to the next.
-use Rattle.std.proofs.Common.{◌≡◌, ℕ, zero, suc, ◌+◌, ◌*◌, ◌<◌, ◌≤◌, Bool, true, false, cond, List, [], ◌∷◌, length, map, filter, Option, Some, None, refl, sym, subst, ap, ◌∙◌, arith, inl, inr}
+use Rattle.std.proofs.Common.{◌≡◌, ℕ, zero, suc, ◌+◌, ◌*◌, ◌<◌, ◌≤◌, Bool, true, false, cond, List, [], ◌∷◌, length, map, filter, All, Option, Some, None, refl, sym, subst, ap, ◌∙◌, arith, inl, inr}
 use Rattle.std.specs.Prelude.{◌==◌, nat_lt, slice_get}
 use Rattle.std.specs.Option.{option_map, option_map_or, IfSome}
 use Rattle.std.specs.List.{AllByRecursion, cons_option}
 use Rattle.std.proofs.lemmas.Bool.{cases_Bool, eqb-true}
 use Rattle.std.proofs.lemmas.List.{length-map}
-use Rattle.std.proofs.lemmas.Option.{slice_get_cases}
+use Rattle.std.proofs.lemmas.List.Elements.{recursion_from_All}
+use Rattle.std.proofs.lemmas.Option.{same_Some, slice_get_cases}
 use Rattle.tva_base.specs.declared.event.Event.{Event}
 use Rattle.tva_base.specs.declared.packet.Time.{Time}
 use Rattle.tva_base.specs.declared.plan.LinkPlan.{LinkPlan}
@@ -18,9 +19,9 @@ use Rattle.tva_plan.specs.Valid.{IsConfig}
 use Rattle.tva_rows.specs.declared.rows.Row.{Row}
 use Rattle.tva_rows.specs.declared.rows.RowWhat.{RowWhat}
 use Rattle.tva_rows.specs.declared.rows.RowWhat.TheVariants.{Send, Inject, File, Tick}
-use Rattle.tva_rows.specs.Valid.{NeverFall}
+use Rattle.tva_rows.specs.Valid.{IsRow, IsRowWhat, NeverFall}
 use Rattle.tva_log.specs.Joins.{IsJoin, NeverFalls, IsInOrder}
-use Rattle.tva_log.proofs.Joins.{cut-zero, each-filter, filter-true, filter-false, in_order-filter, join_unique, times_from}
+use Rattle.tva_log.proofs.Joins.{cut-zero, each-filter, each-weaker, filter-true, filter-false, in_order-filter, join_unique, times_from}
 use Rattle.tva_log.proofs.Putting.{each_from_sources}
 use Rattle.tva_log.specs.declared.kinds.Input.{Input}
 use Rattle.tva_log.specs.declared.kinds.Input.TheVariants.{FromTrace, Arrival}
@@ -37,11 +38,8 @@ use Rattle.tva_run.proofs.Going.{run_goes_on}
 use Rattle.tva_run.proofs.Runs.{are_delayed, source_due}
 use Rattle.tva_run.proofs.Sites.{site_is, site_number}
 use Rattle.tva_run.proofs.Reaches.{reaches_rise}
-use Rattle.tva_existence.proofs.Joining.{joined}
-use Rattle.tva_existence.proofs.Nexts.{IsInjected, IsTakable, next_log}
-
-some_one : {X : Type 0} (x y : X) → Some x ≡ Some y → x ≡ y
-some_one x y e = cc
+use Rattle.tva_promises.proofs.Joining.{joined}
+use Rattle.tva_promises.proofs.Nexts.{IsInjected, IsTakable, next_log}
 
 -- ## lists
 
@@ -127,6 +125,17 @@ IsPlacedWhat at_host (Tick dst) = at_host ≡ true
 abbrev pub IsPlaced : Config → Row → Type 0
 IsPlaced config row = IsPlacedWhat (is_host config.nodes row.node) row.what
 
+-- so do those of the rows of a trace
+placed_what : (at_host : Bool) (w : RowWhat) → IsRowWhat at_host w → IsPlacedWhat at_host w
+placed_what at_host (Send dst payload) h = h.0
+placed_what at_host (Inject flow payload carried) h = tt
+placed_what at_host (File dst size segment) h = h.0
+placed_what at_host (Tick dst) h = h
+
+pub traced_placed : (config : Config) (rows : List Row) → All (IsRow config) rows → AllByRecursion (IsPlaced config) rows
+traced_placed config rows a =
+    each-weaker (IsRow config) (IsPlaced config) (λ row r. placed_what (is_host config.nodes row.node) row.what r.what) rows (recursion_from_All (IsRow config) rows a)
+
 injected : (what : RowWhat) → IsPlacedWhat false what → IsInjected what
 injected (Send dst payload) h = absurd (cc)
 injected (Inject flow payload carried) h = tt
@@ -179,7 +188,7 @@ least_positive none (link ∷ other ∷ links) one h =
 
 found_log : (logs : Logs) (n : ℕ) (log : List Entry) → slice_get logs n ≡ Some log → log_at logs n ≡ log
 found_log [] n log e = absurd (cc)
-found_log (x ∷ xs) zero log e = some_one x log e
+found_log (x ∷ xs) zero log e = same_Some x log e
 found_log (x ∷ xs) (suc n) log e = found_log xs n log e
 
 module _ (config : Config) (rows : List Row) (valid : IsConfig config) (order : NeverFall 0 rows) (placed : AllByRecursion (IsPlaced config) rows) where
@@ -223,7 +232,7 @@ module _ (config : Config) (rows : List Row) (valid : IsConfig config) (order : 
       → slice_get config.nodes node ≡ Some plan → (log : List Entry) × IsNext t logs node log
   some_next t logs run node plan here =
       let next = node_next t logs run node plan here in
-      (next.0, λ other there. subst (λ (p : NodePlan). HasLog config rows logs (suc t) (site_of node p (links_out node config.links)) next.0) (some_one plan other (sym here ∙ there)) next.1)
+      (next.0, λ other there. subst (λ (p : NodePlan). HasLog config rows logs (suc t) (site_of node p (links_out node config.links)) next.0) (same_Some plan other (sym here ∙ there)) next.1)
 
   at_site : (t : ℕ) (logs longer : Logs) (node : ℕ) (site : Site) (o : Option NodePlan)
       → ((plan : NodePlan) → slice_get config.nodes node ≡ Some plan → (log : List Entry) × (slice_get longer node ≡ Some log) × IsNext t logs node log)
@@ -232,7 +241,7 @@ module _ (config : Config) (rows : List Row) (valid : IsConfig config) (order : 
   at_site t logs longer node site None h here there = absurd (cc)
   at_site t logs longer node site (Some plan) h here there =
       let found = h plan here in
-      let same : site_of node plan (links_out node config.links) ≡ site = some_one (site_of node plan (links_out node config.links)) site there in
+      let same : site_of node plan (links_out node config.links) ≡ site = same_Some (site_of node plan (links_out node config.links)) site there in
       subst (λ (s : Site). HasLog config rows logs (suc t) s (log_at longer node)) same
       (subst (λ (es : List Entry). HasLog config rows logs (suc t) (site_of node plan (links_out node config.links)) es) (sym (found_log longer node found.0 found.1)) (found.2 plan here))
 

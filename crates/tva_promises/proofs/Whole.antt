@@ -9,8 +9,8 @@ use Rattle.tva_rows.specs.Valid.{AreTraceRows}
 use Rattle.tva_run.specs.Reaching.{Logs}
 use Rattle.tva_run.specs.Run.{IsRunTo}
 use Rattle.tva_run.specs.Report.{AreEventsTo, IsReport, report_of}
-use Rattle.tva_existence.proofs.Placed.{read_placed, traced_placed}
-use Rattle.tva_existence.proofs.There.{run_to, told}
+use Rattle.tva_promises.proofs.ReadRows.{rows_are_valid}
+use Rattle.tva_promises.proofs.There.{run_to, told, traced_placed}
 
 module _ (config : Config) (rows : List Row) (valid : IsConfig config) where
   events_of : (until : ℕ) → (logs : Logs) × IsRunTo config rows until logs → (es : List Event) × AreEventsTo config rows until es
@@ -33,12 +33,10 @@ module _ (config : Config) (rows : List Row) (valid : IsConfig config) where
   -- the rows that a text stands for
   pub read_run : (text : List ℕ) → AreRows config text rows → (until : ℕ) → until ≤ config.horizon.0 + 1
       → (logs : Logs) × IsRunTo config rows until logs
-  read_run text are until within =
-      let placed = read_placed config text rows are in
-      run_to config rows valid placed.0 placed.1 until within
+  read_run text are = traced_run (rows_are_valid config text rows are)
 
   pub read_events : (text : List ℕ) → AreRows config text rows → (es : List Event) × AreEventsTo config rows (config.horizon.0 + 1) es
   read_events text are = events_of (config.horizon.0 + 1) (read_run text are (config.horizon.0 + 1) (omega arith))
 
   pub read_report : (text : List ℕ) → AreRows config text rows → (report : List ℕ) × IsReport config rows report
-  read_report text are = report_there (read_run text are (config.horizon.0 + 1) (omega arith))
+  read_report text are = traced_report (rows_are_valid config text rows are)

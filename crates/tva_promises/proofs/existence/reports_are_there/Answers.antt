@@ -1,5 +1,5 @@
-use Rattle.tva_existence.proofs.Whole.{read_report, traced_report}
-use Rattle.tva_existence.proofs.laws.reports_are_there.Goals as goal
+use Rattle.tva_promises.proofs.Whole.{read_report, traced_report}
+use Rattle.tva_promises.proofs.existence.reports_are_there.Goals as goal
 
 pub returns-clause-traced : goal.returns-clause-traced
 returns-clause-traced c = λ config rows valid trace. traced_report config rows valid trace

@@ -2,6 +2,7 @@
 use Rattle.std.proofs.Common.{◌≡◌, ℕ, ◌+◌, Bool, true, false, cond, eqb, leb, List, [], ◌∷◌, ◌++◌, length, slice_set, Option, Some, None, Ok, Err, refl, sym, ap, subst, ◌∙◌, length-set}
 use Rattle.std.specs.Option.{option_map, IfSome}
 use Rattle.std.specs.List.{AllByRecursion}
+use Rattle.std.proofs.lemmas.Option.{same_Some}
 use Rattle.tva_base.specs.declared.packet.Class.TheVariants as class
 use Rattle.tva_base.specs.declared.packet.Cause.TheVariants as cause
 use Rattle.tva_base.specs.declared.packet.PacketId.{PacketId}
@@ -46,13 +47,11 @@ use Rattle.tva_log.specs.Contents.{arrived, content, content_by, hosted, made_fo
 use Rattle.tva_run.specs.Reaching.{Logs, log_at, site_at}
 use Rattle.tva_run.specs.Run.{IsRunTo}
 use Rattle.tva_run.proofs.Sites.{site_is}
-use Rattle.tva_paths.specs.Origins.{KeepsShown, KeepsKind, KeepsShim, KeepsCarried, Keeps, made_in, comes_in, HasOrigin}
-use Rattle.tva_paths.proofs.Walks.{IsInputGood, Goes, IsEntryGood, all_good, at_place}
+use Rattle.tva_delivery.specs.Origins.{KeepsShown, KeepsKind, KeepsShim, KeepsCarried, Keeps, made_in, comes_in, HasOrigin}
+use Rattle.tva_log.proofs.Walks.{at_place}
+use Rattle.tva_delivery.proofs.Walks.{IsInputGood, Goes, IsEntryGood, all_good}
 use Rattle.tva_transfer.specs.Files.{Files, answered, segment_due}
 use Rattle.tva_base.specs.declared.packet.Upper.{Upper}
-
-some_same : {X : Type 0} (x y : X) → Some x ≡ Some y → x ≡ y
-some_same x y e = cc
 
 -- ## what stays as it is
 
@@ -223,7 +222,7 @@ none_of : (number : ℕ) → IsOf number None
 none_of number p e = absurd (cc)
 
 some_of : (number : ℕ) (q : PacketData) → q.id.node ≡ number → IsOf number (Some q)
-some_of number q k p e = ap (λ (x : PacketData). x.id.node) (sym (some_same q p e)) ∙ k
+some_of number q k p e = ap (λ (x : PacketData). x.id.node) (sym (same_Some q p e)) ∙ k
 
 arrived_of : (number : ℕ) (plan : RouterPlan) (before : List Entry) (now : ℕ) (p : PacketData) → p.id.node ≡ number
     → IsOf number (made_in (arrived plan before now None p))
@@ -243,14 +242,14 @@ row_of number plan before now (File dst size segment) c e = absurd (cc)
 row_of number plan before now (Tick dst) c e = absurd (cc)
 row_of number plan before now (Inject flow payload carries) c e =
     let p : PacketData = made_packet (next_id number before) flow payload carries in
-    subst (λ (x : Content). IsOf number (made_in x)) (some_same (arrived plan before now None p) c e)
+    subst (λ (x : Content). IsOf number (made_in x)) (same_Some (arrived plan before now None p) c e)
     (arrived_of number plan before now p refl)
 
 routed_of : (number : ℕ) (plan : RouterPlan) (before : List Entry) (i : Input) (c : Content) → routed number plan before i ≡ Some c
     → IsOf number (made_in c)
 routed_of number plan before (FromTrace row) c e = row_of number plan before row.time.0 row.what c e
 routed_of number plan before (Arrival time link packet) c e =
-    subst (λ (x : Content). IsOf number (made_in x)) (some_same (arrived plan before time.0 (Some link) packet) c e)
+    subst (λ (x : Content). IsOf number (made_in x)) (same_Some (arrived plan before time.0 (Some link) packet) c e)
     (passed_of number plan before time.0 link packet)
 
 sent_above : (number : ℕ) (plan : HostPlan) (h : History) (now : ℕ) (dst : Address) (above : Option Upper)
@@ -303,7 +302,7 @@ made_of : (site : Site) (plan : NodePlan) (before : List Entry) (i : Input) (c :
     → IsOf site.number (made_in c)
 made_of site (plans.Router plan) before i c e = routed_of site.number plan before i c e
 made_of site (plans.Host plan) before i c e =
-    subst (λ (x : Content). IsOf site.number (made_in x)) (some_same (hosted site plan before i) c e) (hosted_of site plan before i)
+    subst (λ (x : Content). IsOf site.number (made_in x)) (same_Some (hosted site plan before i) c e) (hosted_of site plan before i)
 
 -- ## in a run
 
@@ -354,10 +353,10 @@ module _ (config : Config) (rows : List Row) (until : ℕ) (logs : Logs) (valid 
   origins node site is = all_good (HasOrigin logs) AnyRow hands_on config rows until logs valid run (any_rows rows) made_has node site is
 
   came_good : (c : Content) (packet : PacketData) → Goes (HasOrigin logs) AnyRow c → comes_in c ≡ Some packet → HasOrigin logs packet
-  came_good (Arrived from p fate onward) packet g e = subst (HasOrigin logs) (some_same p packet e) g.0
+  came_good (Arrived from p fate onward) packet g e = subst (HasOrigin logs) (same_Some p packet e) g.0
   came_good (Sent made outcome) packet g e = absurd (cc)
   came_good Ticked packet g e = absurd (cc)
-  came_good (Received from p receipt went range) packet g e = subst (HasOrigin logs) (some_same p packet e) g.0
+  came_good (Received from p receipt went range) packet g e = subst (HasOrigin logs) (same_Some p packet e) g.0
 
   pub origin_at : (node : ℕ) (site : Site) → site_at config node ≡ Some site → (before : List Entry) (input : Input) (c : Content)
       (rest : List Entry) → log_at logs node ≡ before ++ Took input c ∷ rest
