@@ -19,7 +19,7 @@ number_in_push (d ∷ ds) digit =
     rw (length-append ds (digit ∷ []), add-one (length ds), pow-suc 10 (length ds), number_in_push ds digit)
     (push_step (d - 48) (10 ^ length ds) (number_in ds) (digit - 48))
 
-both : (a b : Bool) → (a && b) ≡ true → (a ≡ true) × (b ≡ true)
+pub both : (a b : Bool) → (a && b) ≡ true → (a ≡ true) × (b ≡ true)
 both true b h = (refl, h)
 both false b h = absurd (cc)
 

@@ -4,6 +4,7 @@ use Rattle.std.proofs.lemmas.Bool.Decides.{nat_tests}
 use Rattle.std.proofs.Math.Seq.{take-append_seam, drop-append-add, drop-cons}
 use Rattle.std.proofs.lemmas.List.{take-append-drop}
 use Rattle.std.proofs.lemmas.List.Quantifiers.{position-Some}
+use Rattle.std.proofs.lemmas.Option.{same_Some}
 use Rattle.std.proofs.lemmas.Fmt.{first_decimal, decimal_digit, decimal_nonempty, length-decimal-le, digits_decimal, digits_value-decimal, decimal-digits_value}
 use Rattle.std.proofs.lemmas.Str.Parse.{IsDigitsTest, IsNumeralModel, numerals_by_weight}
 use Rattle.std.specs.Prelude.{◌&&◌, ◌==◌, not, nat_le, nat_lt, take, drop, position}
@@ -13,15 +14,12 @@ use Rattle.std.specs.Char.{is_ascii_digit}
 use Rattle.std.specs.Fmt.{decimal}
 use Rattle.std.specs.Option.{option_map}
 use Rattle.tva_base.specs.declared.addresses.Address.{Address}
+use Rattle.tva_base.proofs.Digits.{both}
 use Rattle.tva_base.specs.Decimal.{number_in, is_decimal, decimal_of, has_leading_zero, plain_decimal_of}
 use Rattle.tva_base.specs.Options.{◌>>=◌}
 use Rattle.tva_base.specs.Addresses.{parted, octet_of, address_of, joined, Writes}
 
 -- ---- numbers
-
-all : (a b : Bool) → (a && b) ≡ true → (a ≡ true) × (b ≡ true)
-all true b h = (refl, h)
-all false b h = absurd (cc)
 
 in_range : (c : ℕ) → is_ascii_digit c ≡ true → IsInRange 48 57 c
 in_range c h = (grind (arith, nat_tests), grind (arith, nat_tests))
@@ -32,7 +30,7 @@ is_digit c h = grind (arith, nat_tests)
 tells : IsDigitsTest (λ ds. list_all is_ascii_digit ds ≡ true)
 tells = record {
   empty = refl;
-  parts = λ c cs e. let k = all (is_ascii_digit c) (list_all is_ascii_digit cs) e in (in_range c k.0, k.1);
+  parts = λ c cs e. let k = both (is_ascii_digit c) (list_all is_ascii_digit cs) e in (in_range c k.0, k.1);
   more = λ c cs k e. ap (λ b. b && list_all is_ascii_digit cs) (is_digit c k) ∙ e;
 }
 
@@ -77,8 +75,8 @@ unfolding plain_decimal_of decimal_of
 plain_given text max n wide h =
     let c = chosen (has_leading_zero text) (is_decimal text) (nat_le (number_in text) max) (number_in text) n h in
     let fits : number_in text ≤ max = let q = c.2 in grind (arith, nat_tests) in
-    let form = all (nat_le 1 (length text) && nat_le (length text) 20) (list_all is_ascii_digit text) c.1 in
-    let some : 0 < length text = let q = (all (nat_le 1 (length text)) (nat_le (length text) 20) form.0).0 in grind (arith, nat_tests) in
+    let form = both (nat_le 1 (length text) && nat_le (length text) 20) (list_all is_ascii_digit text) c.1 in
+    let some : 0 < length text = let q = (both (nat_le 1 (length text)) (nat_le (length text) 20) form.0).0 in grind (arith, nat_tests) in
     let spelt : decimal (number_in text) ≡ text = decimal-digits_value numeral text form.1 some (zero_alone text some c.0) (omega arith) in
     (sym spelt ∙ ap decimal c.3, omega (arith, c.3))
 
@@ -87,14 +85,14 @@ plain_given text max n wide h =
 dot_free : (ds : List ℕ) → list_all is_ascii_digit ds ≡ true → list_all (λ c. not (c == 46)) ds ≡ true
 dot_free [] h = refl
 dot_free (c ∷ cs) h =
-    let k = all (is_ascii_digit c) (list_all is_ascii_digit cs) h in
+    let k = both (is_ascii_digit c) (list_all is_ascii_digit cs) h in
     let other : not (c == 46) ≡ true = let q = k.0 in grind (arith, nat_tests) in
     rw other (dot_free cs k.1)
 
 before : (ds rest : List ℕ) → list_all (λ c. not (c == 46)) ds ≡ true → position_or_len (λ b. b == 46) (ds ++ 46 ∷ rest) ≡ length ds
 before [] rest h = refl
 before (c ∷ cs) rest h =
-    let k = all (not (c == 46)) (list_all (λ b. not (b == 46)) cs) h in
+    let k = both (not (c == 46)) (list_all (λ b. not (b == 46)) cs) h in
     rw k.0 (omega (arith, before cs rest k.1))
 
 parted_joined : (ds rest : List ℕ) → list_all (λ c. not (c == 46)) ds ≡ true → parted 46 (joined ds rest) ≡ Some (ds, rest)
@@ -102,9 +100,6 @@ unfolding parted
 parted_joined ds rest h =
     let within : nat_lt (length ds) (length (ds ++ 46 ∷ rest)) ≡ true = let q = length-append ds (46 ∷ rest) in grind (arith, nat_tests) in
     rw (before ds rest h, within, take-append_seam ds (46 ∷ rest), drop-append-add ds (46 ∷ rest) 1) refl
-
-some_pair : {A : Type 0} (x y : A) → Some x ≡ Some y → x ≡ y
-some_pair x y h = cc
 
 drop_more : (i : ℕ) (text : List ℕ) → i < length text → drop i text ≡ get_or text i 0 ∷ drop (i + 1) text
 drop_more i text within = let next : suc i ≡ i + 1 = omega arith in drop-cons text i 0 within ∙ ap (λ n. get_or text i 0 ∷ drop n text) next
@@ -118,7 +113,7 @@ joined_parted text p h = by_place (position (λ b. b == 46) text) refl h
     by_place (Some i) e k =
         let at = position-Some (λ b. b == 46) text i 0 e in
         let dot : get_or text i 0 ≡ 46 = let q = at.1 in grind (arith, nat_tests) in
-        let parts : (take i text, drop (i + 1) text) ≡ p = some_pair _ _ k in
+        let parts : (take i text, drop (i + 1) text) ≡ p = same_Some _ _ k in
         sym (take-append-drop i text) ∙ ap (λ r. take i text ++ r) (drop_more i text at.0 ∙ ap (λ c. c ∷ drop (i + 1) text) dot)
         ∙ ap (λ (q : List ℕ × List ℕ). joined q.0 q.1) parts
 
@@ -174,5 +169,5 @@ dotted_given text x h =
           ∙ ap (λ t. joined (decimal a.0) (joined t (joined third.0.0 third.0.1))) second_is.0
           ∙ ap (λ t. joined (decimal a.0) (joined (decimal b.0) (joined t third.0.1))) third_is.0
           ∙ ap (λ t. joined (decimal a.0) (joined (decimal b.0) (joined (decimal c.0) t))) fourth_is.0;
-      number = sym (some_pair _ _ d.2);
+      number = sym (same_Some _ _ d.2);
     }

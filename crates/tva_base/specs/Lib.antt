@@ -8,4 +8,5 @@ pub mod Options
 pub mod Orders
 pub mod Ordinals
 pub mod Plan
+pub mod Printable
 pub mod Versions

@@ -1,8 +1,9 @@
 // What a configuration lays down for the nodes and links of a network.
 use crate::addresses::{Address, Prefix};
 use crate::limits::LinkLimits;
+use crate::listed::Listed;
 use crate::packet::{Rights, Time};
-use tva_lists::{Listed, Name};
+use crate::texts::Name;
 
 /// One direction of a link, between two nodes. The delay is in nanoseconds; the tag is 0 where
 /// the link is no trust boundary.

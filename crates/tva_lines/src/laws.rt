@@ -2,7 +2,7 @@
 ghost use Rattle.std.specs.List.{All};
 ghost use Rattle.tva_base.specs.declared.event.Event.{Event};
 ghost use Rattle.tva_base.specs.declared.event.Totals.{Totals};
-ghost use Rattle.tva_lists.specs.Printable.{IsLine, IsPrintable};
+ghost use Rattle.tva_base.specs.Printable.{IsLine, IsPrintable};
 ghost use Rattle.tva_plan.specs.declared.config.Config.{Config};
 ghost use Rattle.tva_plan.specs.Valid.{IsConfig};
 ghost use Rattle.tva_lines.specs.Lines.{FitsEvent, FitsTotals, text_of_event, text_of_totals};

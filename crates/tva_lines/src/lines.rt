@@ -3,7 +3,7 @@ ghost use Rattle.std.specs.Prelude.{◌≡◌, ◌≤◌, ◌+◌, ◌∷◌, []
 ghost use Rattle.std.specs.List.{join_with_byte};
 ghost use Rattle.tva_lines.specs.Words.{back_word, class_word, shape_word, what_word};
 ghost use Rattle.tva_lines.specs.Lines.{HasEvent, HasHappened, HasLink, HasNode, HasOutcome, HasReply, HasSource, LinksJoinNodes, cause_or_dash, from_word, happened_words, id_word, line_of, name_behind, name_before, outcome_word, range_words, reply_word, summary_of, text_of_event, text_of_totals};
-ghost use Rattle.tva_lists.specs.Printable.{IsLine};
+ghost use Rattle.tva_base.specs.Printable.{IsLine};
 ghost use Rattle.tva_plan.specs.Valid.{IsConfig};
 
 use crate::parts::{

@@ -7,7 +7,7 @@ use Rattle.std.specs.Str.{bytes_eq}
 use Rattle.std.proofs.lemmas.Bool.{cases_Bool, leb-true}
 use Rattle.std.proofs.lemmas.List.Elements.{All-weaker}
 use Rattle.std.proofs.lemmas.List.Sums.{AllPass-from_list_all}
-use Rattle.tva_lists.specs.Printable.{IsPrintable}
+use Rattle.tva_base.specs.Printable.{IsPrintable}
 use Rattle.tva_report.specs.declared.pieces.Piece.{Piece}
 use Rattle.tva_report.specs.Ahead.{Ahead, IsNext, IsOver, bad_ahead, line_there}
 use Rattle.tva_report.specs.Compared.{AreLines, Compared, FitsLine, Leads, StandsFor, compared, found_there, outcome}

@@ -7,7 +7,7 @@ use Rattle.std.proofs.lemmas.List.Elements.{All-weaker, All-map, recursion_from_
 use Rattle.std.proofs.lemmas.List.Sums.{AllPass-from_list_all, list_all-from_AllPass}
 use Rattle.std.proofs.lemmas.List.{length-map, map-append}
 use Rattle.std.proofs.lemmas.List.Folds.{list_any_none}
-use Rattle.tva_lists.specs.Printable.{IsLine, IsPrintable}
+use Rattle.tva_base.specs.Printable.{IsLine, IsPrintable}
 use Rattle.tva_report.specs.Lines.{ended, first_bad, is_ended_line, is_feed, is_line, is_printable, pieces, report_lines, text_of, without_feed}
 use Rattle.tva_report.proofs.Comparing.{are_lines, both_true, fits_line, some_byte}
 use Rattle.tva_report.proofs.Cuts.{HasNoFeed, any_feed-ended, before-cons, pieces_ended, without_feed-ended}

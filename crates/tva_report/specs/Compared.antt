@@ -2,7 +2,7 @@
 use Rattle.std.specs.Prelude.{◌≡◌, ℕ, ◌≤◌, true, List, [], ◌++◌, length, slice_index_or, All, Option, Some, None}
 use Rattle.std.specs.List.{list_all}
 use Rattle.std.specs.Option.{option_map, option_map_or}
-use Rattle.tva_lists.specs.Printable.{IsPrintable}
+use Rattle.tva_base.specs.Printable.{IsPrintable}
 use Rattle.tva_report.specs.declared.pieces.Piece.{Piece}
 use Rattle.tva_report.specs.declared.differences.Finding.{Finding}
 use Rattle.tva_report.specs.Lines.{first_bad, is_ended_line, pieces, report_lines}

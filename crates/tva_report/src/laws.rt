@@ -1,6 +1,6 @@
 // What holds of all reports.
 ghost use Rattle.std.specs.Prelude.{◌≡◌, ℕ, ◌+◌, ◌↔◌, ◌++◌, ◌∷◌, [], List, length, All, None, Some, true};
-ghost use Rattle.tva_lists.specs.Printable.{IsLine};
+ghost use Rattle.tva_base.specs.Printable.{IsLine};
 ghost use Rattle.tva_report.specs.declared.differences.Finding.{Finding};
 ghost use Rattle.tva_report.specs.Differences.{IsFirstDifference, finding, first_difference};
 ghost use Rattle.tva_report.specs.Lines.{first_bad, is_line, report_lines, text_of};

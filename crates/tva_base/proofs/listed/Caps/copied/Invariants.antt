@@ -1,5 +1,5 @@
 use Rattle.std.proofs.Common.{◌≡◌, take}
-use Rattle.tva_lists.proofs.listed.Caps.copied.Given as goal
+use Rattle.tva_base.proofs.listed.Caps.copied.Given as goal
 
 -- the copy has the capabilities that were passed
 abbrev pub invariant-loop-cap : goal.invariant-loop-cap

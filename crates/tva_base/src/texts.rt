@@ -1,6 +1,6 @@
 // Short texts that contracts see as the lists of their bytes.
 ghost use Rattle.std.specs.Prelude.{◌≡◌, ◌≤◌, length, All};
-ghost use Rattle.tva_lists.specs.Printable.{IsPrintable};
+ghost use Rattle.tva_base.specs.Printable.{IsPrintable};
 
 use arrayvec::ArrayString;
 use std::marker::Model;
@@ -76,7 +76,7 @@ pub struct Line(ArrayString<256>);
 
 impl Model for Line {
     ghost use Rattle.std.specs.Prelude.{List, ℕ, ◌≤◌, length, All};
-    ghost use Rattle.tva_lists.specs.Printable.{IsPrintable};
+    ghost use Rattle.tva_base.specs.Printable.{IsPrintable};
 
     ghost Value = { List ℕ };
 

@@ -1,5 +1,5 @@
 use Rattle.std.proofs.Common.{◌≡◌, take}
-use Rattle.tva_lists.proofs.texts.Line.new.Given as goal
+use Rattle.tva_base.proofs.texts.Line.new.Given as goal
 
 -- the bytes that were passed stand in the line
 abbrev pub invariant-loop-byte : goal.invariant-loop-byte
