@@ -65,15 +65,6 @@ keeps-timed v last h k = record {
   sender = k.sender;
 }
 
-pub has-timed : (v : HostData) (last : ℕ) → HasHistory v → v.last ≤ last → HasHistory (timed last v)
-has-timed v last has later = record {
-  history = has.history;
-  valid = has.valid;
-  keeps = keeps-timed v last has.history has.keeps;
-  showable = has.showable;
-  past = omega (arith, has.past, later);
-}
-
 pub keeps-packet : (v : HostData) (h : History) → Keeps v h → Keeps (numbered (min (v.next + 1) 18446744073709551615) v) (with_packet h)
 keeps-packet v h k = record {
   next = ap (λ n. min (n + 1) 18446744073709551615) k.next ∙ one_more h.made;

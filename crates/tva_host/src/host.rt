@@ -1,5 +1,5 @@
 // A host.
-ghost use Rattle.std.specs.Prelude.{◌≡◌, ◌≤◌, ◌+◌, min, ◌==◌, ℕ, List, [], ◌∷◌, ◌++◌, IfOk, IfSome, OnErr};
+ghost use Rattle.std.specs.Prelude.{◌≡◌, ◌≤◌, ◌+◌, min, ◌==◌, List, [], ◌∷◌, ◌++◌, IfOk, IfSome, OnErr};
 ghost use Rattle.tva_base.specs.Plan.{IsHostPlan};
 ghost use Rattle.tva_base.specs.Versions.{IsVersion};
 ghost use Rattle.tva_shim.specs.Shims.{IsReturn};
@@ -9,7 +9,7 @@ ghost use Rattle.tva_policy.specs.Grants.{Sent};
 ghost use Rattle.tva_sender.specs.Showable.{IsShowable};
 ghost use Rattle.tva_host.specs.History.{History, with_deed, with_packet, with_prepared};
 ghost use Rattle.tva_host.specs.Sending.{next_packet, next_with, next_shape, intended};
-ghost use Rattle.tva_host.specs.Receiving.{taken_or_ignored, became_of, after_back, claim_in, answer_to_claim, after_answer, brought_by, body_of, reply_of, after_reply, receipt_of};
+ghost use Rattle.tva_host.specs.Receiving.{taken_or_ignored, became_of, after_back, claim_in, answer_to_claim, after_answer, brought_by, reply_of, after_reply, receipt_of};
 ghost use Rattle.tva_host.specs.Calls.{Call, Intended, Injected, Received, history_of};
 ghost use Rattle.tva_host.specs.Stands.{Keeps, StandsFor, with_room, at_time};
 

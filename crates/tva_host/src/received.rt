@@ -1,5 +1,5 @@
 // What a received packet is, what it claims, and what is answered.
-ghost use Rattle.std.specs.Prelude.{◌≡◌, ℕ, ◌<◌, ◌≤◌, ◌+◌, ◌∷◌, [], ◌++◌, ◌==◌, length, map, filter, nat_lt, if◌then◌else◌, IfSome};
+ghost use Rattle.std.specs.Prelude.{◌≡◌, ℕ, ◌<◌, ◌≤◌, ◌+◌, ◌∷◌, [], ◌++◌, ◌==◌, map, filter, nat_lt, if◌then◌else◌, IfSome};
 ghost use Rattle.arrayvec.specs.ArrayVec.{array_vec_len};
 ghost use Rattle.tva_base.specs.Versions.{AreRights, AreSomeRights};
 ghost use Rattle.tva_shim.specs.Shims.{IsReturn};

@@ -1,8 +1,8 @@
 -- Which rows brief forms stand for, and that layouts put behind others change none of them.
-use Rattle.std.proofs.Common.{◌≡◌, ℕ, ◌+◌, ◌≤◌, ◌<◌, List, [], ◌∷◌, ◌++◌, length, take, drop, get_or, refl, sym, ap, subst, ◌∙◌, inl, inr, arith, length-append, length-drop}
+use Rattle.std.proofs.Common.{◌≡◌, ℕ, ◌+◌, ◌≤◌, List, [], ◌∷◌, ◌++◌, length, take, drop, get_or, refl, sym, ap, subst, ◌∙◌, inl, inr, arith, length-append, length-drop}
 use Rattle.std.specs.Prelude.{◌⊎◌}
 use Rattle.std.proofs.Math.Seq.{drop-append_seam, take-length}
-use Rattle.std.proofs.lemmas.List.{drop-append-le, take-append-le, map-append, get_or-map}
+use Rattle.std.proofs.lemmas.List.{drop-append-le, take-append-le, map-append}
 use Rattle.std.proofs.lemmas.List.Elements.{All-head, All-tail, All-push}
 use Rattle.tva_shim.specs.declared.packets.Carried.TheVariants as carried
 use Rattle.tva_shim.specs.Shims.{ShimData, IsShim}
@@ -78,37 +78,23 @@ grown_hold old new rows g h = subst (λ (bytes : List ℕ). AreHeld bytes rows) 
 pub grown_same : (old new : List ℕ) (rows : List BriefRow) → Grows old new → AreHeld old rows → rows_in new rows ≡ rows_in old rows
 grown_same old new rows g h = ap (λ (bytes : List ℕ). rows_in bytes rows) g.1 ∙ rows-grown old g.0 rows h
 
--- ---- one row more
+-- ---- one row more, with its layout
 
-pub push_held : (old new : List ℕ) (rows : List BriefRow) (b : BriefRow) → Grows old new → AreHeld old rows → IsWhatHeld new b.what → AreHeld new (rows ++ b ∷ [])
-push_held old new rows b g h w = All-push (λ r. IsWhatHeld new r.what) rows b (grown_hold old new rows g h) w
+pub pushed_held : (old new : List ℕ) (rows all : List BriefRow) (b : BriefRow) → Grows old new → AreHeld old rows → IsWhatHeld new b.what → all ≡ rows ++ b ∷ [] → AreHeld new all
+pushed_held old new rows all b g h w e = subst (λ (rs : List BriefRow). AreHeld new rs) (sym e) (All-push (λ r. IsWhatHeld new r.what) rows b (grown_hold old new rows g h) w)
 
-pub push_same : (old new : List ℕ) (rows : List BriefRow) (b : BriefRow) (row : Row) → Grows old new → AreHeld old rows → row_in new b ≡ row → rows_in new (rows ++ b ∷ []) ≡ rows_in old rows ++ row ∷ []
-push_same old new rows b row g h e =
-    map-append (row_in new) rows (b ∷ [])
-    ∙ ap (λ (rs : List Row). rs ++ row_in new b ∷ []) (grown_same old new rows g h)
-    ∙ ap (λ (r : Row). rows_in old rows ++ r ∷ []) e
+pub pushed_same : (old new : List ℕ) (rows all : List BriefRow) (b : BriefRow) (w : RowWhat) (told : List Row) → Grows old new → AreHeld old rows → what_in new b.what ≡ w
+    → all ≡ rows ++ b ∷ [] → rows_in old rows ≡ told → rows_in new all ≡ told ++ row_of b w ∷ []
+pushed_same old new rows all b w told g h is e view =
+    ap (rows_in new) e
+    ∙ map-append (row_in new) rows (b ∷ [])
+    ∙ ap (λ (rs : List Row). rs ++ row_in new b ∷ []) (grown_same old new rows g h ∙ view)
+    ∙ ap (λ (x : RowWhat). told ++ row_of b x ∷ []) is
 
 -- ---- a layout at the end
 
 pub last_part : (old more : List ℕ) → part (old ++ more) (length old) (length more) ≡ more
 last_part old more = ap (take (length more)) (drop-append_seam old more) ∙ take-length more
 
-pub last_layout : (old new : List ℕ) (s : ShimData) (start count : ℕ) → new ≡ old ++ layout s → start ≡ length old → count ≡ length (layout s) → IsShim s → IsLayoutAt new start count
-last_layout old new s start count e at many is = rw (e, at, many) record {
-  within = omega (arith, length-append old (layout s));
-  shim = s;
-  widths = is;
-  same = sym (last_part old (layout s));
-}
-
 pub last_shim : (old new : List ℕ) (s : ShimData) (start count : ℕ) → new ≡ old ++ layout s → start ≡ length old → count ≡ length (layout s) → IsShim s → shim_in (part new start count) ≡ carried.Shim s
 last_shim old new s start count e at many is = rw (e, at, many) (shim_found (part (old ++ layout s) (length old) (length (layout s))) s is (sym (last_part old (layout s))))
-
--- ---- the row at a place
-
-pub row_at : (bytes : List ℕ) (rows : List BriefRow) (place : ℕ) (b : BriefRow) (row : Row) → place < length rows → b ≡ get_or rows place b → get_or (rows_in bytes rows) place row ≡ row_in bytes b
-row_at bytes rows place b row within e = get_or-map (row_in bytes) rows place b row within ∙ ap (row_in bytes) (sym e)
-
-pub held_at : (bytes : List ℕ) (rows : List BriefRow) (place : ℕ) (b : BriefRow) → AreHeld bytes rows → place < length rows → b ≡ get_or rows place b → IsWhatHeld bytes b.what
-held_at bytes rows place b h within e = subst (λ (r : BriefRow). IsWhatHeld bytes r.what) (sym e) (h place b within)

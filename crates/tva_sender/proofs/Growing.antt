@@ -144,17 +144,3 @@ module _ (ns : List Node) (t : IsTree ns) (a at : ℕ) (high : Bool) (m : IsMiss
       (set-get_or (addresses_of ns) at 0) in
       map-append (λ (x : Node). x.address) (set ns at n) (leaf a ∷ [])
       ∙ ap (λ (z : List ℕ). z ++ a ∷ []) (map-set (λ (x : Node). x.address) ns at n ∙ kept)
-
--- the tree of no address, and of one
-pub tree-none : IsTree []
-tree-none = record { later = λ i j b l e. absurd (omega (arith, l)); reached = λ i l. absurd (omega (arith, l)) }
-
-pub tree-one : (a : ℕ) → IsTree (leaf a ∷ [])
-tree-one a = record {
-  later = λ i j b l e.
-      let first : i ≡ 0 = omega (arith, l) in
-      absurd (no_leaf a b j (subst (λ (z : ℕ). branch b (node (leaf a ∷ []) z) ≡ Some j) first e));
-  reached = λ i l.
-      let first : i ≡ 0 = omega (arith, l) in
-      (0, subst (λ (z : ℕ). spot (leaf a ∷ []) (node (leaf a ∷ []) z).address 0 ≡ Some z) (sym first) refl);
-}

@@ -59,7 +59,7 @@ at_place ps k a i x same first is =
     let r = looked ps a i x (subst (λ (z : List ℕ). IsFirstAt a z i) (sym same) first) in
     (r.0, ap (λ (z : ℕ × Peer). z.0) is ∙ r.1, ap (λ (z : ℕ × Peer). Some z.1) is ∙ sym r.2)
 
-pub set_place : (ps : List (ℕ × Peer)) (k : List ℕ) (a i : ℕ) (x : ℕ × Peer) → addresses ps ≡ k → IsFirstAt a k i → x.0 ≡ a
+set_place : (ps : List (ℕ × Peer)) (k : List ℕ) (a i : ℕ) (x : ℕ × Peer) → addresses ps ≡ k → IsFirstAt a k i → x.0 ≡ a
     → (lookup (nat_eq a) (set ps i x) ≡ Some x.1) × ((q : ℕ) → eqb a q ≡ false → lookup (nat_eq q) (set ps i x) ≡ lookup (nat_eq q) ps) × (addresses (set ps i x) ≡ k)
 set_place ps k a i x same first key =
     let f : IsFirstAt a (addresses ps) i = subst (λ (z : List ℕ). IsFirstAt a z i) (sym same) first in
@@ -104,7 +104,7 @@ or_none : (b t : Bool) → t ≡ false → b ≡ (b || t)
 or_none true t e = refl
 or_none false t e = sym e
 
-pub known-set : (ps : List (ℕ × Peer)) (k : List ℕ) (a i : ℕ) (x : ℕ × Peer) → addresses ps ≡ k → IsFirstAt a k i → x.0 ≡ a → (q : ℕ) → is_some (lookup (nat_eq q) (set ps i x)) ≡ is_some (lookup (nat_eq q) ps)
+known-set : (ps : List (ℕ × Peer)) (k : List ℕ) (a i : ℕ) (x : ℕ × Peer) → addresses ps ≡ k → IsFirstAt a k i → x.0 ≡ a → (q : ℕ) → is_some (lookup (nat_eq q) (set ps i x)) ≡ is_some (lookup (nat_eq q) ps)
 known-set ps k a i x same first key q = go ps i (subst (λ (z : List ℕ). IsFirstAt a z i) (sym same) first)
   where
     go : (ps : List (ℕ × Peer)) (i : ℕ) → IsFirstAt a (addresses ps) i → is_some (lookup (nat_eq q) (set ps i x)) ≡ is_some (lookup (nat_eq q) ps)
@@ -127,13 +127,27 @@ pub known-push : (ps : List (ℕ × Peer)) (a : ℕ) (p : Peer) (q : ℕ) → is
 known-push [] a p q = or_this (eqb q a) p
 known-push (x ∷ xs) a p q = or_more (eqb q x.0) x.1 (lookup (nat_eq q) (xs ++ (a, p) ∷ [])) (lookup (nat_eq q) xs) (eqb q a) (known-push xs a p q)
 
--- the invariant of a sender, where one peer is changed or added
-pub placed-set : (room : ℕ) (k : Known) (cap : ℕ) (ps : List (ℕ × Peer)) (a i : ℕ) (x : ℕ × Peer) → ArePlaced room k (cap - length ps) ps → IsFirstAt a k.addresses i → x.0 ≡ a → ArePlaced room k (cap - length (set ps i x)) (set ps i x)
-placed-set room k cap ps a i x placed first key = record {
-  addresses = (set_place ps k.addresses a i x placed.addresses first key).2;
-  places = placed.places;
-  peers = omega (arith, placed.peers, length-set ps i x);
-}
+-- a peer that stands at a place, and what is looked up once it is kept anew
+pub record IsFound (room : ℕ) (k : Known) (cap : ℕ) (ps : List (ℕ × Peer)) (a i : ℕ) (p p' : Peer) (x' : ℕ × Peer) : Type 0 where
+  pub within : i < length ps
+  pub found : Some p ≡ lookup (nat_eq a) ps
+  pub here : lookup (nat_eq a) (set ps i x') ≡ Some p'
+  pub others : (q : ℕ) → eqb a q ≡ false → lookup (nat_eq q) (set ps i x') ≡ lookup (nat_eq q) ps
+  pub placed : ArePlaced room k (cap - length (set ps i x')) (set ps i x')
+  pub known : (q : ℕ) → is_some (lookup (nat_eq q) (set ps i x')) ≡ is_some (lookup (nat_eq q) ps)
+
+pub found_at : (room : ℕ) (k : Known) (cap : ℕ) (ps : List (ℕ × Peer)) (a i : ℕ) (x : ℕ × Peer) (p' : Peer) → ArePlaced room k (cap - length ps) ps → IsFirstAt a k.addresses i → x ≡ get_or ps i x → IsFound room k cap ps a i x.1 p' (x.0, p')
+found_at room k cap ps a i x p' placed first value =
+    let was = at_place ps k.addresses a i x placed.addresses first value in
+    let new = set_place ps k.addresses a i (x.0, p') placed.addresses first was.1 in
+    record {
+      within = was.0;
+      found = was.2;
+      here = new.0;
+      others = new.1;
+      placed = record { addresses = new.2; places = placed.places; peers = omega (arith, placed.peers, length-set ps i (x.0, p')) };
+      known = known-set ps k.addresses a i (x.0, p') placed.addresses first was.1;
+    }
 
 near-later : (last now : ℕ) (p : Peer) → last ≤ now → IsNearPeer last p → IsNearPeer now p
 near-later last now p l n = record {

@@ -115,15 +115,3 @@ walk-next ns t a depth at bits to high n l is here same other turn leads =
       far.0,
       far.1,
     )
-
-pub walk-ends : (ns : List Node) → (a depth at bits : ℕ) (high : Bool) (n : Node) → at < length ns → n ≡ get_or ns at n → spot ns a depth ≡ Some at → bits ≡ bits_past a depth → (n.address ≡ a → ⊥) → high ≡ eqb (bits % 2) 1 → branch high n ≡ None → IsMissing ns a at high
-walk-ends ns a depth at bits high n l is here same other turn none =
-    let there : n ≡ node ns at = get_or_read ns at n l is (leaf 0) in
-    record {
-      within = l;
-      other = subst (λ (z : Node). z.address ≡ a → ⊥) there other;
-      depth = depth;
-      here = here;
-      turn = turn-of a depth bits high same turn;
-      nowhere = subst (λ (z : Node). branch high z ≡ None) there none;
-    }

@@ -1,8 +1,8 @@
 // What a sender keeps of one peer.
-ghost use Rattle.std.specs.Prelude.{◌≡◌, ◌≤◌, ◌<◌, ◌^◌, ◌&&◌, ℕ, true, false, None, not, length, IfSome, if◌then◌else◌};
-ghost use Rattle.tva_sender.specs.Contacts.{time, asks, is_within};
+ghost use Rattle.std.specs.Prelude.{◌≡◌, ◌≤◌, ◌<◌, ◌^◌, ◌&&◌, ℕ, true, false, None, not, if◌then◌else◌};
+ghost use Rattle.tva_sender.specs.Contacts.{asks, is_within};
 ghost use Rattle.tva_sender.specs.Shapes.{under_grant, by_grant, may_ask, without_grant};
-ghost use Rattle.tva_sender.specs.Steps.{prepared, answered, noticed, used_by, grant_used_by, IsNear, IsNearPeer, first_asked};
+ghost use Rattle.tva_sender.specs.Steps.{prepared, answered, noticed, used_by, IsNear, IsNearPeer, first_asked};
 
 use crate::grant::Grant;
 use crate::shape::Shape;

@@ -1,5 +1,5 @@
 // Where peers stand, by their addresses.
-ghost use Rattle.std.specs.Prelude.{◌≡◌, ℕ, ◌<◌, ◌≤◌, ◌-◌, List, ◌∷◌, [], ◌++◌, length, map, vec_capacity, OnOk, MatchOption};
+ghost use Rattle.std.specs.Prelude.{◌≡◌, ℕ, ◌<◌, ◌≤◌, ◌-◌, List, ◌∷◌, [], ◌++◌, length, vec_capacity, OnOk, MatchOption};
 ghost use Rattle.tva_sender.specs.Places.{Known, known, IsFirstAt, IsNowhere};
 ghost use Rattle.tva_sender.specs.Tree.{IsTree, IsRecent, IsEnd, IsLed, leaf, branch, with_branch, addresses_of};
 

@@ -1,5 +1,5 @@
 // A sender: what it keeps of its peers.
-ghost use Rattle.std.specs.Prelude.{◌≡◌, ◌⊎◌, ℕ, ◌+◌, ◌-◌, ◌*◌, ◌^◌, ◌≤◌, ◌<◌, ◌==◌, ◌||◌, max, false, List, [], ◌∷◌, ◌++◌, if◌then◌else◌, OnOk, OnErr};
+ghost use Rattle.std.specs.Prelude.{◌≡◌, ◌⊎◌, ◌+◌, ◌-◌, ◌*◌, ◌^◌, ◌≤◌, ◌<◌, ◌==◌, ◌||◌, max, false, List, [], ◌∷◌, ◌++◌, if◌then◌else◌, OnOk, OnErr};
 ghost use Rattle.tva_base.specs.declared.addresses.Address.{Address};
 ghost use Rattle.tva_base.specs.Versions.{IsVersion};
 ghost use Rattle.tva_sender.specs.Contacts.{Contact, Prepared, Taken, Notice, takes};

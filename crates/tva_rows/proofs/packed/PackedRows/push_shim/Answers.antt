@@ -1,12 +1,10 @@
-use Rattle.std.proofs.Common.{◌≡◌, ◌∷◌, [], ◌++◌, List, sym, subst, ◌∙◌, ap}
+use Rattle.std.proofs.Common.{◌∙◌, List, ap, subst, sym}
 use Rattle.std.proofs.lemmas.Result.{err_from_is_err_and}
 use Rattle.tva_shim.specs.declared.packets.Carried.TheVariants as carried
 use Rattle.tva_rows.specs.declared.brief.BriefRow.{BriefRow}
-use Rattle.tva_rows.specs.declared.rows.Row.{Row}
-use Rattle.tva_rows.specs.declared.rows.RowWhat.{RowWhat}
 use Rattle.tva_rows.specs.declared.rows.RowWhat.TheVariants as asks
-use Rattle.tva_rows.specs.Brief.{AreHeld, row_in, rows_in}
-use Rattle.tva_rows.proofs.Packing.{grown_hold, grown_same, push_held, push_same, row_of}
+use Rattle.tva_rows.specs.Brief.{AreHeld, rows_in}
+use Rattle.tva_rows.proofs.Packing.{grown_hold, grown_same, pushed_held, pushed_same}
 use Rattle.tva_rows.proofs.packed.PackedRows.push_shim.Goals as goal
 
 pub invariant_of-self-in_err-push : goal.invariant_of-self-in_err-push
@@ -18,28 +16,16 @@ invariant_of-self-in_err-push c =
 
 pub returns-in_err-push-clause-err : goal.returns-in_err-push-clause-err
 returns-in_err-push-clause-err c =
-    let old = c.self.inside.layouts.items in
-    let new = c.brief_shim.new.layouts.items in
     let rows = c.self.inside.rows.items in
     let p = err_from_is_err_and c.from_residual-in_err-push.result c.from_residual-in_err-push.ensures.1 in
-    rw p.1 (ap (rows_in new) c.in_err-push.ensures.items ∙ grown_same old new rows c.in_ok-what.ensures.grows c.self.invariant ∙ c.self.view_is)
+    rw p.1 (ap (rows_in c.brief_shim.new.layouts.items) c.in_err-push.ensures.items ∙ grown_same c.self.inside.layouts.items c.brief_shim.new.layouts.items rows c.in_ok-what.ensures.grows c.self.invariant ∙ c.self.view_is)
 
 pub invariant_of-self-2 : goal.invariant_of-self-2
 invariant_of-self-2 c =
-    let old = c.self.inside.layouts.items in
-    let new = c.brief_shim.new.layouts.items in
-    let rows = c.self.inside.rows.items in
-    let b : BriefRow = record { time = c.args.time; what = c.in_ok-what.what; node = c.args.node } in
-    subst (λ (rs : List BriefRow). AreHeld new rs) (sym c.in_ok-push.ensures.items) (push_held old new rows b c.in_ok-what.ensures.grows c.self.invariant c.in_ok-what.ensures.held)
+    pushed_held c.self.inside.layouts.items c.brief_shim.new.layouts.items _ _ (record { time = c.args.time; what = c.in_ok-what.what; node = c.args.node })
+    c.in_ok-what.ensures.grows c.self.invariant c.in_ok-what.ensures.held c.in_ok-push.ensures.items
 
 pub returns-clause-ok : goal.returns-clause-ok
 returns-clause-ok c =
-    let old = c.self.inside.layouts.items in
-    let new = c.brief_shim.new.layouts.items in
-    let rows = c.self.inside.rows.items in
-    let b : BriefRow = record { time = c.args.time; what = c.in_ok-what.what; node = c.args.node } in
-    let row : Row = record { time = c.args.time; node = c.args.node; what = asks.Inject c.args.flow c.args.payload (carried.Shim c.args.shim.now) } in
-    let same : row_in new b ≡ row = ap (λ (w : RowWhat). row_of b w) c.in_ok-what.ensures.same in
-    ap (rows_in new) c.in_ok-push.ensures.items
-    ∙ push_same old new rows b row c.in_ok-what.ensures.grows c.self.invariant same
-    ∙ ap (λ (rs : List Row). rs ++ row ∷ []) c.self.view_is
+    pushed_same c.self.inside.layouts.items c.brief_shim.new.layouts.items _ _ (record { time = c.args.time; what = c.in_ok-what.what; node = c.args.node })
+    (asks.Inject c.args.flow c.args.payload (carried.Shim c.args.shim.now)) _ c.in_ok-what.ensures.grows c.self.invariant c.in_ok-what.ensures.same c.in_ok-push.ensures.items c.self.view_is

@@ -4,7 +4,7 @@ use Rattle.tva_sender.specs.declared.peer.Peer.{Peer}
 use Rattle.tva_sender.specs.Contacts.{Notice}
 use Rattle.tva_sender.specs.Book.{Book, StandsFor, of_peer, peer_at, IsKept, knows}
 use Rattle.tva_sender.proofs.Keeping.{keeps_noticed, strange_noticed}
-use Rattle.tva_sender.proofs.Placed.{at_place, set_place, no_place, within_place, known-set, placed-set, near-found}
+use Rattle.tva_sender.proofs.Placed.{found_at, no_place, within_place, near-found}
 use Rattle.tva_sender.proofs.Standing.{same_rules, stands_more, stands_at, strange_at, near_after}
 use Rattle.tva_sender.proofs.sender.Sender.demoted.Goals as goal
 
@@ -24,28 +24,21 @@ index_mut-requires c =
 pub invariant_of-self-2 : goal.invariant_of-self-2
 invariant_of-self-2 c =
     let inside = c.self.inside in
-    let x = c.index_mut.result.now in
-    let here = at_place inside.peers.items inside.places.addresses c.args.src.0 c.in-Some.at x c.self.invariant.0.addresses c.in-Some.ensures.place c.index_mut.ensures.value in
-    let new = set_place inside.peers.items inside.places.addresses c.args.src.0 c.in-Some.at (x.0, c.notice.new.self) c.self.invariant.0.addresses c.in-Some.ensures.place here.1 in (
-      rw c.in-Some.ensures.same (placed-set inside.room inside.places inside.peers.cap inside.peers.items c.args.src.0 c.in-Some.at (x.0, c.notice.new.self) c.self.invariant.0 c.in-Some.ensures.place here.1),
+    let f = found_at inside.room inside.places inside.peers.cap inside.peers.items c.args.src.0 c.in-Some.at c.index_mut.result.now c.notice.new.self c.self.invariant.0 c.in-Some.ensures.place c.index_mut.ensures.value in (
+      rw c.in-Some.ensures.same f.placed,
       near_after inside.last.0 inside.peers.items _ c.args.src.0 c.notice.new.self c.self.invariant.1
-          (c.notice.ensures.near inside.last.0 (near-found inside.last.0 inside.last.0 inside.peers.items c.args.src.0 x.1 (le_refl _) c.self.invariant.1 here.2)) new.0 new.1,
+          (c.notice.ensures.near inside.last.0 (near-found inside.last.0 inside.last.0 inside.peers.items c.args.src.0 c.index_mut.result.now.1 (le_refl _) c.self.invariant.1 f.found)) f.here f.others,
     )
 
 pub returns-clause-stands : goal.returns-clause-stands
 returns-clause-stands c h s =
     let inside = c.self.inside in
-    let x = c.index_mut.result.now in
-    let stood = subst (λ (v : Book). StandsFor v h) (sym c.self.view_is) s in
-    let here = at_place inside.peers.items inside.places.addresses c.args.src.0 c.in-Some.at x c.self.invariant.0.addresses c.in-Some.ensures.place c.index_mut.ensures.value in
-    let new = set_place inside.peers.items inside.places.addresses c.args.src.0 c.in-Some.at (x.0, c.notice.new.self) c.self.invariant.0.addresses c.in-Some.ensures.place here.1 in
-    stands_at _ _ h c.args.src Notice x.1 c.notice.new.self stood (same_rules _ _ refl refl refl (le_refl _)) (λ k. tt) tt here.2 new.0 new.1
-    (λ k. rw c.notice.ensures.noticed (keeps_noticed x.1 (of_peer c.args.src h) k))
+    let f = found_at inside.room inside.places inside.peers.cap inside.peers.items c.args.src.0 c.in-Some.at c.index_mut.result.now c.notice.new.self c.self.invariant.0 c.in-Some.ensures.place c.index_mut.ensures.value in
+    stands_at _ _ h c.args.src Notice c.index_mut.result.now.1 c.notice.new.self (subst (λ (v : Book). StandsFor v h) (sym c.self.view_is) s) (same_rules _ _ refl refl refl (le_refl _)) (λ k. tt) tt f.found f.here f.others
+    (λ k. rw c.notice.ensures.noticed (keeps_noticed c.index_mut.result.now.1 (of_peer c.args.src h) k))
 
 pub returns-clause-known : goal.returns-clause-known
 returns-clause-known c a =
     let inside = c.self.inside in
-    let x = c.index_mut.result.now in
-    let here = at_place inside.peers.items inside.places.addresses c.args.src.0 c.in-Some.at x c.self.invariant.0.addresses c.in-Some.ensures.place c.index_mut.ensures.value in
-    known-set inside.peers.items inside.places.addresses c.args.src.0 c.in-Some.at (x.0, c.notice.new.self) c.self.invariant.0.addresses c.in-Some.ensures.place here.1 a.0
-    ∙ ap (λ (v : Book). knows v a) c.self.view_is
+    let f = found_at inside.room inside.places inside.peers.cap inside.peers.items c.args.src.0 c.in-Some.at c.index_mut.result.now c.notice.new.self c.self.invariant.0 c.in-Some.ensures.place c.index_mut.ensures.value in
+    f.known a.0 ∙ ap (λ (v : Book). knows v a) c.self.view_is

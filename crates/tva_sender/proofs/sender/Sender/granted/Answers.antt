@@ -3,7 +3,7 @@ use Rattle.std.proofs.Math.Nat.{le_refl}
 use Rattle.tva_sender.specs.declared.peer.Peer.{Peer}
 use Rattle.tva_sender.specs.Contacts.{is_within, takes}
 use Rattle.tva_sender.specs.Book.{Book, StandsFor, Keeps, IsKept, of_peer, peer_at, knows}
-use Rattle.tva_sender.proofs.Placed.{at_place, set_place, no_place, within_place, known-set, placed-set, near-found}
+use Rattle.tva_sender.proofs.Placed.{found_at, no_place, within_place, near-found}
 use Rattle.tva_sender.proofs.Standing.{same_rules, stands_taken, strange_at, near_after}
 use Rattle.tva_sender.proofs.sender.Sender.granted.Goals as goal
 
@@ -23,39 +23,29 @@ index_mut-requires c =
 pub invariant_of-self-2 : goal.invariant_of-self-2
 invariant_of-self-2 c =
     let inside = c.self.inside in
-    let x = c.index_mut.result.now in
-    let here = at_place inside.peers.items inside.places.addresses c.args.src.0 c.in-Some.at x c.self.invariant.0.addresses c.in-Some.ensures.place c.index_mut.ensures.value in
-    let new = set_place inside.peers.items inside.places.addresses c.args.src.0 c.in-Some.at (x.0, c.take.new.self) c.self.invariant.0.addresses c.in-Some.ensures.place here.1 in (
-      rw c.in-Some.ensures.same (placed-set inside.room inside.places inside.peers.cap inside.peers.items c.args.src.0 c.in-Some.at (x.0, c.take.new.self) c.self.invariant.0 c.in-Some.ensures.place here.1),
+    let f = found_at inside.room inside.places inside.peers.cap inside.peers.items c.args.src.0 c.in-Some.at c.index_mut.result.now c.take.new.self c.self.invariant.0 c.in-Some.ensures.place c.index_mut.ensures.value in (
+      rw c.in-Some.ensures.same f.placed,
       near_after inside.last.0 inside.peers.items _ c.args.src.0 c.take.new.self c.self.invariant.1
-          (c.take.ensures.near inside.last.0 (near-found inside.last.0 inside.last.0 inside.peers.items c.args.src.0 x.1 (le_refl _) c.self.invariant.1 here.2)) new.0 new.1,
+          (c.take.ensures.near inside.last.0 (near-found inside.last.0 inside.last.0 inside.peers.items c.args.src.0 c.index_mut.result.now.1 (le_refl _) c.self.invariant.1 f.found)) f.here f.others,
     )
 
 pub returns-clause-taken : goal.returns-clause-taken
 returns-clause-taken c h s =
     let inside = c.self.inside in
-    let x = c.index_mut.result.now in
-    let stood = subst (λ (v : Book). StandsFor v h) (sym c.self.view_is) s in
-    let here = at_place inside.peers.items inside.places.addresses c.args.src.0 c.in-Some.at x c.self.invariant.0.addresses c.in-Some.ensures.place c.index_mut.ensures.value in
-    let kept : Keeps x.1 (of_peer c.args.src h) = subst (λ (o : Option Peer). IsKept o (of_peer c.args.src h)) (sym here.2) (stood.kept c.args.src) in
+    let f = found_at inside.room inside.places inside.peers.cap inside.peers.items c.args.src.0 c.in-Some.at c.index_mut.result.now c.take.new.self c.self.invariant.0 c.in-Some.ensures.place c.index_mut.ensures.value in
+    let kept : Keeps c.index_mut.result.now.1 (of_peer c.args.src h) = subst (λ (o : Option Peer). IsKept o (of_peer c.args.src h)) (sym f.found) ((subst (λ (v : Book). StandsFor v h) (sym c.self.view_is) s).kept c.args.src) in
     subst (λ (v : Book). c.take.result ≡ takes v.version (of_peer c.args.src h) c.args.rights) c.self.view_is
     (c.take.ensures.taken ∙ ap (λ (b : Bool). b && is_within inside.version c.args.rights) (sym kept.awaits))
 
 pub returns-clause-stands : goal.returns-clause-stands
 returns-clause-stands c h s =
     let inside = c.self.inside in
-    let x = c.index_mut.result.now in
-    let stood = subst (λ (v : Book). StandsFor v h) (sym c.self.view_is) s in
-    let here = at_place inside.peers.items inside.places.addresses c.args.src.0 c.in-Some.at x c.self.invariant.0.addresses c.in-Some.ensures.place c.index_mut.ensures.value in
-    let new = set_place inside.peers.items inside.places.addresses c.args.src.0 c.in-Some.at (x.0, c.take.new.self) c.self.invariant.0.addresses c.in-Some.ensures.place here.1 in
-    stands_taken _ _ h c.args.src c.args.rights c.args.caps.now x.1 c.take.new.self c.take.result stood
-    (same_rules _ _ refl refl refl (le_refl _)) c.take.ensures.taken here.2 new.0 new.1
-    c.take.ensures.answered c.take.ensures.ignored
+    let f = found_at inside.room inside.places inside.peers.cap inside.peers.items c.args.src.0 c.in-Some.at c.index_mut.result.now c.take.new.self c.self.invariant.0 c.in-Some.ensures.place c.index_mut.ensures.value in
+    stands_taken _ _ h c.args.src c.args.rights c.args.caps.now c.index_mut.result.now.1 c.take.new.self c.take.result (subst (λ (v : Book). StandsFor v h) (sym c.self.view_is) s)
+    (same_rules _ _ refl refl refl (le_refl _)) c.take.ensures.taken f.found f.here f.others c.take.ensures.answered c.take.ensures.ignored
 
 pub returns-clause-known : goal.returns-clause-known
 returns-clause-known c a =
     let inside = c.self.inside in
-    let x = c.index_mut.result.now in
-    let here = at_place inside.peers.items inside.places.addresses c.args.src.0 c.in-Some.at x c.self.invariant.0.addresses c.in-Some.ensures.place c.index_mut.ensures.value in
-    known-set inside.peers.items inside.places.addresses c.args.src.0 c.in-Some.at (x.0, c.take.new.self) c.self.invariant.0.addresses c.in-Some.ensures.place here.1 a.0
-    ∙ ap (λ (v : Book). knows v a) c.self.view_is
+    let f = found_at inside.room inside.places inside.peers.cap inside.peers.items c.args.src.0 c.in-Some.at c.index_mut.result.now c.take.new.self c.self.invariant.0 c.in-Some.ensures.place c.index_mut.ensures.value in
+    f.known a.0 ∙ ap (λ (v : Book). knows v a) c.self.view_is

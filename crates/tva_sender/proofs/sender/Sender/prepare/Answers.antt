@@ -1,16 +1,17 @@
-use Rattle.std.proofs.Common.{◌≡◌, ◌≤◌, ◌-◌, ℕ, ◌||◌, cond, eqb, length, refl, sym, subst, ap, ◌∙◌, List, ◌∷◌, [], ◌++◌, Option, None, Some, false, arith}
+use Rattle.std.proofs.Common.{◌≡◌, ◌≤◌, ◌-◌, ℕ, ◌||◌, cond, eqb, length, refl, sym, subst, ap, ◌∙◌, List, ◌∷◌, [], ◌++◌, Option, None, false, arith}
 use Rattle.std.specs.Prelude.{is_some, nat_eq, IfSome}
 use Rattle.std.proofs.Math.Nat.{le_refl}
 use Rattle.std.proofs.lemmas.List.{length_push}
 use Rattle.std.specs.Map.{lookup}
+use Rattle.tva_base.specs.declared.addresses.Address.{Address}
 use Rattle.tva_sender.specs.declared.peer.Peer.{Peer}
 use Rattle.tva_sender.specs.declared.shape.Shape.TheVariants as shape
 use Rattle.tva_sender.specs.Contacts.{Prepared}
 use Rattle.tva_sender.specs.Shapes.{shape_of, length_of, request_length}
-use Rattle.tva_sender.specs.Book.{Book, StandsFor, of_peer, Keeps, IsKept, knows}
+use Rattle.tva_sender.specs.Book.{Book, StandsFor, of_peer, peer_at, Keeps, IsKept, knows}
 use Rattle.tva_sender.specs.Places.{Known}
 use Rattle.tva_sender.specs.Showable.{IsShowable, AreShowable}
-use Rattle.tva_sender.proofs.Placed.{addresses, at_place, set_place, no_place, new_place, within_place, known-set, known-found, known-push, placed-set, all-later, near-found}
+use Rattle.tva_sender.proofs.Placed.{addresses, found_at, at_place, no_place, new_place, within_place, known-found, known-push, all-later, near-found}
 use Rattle.tva_sender.proofs.Showing.{IsShowableGrant, showable_peer, showable_grant, showable_shape}
 use Rattle.tva_sender.proofs.Keeping.{keeps_prepared, keeps_first}
 use Rattle.tva_sender.proofs.Playing.{next-prepared, shape-kept, shape-strange}
@@ -31,36 +32,31 @@ prepare-requires-clause-near c =
 pub invariant_of-self : goal.invariant_of-self
 invariant_of-self c =
     let inside = c.self.inside in
-    let x = c.index_mut.result.now in
     let last : inside.last.0 ≤ c.args.now.0 = subst (λ (b : Book). b.last ≤ c.args.now.0) (sym c.self.view_is) c.requires.time in
-    let here = at_place inside.peers.items inside.places.addresses c.args.dst.0 c.in-Some.at x c.self.invariant.0.addresses c.in-Some.ensures.place c.index_mut.ensures.value in
-    let new = set_place inside.peers.items inside.places.addresses c.args.dst.0 c.in-Some.at (x.0, c.prepare.new.self) c.self.invariant.0.addresses c.in-Some.ensures.place here.1 in (
-      rw c.in-Some.ensures.same (placed-set inside.room inside.places inside.peers.cap inside.peers.items c.args.dst.0 c.in-Some.at (x.0, c.prepare.new.self) c.self.invariant.0 c.in-Some.ensures.place here.1),
-      near_after c.args.now.0 inside.peers.items _ c.args.dst.0 c.prepare.new.self (all-later inside.last.0 c.args.now.0 inside.peers.items last c.self.invariant.1)
-          c.prepare.ensures.near new.0 new.1,
+    let f = found_at inside.room inside.places inside.peers.cap inside.peers.items c.args.dst.0 c.in-Some.at c.index_mut.result.now c.prepare.new.self c.self.invariant.0 c.in-Some.ensures.place c.index_mut.ensures.value in (
+      rw c.in-Some.ensures.same f.placed,
+      near_after c.args.now.0 inside.peers.items _ c.args.dst.0 c.prepare.new.self (all-later inside.last.0 c.args.now.0 inside.peers.items last c.self.invariant.1) c.prepare.ensures.near f.here f.others,
     )
+
+-- there is room for a peer that isn't known
+room_for : (v w : Book) (a : Address) → w ≡ v → None ≡ peer_at a w.peers → (knows v a ≡ false → 1 ≤ v.spare) → 1 ≤ w.spare
+room_for v w a same absent room = subst (λ (b : Book). 1 ≤ b.spare) (sym same) (room (subst (λ (b : Book). knows b a ≡ false) same (ap is_some (sym absent))))
 
 pub overflow_sub-self : goal.overflow_sub-self
 overflow_sub-self c =
     let inside = c.self.inside in
-    let absent = no_place inside.peers.items inside.places.addresses c.args.dst.0 c.self.invariant.0.addresses c.in-None.ensures.place in
-    let unknown : knows c.args.self.now c.args.dst ≡ false = subst (λ (v : Book). knows v c.args.dst ≡ false) c.self.view_is (ap is_some (sym absent)) in
-    subst (λ (v : Book). 1 ≤ v.spare) (sym c.self.view_is) (c.requires.room unknown)
+    room_for c.args.self.now _ c.args.dst c.self.view_is (no_place inside.peers.items inside.places.addresses c.args.dst.0 c.self.invariant.0.addresses c.in-None.ensures.place) c.requires.room
 
 pub push-requires-clause-room : goal.push-requires-clause-room
 push-requires-clause-room c =
     let inside = c.self.inside in
-    let absent = no_place inside.peers.items inside.places.addresses c.args.dst.0 c.self.invariant.0.addresses c.in-None.ensures.place in
-    let unknown : knows c.args.self.now c.args.dst ≡ false = subst (λ (v : Book). knows v c.args.dst ≡ false) c.self.view_is (ap is_some (sym absent)) in
-    let some : 1 ≤ inside.room = subst (λ (v : Book). 1 ≤ v.spare) (sym c.self.view_is) (c.requires.room unknown) in
+    let some : 1 ≤ inside.room = room_for c.args.self.now _ c.args.dst c.self.view_is (no_place inside.peers.items inside.places.addresses c.args.dst.0 c.self.invariant.0.addresses c.in-None.ensures.place) c.requires.room in
     omega (arith, some, c.self.invariant.0.places, ap (λ (k : Known). k.spare) c.in-None.ensures.same)
 
 pub push_reserved-requires : goal.push_reserved-requires
 push_reserved-requires c =
     let inside = c.self.inside in
-    let absent = no_place inside.peers.items inside.places.addresses c.args.dst.0 c.self.invariant.0.addresses c.in-None.ensures.place in
-    let unknown : knows c.args.self.now c.args.dst ≡ false = subst (λ (v : Book). knows v c.args.dst ≡ false) c.self.view_is (ap is_some (sym absent)) in
-    let some : 1 ≤ inside.room = subst (λ (v : Book). 1 ≤ v.spare) (sym c.self.view_is) (c.requires.room unknown) in
+    let some : 1 ≤ inside.room = room_for c.args.self.now _ c.args.dst c.self.view_is (no_place inside.peers.items inside.places.addresses c.args.dst.0 c.self.invariant.0.addresses c.in-None.ensures.place) c.requires.room in
     omega (arith, some, c.self.invariant.0.peers)
 
 pub invariant_of-self-in-None : goal.invariant_of-self-in-None
@@ -83,58 +79,51 @@ invariant_of-self-in-None c =
 pub returns-in-Some-clause-shape : goal.returns-in-Some-clause-shape
 returns-in-Some-clause-shape c h s =
     let inside = c.self.inside in
-    let x = c.index_mut.result.now in
     let stood = subst (λ (v : Book). StandsFor v h) (sym c.self.view_is) s in
-    let here = at_place inside.peers.items inside.places.addresses c.args.dst.0 c.in-Some.at x c.self.invariant.0.addresses c.in-Some.ensures.place c.index_mut.ensures.value in
-    let kept : Keeps x.1 (of_peer c.args.dst h) = subst (λ (o : Option Peer). IsKept o (of_peer c.args.dst h)) (sym here.2) (stood.kept c.args.dst) in
+    let f = found_at inside.room inside.places inside.peers.cap inside.peers.items c.args.dst.0 c.in-Some.at c.index_mut.result.now c.prepare.new.self c.self.invariant.0 c.in-Some.ensures.place c.index_mut.ensures.value in
+    let kept : Keeps c.index_mut.result.now.1 (of_peer c.args.dst h) = subst (λ (o : Option Peer). IsKept o (of_peer c.args.dst h)) (sym f.found) (stood.kept c.args.dst) in
     subst (λ (v : Book). c.prepare.result ≡ shape_of v.margin v.retry v.version (of_peer c.args.dst h) c.args.now.0 c.args.body c.args.nonce) c.self.view_is
-    (c.prepare.ensures.shape ∙ shape-kept inside.margin inside.retry inside.version x.1 (of_peer c.args.dst h) c.args.now.0 c.args.body c.args.nonce kept)
+    (c.prepare.ensures.shape ∙ shape-kept inside.margin inside.retry inside.version c.index_mut.result.now.1 (of_peer c.args.dst h) c.args.now.0 c.args.body c.args.nonce kept)
 
 pub returns-in-Some-clause-stands : goal.returns-in-Some-clause-stands
 returns-in-Some-clause-stands c h s =
     let inside = c.self.inside in
-    let x = c.index_mut.result.now in
     let v : Book = record { margin = inside.margin; retry = inside.retry; version = inside.version; spare = inside.room; last = inside.last.0; peers = inside.peers.items } in
     let stood = subst (λ (v : Book). StandsFor v h) (sym c.self.view_is) s in
-    let here = at_place inside.peers.items inside.places.addresses c.args.dst.0 c.in-Some.at x c.self.invariant.0.addresses c.in-Some.ensures.place c.index_mut.ensures.value in
-    let new = set_place inside.peers.items inside.places.addresses c.args.dst.0 c.in-Some.at (x.0, c.prepare.new.self) c.self.invariant.0.addresses c.in-Some.ensures.place here.1 in
+    let f = found_at inside.room inside.places inside.peers.cap inside.peers.items c.args.dst.0 c.in-Some.at c.index_mut.result.now c.prepare.new.self c.self.invariant.0 c.in-Some.ensures.place c.index_mut.ensures.value in
     let last : v.last ≤ c.args.now.0 = subst (λ (b : Book). b.last ≤ c.args.now.0) (sym c.self.view_is) c.requires.time in
     rw (← c.self.view_is)
-    (stands_at v _ h c.args.dst (Prepared c.args.now.0 c.prepare.result (length_of v.version c.prepare.result c.args.body)) x.1 c.prepare.new.self stood
+    (stands_at v _ h c.args.dst (Prepared c.args.now.0 c.prepare.result (length_of v.version c.prepare.result c.args.body)) c.index_mut.result.now.1 c.prepare.new.self stood
     (same_rules v _ refl refl refl last)
     (λ k. next-prepared v.margin v.retry v.version v.last (of_peer c.args.dst h) c.args.now.0 c.args.body c.args.nonce c.prepare.result last (stood.times c.args.dst)
-    (c.prepare.ensures.shape ∙ shape-kept v.margin v.retry v.version x.1 (of_peer c.args.dst h) c.args.now.0 c.args.body c.args.nonce k))
-    (le_refl c.args.now.0) here.2 new.0 new.1
-    (λ k. rw c.prepare.ensures.prepared (keeps_prepared v.version x.1 (of_peer c.args.dst h) c.args.now.0 c.args.body c.prepare.result k)))
+    (c.prepare.ensures.shape ∙ shape-kept v.margin v.retry v.version c.index_mut.result.now.1 (of_peer c.args.dst h) c.args.now.0 c.args.body c.args.nonce k))
+    (le_refl c.args.now.0) f.found f.here f.others
+    (λ k. rw c.prepare.ensures.prepared (keeps_prepared v.version c.index_mut.result.now.1 (of_peer c.args.dst h) c.args.now.0 c.args.body c.prepare.result k)))
 
 pub returns-in-Some-clause-showable : goal.returns-in-Some-clause-showable
 returns-in-Some-clause-showable c h s showable =
     let inside = c.self.inside in
-    let x = c.index_mut.result.now in
     let version = inside.version in
     let stood = subst (λ (v : Book). StandsFor v h) (sym c.self.view_is) s in
     let fits = subst (λ (v : Book). AreShowable v.version h) (sym c.self.view_is) showable in
-    let here = at_place inside.peers.items inside.places.addresses c.args.dst.0 c.in-Some.at x c.self.invariant.0.addresses c.in-Some.ensures.place c.index_mut.ensures.value in
-    let kept : Keeps x.1 (of_peer c.args.dst h) = subst (λ (o : Option Peer). IsKept o (of_peer c.args.dst h)) (sym here.2) (stood.kept c.args.dst) in
+    let f = found_at inside.room inside.places inside.peers.cap inside.peers.items c.args.dst.0 c.in-Some.at c.index_mut.result.now c.prepare.new.self c.self.invariant.0 c.in-Some.ensures.place c.index_mut.ensures.value in
+    let kept : Keeps c.index_mut.result.now.1 (of_peer c.args.dst h) = subst (λ (o : Option Peer). IsKept o (of_peer c.args.dst h)) (sym f.found) (stood.kept c.args.dst) in
     let grant = subst (λ o. IfSome o (IsShowableGrant version)) kept.grant (showable_grant version (of_peer c.args.dst h) (showable_peer version c.args.dst h fits)) in
     subst (λ (v : Book). IsShowable v.version c.prepare.result) c.self.view_is
-    (subst (IsShowable version) (sym c.prepare.ensures.shape) (showable_shape _ version _ x.1.grant _ _ _ grant c.requires.nonce))
+    (subst (IsShowable version) (sym c.prepare.ensures.shape) (showable_shape _ version _ c.index_mut.result.now.1.grant _ _ _ grant c.requires.nonce))
 
 pub returns-in-Some-clause-spare : goal.returns-in-Some-clause-spare
 returns-in-Some-clause-spare c =
     let inside = c.self.inside in
-    let x = c.index_mut.result.now in
-    let here = at_place inside.peers.items inside.places.addresses c.args.dst.0 c.in-Some.at x c.self.invariant.0.addresses c.in-Some.ensures.place c.index_mut.ensures.value in
-    let found : lookup (nat_eq c.args.dst.0) inside.peers.items ≡ Some x.1 = sym here.2 in
-    subst (λ (v : Book). inside.room ≡ cond (knows v c.args.dst) v.spare (v.spare - 1)) c.self.view_is (rw found refl)
+    let f = found_at inside.room inside.places inside.peers.cap inside.peers.items c.args.dst.0 c.in-Some.at c.index_mut.result.now c.prepare.new.self c.self.invariant.0 c.in-Some.ensures.place c.index_mut.ensures.value in
+    subst (λ (v : Book). inside.room ≡ cond (knows v c.args.dst) v.spare (v.spare - 1)) c.self.view_is (rw (sym f.found) refl)
 
 pub returns-in-Some-clause-known : goal.returns-in-Some-clause-known
 returns-in-Some-clause-known c a =
     let inside = c.self.inside in
-    let x = c.index_mut.result.now in
-    let here = at_place inside.peers.items inside.places.addresses c.args.dst.0 c.in-Some.at x c.self.invariant.0.addresses c.in-Some.ensures.place c.index_mut.ensures.value in
-    known-set inside.peers.items inside.places.addresses c.args.dst.0 c.in-Some.at (x.0, c.prepare.new.self) c.self.invariant.0.addresses c.in-Some.ensures.place here.1 a.0
-    ∙ (known-found inside.peers.items c.args.dst.0 x.1 here.2 a.0 ∙ ap (λ (v : Book). knows v a || eqb a.0 c.args.dst.0) c.self.view_is)
+    let f = found_at inside.room inside.places inside.peers.cap inside.peers.items c.args.dst.0 c.in-Some.at c.index_mut.result.now c.prepare.new.self c.self.invariant.0 c.in-Some.ensures.place c.index_mut.ensures.value in
+    f.known a.0
+    ∙ (known-found inside.peers.items c.args.dst.0 c.index_mut.result.now.1 f.found a.0 ∙ ap (λ (v : Book). knows v a || eqb a.0 c.args.dst.0) c.self.view_is)
 
 pub returns-in-None-clause-shape : goal.returns-in-None-clause-shape
 returns-in-None-clause-shape c h s =
