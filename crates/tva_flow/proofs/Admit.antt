@@ -1,5 +1,5 @@
 -- What each answer of a cache says.
-use Rattle.std.proofs.Common.{◌≡◌, ℕ, ◌+◌, ◌*◌, ◌<◌, ◌≤◌, Bool, true, false, not, cond, eqb, ltb, leb, List, [], ◌∷◌, ◌++◌, length, get_or, set, Option, Some, None, refl, sym, ap, ◌∙◌, subst, inl, inr, zero, suc, arith, append-nil}
+use Rattle.std.proofs.Common.{◌≡◌, ℕ, ◌+◌, ◌*◌, ◌<◌, ◌≤◌, Bool, true, false, not, cond, eqb, ltb, leb, List, [], ◌∷◌, ◌++◌, length, get_or, set, Option, Some, None, refl, sym, ap, ◌∙◌, subst, inl, inr, arith, append-nil}
 use Rattle.std.specs.List.{All}
 use Rattle.std.specs.Option.{MatchOption}
 use Rattle.std.proofs.lemmas.Bool.Decides.{nat_tests}
@@ -18,6 +18,7 @@ use Rattle.tva_flow.proofs.Rising.{rising}
 use Rattle.tva_flow.proofs.Standing.{stands-later, stands-set, stands-push, entry_from_place}
 use Rattle.tva_flow.proofs.Counting.{living_count_is, live_flows, length-live_flows-le, length-live_flows-lt, length-live_flows-all}
 use Rattle.tva_flow.proofs.ByEntry.{verdict-living, verdict-opening, living_rows, some_last, bytes_known, nonce-living, nonce-gone}
+use Rattle.tva_flow.proofs.Indexed.{some_place}
 use Rattle.tva_flow.proofs.Near.{own_counted}
 use Rattle.tva_flow.proofs.Places.{no_charge}
 
@@ -109,9 +110,7 @@ admits-over s o last now es h g nonce len v l d t =
 
 -- the answers in the form in which the code meets them
 three : (b c : Bool) (g : Grant) → is_authorised (cond b Superseded (cond c OverN (Authorised g))) ≡ true → cond b Superseded (cond c OverN (Authorised g)) ≡ Authorised g
-three true c g h = absurd (cc)
-three false true g h = absurd (cc)
-three false false g h = refl
+three b c g h = grind arith
 
 authorised_is : (e : Entry) (g : Grant) (len : ℕ) → is_authorised (living_verdict e g len) ≡ true → living_verdict e g len ≡ Authorised g
 authorised_is e g len = three (blocks e g) (ltb (1024 * g.rights.n) (counted e g + len)) g
@@ -129,17 +128,12 @@ pub answers-denied : (now : ℕ) (es : List Entry) (i : ℕ) (e : Entry) (g : Gr
     → (s o last : ℕ) (h : List Charge) → last ≤ now → StandsFor (cache s o last es) h → Admits s o h now nonce len (list_verdict s h now g len) r es
 answers-denied now es i e g nonce len r n q k t a s o last h l v = admits-denied s o last now es h i e g nonce len r v l n q k.0 k.1 t a
 
-here : (es : List Entry) (i : ℕ) → i < length es → (e : Entry) × (e ≡ get_or es i e)
-here [] i n = absurd (omega arith)
-here (d ∷ ds) zero n = (d, refl)
-here (d ∷ ds) (suc i) n = here ds i (omega arith)
-
 -- a flow with no entry, or with one that ended
 pub admits-over_at : (s o last now : ℕ) (es : List Entry) (h : List Charge) (at : Option ℕ) (g : Grant) (nonce len : ℕ) → StandsFor (cache s o last es) h → last ≤ now
     → MatchOption at (entry_of g.flow es ≡ None) (λ i. (i < length es) × ((e : Entry) → e ≡ get_or es i e → (e.grant.flow ≡ g.flow) × (e.end ≤ now))) → 1024 * g.rights.n < len → Admits s o h now nonce len (list_verdict s h now g len) OverN es
 admits-over_at s o last now es h None g nonce len v l m t = admits-over s o last now es h g nonce len v l (none_dead s o last now es h g.flow v l m) t
 admits-over_at s o last now es h (Some i) g nonce len v l m t =
-    let e = here es i m.0 in
+    let e = some_place es i m.0 in
     let q = m.1 e.0 e.1 in
     admits-over s o last now es h g nonce len v l (dead_now (of_flow g.flow h) last now e.0 l (kept_at s o last es h g.flow i e.0 v m.0 e.1 q.0) q.1) t
 
@@ -160,10 +154,7 @@ admits-held s o last now es h i e nonce bytes v l n q a t m =
     )
 
 held_three : (a b d : Bool) (g : Grant) → is_authorised (cond a UnknownNonce (cond b Expired (cond d OverN (Authorised g)))) ≡ true → cond a UnknownNonce (cond b Expired (cond d OverN (Authorised g))) ≡ Authorised g
-held_three true b d g h = absurd (cc)
-held_three false true d g h = absurd (cc)
-held_three false false true g h = absurd (cc)
-held_three false false false g h = refl
+held_three a b d g h = grind arith
 
 pub held_judged : (second : ℕ) (e : Entry) (nonce bytes : ℕ) (r : Verdict) → r ≡ held_verdict second e nonce bytes → is_authorised r ≡ true → held_verdict second e nonce bytes ≡ Authorised e.grant
 held_judged second e nonce bytes r t a =

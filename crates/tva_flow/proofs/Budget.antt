@@ -6,7 +6,7 @@ use Rattle.std.proofs.lemmas.Bool.{cases_lt}
 use Rattle.std.proofs.lemmas.Bool.Decides.{nat_tests}
 use Rattle.std.proofs.lemmas.Grind.{div_ceil_times}
 use Rattle.std.proofs.lemmas.List.Sums.{sum_by-cons, sum_by-append, sum_by_push}
-use Rattle.std.proofs.lemmas.List.Elements.{All-nil, All-cons, All-head, All-tail, All-filter, All-from_recursion}
+use Rattle.std.proofs.lemmas.List.Elements.{All-head, All-tail, All-filter, All-from_recursion}
 use Rattle.tva_base.specs.declared.packet.Flow.{Flow}
 use Rattle.tva_base.specs.declared.packet.Grant.{Grant}
 use Rattle.tva_base.specs.Credit.{credit_of}
@@ -16,11 +16,12 @@ use Rattle.tva_flow.specs.Charges.{Charge, end_of, is_living, restarts, run, sam
 use Rattle.tva_flow.specs.Verdicts.{IsAuthorised}
 use Rattle.tva_flow.specs.Stands.{NoChargeLater, IsNext, AreNext, StandsFor, cache}
 use Rattle.tva_flow.specs.Budget.{IsWithinSeconds, AreTimely, IsWithinBudget}
-use Rattle.tva_flow.proofs.Same.{by_bool, by_flow, same_is, same_grant-self, same_flow-self}
+use Rattle.tva_flow.proofs.Same.{by_bool, same_is, same_grant-self, same_flow-self}
 use Rattle.tva_flow.proofs.Pushes.{credit, credits, of_flow-push, past-push}
 use Rattle.tva_flow.proofs.Steps.{run_new, run_more, end_from_dead}
 use Rattle.tva_flow.proofs.Rows.{authorised_rows}
 use Rattle.tva_flow.proofs.Standing.{stands-later}
+use Rattle.tva_flow.proofs.Places.{timely_front}
 use Rattle.tva_flow.proofs.Counting.{living_count_is, length-live_flows-le}
 
 -- whether a charge came in its grant's seconds
@@ -110,11 +111,7 @@ fewer m b x k e z h l t n =
 
 bytes-of_flow : (g : Grant) (h : List Charge) → bytes_of g h ≡ bytes_of g (of_flow g.flow h)
 bytes-of_flow g [] = refl
-bytes-of_flow g (c ∷ cs) =
-    by_flow c.grant.flow g.flow (λ b. bytes_of g (c ∷ cs) ≡ bytes_of g (cond b (c ∷ of_flow g.flow cs) (of_flow g.flow cs)))
-    (λ e. sum_by-cons (bytes_under g) c cs ∙ (ap (λ z. bytes_under g c + z) (bytes-of_flow g cs) ∙ sym (sum_by-cons (bytes_under g) c (of_flow g.flow cs))))
-    (λ e. let n : same_grant c.grant g ≡ false = by_bool (same_grant c.grant g) (λ b. b ≡ false) (λ k. absurd (e (ap (λ (z : Grant). z.flow) (same_is c.grant g k)))) (λ k. refl) in
-    sum_by-cons (bytes_under g) c cs ∙ (ap (λ b. cond b c.length 0 + bytes_of g cs) n ∙ (zero-add (bytes_of g cs) ∙ bytes-of_flow g cs)))
+bytes-of_flow g (c ∷ cs) = grind (arith, nat_tests, bytes-of_flow g cs, sum_by-cons (bytes_under g) c cs, sum_by-cons (bytes_under g) c (of_flow g.flow cs))
 
 past-of_flow : (t : ℕ) (f : Flow) (h : List Charge) → NoChargeLater t h → NoChargeLater t (of_flow f h)
 past-of_flow t f h p = All-filter (λ c. same_flow c.grant.flow f) (λ (c : Charge). c.time ≤ t) h p
@@ -125,10 +122,6 @@ timely-of_flow o f h p = All-filter (λ c. same_flow c.grant.flow f) (IsTimely o
 past-mid : (t : ℕ) (xs : List Charge) (y : Charge) (ys : List Charge) → NoChargeLater t (xs ++ y ∷ ys) → y.time ≤ t
 past-mid t [] y ys p = All-head (λ (c : Charge). c.time ≤ t) y ys p
 past-mid t (x ∷ xs) y ys p = past-mid t xs y ys (All-tail (λ (c : Charge). c.time ≤ t) x (xs ++ y ∷ ys) p)
-
-timely-front : (o : ℕ) (xs ys : List Charge) → AreTimely o (xs ++ ys) → AreTimely o xs
-timely-front o [] ys p = All-nil (IsTimely o)
-timely-front o (x ∷ xs) ys p = All-cons (IsTimely o) x xs (All-head (IsTimely o) x (xs ++ ys) p) (timely-front o xs ys (All-tail (IsTimely o) x (xs ++ ys) p))
 
 timely-last : (o : ℕ) (xs : List Charge) (y : Charge) → AreTimely o (xs ++ y ∷ []) → IsTimely o y
 timely-last o [] y p = All-head (IsTimely o) y [] p
@@ -143,11 +136,7 @@ bytes_own c g k = ap (λ b. cond b c.length 0) k
 
 -- the run within the grant's units
 run-within : (cs : List Charge) (c : Charge) (g : Grant) → same_grant c.grant g ≡ true → cond (is_living cs c.time) (bytes_of g (run [] cs)) 0 + c.length ≤ 1024 * g.rights.n → bytes_of g (run [] (cs ++ c ∷ [])) ≤ 1024 * g.rights.n
-run-within cs c g k =
-    by_bool (is_living cs c.time) (λ b. (is_living cs c.time ≡ b) → cond b (bytes_of g (run [] cs)) 0 + c.length ≤ 1024 * g.rights.n → bytes_of g (run [] (cs ++ c ∷ [])) ≤ 1024 * g.rights.n)
-    (λ _ q h. rw (run_more cs c q) (omega (arith, sum_by_push (bytes_under g) (run [] cs) c, bytes_own c g k)))
-    (λ _ q h. rw (run_new cs c q) (omega (arith, sum_by-cons (bytes_under g) c [], bytes_own c g k)))
-    refl
+run-within cs c g k h = grind (arith, nat_tests, bytes_own c g k, run_more cs c, run_new cs c, sum_by_push (bytes_under g) (run [] cs) c, sum_by-cons (bytes_under g) c [])
 
 starts_by : (g : Grant) (o : ℕ) (c : Charge) → same_grant c.grant g ≡ true → IsTimely o c → g.second * 1000000000 ≤ c.time + o
 starts_by g o c k t = let e = same_is c.grant g k in let q : g.second ≤ (c.time + o) / 1000000000 = subst (λ (z : Grant). z.second ≤ router_second o c.time) e t.from in omega arith
@@ -165,7 +154,7 @@ flow-budget o cs c g k n p t u =
     let start : d.start.time ≤ c.time = past-mid c.time d.before d.start d.rest (subst (NoChargeLater c.time) d.whole (past-push c.time cs c p (omega arith))) in
     let dead = end_from_dead d.before d.start.time d.dead in
     let w = ends_by g o c k (timely-last o cs c t) in
-    let front = timely-front o d.before (d.start ∷ d.rest) (subst (AreTimely o) d.whole t) in
+    let front = timely_front o d.before (d.start ∷ d.rest) (subst (AreTimely o) d.whole t) in
     elim (end-ge g (g.second * 1000000000) o d.before n (λ x q y. starts_by g o x q y) front) [
       | inl z ↦ omega (arith, whole, late, z)
       | inr z ↦ (let f : bytes_of g d.before < 1024 * g.rights.n = fewer (g.second * 1000000000) (bytes_of g d.before) (g.rights.t * 1000000000) (1024 * g.rights.n) (end_of d.before + o) (c.time + o) z (omega (arith, start, dead)) w (omega arith) in omega (arith, whole, late, f))
@@ -203,7 +192,7 @@ budget_all slots o before [] w a t = rw append-nil w
 budget_all slots o before (c ∷ cs) w a t =
     let e = append_assoc before (c ∷ []) cs in
     subst IsSparing e (budget_all slots o (before ++ c ∷ []) cs
-    (budget-step slots o before c w a.0 (timely-front o (before ++ c ∷ []) cs (subst (AreTimely o) (sym e) t))) a.1 (subst (AreTimely o) (sym e) t))
+    (budget-step slots o before c w a.0 (timely_front o (before ++ c ∷ []) cs (subst (AreTimely o) (sym e) t))) a.1 (subst (AreTimely o) (sym e) t))
 
 -- each charge has bytes, so its grant has
 each : (slots o : ℕ) (h before cs : List Charge) → ((g : Grant) → bytes_of g cs ≤ bytes_of g h) → IsSparing h → AreNext slots o before cs → AllByRecursion (λ (c : Charge). bytes_of c.grant h < 2 * (1024 * c.grant.rights.n)) cs

@@ -87,10 +87,7 @@ nonce-gone o h now f nonce bytes l = unknown o h now f nonce bytes (holder h f) 
 
 -- what is known where a nonce of a living flow is authorised
 held_cases : (a b d : Bool) (g k : Grant) → cond a UnknownNonce (cond b Expired (cond d OverN (Authorised g))) ≡ Authorised k → (d ≡ false) × (g ≡ k)
-held_cases true b d g k h = absurd (cc)
-held_cases false true d g k h = absurd (cc)
-held_cases false false true g k h = absurd (cc)
-held_cases false false false g k h = (refl, cc)
+held_cases a b d g k h = grind arith
 
 pub held_fits : (second : ℕ) (e : Entry) (nonce bytes : ℕ) (k : Grant) → held_verdict second e nonce bytes ≡ Authorised k → (e.used + bytes ≤ 1024 * e.grant.rights.n) × (e.grant ≡ k)
 held_fits second e nonce bytes k t =

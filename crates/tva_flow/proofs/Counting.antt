@@ -8,7 +8,7 @@ use Rattle.tva_flow.specs.declared.kept.Entry.{Entry}
 use Rattle.tva_base.specs.declared.packet.Flow.{Flow}
 use Rattle.tva_flow.specs.Charges.{Charge, same_flow, is_living, of_flow, lives, has_flow, flows, living_count}
 use Rattle.tva_flow.specs.Stands.{IsKept, StandsFor, cache, entry_of, AreApart}
-use Rattle.tva_flow.proofs.Same.{by_bool, by_flow, and_false_right}
+use Rattle.tva_flow.proofs.Same.{flow_tells, by_bool, by_flow, and_false_right}
 use Rattle.tva_flow.proofs.Standing.{stands-later}
 use Rattle.tva_flow.proofs.Steps.{by_lt, kept_cases, not_living}
 
@@ -26,8 +26,7 @@ without f (x ∷ xs) = cond (same_flow x f) xs (x ∷ without f xs)
 
 length-without : (f : Flow) (xs : List Flow) → has f xs ≡ true → length (without f xs) + 1 ≡ length xs
 length-without f [] h = absurd (cc)
-length-without f (x ∷ xs) h =
-    by_flow x f (λ b. cond b true (has f xs) ≡ true → length (cond b xs (x ∷ without f xs)) + 1 ≡ length (x ∷ xs)) (λ e k. omega arith) (λ e k. omega (arith, length-without f xs k)) h
+length-without f (x ∷ xs) h = grind (arith, flow_tells, length-without f xs)
 
 pub has_first : (x f : Flow) (xs : List Flow) → x ≡ f → has f (x ∷ xs) ≡ true
 has_first x f xs e = by_flow x f (λ b. cond b true (has f xs) ≡ true) (λ q. refl) (λ q. absurd (q e))
@@ -37,10 +36,7 @@ has_later x f xs n = by_flow x f (λ b. cond b true (has f xs) ≡ has f xs) (λ
 
 has-without : (f k : Flow) (xs : List Flow) → (f ≡ k → ⊥) → has k xs ≡ true → has k (without f xs) ≡ true
 has-without f k [] n h = h
-has-without f k (x ∷ xs) n h =
-    by_flow x f (λ b. has k (cond b xs (x ∷ without f xs)) ≡ true)
-    (λ e. sym (has_later x k xs (λ q. n (sym e ∙ q))) ∙ h)
-    (λ e. by_flow x k (λ b. cond b true (has k (without f xs)) ≡ true) (λ q. refl) (λ q. has-without f k xs n (sym (has_later x k xs q) ∙ h)))
+has-without f k (x ∷ xs) n h = grind (arith, flow_tells, has-without f k xs n)
 
 -- a list of numbers that differ is no longer than one that has them all
 pub length-subset : (xs ys : List Flow) → AreDistinct xs → ((f : Flow) → has f xs ≡ true → has f ys ≡ true) → length xs ≤ length ys
@@ -56,15 +52,11 @@ same_length xs ys d e s = omega (arith, length-subset xs ys d (λ f h. sym (s f)
 -- the flows of a history
 pub has-flows : (f : Flow) (h : List Charge) → has f (flows h) ≡ has_flow f h
 has-flows f [] = refl
-has-flows f (c ∷ cs) =
-    by_flow c.grant.flow f (λ b. has f (cond (has_flow c.grant.flow cs) (flows cs) (c.grant.flow ∷ flows cs)) ≡ cond b true (has_flow f cs))
-    (λ e. by_bool (has_flow c.grant.flow cs) (λ b. has f (cond b (flows cs) (c.grant.flow ∷ flows cs)) ≡ true) (λ k. has-flows f cs ∙ subst (λ z. has_flow z cs ≡ true) e k) (λ k. has_first c.grant.flow f (flows cs) e))
-    (λ e. by_bool (has_flow c.grant.flow cs) (λ b. has f (cond b (flows cs) (c.grant.flow ∷ flows cs)) ≡ has_flow f cs) (λ k. has-flows f cs) (λ k. has_later c.grant.flow f (flows cs) e ∙ has-flows f cs))
+has-flows f (c ∷ cs) = grind (arith, flow_tells, has-flows f cs)
 
 pub distinct-flows : (h : List Charge) → AreDistinct (flows h)
 distinct-flows [] = tt
-distinct-flows (c ∷ cs) =
-    by_bool (has_flow c.grant.flow cs) (λ b. AreDistinct (cond b (flows cs) (c.grant.flow ∷ flows cs))) (λ k. distinct-flows cs) (λ k. (has-flows c.grant.flow cs ∙ k, distinct-flows cs))
+distinct-flows (c ∷ cs) = grind (arith, has-flows c.grant.flow cs, distinct-flows cs)
 
 -- those of some flows that live
 abbrev pub living_among : List Charge → ℕ → List Flow → List Flow
@@ -73,28 +65,15 @@ living_among h now (f ∷ fs) = cond (lives h f now) (f ∷ living_among h now f
 
 pub length-living_among : (h : List Charge) (now : ℕ) (fs : List Flow) → length (living_among h now fs) ≡ count_by (λ f. lives h f now) fs
 length-living_among h now [] = refl
-length-living_among h now (f ∷ fs) =
-    by_bool (lives h f now) (λ b. length (cond b (f ∷ living_among h now fs) (living_among h now fs)) ≡ cond b 1 0 + count_by (λ x. lives h x now) fs)
-    (λ k. omega (arith, length-living_among h now fs)) (λ k. omega (arith, length-living_among h now fs))
-    ∙ sym (sum_by-cons (λ x. cond (lives h x now) 1 0) f fs)
+length-living_among h now (f ∷ fs) = grind (arith, nat_tests, length-living_among h now fs, sum_by-cons (λ x. cond (lives h x now) 1 0) f fs)
 
 pub has-living_among : (h : List Charge) (now : ℕ) (fs : List Flow) (f : Flow) → has f (living_among h now fs) ≡ (has f fs && lives h f now)
 has-living_among h now [] f = refl
-has-living_among h now (g ∷ fs) f =
-    let ih = has-living_among h now fs f in
-    by_flow g f (λ b. has f (cond (lives h g now) (g ∷ living_among h now fs) (living_among h now fs)) ≡ (cond b true (has f fs) && lives h f now))
-    (λ e. subst (λ z. has f (cond (lives h g now) (g ∷ living_among h now fs) (living_among h now fs)) ≡ lives h z now) e
-    (by_bool (lives h g now) (λ b. has f (cond b (g ∷ living_among h now fs) (living_among h now fs)) ≡ b) (λ k. has_first g f (living_among h now fs) e)
-    (λ k. ih ∙ (ap (λ b. has f fs && b) (subst (λ z. lives h z now ≡ false) e k) ∙ and_false_right (has f fs)))))
-    (λ e. by_bool (lives h g now) (λ b. has f (cond b (g ∷ living_among h now fs) (living_among h now fs)) ≡ (has f fs && lives h f now))
-    (λ k. by_flow g f (λ b. cond b true (has f (living_among h now fs)) ≡ (has f fs && lives h f now)) (λ q. absurd (e q)) (λ q. ih))
-    (λ k. ih))
+has-living_among h now (g ∷ fs) f = grind (arith, nat_tests, flow_tells, has-living_among h now fs f, and_false_right (has f fs))
 
 pub distinct-living_among : (h : List Charge) (now : ℕ) (fs : List Flow) → AreDistinct fs → AreDistinct (living_among h now fs)
 distinct-living_among h now [] d = tt
-distinct-living_among h now (g ∷ fs) d =
-    by_bool (lives h g now) (λ b. AreDistinct (cond b (g ∷ living_among h now fs) (living_among h now fs)))
-    (λ k. (has-living_among h now fs g ∙ ap (λ b. b && lives h g now) d.0, distinct-living_among h now fs d.1)) (λ k. distinct-living_among h now fs d.1)
+distinct-living_among h now (g ∷ fs) d = grind (arith, nat_tests, distinct-living_among h now fs d.1, has-living_among h now fs g)
 
 -- the flows of the entries that live
 abbrev pub live_flows : ℕ → List Entry → List Flow
@@ -107,20 +86,11 @@ is_live now (Some e) = ltb now e.end
 
 has-live_flows : (now : ℕ) (es : List Entry) (f : Flow) → AreApart es → has f (live_flows now es) ≡ is_live now (entry_of f es)
 has-live_flows now [] f a = refl
-has-live_flows now (e ∷ es) f a =
-    let ih = has-live_flows now es f a.1 in
-    by_flow e.grant.flow f (λ b. has f (cond (ltb now e.end) (e.grant.flow ∷ live_flows now es) (live_flows now es)) ≡ is_live now (cond b (Some e) (entry_of f es)))
-    (λ q. by_bool (ltb now e.end) (λ b. has f (cond b (e.grant.flow ∷ live_flows now es) (live_flows now es)) ≡ b) (λ k. has_first e.grant.flow f (live_flows now es) q)
-    (λ k. ih ∙ ap (is_live now) (subst (λ z. entry_of z es ≡ None) q a.0)))
-    (λ q. by_bool (ltb now e.end) (λ b. has f (cond b (e.grant.flow ∷ live_flows now es) (live_flows now es)) ≡ is_live now (entry_of f es))
-    (λ k. by_flow e.grant.flow f (λ b. cond b true (has f (live_flows now es)) ≡ is_live now (entry_of f es)) (λ w. absurd (q w)) (λ w. ih))
-    (λ k. ih))
+has-live_flows now (e ∷ es) f a = grind (arith, nat_tests, flow_tells, has-live_flows now es f a.1)
 
 distinct-live_flows : (now : ℕ) (es : List Entry) → AreApart es → AreDistinct (live_flows now es)
 distinct-live_flows now [] a = tt
-distinct-live_flows now (e ∷ es) a =
-    by_bool (ltb now e.end) (λ b. AreDistinct (cond b (e.grant.flow ∷ live_flows now es) (live_flows now es)))
-    (λ k. (has-live_flows now es e.grant.flow a.1 ∙ ap (is_live now) a.0, distinct-live_flows now es a.1)) (λ k. distinct-live_flows now es a.1)
+distinct-live_flows now (e ∷ es) a = grind (arith, nat_tests, distinct-live_flows now es a.1, has-live_flows now es e.grant.flow a.1)
 
 pub kept_live : (now : ℕ) (o : Option Entry) (cs : List Charge) → IsKept o cs now → is_living cs now ≡ is_live now o
 kept_live now None cs k = k
@@ -154,18 +124,12 @@ length-live_flows-all now es a = all_live now es (recursion_from_All (λ e. now 
 
 pub length-live_flows-lt : (now : ℕ) (es : List Entry) (i : ℕ) (e : Entry) → i < length es → e ≡ get_or es i e → e.end ≤ now → length (live_flows now es) < length es
 length-live_flows-lt now [] i e n s d = absurd (omega arith)
-length-live_flows-lt now (x ∷ xs) zero e n s d = let k : x.end ≡ e.end = ap (λ (y : Entry). y.end) (sym s) in
-    by_lt now x.end (λ b. length (cond b (x.grant.flow ∷ live_flows now xs) (live_flows now xs)) < length (x ∷ xs)) (λ q. absurd (omega arith)) (λ q. omega (arith, length-live_flows-le now xs))
-length-live_flows-lt now (x ∷ xs) (suc i) e n s d =
-    let ih = length-live_flows-lt now xs i e (omega arith) s d in
-    by_bool (ltb now x.end) (λ b. length (cond b (x.grant.flow ∷ live_flows now xs) (live_flows now xs)) < length (x ∷ xs)) (λ k. omega arith) (λ k. omega arith)
+length-live_flows-lt now (x ∷ xs) zero e n s d = grind (arith, nat_tests, length-live_flows-le now xs)
+length-live_flows-lt now (x ∷ xs) (suc i) e n s d = grind (arith, nat_tests, length-live_flows-lt now xs i e)
 
 pub length-live_flows : (now : ℕ) (es : List Entry) → length (live_flows now es) ≡ count_by (λ e. ltb now e.end) es
 length-live_flows now [] = refl
-length-live_flows now (e ∷ es) =
-    by_bool (ltb now e.end) (λ b. length (cond b (e.grant.flow ∷ live_flows now es) (live_flows now es)) ≡ cond b 1 0 + count_by (λ x. ltb now x.end) es)
-    (λ k. omega (arith, length-live_flows now es)) (λ k. omega (arith, length-live_flows now es))
-    ∙ sym (sum_by-cons (λ x. cond (ltb now x.end) 1 0) e es)
+length-live_flows now (e ∷ es) = grind (arith, nat_tests, length-live_flows now es, sum_by-cons (λ x. cond (ltb now x.end) 1 0) e es)
 
 pub living_is : (s o last now : ℕ) (es : List Entry) (h : List Charge) → StandsFor (cache s o last es) h → last ≤ now → count_by (λ e. ltb now e.end) es ≡ living_count h now
 living_is s o last now es h v l = sym (living_count_is s o now es h (stands-later s o last now es h v l) ∙ length-live_flows now es)

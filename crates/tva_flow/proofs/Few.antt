@@ -1,12 +1,12 @@
 -- At each place of a list of charges no more flows live than there are slots.
-use Rattle.std.proofs.Common.{◌≡◌, ℕ, ◌+◌, ◌≤◌, true, ◌&&◌, cond, List, [], ◌∷◌, ◌++◌, refl, sym, ap, ◌∙◌, subst, inl, inr, ◌⊎◌, arith, append_assoc, append-nil}
+use Rattle.std.proofs.lemmas.Bool.Decides.{nat_tests}
+use Rattle.std.proofs.Common.{◌≡◌, ℕ, ◌+◌, ◌≤◌, true, ◌&&◌, List, [], ◌∷◌, ◌++◌, refl, sym, ap, ◌∙◌, subst, inl, inr, ◌⊎◌, arith, append_assoc, append-nil}
 use Rattle.std.proofs.lemmas.List.Elements.{All-head, All-tail}
 use Rattle.tva_base.specs.declared.packet.Flow.{Flow}
 use Rattle.tva_flow.specs.Charges.{Charge, same_flow, is_living, of_flow, lives, flows, living_count}
 use Rattle.tva_flow.specs.Stands.{NoChargeLater, IsNext, AreNext}
-use Rattle.tva_flow.proofs.Same.{by_bool, by_flow}
+use Rattle.tva_flow.proofs.Same.{flow_tells, by_flow}
 use Rattle.tva_flow.proofs.Pushes.{of_flow-push}
-use Rattle.tva_flow.proofs.Steps.{not_living, end_from_dead}
 use Rattle.tva_flow.proofs.Rows.{authorised_room}
 use Rattle.tva_flow.proofs.Counting.{has, living_among, length-subset, has_first, has_later, has-flows, distinct-flows, length-living_among, has-living_among, distinct-living_among, has_and_lives}
 
@@ -43,17 +43,11 @@ count-suc h k then now g w =
 
 -- a flow that lives at a time lived before it, without further charges
 earlier : (cs : List Charge) (then now : ℕ) → then ≤ now → is_living cs now ≡ true → is_living cs then ≡ true
-earlier cs then now l h =
-    by_bool (is_living cs then) (λ b. b ≡ true) (λ k. refl)
-    (λ k. let e = end_from_dead cs then k in let d = not_living cs now (omega arith) in absurd (cc))
+earlier cs then now l h = grind (arith, nat_tests)
 
 -- after one more charge, each flow that lives is its own, or lived
 lives_after : (h : List Charge) (c : Charge) (now : ℕ) (f : Flow) → c.time ≤ now → lives (h ++ c ∷ []) f now ≡ true → (lives h f c.time ≡ true) ⊎ (c.grant.flow ≡ f)
-lives_after h c now f l e =
-    by_flow c.grant.flow f (λ b. (same_flow c.grant.flow f ≡ b) → (lives h f c.time ≡ true) ⊎ (c.grant.flow ≡ f))
-    (λ q _. inr q)
-    (λ q k. inl (earlier (of_flow f h) c.time now l (subst (λ z. is_living z now ≡ true) (of_flow-push f h c ∙ ap (λ b. cond b (of_flow f h ++ c ∷ []) (of_flow f h)) k) e)))
-    refl
+lives_after h c now f l e = grind (arith, nat_tests, flow_tells, of_flow-push f h c, earlier (of_flow f h) c.time now l)
 
 -- at each time from the last charge on no more flows live than there are slots
 abbrev IsSparse : ℕ → List Charge → Type 0

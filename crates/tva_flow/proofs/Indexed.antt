@@ -1,10 +1,11 @@
 -- Entries stay indexed where one is written or added.
-use Rattle.std.proofs.Common.{◌≡◌, ℕ, ◌+◌, ◌*◌, ◌<◌, ◌≤◌, List, [], ◌∷◌, ◌++◌, length, get_or, set, replicate, Option, Some, None, refl, sym, ap, ◌∙◌, subst, inl, inr, ◌⊎◌, zero, suc, arith}
+use Rattle.std.proofs.Common.{◌≡◌, ℕ, ◌+◌, ◌*◌, ◌<◌, ◌≤◌, List, [], ◌∷◌, length, get_or, set, Option, Some, None, refl, sym, ap, ◌∙◌, subst, inl, inr, ◌⊎◌, zero, suc, arith}
 use Rattle.std.specs.Option.{MatchOption}
-use Rattle.std.proofs.lemmas.Bool.{cases_lt, cases_eq}
-use Rattle.std.proofs.lemmas.List.{get_or_past, get_or-set_same, get_or-set_other, get_or_append_left, get_or_push, get_or_default, get_or-replicate, length-set, length_push, length-replicate}
+use Rattle.std.proofs.lemmas.Bool.{cases_eq}
+use Rattle.std.proofs.lemmas.List.{get_or-set_same, get_or-set_other, get_or_default, length-set}
 use Rattle.tva_base.specs.declared.packet.Flow.{Flow}
 use Rattle.tva_index.specs.Buckets.{Placed, placed, IsLastBelow}
+use Rattle.tva_index.proofs.Homes.{in_range, here as home_here, elsewhere as home_there}
 use Rattle.tva_flow.specs.declared.hash.HashKey.{HashKey}
 use Rattle.tva_flow.specs.declared.kept.Entry.{Entry}
 use Rattle.tva_flow.specs.Hash.{bucket_of}
@@ -14,25 +15,7 @@ use Rattle.tva_flow.proofs.Entries.{not_first}
 
 -- what is read after a write, and after a further element
 read_set : (es : List Entry) (at i : ℕ) (new e : Entry) → at < length es → e ≡ get_or (set es at new) i e → ((i ≡ at) × (e ≡ new)) ⊎ ((i ≡ at → ⊥) × (e ≡ get_or es i e))
-read_set es at i new e l q =
-    elim (cases_eq i at) [
-      | inl k ↦ inl (k, q ∙ (ap (λ (z : ℕ). get_or (set es at new) z e) k ∙ get_or-set_same es at new e l))
-      | inr n ↦ inr (n, q ∙ get_or-set_other es at i new e n)
-    ]
-
-read_push : (es : List Entry) (i : ℕ) (new e : Entry) → i < length (es ++ new ∷ []) → e ≡ get_or (es ++ new ∷ []) i e → ((i ≡ length es) × (e ≡ new)) ⊎ ((i < length es) × (e ≡ get_or es i e))
-read_push es i new e l q =
-    elim (cases_lt i (length es)) [
-      | inl k ↦ inr (k, q ∙ get_or_append_left es (new ∷ []) e i k)
-      | inr k ↦ (let n : length es ≡ i = omega (arith, l, k, length_push es new) in inl (sym n, q ∙ get_or_push es new e i n))
-    ]
-
--- the bucket of a place that was written, and of another
-home_here : (hs : List (Option ℕ)) (at i : ℕ) (v : Option ℕ) → at < length hs → i ≡ at → get_or (set hs at v) i None ≡ v
-home_here hs at i v l k = ap (λ (z : ℕ). get_or (set hs at v) z None) k ∙ get_or-set_same hs at v None l
-
-home_there : (hs : List (Option ℕ)) (at i : ℕ) (v : Option ℕ) → (i ≡ at → ⊥) → get_or (set hs at v) i None ≡ get_or hs i None
-home_there hs at i v n = get_or-set_other hs at i v None n
+read_set es at i new e l q = grind (arith, cases_eq i at, get_or-set_other es at i new e, get_or-set_same es at new e)
 
 number_here : (ns : List ℕ) (at i v : ℕ) → at < length ns → i ≡ at → get_or (set ns at v) i 0 ≡ v
 number_here ns at i v l k = ap (λ (z : ℕ). get_or (set ns at v) z 0) k ∙ get_or-set_same ns at v 0 l
@@ -40,29 +23,6 @@ number_here ns at i v l k = ap (λ (z : ℕ). get_or (set ns at v) z 0) k ∙ ge
 -- the end of the entry that was written is its number
 number_fits : (ns : List ℕ) (at i v : ℕ) (e : Entry) → at < length ns → i ≡ at → e.end ≡ v → get_or (set ns at v) i 0 ≤ e.end
 number_fits ns at i v e l k q = omega (arith, number_here ns at i v l k, q)
-
-abbrev nowhere : Option ℕ
-nowhere = None
-
--- no entries
-pub indexed_none : (slots : ℕ) (key : HashKey) (p : Placed) (ends : List ℕ) → p ≡ placed (2 * slots + 1) (replicate slots None) → ends ≡ replicate slots 0 → AreIndexed slots key [] p ends
-indexed_none slots key p ends e f =
-    let hs : p.homes ≡ replicate slots None = ap (λ (z : Placed). z.homes) e in
-    record {
-      count = ap (λ (z : Placed). z.count) e;
-      homes = ap (λ (z : List (Option ℕ)). length z) hs ∙ length-replicate slots nowhere;
-      numbers = ap (λ (z : List ℕ). length z) f ∙ length-replicate slots 0;
-      few = omega arith;
-      found = λ i x l q. absurd (omega arith);
-      within = λ i b h.
-          elim (cases_lt i slots) [
-            | inl l ↦ (let k : get_or p.homes i None ≡ None = subst (λ (z : List (Option ℕ)). get_or z i None ≡ None) (sym hs) (get_or-replicate slots i nowhere None l) in absurd (cc))
-            | inr l ↦ (
-                let k : get_or p.homes i None ≡ None = subst (λ (z : List (Option ℕ)). get_or z i None ≡ None) (sym hs) (get_or_past (replicate slots nowhere) i None (omega (arith, l, length-replicate slots nowhere))) in
-                absurd (cc))
-          ];
-      until = λ i x l q. absurd (omega arith);
-    }
 
 -- an entry of the same flow, which ends no earlier
 pub indexed-rewrite : (slots : ℕ) (key : HashKey) (es : List Entry) (p : Placed) (ends : List ℕ) (at : ℕ) (old new : Entry) → AreIndexed slots key es p ends → at < length es → old ≡ get_or es at old → old.grant.flow ≡ new.grant.flow
@@ -74,18 +34,9 @@ indexed-rewrite slots key es p ends at old new k l q g h =
       homes = k.homes;
       numbers = k.numbers;
       few = omega (arith, n, k.few);
-      found = λ i e w r. elim (read_set es at i new e l r) [
-        | inl y ↦ subst (λ z. get_or p.homes z None ≡ Some (bucket_of (2 * slots + 1) key e.grant.flow)) (sym y.0)
-            (subst (λ (z : Entry). get_or p.homes at None ≡ Some (bucket_of (2 * slots + 1) key z.grant.flow)) (sym y.1) (subst (λ (z : Flow). get_or p.homes at None ≡ Some (bucket_of (2 * slots + 1) key z)) g (k.found at old l q)))
-        | inr y ↦ k.found i e (omega (arith, w, n)) y.1
-      ];
+      found = λ i e w r. grind (arith, read_set es at i new e l r, k.found at old l q, k.found i e, g, n);
       within = λ i b h. omega (arith, n, k.within i b h);
-      until = λ i e w r. elim (read_set es at i new e l r) [
-        | inl y ↦ (
-            let u : get_or ends at 0 ≤ new.end = omega (arith, k.until at old l q, h) in
-            subst (λ z. get_or ends z 0 ≤ e.end) (sym y.0) (subst (λ (z : Entry). get_or ends at 0 ≤ z.end) (sym y.1) u))
-        | inr y ↦ k.until i e (omega (arith, w, n)) y.1
-      ];
+      until = λ i e w r. grind (arith, read_set es at i new e l r, k.until at old l q, k.until i e, h, n);
     }
 
 -- an entry of any flow
@@ -102,47 +53,9 @@ indexed-replace slots key es p p' ends at new k l f =
       homes = ap (λ (z : List (Option ℕ)). length z) hs ∙ (length-set p.homes at v ∙ k.homes);
       numbers = length-set ends at new.end ∙ k.numbers;
       few = omega (arith, n, k.few);
-      found = λ i e w r. subst (λ (z : List (Option ℕ)). get_or z i None ≡ Some (bucket_of (2 * slots + 1) key e.grant.flow)) (sym hs) (elim (read_set es at i new e l r) [
-        | inl y ↦ home_here p.homes at i v t y.0 ∙ ap (λ (z : Entry). Some (bucket_of (2 * slots + 1) key z.grant.flow)) (sym y.1)
-        | inr y ↦ home_there p.homes at i v y.0 ∙ k.found i e (omega (arith, w, n)) y.1
-      ]);
-      within = λ i b h. elim (cases_eq i at) [
-        | inl e ↦ omega (arith, n, e, l)
-        | inr d ↦ omega (arith, n, k.within i b (sym (home_there p.homes at i v d) ∙ subst (λ (z : List (Option ℕ)). get_or z i None ≡ Some b) hs h))
-      ];
-      until = λ i e w r. elim (read_set es at i new e l r) [
-        | inl y ↦ number_fits ends at i new.end e m y.0 (ap (λ (z : Entry). z.end) y.1)
-        | inr y ↦ omega (arith, get_or-set_other ends at i new.end 0 y.0, k.until i e (omega (arith, w, n)) y.1)
-      ];
-    }
-
--- a further entry
-pub indexed-push : (slots : ℕ) (key : HashKey) (es : List Entry) (p p' : Placed) (ends : List ℕ) (new : Entry) → AreIndexed slots key es p ends → length es < slots
-    → p' ≡ placed p.count (set p.homes (length es) (Some (bucket_of (2 * slots + 1) key new.grant.flow))) → AreIndexed slots key (es ++ new ∷ []) p' (set ends (length es) new.end)
-indexed-push slots key es p p' ends new k l f =
-    let at = length es in
-    let v : Option ℕ = Some (bucket_of (2 * slots + 1) key new.grant.flow) in
-    let n : length (es ++ new ∷ []) ≡ length es + 1 = length_push es new in
-    let m : at < length ends = omega (arith, l, k.numbers) in
-    let t : at < length p.homes = omega (arith, l, k.homes) in
-    let hs : p'.homes ≡ set p.homes at v = ap (λ (z : Placed). z.homes) f in
-    record {
-      count = ap (λ (z : Placed). z.count) f ∙ k.count;
-      homes = ap (λ (z : List (Option ℕ)). length z) hs ∙ (length-set p.homes at v ∙ k.homes);
-      numbers = length-set ends at new.end ∙ k.numbers;
-      few = omega (arith, n, l);
-      found = λ i e w r. subst (λ (z : List (Option ℕ)). get_or z i None ≡ Some (bucket_of (2 * slots + 1) key e.grant.flow)) (sym hs) (elim (read_push es i new e w r) [
-        | inl y ↦ home_here p.homes at i v t y.0 ∙ ap (λ (z : Entry). Some (bucket_of (2 * slots + 1) key z.grant.flow)) (sym y.1)
-        | inr y ↦ home_there p.homes at i v (λ (x : i ≡ at). absurd (omega (arith, x, y.0))) ∙ k.found i e y.0 y.1
-      ]);
-      within = λ i b h. elim (cases_eq i at) [
-        | inl e ↦ omega (arith, n, e)
-        | inr d ↦ omega (arith, n, k.within i b (sym (home_there p.homes at i v d) ∙ subst (λ (z : List (Option ℕ)). get_or z i None ≡ Some b) hs h))
-      ];
-      until = λ i e w r. elim (read_push es i new e w r) [
-        | inl y ↦ number_fits ends at i new.end e m y.0 (ap (λ (z : Entry). z.end) y.1)
-        | inr y ↦ omega (arith, get_or-set_other ends at i new.end 0 (λ (x : i ≡ at). absurd (omega (arith, x, y.0))), k.until i e y.0 y.1)
-      ];
+      found = λ i e w r. grind (arith, hs, read_set es at i new e l r, home_here p.homes at i v t, home_there p.homes at i v, k.found i e, n);
+      within = λ i b h. grind (arith, hs, cases_eq i at, n, l, home_there p.homes at i v, k.within i b);
+      until = λ i e w r. grind (arith, read_set es at i new e l r, number_fits ends at i new.end e m, get_or-set_other ends at i new.end 0, k.until i e, n);
     }
 
 -- a flow that no place has
@@ -165,22 +78,10 @@ some_place [] i l = absurd (omega arith)
 some_place (d ∷ ds) zero l = (d, refl)
 some_place (d ∷ ds) (suc i) l = some_place ds i (omega arith)
 
--- how far a walk is from its end
-abbrev pub rank : Option ℕ → ℕ
-rank None = 0
-rank (Some p) = p + 1
-
-pub rank-le : (hs : List (Option ℕ)) (n b : ℕ) (o : Option ℕ) → IsLastBelow hs n b o → rank o ≤ n
-rank-le hs n b None k = omega arith
-rank-le hs n b (Some p) k = omega (arith, k.0)
-
 -- a walk begins at the last place of a bucket
 pub walk_starts : (hs : List (Option ℕ)) (n b : ℕ) (o : Option ℕ) → IsLastBelow hs n b o → MatchOption o (Unit {0}) (λ p. get_or hs p None ≡ Some b)
 walk_starts hs n b None k = tt
 walk_starts hs n b (Some p) k = k.1
-
-in_range : (hs : List (Option ℕ)) (q b : ℕ) → get_or hs q None ≡ Some b → q < length hs
-in_range hs q b h = elim (cases_lt q (length hs)) [ inl l ↦ l | inr l ↦ (let e = get_or_past hs q None l in absurd (cc)) ]
 
 -- the places of a flow that a walk through its bucket still has before it, at the start and a step on
 pub rest_starts : (es : List Entry) (hs : List (Option ℕ)) (b : ℕ) (f : Flow) (o : Option ℕ) → ((i : ℕ) (e : Entry) → i < length es → e ≡ get_or es i e → e.grant.flow ≡ f → get_or hs i None ≡ Some b) → IsLastBelow hs (length hs) b o

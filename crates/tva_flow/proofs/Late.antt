@@ -1,5 +1,5 @@
 -- Numbers that are no later than the ends of the entries: what a least one tells, and how many are late.
-use Rattle.std.proofs.Common.{◌≡◌, ℕ, ◌+◌, ◌<◌, ◌≤◌, cond, eqb, List, [], ◌∷◌, length, get_or, set, Some, None, sym, ap, subst, zero, suc, inl, inr, ◌⊎◌, arith}
+use Rattle.std.proofs.Common.{◌≡◌, ℕ, ◌+◌, ◌<◌, ◌≤◌, cond, eqb, List, [], ◌∷◌, length, get_or, set, Some, sym, ap, subst, zero, suc, inl, inr, ◌⊎◌, arith}
 use Rattle.std.specs.List.{All}
 use Rattle.std.proofs.lemmas.Bool.{cases_eq}
 use Rattle.std.proofs.lemmas.Bool.Decides.{nat_tests}
@@ -16,10 +16,6 @@ AllLive now es = All (λ (x : Entry). now < x.end) es
 pub all_live : (es : List Entry) (ends : List ℕ) (first now : ℕ) → AreNoLater ends es → length ends ≡ length es → IsLeastPlace ends (Some first) → now < get_or ends first 0 → AllLive now es
 all_live es ends first now b n w a i d l =
     omega (arith, b i (get_or es i d) l (get_or_default es i d (get_or es i d) l), w.1 i (omega (arith, l, n)), a)
-
--- no entries, where there are no places
-pub none_live : (es : List Entry) (ends : List ℕ) (now : ℕ) → length ends ≡ length es → IsLeastPlace ends None → AllLive now es
-none_live es ends now n w i d l = absurd (omega (arith, n, w, l))
 
 -- a number that is written is its entry's end
 pub raised : (es : List Entry) (ends : List ℕ) (at : ℕ) (e : Entry) → AreNoLater ends es → at < length ends → at < length es → e ≡ get_or es at e → AreNoLater (set ends at e.end) es
@@ -47,22 +43,13 @@ late-le (e ∷ es) (n ∷ ns) = grind (arith, nat_tests, late-le es ns)
 pub late-set : (es : List Entry) (ns : List ℕ) (i : ℕ) (e : Entry) → i < length es → i < length ns → e ≡ get_or es i e → (get_or ns i 0 ≡ e.end → ⊥) → late es (set ns i e.end) + 1 ≡ late es ns
 late-set [] ns i e l m q d = absurd (omega arith)
 late-set (x ∷ xs) [] i e l m q d = absurd (omega arith)
-late-set (x ∷ xs) (n ∷ ns) zero e l m q d =
-    let t : n ≡ x.end → ⊥ = subst (λ (z : Entry). n ≡ z.end → ⊥) q d in
-    subst (λ (z : Entry). late (x ∷ xs) (z.end ∷ ns) + 1 ≡ late (x ∷ xs) (n ∷ ns)) (sym q) (grind (arith, nat_tests))
+late-set (x ∷ xs) (n ∷ ns) zero e l m q d = grind (arith, nat_tests)
 late-set (x ∷ xs) (n ∷ ns) (suc i) e l m q d = omega (arith, late-set xs ns i e (omega arith) (omega arith) q d)
 
 -- so a turn at a living entry's place leaves one late place less, or tells that all entries live
 pub turn_left : (es : List Entry) (ends : List ℕ) (first turn now : ℕ) (e : Entry) → AreNoLater ends es → length ends ≡ length es → IsLeastPlace ends (Some first) → e ≡ get_or es first e → now < e.end
     → AllLive now es ⊎ (late es ends + turn ≤ length es) → AllLive now es ⊎ (late es (set ends first e.end) + (turn + 1) ≤ length es)
-turn_left es ends first turn now e b n w q l k =
-    elim (cases_eq (get_or ends first 0) e.end) [
-      | inl y ↦ inl (all_live es ends first now b n w (omega (arith, y, l)))
-      | inr y ↦ elim k [
-        | inl a ↦ inl a
-        | inr m ↦ inr (omega (arith, m, late-set es ends first e (omega (arith, w.0, n)) w.0 q y))
-      ]
-    ]
+turn_left es ends first turn now e b n w q l k = grind (arith, cases_eq (get_or ends first 0) e.end, all_live es ends first now b n w, late-set es ends first e)
 
 -- the place that was written is still least: all entries live
 pub still_least : (es : List Entry) (ends : List ℕ) (first now : ℕ) (e : Entry) → AreNoLater (set ends first e.end) es → length (set ends first e.end) ≡ length es → first < length ends → IsLeastPlace (set ends first e.end) (Some first) → now < e.end → AllLive now es

@@ -1,5 +1,6 @@
 -- What one more charge changes.
-use Rattle.std.proofs.Common.{◌≡◌, ℕ, ◌+◌, ◌≤◌, Bool, true, false, not, ◌||◌, cond, List, [], ◌∷◌, ◌++◌, Some, refl, sym, ap, ◌∙◌, subst, max, arith, append_assoc, append-nil, sum_by}
+use Rattle.std.proofs.lemmas.Bool.Decides.{nat_tests}
+use Rattle.std.proofs.Common.{◌≡◌, ℕ, ◌+◌, ◌≤◌, Bool, true, false, not, ◌||◌, cond, List, [], ◌∷◌, ◌++◌, Some, refl, sym, ap, subst, max, arith, append_assoc, append-nil, sum_by}
 use Rattle.std.proofs.lemmas.List.Sums.{sum_by-cons, sum_by_push}
 use Rattle.std.proofs.lemmas.List.Elements.{All-push, All-weaker}
 use Rattle.tva_base.specs.declared.packet.Flow.{Flow}
@@ -20,16 +21,10 @@ end_of-push (d ∷ ds) c = omega (arith, end_of-push ds c, sum_by-cons credit d 
 
 restarts-push : (before cs : List Charge) (c : Charge) → restarts before (cs ++ c ∷ []) ≡ (restarts before cs || not (is_living (before ++ cs) c.time))
 restarts-push before [] c = rw (append-nil before) (elim (is_living before c.time) as (λ b. (not b || false) ≡ not b) [ true ↦ refl | false ↦ refl ])
-restarts-push before (d ∷ ds) c = elim (is_living before d.time) as (λ b. (not b || restarts (before ++ d ∷ []) (ds ++ c ∷ [])) ≡ ((not b || restarts (before ++ d ∷ []) ds) || not (is_living (before ++ d ∷ ds) c.time))) [
-  | true ↦ restarts-push (before ++ d ∷ []) ds c ∙ ap (λ (l : List Charge). restarts (before ++ d ∷ []) ds || not (is_living l c.time)) (append_assoc before (d ∷ []) ds)
-  | false ↦ refl
-]
+restarts-push before (d ∷ ds) c = grind (arith, nat_tests, append_assoc before (d ∷ []) ds, restarts-push (before ++ d ∷ []) ds c)
 
 one_more : (r l : Bool) (later all : List Charge) (c : Charge) → cond (r || not l) (cond l (later ++ c ∷ []) (c ∷ [])) (all ++ c ∷ []) ≡ cond l (cond r later all ++ c ∷ []) (c ∷ [])
-one_more true true later all c = refl
-one_more true false later all c = refl
-one_more false true later all c = refl
-one_more false false later all c = refl
+one_more r l later all c = grind arith
 
 pub run-push : (before cs : List Charge) (c : Charge) → run before (cs ++ c ∷ []) ≡ cond (is_living (before ++ cs) c.time) (run before cs ++ c ∷ []) (c ∷ [])
 run-push before [] c = elim (is_living (before ++ []) c.time) as (λ b. c ∷ [] ≡ cond b (c ∷ []) (c ∷ [])) [ true ↦ refl | false ↦ refl ]
@@ -45,11 +40,7 @@ last_charge-push (d ∷ ds) c = ap Some (last_or-push d ds c)
 
 pub of_flow-push : (f : Flow) (h : List Charge) (c : Charge) → of_flow f (h ++ c ∷ []) ≡ cond (same_flow c.grant.flow f) (of_flow f h ++ c ∷ []) (of_flow f h)
 of_flow-push f [] c = refl
-of_flow-push f (d ∷ ds) c = rw (of_flow-push f ds c) (elim (same_flow d.grant.flow f) as (λ b. cond b (d ∷ cond (same_flow c.grant.flow f) (of_flow f ds ++ c ∷ []) (of_flow f ds)) (cond (same_flow c.grant.flow f) (of_flow f ds ++ c ∷ []) (of_flow f ds))
-    ≡ cond (same_flow c.grant.flow f) (cond b (d ∷ of_flow f ds) (of_flow f ds) ++ c ∷ []) (cond b (d ∷ of_flow f ds) (of_flow f ds))) [
-      | true ↦ elim (same_flow c.grant.flow f) as (λ b. (d ∷ cond b (of_flow f ds ++ c ∷ []) (of_flow f ds)) ≡ cond b (d ∷ of_flow f ds ++ c ∷ []) (d ∷ of_flow f ds)) [ true ↦ refl | false ↦ refl ]
-      | false ↦ refl
-    ])
+of_flow-push f (d ∷ ds) c = grind (arith, nat_tests, of_flow-push f ds c)
 
 pub past-push : (last : ℕ) (h : List Charge) (c : Charge) → NoChargeLater last h → c.time ≤ last → NoChargeLater last (h ++ c ∷ [])
 past-push last h c p t = All-push (λ (x : Charge). x.time ≤ last) h c p t

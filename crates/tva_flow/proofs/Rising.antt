@@ -1,13 +1,13 @@
 -- In a run a grant that is newer than the holder's has no charge yet.
-use Rattle.std.proofs.Common.{◌≡◌, ℕ, ◌<◌, true, false, ◌&&◌, cond, leb, List, [], ◌∷◌, ◌++◌, Some, refl, sym, ap, subst, arith, append_assoc, append-nil, not}
+use Rattle.std.proofs.Common.{◌≡◌, ℕ, ◌<◌, true, false, cond, List, [], ◌∷◌, ◌++◌, Some, refl, sym, subst, arith, append_assoc, append-nil}
 use Rattle.std.proofs.lemmas.Bool.Decides.{nat_tests}
 use Rattle.std.proofs.lemmas.List.Sums.{sum_by-cons, sum_by_push}
 use Rattle.tva_base.specs.declared.packet.Flow.{Flow}
 use Rattle.tva_base.specs.declared.packet.Grant.{Grant}
-use Rattle.tva_flow.specs.Charges.{Charge, end_of, is_living, run, same_grant, bytes_under, bytes_of, last_or, last_charge, of_flow}
+use Rattle.tva_flow.specs.Charges.{Charge, end_of, is_living, run, bytes_under, bytes_of, last_or, last_charge, of_flow}
 use Rattle.tva_flow.specs.Verdicts.{supersedes, IsAuthorised}
 use Rattle.tva_flow.specs.Stands.{AreNext}
-use Rattle.tva_flow.proofs.Same.{by_bool, by_flow, and_false, same_is}
+use Rattle.tva_flow.proofs.Same.{by_flow, and_false}
 use Rattle.tva_flow.proofs.Pushes.{of_flow-push}
 use Rattle.tva_flow.proofs.Steps.{by_lt, same_last, run_new, run_more}
 use Rattle.tva_flow.proofs.Rows.{authorised_rows}
@@ -16,17 +16,11 @@ abbrev pub IsRising : List Charge → Type 0
 IsRising cs = (g : Grant) (c : Charge) → last_charge cs ≡ Some c → c.grant.second < g.second → bytes_of g (run [] cs) ≡ 0
 
 newer_bytes : (g : Grant) (x : Charge) → x.grant.second < g.second → bytes_under g x ≡ 0
-newer_bytes g x l =
-    by_bool (same_grant x.grant g) (λ b. cond b x.length 0 ≡ 0)
-    (λ k. let e : x.grant.second ≡ g.second = ap (λ (z : Grant). z.second) (same_is x.grant g k) in absurd (omega arith))
-    (λ k. refl)
+newer_bytes g x l = grind (arith, nat_tests)
 
 -- the last charge doesn't keep this one out, so it is no newer
 older : (d x : Charge) (g : Grant) → supersedes (Some d) x.grant ≡ false → x.grant.second < g.second → d.grant.second < g.second
-older d x g b l =
-    by_bool (same_grant d.grant x.grant) (λ t. (not t && leb x.grant.second d.grant.second) ≡ false → d.grant.second < g.second)
-    (λ k _. let e : d.grant.second ≡ x.grant.second = ap (λ (z : Grant). z.second) (same_is d.grant x.grant k) in omega arith)
-    (λ k n. grind (arith, nat_tests)) b
+older d x g b l = grind (arith, nat_tests)
 
 before_newer : (cs : List Charge) (x : Charge) (g : Grant) → IsRising cs → supersedes (last_charge cs) x.grant ≡ false → x.grant.second < g.second → bytes_of g (run [] cs) ≡ 0
 before_newer [] x g r b l = refl

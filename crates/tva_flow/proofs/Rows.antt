@@ -13,10 +13,7 @@ within : (units bytes : ℕ) → ltb units bytes ≡ false → bytes ≤ units
 within units bytes h = grind (arith, nat_tests)
 
 rows_of : (b c d : Bool) (g k : Grant) → cond b Superseded (cond c OverN (cond d CacheFull (Authorised g))) ≡ Authorised k → (b ≡ false) × (c ≡ false) × (d ≡ false) × (g ≡ k)
-rows_of true c d g k h = absurd (cc)
-rows_of false true d g k h = absurd (cc)
-rows_of false false true g k h = absurd (cc)
-rows_of false false false g k h = (refl, refl, refl, cc)
+rows_of b c d g k h = grind arith
 
 -- no row but the last holds of an authorised packet that shows a grant
 pub list_rows : (slots : ℕ) (h : List Charge) (now : ℕ) (g k : Grant) (bytes : ℕ) → list_verdict slots h now g bytes ≡ Authorised k
@@ -35,14 +32,10 @@ pub record IsHeld (offset : ℕ) (h : List Charge) (now bytes : ℕ) (g : Grant)
   pub grant : charge.grant ≡ g
 
 first_false : (a b d : Bool) (g k : Grant) → cond a UnknownNonce (cond b Expired (cond d OverN (Authorised g))) ≡ Authorised k → a ≡ false
-first_false true b d g k h = absurd (cc)
-first_false false b d g k h = refl
+first_false a b d g k h = grind arith
 
 held_rows : (a b d : Bool) (g k : Grant) → cond a UnknownNonce (cond b Expired (cond d OverN (Authorised g))) ≡ Authorised k → (b ≡ false) × (d ≡ false) × (g ≡ k)
-held_rows true b d g k h = absurd (cc)
-held_rows false true d g k h = absurd (cc)
-held_rows false false true g k h = absurd (cc)
-held_rows false false false g k h = (refl, refl, cc)
+held_rows a b d g k h = grind arith
 
 before_end : (a b : ℕ) → leb a b ≡ false → b < a
 before_end a b h = grind (arith, nat_tests)
@@ -83,8 +76,7 @@ opens true slots count h = inl refl
 opens false slots count h = inr (before_end slots count h)
 
 both_false : (a b : Bool) → (not a || b) ≡ false → a ≡ true
-both_false true b h = refl
-both_false false b h = absurd (cc)
+both_false a b h = grind arith
 
 list_room : (slots : ℕ) (h : List Charge) (now : ℕ) (g k : Grant) (bytes : ℕ) → list_verdict slots h now g bytes ≡ Authorised k → (lives h g.flow now ≡ true) ⊎ (living_count h now < slots)
 unfolding list_verdict

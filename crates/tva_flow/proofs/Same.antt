@@ -1,5 +1,5 @@
 -- What the tests on flows and grants tell.
-use Rattle.std.proofs.Common.{◌≡◌, ℕ, Bool, true, false, ◌&&◌, eqb, refl, ap, ◌∙◌, subst, inl, inr, arith}
+use Rattle.std.proofs.Common.{◌≡◌, ℕ, Bool, true, false, ◌&&◌, eqb, refl, ap, ◌∙◌, subst, inl, inr, ◌⊎◌, arith}
 use Rattle.std.proofs.lemmas.Bool.Decides.{nat_tests, eqb_tells}
 use Rattle.tva_base.specs.declared.addresses.Address.{Address}
 use Rattle.tva_base.specs.declared.packet.Flow.{Flow}
@@ -45,6 +45,10 @@ pub by_flow : (a b : Flow) (P : Bool → Type 0) → (a ≡ b → P true) → ((
 by_flow a b P t f =
     by_bool (same_flow a b) P (λ k. t (flow_is a b k))
     (λ k. f (λ e. let s : same_flow a b ≡ true = subst (λ z. same_flow a z ≡ true) e (same_flow-self a) in absurd (cc)))
+
+-- the test with what it tells, for `grind`
+pub flow_tells : (a b : Flow) → ((same_flow a b ≡ true) × (a ≡ b)) ⊎ ((same_flow a b ≡ false) × (a ≡ b → ⊥))
+flow_tells a b = by_flow a b (λ t. ((t ≡ true) × (a ≡ b)) ⊎ ((t ≡ false) × (a ≡ b → ⊥))) (λ e. inl (refl, e)) (λ n. inr (refl, n))
 
 pub not_same : (a b : Flow) (t : Bool) → t ≡ same_flow a b → t ≡ false → a ≡ b → ⊥
 not_same a b t s f e = let k : same_flow a b ≡ true = subst (λ z. same_flow a z ≡ true) e (same_flow-self a) in absurd (cc)

@@ -7,7 +7,7 @@ use Rattle.tva_base.specs.declared.packet.Flow.{Flow}
 use Rattle.tva_flow.specs.Charges.{Charge, same_flow, of_flow}
 use Rattle.tva_flow.specs.Verdicts.{IsAuthorised}
 use Rattle.tva_flow.specs.Stands.{Holds, IsKept, StandsFor, cache, entry_of, AreApart, IsChargeable}
-use Rattle.tva_flow.proofs.Same.{by_flow}
+use Rattle.tva_flow.proofs.Same.{flow_tells, by_flow}
 use Rattle.tva_flow.proofs.Pushes.{of_flow-push, past-push, past-later, next-push}
 use Rattle.tva_flow.proofs.Entries.{not_there, entry_of-set, apart-set, entry_of-push, apart-push}
 use Rattle.tva_flow.proofs.Steps.{not_living, kept_later, kept-from_holds, dead_now}
@@ -25,10 +25,7 @@ stands-later s o last now es h v l = record {
 pub entry_from_place : (es : List Entry) (i : ℕ) (e : Entry) → AreApart es → i < length es → e ≡ get_or es i e → entry_of e.grant.flow es ≡ Some e
 entry_from_place [] i e a n s = absurd (omega arith)
 entry_from_place (d ∷ ds) zero e a n s = by_flow d.grant.flow e.grant.flow (λ b. cond b (Some d) (entry_of e.grant.flow ds) ≡ Some e) (λ k. ap Some (sym s)) (λ k. absurd (k (ap (λ (x : Entry). x.grant.flow) (sym s))))
-entry_from_place (d ∷ ds) (suc i) e a n s =
-    let away : e.grant.flow ≡ d.grant.flow → ⊥ = not_there d.grant.flow ds i e a.0 (omega arith) s in
-    let ih = entry_from_place ds i e a.1 (omega arith) s in
-    by_flow d.grant.flow e.grant.flow (λ b. cond b (Some d) (entry_of e.grant.flow ds) ≡ Some e) (λ k. absurd (away (sym k))) (λ k. ih)
+entry_from_place (d ∷ ds) (suc i) e a n s = grind (arith, flow_tells, entry_from_place ds i e a.1 (omega arith) s, not_there d.grant.flow ds i e a.0 (omega arith) s)
 
 flow_of_new : (f : Flow) (h : List Charge) (x : Charge) (new : Entry) → new.grant.flow ≡ x.grant.flow → of_flow f (h ++ x ∷ []) ≡ cond (same_flow new.grant.flow f) (of_flow f h ++ x ∷ []) (of_flow f h)
 flow_of_new f h x new g = subst (λ z. of_flow f (h ++ x ∷ []) ≡ cond (same_flow z f) (of_flow f h ++ x ∷ []) (of_flow f h)) (sym g) (of_flow-push f h x)

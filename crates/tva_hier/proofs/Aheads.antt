@@ -1,5 +1,7 @@
 -- The measure of the bytes that may still go, over both levels, falls at each take by what is taken.
 use Rattle.std.proofs.Common.{◌≡◌, ℕ, zero, suc, ◌+◌, ◌-◌, ◌*◌, ◌<◌, ◌≤◌, true, false, cond, eqb, leb, ◌&&◌, Option, Some, None, List, [], ◌∷◌, ◌++◌, refl, sym, ap, ◌∙◌, subst, arith}
+use Rattle.std.proofs.lemmas.Bool.{cases_eq}
+use Rattle.std.proofs.lemmas.Bool.Decides.{nat_tests}
 use Rattle.std.specs.Int.{div_ceil}
 use Rattle.std.specs.Bool.{MatchBool}
 use Rattle.std.specs.List.{AllByRecursion}
@@ -64,9 +66,7 @@ module _ {T : Type 0} where
 
   turns-changed : (change : Fair T → Fair T) (m : DrrLimits) (start outer : ℕ) (gs : List (Group T)) → turns_of_groups (changed change m start outer gs) ≡ join start outer (turns_of_groups gs)
   turns-changed change m start outer [] = refl
-  turns-changed change m start outer (g ∷ gs) =
-      by_test (eqb g.key outer) (λ b. turns_of_groups (cond b (group g.key g.deficit (change g.queues) ∷ gs) (g ∷ changed change m 0 outer gs)) ≡ cond b (turns_of_groups (g ∷ gs)) (turn g.key g.deficit ∷ join 0 outer (turns_of_groups gs)))
-      (λ _. refl) (λ _. ap (λ z. turn g.key g.deficit ∷ z) (turns-changed change m 0 outer gs))
+  turns-changed change m start outer (g ∷ gs) = grind (arith, nat_tests, turns-changed change m 0 outer gs, join 0 outer (turns_of_groups gs))
 
   pub has-groups : (key : ℕ) (gs : List (Group T)) → has key (turns_of_groups gs) ≡ has_group key gs
   has-groups key [] = refl
@@ -75,10 +75,7 @@ module _ {T : Type 0} where
   -- where something waits under two keys the outer key has a group
   pub has_group_from : (l : DrrLimits) (outer key : ℕ) (gs : List (Group T)) → has_key key (queues_of l outer gs).queues ≡ true
       → has_group outer gs ≡ true
-  has_group_from l outer key gs h =
-      by_test (has_group outer gs) (λ b. b ≡ true) (λ _. refl)
-      (λ e. let k = ap (λ (f : Fair T). has_key key f.queues) (queues_of_none l outer gs e) in absurd
-      (let w : true ≡ false = sym h ∙ k in cc))
+  has_group_from l outer key gs h = grind (arith, nat_tests, queues_of_none l outer gs)
 
   module _ (measure : T → ℕ) where
     -- the length of what queues send next
@@ -93,9 +90,7 @@ module _ {T : Type 0} where
     turns-settled : (quantum : ℕ) (g : Group T) (qs : List (Queue T)) (gs : List (Group T))
         → turns_of_groups (group_settled measure quantum g qs gs) ≡ settle quantum (sends qs) (turn g.key g.deficit) (turns_of_groups gs)
     turns-settled quantum g [] gs = turns-refilled quantum gs
-    turns-settled quantum g (q ∷ qs) gs =
-        by_test (leb (suc g.deficit) (first_bytes measure q.items)) (λ b. turns_of_groups (cond b (group_refilled quantum (gs ++ g ∷ [])) (g ∷ gs)) ≡ cond b (refill quantum (turns_of_groups gs ++ turn g.key g.deficit ∷ [])) (turns_of_groups (g ∷ gs)))
-        (λ _. turns-refilled quantum (gs ++ g ∷ []) ∙ ap (λ z. refill quantum z) (map_push (λ (p : Group T). turn p.key p.deficit) gs g)) (λ _. refl)
+    turns-settled quantum g (q ∷ qs) gs = grind (arith, nat_tests, turns-refilled quantum (gs ++ g ∷ []), map_push (λ (p : Group T). turn p.key p.deficit) gs g, refill quantum (turns_of_groups gs ++ turn g.key g.deficit ∷ []), refill quantum)
 
     -- what fair queues send next is ahead of what a key has yet to send
     pub next_ahead_of : (m : DrrLimits) (key r : ℕ) (qs : List (Queue T)) → AreFair measure m qs → first_bytes measure (items_of key qs) ≤ r → head_bytes measure qs ≤ bytes_ahead m key r qs
@@ -176,16 +171,10 @@ module _ {T : Type 0} where
           (queues_of-settled_own measure l inner l.quantum g.key (g.deficit - head_bytes measure qs) m after gs h.groups.each.1)) in
           let own = own_falls g.key key bytes left g.deficit m qs gs h.limits h.groups (subst (λ z. has_key key z ≡ true) was w)
           (subst (λ z. has_key key z ≡ true) now v) s (subst (λ z. first_bytes measure (items_of key z) ≤ left) now n.1) in
-          let there : ahead l outer (bytes_ahead li key left after) (turns_of_groups new) + head_bytes measure qs ≤ ahead l outer
-          (bytes_ahead li key bytes qs) (turns_of_groups (g ∷ gs)) =
-          subst (λ o. ahead l o (bytes_ahead li key left after) (turns_of_groups new) + head_bytes measure qs ≤ ahead l o
+          rw (now, was) (subst (λ o. ahead l o (bytes_ahead li key left after) (turns_of_groups new) + head_bytes measure qs ≤ ahead l o
           (bytes_ahead li key bytes qs) (turns_of_groups (g ∷ gs))) e
           (subst (λ z. ahead l g.key (bytes_ahead z key left after) (turns_of_groups new) + head_bytes measure qs ≤ ahead l g.key
-          (bytes_ahead z key bytes qs) (turns_of_groups (g ∷ gs))) i.limits own) in
-          subst (λ a. ahead l outer (bytes_ahead li key left a) (turns_of_groups new) + head_bytes measure qs ≤ ahead l outer
-          (bytes_ahead li key bytes (queues_of li outer (g ∷ gs)).queues) (turns_of_groups (g ∷ gs))) (sym now)
-          (subst (λ a. ahead l outer (bytes_ahead li key left after) (turns_of_groups new) + head_bytes measure qs ≤ ahead l outer
-          (bytes_ahead li key bytes a) (turns_of_groups (g ∷ gs))) (sym was) there))
+          (bytes_ahead z key bytes qs) (turns_of_groups (g ∷ gs))) i.limits own)))
           (λ k t s.
           let there : has_group outer gs ≡ true = subst (λ b. cond b true (has_group outer gs) ≡ true) t
           (has_group_from li outer key (g ∷ gs) w) in
@@ -213,16 +202,8 @@ module _ {T : Type 0} where
       inner-offered_ahead outer key r o i x gs t q s =
           let li : DrrLimits = inner_limits l inner in
           let new : List (Group T) = changed (λ f. offer_leaves measure f i x) li l.quantum o gs in
-          by_key o outer (λ _. bytes_ahead li key r (queues_of li outer new).queues ≡ bytes_ahead li key r (queues_of li outer gs).queues)
-          (λ e. subst (λ z. has_key key (queues_of li z gs).queues ≡ true → bytes_ahead li key r (queues_of li z new).queues
-          ≡ bytes_ahead li key r (queues_of li z gs).queues) e
-          (λ w.
           let f : Fair T = queues_of li o gs in
-          ap (λ (z : Fair T). bytes_ahead li key r z.queues) (queues_of-changed (λ f. offer_leaves measure f i x) li l.quantum o gs
-          ∙ offered_is measure f i x q s) ∙ ahead-put measure li key r f.limits.quantum i x f.queues w)
-          t)
-          (λ n. ap (λ (z : Fair T). bytes_ahead li key r z.queues) (queues_of-changed_other outer
-          (λ f. offer_leaves measure f i x) li l.quantum o gs n))
+          grind (arith, cases_eq o outer, t, queues_of-changed (λ f. offer_leaves measure f i x) li l.quantum o gs, offered_is measure f i x q s, ahead-put measure li key r f.limits.quantum i x f.queues, queues_of-changed_other outer (λ f. offer_leaves measure f i x) li l.quantum o gs)
 
       pub offer_under : (outer key bytes o i : ℕ) (x : T) (gs : List (Group T)) → IsHier measure (hier l inner gs)
           → has_key key (queues_of (inner_limits l inner) outer gs).queues ≡ true

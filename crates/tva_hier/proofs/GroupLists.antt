@@ -1,5 +1,5 @@
 -- The group of an outer key, by its place, and what an offer to its queues does to the list.
-use Rattle.std.proofs.Common.{◌≡◌, ℕ, ◌+◌, ◌<◌, ◌≤◌, Bool, true, false, cond, eqb, List, [], ◌∷◌, ◌++◌, length, not, ◌&&◌, ◌||◌, leb, take, set, get_or, Some, refl, sym, ap, ◌∙◌, zero, suc, arith}
+use Rattle.std.proofs.Common.{◌≡◌, ℕ, ◌+◌, ◌<◌, ◌≤◌, Bool, true, false, cond, eqb, List, [], ◌∷◌, ◌++◌, length, ◌||◌, leb, take, set, get_or, Some, refl, sym, ap, ◌∙◌, zero, suc, arith}
 use Rattle.std.proofs.lemmas.Bool.Decides.{nat_tests}
 use Rattle.std.proofs.lemmas.List.{set-get_or}
 use Rattle.std.proofs.lemmas.List.Sums.{sum_by-cons}
@@ -7,7 +7,6 @@ use Rattle.tva_base.specs.declared.limits.DrrLimits.{DrrLimits}
 use Rattle.tva_drr.specs.Queues.{Fair, fair, all_bytes}
 use Rattle.tva_drr.specs.Offer.{put, lacks_queue, lacks_room, offer_leaves}
 use Rattle.tva_drr.proofs.Lists.{by_key, leaves_queued}
-use Rattle.tva_drr.proofs.Falling.{by_test}
 use Rattle.tva_hier.specs.Groups.{Group, group, hier, inner_limits, has_group, queues_of, group_bytes, all_group_bytes}
 use Rattle.tva_hier.specs.Offer.{lacks_place, changed}
 use Rattle.tva_hier.specs.Places.{IsGroupPlace}
@@ -24,9 +23,7 @@ module _ {T : Type 0} where
   pub has_group-push : (key : ℕ) (gs : List (Group T)) (g : Group T) → has_group key gs ≡ false → eqb g.key key ≡ false
       → has_group key (gs ++ g ∷ []) ≡ false
   has_group-push key [] g h e = ap (λ b. cond b true false) e
-  has_group-push key (p ∷ gs) g h e =
-      by_test (eqb p.key key) (λ b. cond b true (has_group key gs) ≡ false → cond b true (has_group key (gs ++ g ∷ [])) ≡ false)
-      (λ _ k. absurd (cc)) (λ _ k. has_group-push key gs g k e) h
+  has_group-push key (p ∷ gs) g h e = grind (arith, nat_tests, has_group-push key gs g)
 
   -- what stands at a place of the list
   group_here : (gs : List (Group T)) (i : ℕ) → i < length gs → Group T
@@ -44,10 +41,8 @@ module _ {T : Type 0} where
   has_at : (key : ℕ) (gs : List (Group T)) (at : ℕ) (g : Group T) → at < length gs → g ≡ get_or gs at g → g.key ≡ key
       → has_group key gs ≡ true
   has_at key [] at g n s e = absurd (omega arith)
-  has_at key (p ∷ gs) zero g n s e = by_key p.key key (λ b. cond b true (has_group key gs) ≡ true) (λ _. refl)
-      (λ k. absurd (k (ap (λ (r : Group T). r.key) (sym s) ∙ e)))
-  has_at key (p ∷ gs) (suc i) g n s e = by_test (eqb p.key key) (λ b. cond b true (has_group key gs) ≡ true) (λ _. refl)
-      (λ _. has_at key gs i g (omega arith) s e)
+  has_at key (p ∷ gs) zero g n s e = let k : p.key ≡ key = ap (λ (r : Group T). r.key) (sym s) ∙ e in grind (arith, nat_tests)
+  has_at key (p ∷ gs) (suc i) g n s e = grind (arith, has_at key gs i g)
 
   pub has_place : (key : ℕ) (gs : List (Group T)) (at : ℕ) → IsGroupPlace key gs (Some at) → has_group key gs ≡ true
   has_place key gs at p = has_at key gs at (group_here gs at p.0) p.0 (group_here_is gs at p.0) (p.2 _ (group_here_is gs at p.0))
@@ -55,132 +50,56 @@ module _ {T : Type 0} where
   pub queues_of_at : (l : DrrLimits) (key : ℕ) (gs : List (Group T)) (at : ℕ) (g : Group T) → at < length gs
       → has_group key (take at gs) ≡ false → g ≡ get_or gs at g → g.key ≡ key → queues_of l key gs ≡ g.queues
   queues_of_at l key [] at g n h s e = absurd (omega arith)
-  queues_of_at l key (p ∷ gs) zero g n h s e =
-      by_key p.key key (λ b. cond b p.queues (queues_of l key gs) ≡ g.queues) (λ _. ap (λ (r : Group T). r.queues) (sym s))
-      (λ k. absurd (k (ap (λ (r : Group T). r.key) (sym s) ∙ e)))
-  queues_of_at l key (p ∷ gs) (suc i) g n h s e =
-      by_test (eqb p.key key) (λ b. cond b true (has_group key (take i gs)) ≡ false → cond b p.queues (queues_of l key gs) ≡ g.queues)
-      (λ _ k. absurd (cc)) (λ _ k. queues_of_at l key gs i g (omega arith) k s e) h
+  queues_of_at l key (p ∷ gs) zero g n h s e = grind (arith, nat_tests)
+  queues_of_at l key (p ∷ gs) (suc i) g n h s e = grind (arith, queues_of_at l key gs i g)
 
   pub queues_of_none : (l : DrrLimits) (key : ℕ) (gs : List (Group T)) → has_group key gs ≡ false → queues_of l key gs ≡ fair l []
   queues_of_none l key [] h = refl
-  queues_of_none l key (p ∷ gs) h =
-      by_test (eqb p.key key) (λ b. cond b true (has_group key gs) ≡ false → cond b p.queues (queues_of l key gs) ≡ fair l [])
-      (λ _ k. absurd (cc)) (λ _ k. queues_of_none l key gs k) h
+  queues_of_none l key (p ∷ gs) h = grind (arith, queues_of_none l key gs)
 
   pub changed_at : (change : Fair T → Fair T) (l : DrrLimits) (start key : ℕ) (gs : List (Group T)) (at : ℕ) (g : Group T)
       → at < length gs → has_group key (take at gs) ≡ false → g ≡ get_or gs at g → g.key ≡ key
       → changed change l start key gs ≡ set gs at (group g.key g.deficit (change g.queues))
   changed_at change l start key [] at g n h s e = absurd (omega arith)
-  changed_at change l start key (p ∷ gs) zero g n h s e =
-      by_key p.key key (λ b. cond b (group p.key p.deficit (change p.queues) ∷ gs) (p ∷ changed change l 0 key gs) ≡ group g.key g.deficit
-      (change g.queues) ∷ gs)
-      (λ _. ap (λ (r : Group T). group r.key r.deficit (change r.queues) ∷ gs) (sym s))
-      (λ k. absurd (k (ap (λ (r : Group T). r.key) (sym s) ∙ e)))
-  changed_at change l start key (p ∷ gs) (suc i) g n h s e =
-      by_test (eqb p.key key)
-      (λ b. cond b true (has_group key (take i gs)) ≡ false → cond b (group p.key p.deficit (change p.queues) ∷ gs)
-      (p ∷ changed change l 0 key gs) ≡ p ∷ set gs i (group g.key g.deficit (change g.queues)))
-      (λ _ k. absurd (cc)) (λ _ k. ap (λ z. p ∷ z) (changed_at change l 0 key gs i g (omega arith) k s e)) h
+  changed_at change l start key (p ∷ gs) zero g n h s e = grind (arith, nat_tests)
+  changed_at change l start key (p ∷ gs) (suc i) g n h s e = grind (arith, changed_at change l 0 key gs i g)
 
   changed_next : (change : Fair T → Fair T) (l : DrrLimits) (key : ℕ) (gs : List (Group T)) → has_group key gs ≡ false
       → changed change l 0 key gs ≡ gs ++ group key 0 (change (fair l [])) ∷ []
   changed_next change l key [] h = refl
-  changed_next change l key (p ∷ gs) h =
-      by_test (eqb p.key key)
-      (λ b. cond b true (has_group key gs) ≡ false → cond b (group p.key p.deficit (change p.queues) ∷ gs) (p ∷ changed change l 0 key gs)
-      ≡ p ∷ (gs ++ group key 0 (change (fair l [])) ∷ []))
-      (λ _ k. absurd (cc)) (λ _ k. ap (λ z. p ∷ z) (changed_next change l key gs k)) h
+  changed_next change l key (p ∷ gs) h = grind (arith, changed_next change l key gs)
 
   pub changed_new : (change : Fair T → Fair T) (l : DrrLimits) (start key : ℕ) (gs : List (Group T)) → has_group key gs ≡ false
       → changed change l start key gs ≡ gs ++ group key (cond (eqb (length gs) 0) start 0) (change (fair l [])) ∷ []
   changed_new change l start key [] h = refl
-  changed_new change l start key (p ∷ gs) h =
-      let some : eqb (length (p ∷ gs)) 0 ≡ false = grind (arith, nat_tests) in
-      let new : List (Group T) = p ∷ (gs ++ group key 0 (change (fair l [])) ∷ []) in
-      by_test (eqb p.key key)
-      (λ b. cond b true (has_group key gs) ≡ false → cond b (group p.key p.deficit (change p.queues) ∷ gs) (p ∷ changed change l 0 key gs)
-      ≡ new)
-      (λ _ k. absurd (cc)) (λ _ k. ap (λ z. p ∷ z) (changed_next change l key gs k)) h
-      ∙ ap (λ b. (p ∷ gs) ++ group key (cond b start 0) (change (fair l [])) ∷ []) (sym some)
+  changed_new change l start key (p ∷ gs) h = grind (arith, changed_next change l key gs)
 
   pub has_group-changed : (k : ℕ) (change : Fair T → Fair T) (l : DrrLimits) (start key : ℕ) (gs : List (Group T)) → (key ≡ k → ⊥)
       → has_group k gs ≡ false → has_group k (changed change l start key gs) ≡ false
   has_group-changed k change l start key [] n h = by_key key k (λ b. cond b true false ≡ false) (λ e. absurd (n e)) (λ _. refl)
-  has_group-changed k change l start key (p ∷ gs) n h =
-      by_test (eqb p.key key) (λ b. has_group k (cond b (group p.key p.deficit (change p.queues) ∷ gs) (p ∷ changed change l 0 key gs))
-      ≡ false)
-      (λ _. h)
-      (λ _. by_test (eqb p.key k) (λ b. cond b true (has_group k gs) ≡ false → cond b true (has_group k (changed change l 0 key gs))
-      ≡ false)
-      (λ _ w. absurd (cc)) (λ _ w. has_group-changed k change l 0 key gs n w) h)
+  has_group-changed k change l start key (p ∷ gs) n h = grind (arith, nat_tests, has_group-changed k change l 0 key gs n)
 
   pub length-changed : (change : Fair T → Fair T) (l : DrrLimits) (start key : ℕ) (gs : List (Group T))
       → length (changed change l start key gs) ≡ cond (has_group key gs) (length gs) (length gs + 1)
   length-changed change l start key [] = omega arith
-  length-changed change l start key (p ∷ gs) =
-      by_test (eqb p.key key)
-      (λ b. length (cond b (group p.key p.deficit (change p.queues) ∷ gs) (p ∷ changed change l 0 key gs)) ≡ cond
-      (cond b true (has_group key gs)) (length (p ∷ gs)) (length (p ∷ gs) + 1))
-      (λ _. refl)
-      (λ _. by_test (has_group key gs) (λ b. length (changed change l 0 key gs) ≡ cond b (length gs) (length gs + 1) → suc
-      (length (changed change l 0 key gs)) ≡ cond b (suc (length gs)) (suc (length gs) + 1))
-      (λ _ e. omega arith) (λ _ e. omega arith) (length-changed change l 0 key gs))
+  length-changed change l start key (p ∷ gs) = grind (arith, nat_tests, length-changed change l 0 key gs)
 
   pub queues_of-changed : (change : Fair T → Fair T) (l : DrrLimits) (start key : ℕ) (gs : List (Group T))
       → queues_of l key (changed change l start key gs) ≡ change (queues_of l key gs)
-  queues_of-changed change l start key [] = by_key key key (λ b. cond b (change (fair l [])) (fair l []) ≡ change (fair l [])) (λ _. refl)
-      (λ n. absurd (n refl))
-  queues_of-changed change l start key (p ∷ gs) =
-      by_test (eqb p.key key) (λ b. eqb p.key key ≡ b → queues_of l key
-      (cond b (group p.key p.deficit (change p.queues) ∷ gs) (p ∷ changed change l 0 key gs)) ≡ change
-      (cond b p.queues (queues_of l key gs)))
-      (λ _ e. ap (λ b. cond b (change p.queues) (queues_of l key gs)) e)
-      (λ _ e. ap (λ b. cond b p.queues (queues_of l key (changed change l 0 key gs))) e ∙ queues_of-changed change l 0 key gs)
-      refl
+  queues_of-changed change l start key [] = grind (arith, nat_tests)
+  queues_of-changed change l start key (p ∷ gs) = grind (arith, nat_tests, queues_of-changed change l 0 key gs)
 
   pub queues_of-changed_other : (k : ℕ) (change : Fair T → Fair T) (l : DrrLimits) (start key : ℕ) (gs : List (Group T)) → (key ≡ k → ⊥)
       → queues_of l k (changed change l start key gs) ≡ queues_of l k gs
-  queues_of-changed_other k change l start key [] n = by_key key k (λ b. cond b (change (fair l [])) (fair l []) ≡ fair l [])
-      (λ e. absurd (n e)) (λ _. refl)
-  queues_of-changed_other k change l start key (p ∷ gs) n =
-      by_key p.key key (λ b. queues_of l k (cond b (group p.key p.deficit (change p.queues) ∷ gs) (p ∷ changed change l 0 key gs)) ≡ cond
-      (eqb p.key k) p.queues (queues_of l k gs))
-      (λ e. by_key p.key k (λ b. cond b (change p.queues) (queues_of l k gs) ≡ cond b p.queues (queues_of l k gs))
-      (λ s. absurd (n (sym e ∙ s))) (λ _. refl))
-      (λ _. ap (λ z. cond (eqb p.key k) p.queues z) (queues_of-changed_other k change l 0 key gs n))
+  queues_of-changed_other k change l start key [] n = grind (arith, nat_tests)
+  queues_of-changed_other k change l start key (p ∷ gs) n = grind (arith, nat_tests, queues_of-changed_other k change l 0 key gs n)
 
   -- the bytes of all groups, where the queues of one get so many more
   pub bytes-changed : (measure : T → ℕ) (change : Fair T → Fair T) (l : DrrLimits) (start key m : ℕ) (gs : List (Group T))
       → all_bytes measure (change (queues_of l key gs)).queues ≡ all_bytes measure (queues_of l key gs).queues + m
       → all_group_bytes measure (changed change l start key gs) ≡ all_group_bytes measure gs + m
-  bytes-changed measure change l start key m [] e = omega (
-    arith,
-    e,
-    sum_by-cons (group_bytes measure)
-        (group key start (change (fair l []))) [],
-  )
-  bytes-changed measure change l start key m (p ∷ gs) e =
-      by_test (eqb p.key key)
-      (λ b. all_bytes measure (change (cond b p.queues (queues_of l key gs))).queues ≡ all_bytes measure
-      (cond b p.queues (queues_of l key gs)).queues + m
-      → all_group_bytes measure (cond b (group p.key p.deficit (change p.queues) ∷ gs) (p ∷ changed change l 0 key gs))
-      ≡ all_group_bytes measure (p ∷ gs) + m)
-      (λ _ k. omega (
-        arith,
-        k,
-        sum_by-cons (group_bytes measure) p gs,
-        sum_by-cons (group_bytes measure)
-            (group p.key p.deficit (change p.queues)) gs,
-      ))
-      (λ _ k. omega (
-        arith,
-        bytes-changed measure change l 0 key m gs k,
-        sum_by-cons (group_bytes measure) p gs,
-        sum_by-cons
-            (group_bytes measure) p (changed change l 0 key gs),
-      ))
-      e
+  bytes-changed measure change l start key m [] e = omega (arith, e, sum_by-cons (group_bytes measure) (group key start (change (fair l []))) [])
+  bytes-changed measure change l start key m (p ∷ gs) e = grind (arith, nat_tests, bytes-changed measure change l 0 key m gs, sum_by-cons (group_bytes measure) p gs, sum_by-cons (group_bytes measure) (group p.key p.deficit (change p.queues)) gs, sum_by-cons (group_bytes measure) p (changed change l 0 key gs))
 
   -- what an offer leaves where nothing is lacking
   pub offered_is : (measure : T → ℕ) (f : Fair T) (key : ℕ) (x : T) → lacks_queue f key ≡ false → lacks_room measure f key x ≡ false
@@ -195,14 +114,8 @@ module _ {T : Type 0} where
   -- the tests of an offer, by the place that was found
   pub place_at : (l : DrrLimits) (n key inner at : ℕ) (gs : List (Group T)) (g : Group T) → IsGroupPlace key gs (Some at)
       → g ≡ get_or gs at g → lacks_place (hier l n gs) key inner ≡ lacks_queue g.queues inner
-  place_at l n key inner at gs g p e =
-      ap (λ b. (not b && leb l.queues (length gs)) || lacks_queue (queues_of (inner_limits l n) key gs) inner) (has_place key gs at p)
-      ∙ ap (λ f. lacks_queue f inner) (queues_of_at (inner_limits l n) key gs at g p.0 p.1 e (p.2 g e))
+  place_at l n key inner at gs g p e = grind (arith, nat_tests, queues_of_at (inner_limits l n) key gs at g p.0 p.1 e (p.2 g e), has_place key gs at p)
 
   pub place_new : (l : DrrLimits) (n key inner : ℕ) (gs : List (Group T)) → 1 ≤ n → has_group key gs ≡ false
       → lacks_place (hier l n gs) key inner ≡ leb l.queues (length gs)
-  place_new l n key inner gs h e =
-      let some : leb n 0 ≡ false = grind (arith, nat_tests) in
-      ap (λ b. (not b && leb l.queues (length gs)) || lacks_queue (queues_of (inner_limits l n) key gs) inner) e
-      ∙ (ap (λ f. leb l.queues (length gs) || lacks_queue f inner) (queues_of_none (inner_limits l n) key gs e)
-      ∙ or_false (leb l.queues (length gs)) (leb n 0) some)
+  place_new l n key inner gs h e = grind (arith, nat_tests, queues_of_none (inner_limits l n) key gs e, or_false (leb l.queues (length gs)) (leb n 0))

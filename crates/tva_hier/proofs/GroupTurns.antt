@@ -1,5 +1,6 @@
 -- Groups as turns over fair queues, and their places by the keys alone.
 use Rattle.std.proofs.Common.{◌≡◌, ℕ, ◌-◌, ◌<◌, ◌≤◌, suc, true, false, cond, leb, List, [], ◌∷◌, ◌++◌, length, take, map, get_or, slice_get, Option, Some, None, refl, sym, ap, ◌∙◌, subst, arith}
+use Rattle.std.proofs.lemmas.Bool.Decides.{nat_tests}
 use Rattle.std.specs.Option.{option_map, option_map_or}
 use Rattle.std.proofs.lemmas.List.{get_or-map, length-map, map_push}
 use Rattle.tva_index.specs.KeyRing.{place_in}
@@ -101,16 +102,9 @@ module _ {T : Type 0} where
   -- the place of the key is that of its group
   pub group_place : (key : ℕ) (gs : List (Group T)) → IsGroupPlace key gs (place_in key (map (λ (g : Group T). g.key) gs))
   group_place key [] = refl
-  group_place key (g ∷ gs) =
-      by_key g.key key (λ b. IsGroupPlace key (g ∷ gs) (cond b (Some 0) (option_map (λ (n : ℕ). suc n) (place_in key (map (λ (g : Group T). g.key) gs)))))
-      (λ e. (omega arith, refl, λ p s. ap (λ (z : Group T). z.key) s ∙ e))
-      (λ n. place_later key g gs (place_in key (map (λ (g : Group T). g.key) gs)) n (group_place key gs))
+  group_place key (g ∷ gs) = grind (arith, nat_tests, place_later key g gs (place_in key (map (λ (g : Group T). g.key) gs)), group_place key gs)
 
   -- a key without a group has no place
   pub no_place : (key : ℕ) (gs : List (Group T)) → has_group key gs ≡ false → place_in key (map (λ (g : Group T). g.key) gs) ≡ None
   no_place key [] h = refl
-  no_place key (g ∷ gs) h =
-      by_key g.key key (λ b. cond b true (has_group key gs) ≡ false → cond b (Some 0) (option_map (λ (n : ℕ). suc n) (place_in key (map (λ (g : Group T). g.key) gs))) ≡ None)
-      (λ _ k. absurd (cc))
-      (λ _ k. ap (λ (o : Option ℕ). option_map (λ (n : ℕ). suc n) o) (no_place key gs k))
-      h
+  no_place key (g ∷ gs) h = grind (arith, nat_tests, no_place key gs)

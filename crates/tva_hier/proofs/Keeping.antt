@@ -1,19 +1,17 @@
 -- What is true of two-level queues stays true after an offer and after a take.
-use Rattle.std.proofs.Common.{◌≡◌, ℕ, ◌+◌, ◌-◌, ◌<◌, ◌≤◌, ◌^◌, suc, true, false, cond, eqb, leb, not, ◌&&◌, Some, List, [], ◌∷◌, ◌++◌, length, refl, sym, ap, subst, inl, inr, arith, length-append}
-use Rattle.std.proofs.lemmas.Bool.Decides.{nat_tests, leb_tells}
+use Rattle.std.proofs.Common.{◌≡◌, ℕ, ◌+◌, ◌-◌, ◌<◌, ◌≤◌, ◌^◌, suc, true, false, leb, Some, List, [], ◌∷◌, ◌++◌, length, refl, ap, arith, length-append}
+use Rattle.std.proofs.lemmas.Bool.Decides.{nat_tests}
 use Rattle.std.proofs.lemmas.List.Sums.{sum_by-cons, sum_by_push}
 use Rattle.std.specs.List.{All, AllByRecursion}
 use Rattle.std.proofs.lemmas.List.Elements.{All-from_recursion}
 use Rattle.tva_base.specs.declared.limits.DrrLimits.{DrrLimits}
 use Rattle.tva_base.specs.Plan.{AreDrrLimits}
-use Rattle.tva_drr.specs.Queues.{Queue, queue, Fair, fair, first, head, all_bytes}
+use Rattle.tva_drr.specs.Queues.{Queue, Fair, fair, first, head, all_bytes}
 use Rattle.tva_drr.specs.Offer.{put, lacks_queue, lacks_room, offer_leaves}
 use Rattle.tva_drr.specs.Take.{taken}
 use Rattle.tva_drr.specs.Fair.{AreMeasured, AreQueues, IsFair}
 use Rattle.tva_drr.specs.Service.{first_bytes, head_bytes}
-use Rattle.tva_drr.proofs.Lists.{by_key}
 use Rattle.tva_drr.proofs.Keeps.{keeps-offer, fair-taken, all_bytes-taken}
-use Rattle.tva_drr.proofs.Falling.{by_test}
 use Rattle.tva_hier.specs.Groups.{Group, group, hier, inner_limits, has_group, queues_of, group_bytes, all_group_bytes, next}
 use Rattle.tva_hier.specs.Offer.{lacks_group, lacks_place, lacks_space, changed}
 use Rattle.tva_hier.specs.Take.{group_refilled, front_popped, group_settled, groups_taken}
@@ -61,17 +59,13 @@ module _ {T : Type 0} (measure : T → ℕ) where
 
   some-put : (start key : ℕ) (x : T) (qs : List (Queue T)) → 1 ≤ length (put start key x qs)
   some-put start key x [] = omega arith
-  some-put start key x (q ∷ qs) = by_test (eqb q.key key) (λ b. 1 ≤ length
-      (cond b (queue q.key q.deficit (q.items ++ x ∷ []) ∷ qs) (q ∷ put 0 key x qs))) (λ _. omega arith) (λ _. omega arith)
+  some-put start key x (q ∷ qs) = grind (arith, nat_tests)
 
   -- an item that is put behind others isn't sent next
   pub head-put : (m : DrrLimits) (start key : ℕ) (x : T) (qs : List (Queue T)) → AreQueues measure m qs → 1 ≤ length qs
       → head_bytes measure (put start key x qs) ≡ head_bytes measure qs
   head-put m start key x [] a h = absurd (omega arith)
-  head-put m start key x (q ∷ qs) a h =
-      by_test (eqb q.key key) (λ b. head_bytes measure (cond b (queue q.key q.deficit (q.items ++ x ∷ []) ∷ qs) (q ∷ put 0 key x qs))
-      ≡ first_bytes measure q.items)
-      (λ _. first-push q.items x a.0.filled) (λ _. refl)
+  head-put m start key x (q ∷ qs) a h = grind (arith, nat_tests, first-push q.items x a.0.filled)
 
   module _ (l : DrrLimits) (inner : ℕ) where
     -- ## an offer
@@ -84,57 +78,31 @@ module _ {T : Type 0} (measure : T → ℕ) where
         → ((queues_of (inner_limits l inner) key gs).limits ≡ inner_limits l inner)
         × IsFair measure (queues_of (inner_limits l inner) key gs)
     inner_of key [] a i h = (refl, inner_empty a i)
-    inner_of key (g ∷ gs) a i h =
-        by_test (eqb g.key key) (λ b. ((cond b g.queues (queues_of (inner_limits l inner) key gs)).limits ≡ inner_limits l inner)
-        × IsFair measure (cond b g.queues (queues_of (inner_limits l inner) key gs)))
-        (λ _. (h.0.limits, h.0.fair)) (λ _. inner_of key gs a i h.2)
+    inner_of key (g ∷ gs) a i h = grind (arith, nat_tests, inner_of key gs a i h.2)
 
     -- its queues where it has a group
     pub inner_there : (key : ℕ) (gs : List (Group T)) → AreGroups measure l inner gs → has_group key gs ≡ true
         → AreInner measure l inner (queues_of (inner_limits l inner) key gs)
     inner_there key [] h t = absurd (cc)
-    inner_there key (g ∷ gs) h t =
-        by_test (eqb g.key key) (λ b. cond b true (has_group key gs) ≡ true → AreInner measure l inner
-        (cond b g.queues (queues_of (inner_limits l inner) key gs)))
-        (λ _ _. h.0) (λ _ w. inner_there key gs h.2 w) t
+    inner_there key (g ∷ gs) h t = grind (arith, nat_tests, inner_there key gs h.2)
 
     -- an item that is queued there
     inner-offered : (f : Fair T) (key : ℕ) (x : T) → f.limits ≡ inner_limits l inner → IsFair measure f
         → (1 ≤ measure x) × (measure x ≤ l.max) → lacks_queue f key ≡ false → lacks_room measure f key x ≡ false
         → AreInner measure l inner (offer_leaves measure f key x)
         × (all_bytes measure (offer_leaves measure f key x).queues ≡ all_bytes measure f.queues + measure x)
-    inner-offered f key x e i m h r =
-        let most : measure x ≤ f.limits.max = omega (arith, m.1, ap (λ (z : DrrLimits). z.max) e) in
-        let k = keeps-offer measure f.limits (all_bytes measure f.queues) key f.queues x i refl (m.0, most) h r in
-        subst (λ n. AreInner measure l inner n × (all_bytes measure n.queues ≡ all_bytes measure f.queues + measure x))
-        (sym (offered_is measure f key x h r))
-        (record { limits = e; fair = k.0; filled = some-put f.limits.quantum key x f.queues }, sym k.1)
+    inner-offered f key x e i m h r = grind (arith, nat_tests, keeps-offer measure f.limits (all_bytes measure f.queues) key f.queues x i, offered_is measure f key x h r, some-put f.limits.quantum key x f.queues)
 
     groups-changed : (change : Fair T → Fair T) (start outer : ℕ) (gs : List (Group T))
         → AreInner measure l inner (change (queues_of (inner_limits l inner) outer gs)) → AreGroups measure l inner gs
         → AreGroups measure l inner (changed change (inner_limits l inner) start outer gs)
     groups-changed change start outer [] w h = (w, refl, tt)
-    groups-changed change start outer (p ∷ gs) w h =
-        by_key p.key outer
-        (λ b. AreInner measure l inner (change (cond b p.queues (queues_of (inner_limits l inner) outer gs)))
-        → AreGroups measure l inner (cond b (group p.key p.deficit (change p.queues) ∷ gs)
-        (p ∷ changed change (inner_limits l inner) 0 outer gs)))
-        (λ e k. (k, h.1, h.2))
-        (λ n k. (
-          h.0,
-          has_group-changed p.key change (inner_limits l inner) 0 outer gs
-              (λ e. n (sym e)) h.1,
-          groups-changed change 0 outer gs k h.2,
-        ))
-        w
+    groups-changed change start outer (p ∷ gs) w h = grind (arith, nat_tests, has_group-changed p.key change (inner_limits l inner) 0 outer gs, groups-changed change 0 outer gs)
 
     behind-changed : (change : Fair T → Fair T) (outer : ℕ) (gs : List (Group T)) → 1 ≤ l.max → AreGroupsBehind measure l inner gs
         → AreGroupsBehind measure l inner (changed change (inner_limits l inner) 0 outer gs)
     behind-changed change outer [] m h = (m, tt)
-    behind-changed change outer (p ∷ gs) m h =
-        by_test (eqb p.key outer) (λ b. AreGroupsBehind measure l inner
-        (cond b (group p.key p.deficit (change p.queues) ∷ gs) (p ∷ changed change (inner_limits l inner) 0 outer gs)))
-        (λ _. h) (λ _. (h.0, behind-changed change outer gs m h.1))
+    behind-changed change outer (p ∷ gs) m h = grind (arith, nat_tests, behind-changed change outer gs m h.1)
 
     -- what the front sends next stays, or it is new and has the quantum
     turn-changed : (change : Fair T → Fair T) (outer : ℕ) (gs : List (Group T)) → 1 ≤ l.max
@@ -144,30 +112,15 @@ module _ {T : Type 0} (measure : T → ℕ) where
         ≤ head_bytes measure (queues_of (inner_limits l inner) outer gs).queues) → HasGroupTurn measure l inner gs
         → HasGroupTurn measure l inner (changed change (inner_limits l inner) l.quantum outer gs)
     turn-changed change outer [] m new old h = (new refl, omega arith, tt)
-    turn-changed change outer (p ∷ gs) m new old h =
-        by_test (eqb p.key outer)
-        (λ b. (cond b true (has_group outer gs) ≡ true → head_bytes measure
-        (change (cond b p.queues (queues_of (inner_limits l inner) outer gs))).queues ≤ head_bytes measure
-        (cond b p.queues (queues_of (inner_limits l inner) outer gs)).queues)
-        → HasGroupTurn measure l inner (cond b (group p.key p.deficit (change p.queues) ∷ gs)
-        (p ∷ changed change (inner_limits l inner) 0 outer gs)))
-        (λ _ k. (omega (arith, k refl, h.0), h.1, h.2))
-        (λ _ _. (h.0, h.1, behind-changed change outer gs m h.2))
-        old
+    turn-changed change outer (p ∷ gs) m new old h = grind (arith, nat_tests, behind-changed change outer gs m h.2)
 
     few-changed : (change : Fair T → Fair T) (start outer : ℕ) (gs : List (Group T)) → lacks_group (hier l inner gs) outer ≡ false
         → length gs ≤ l.queues → length (changed change (inner_limits l inner) start outer gs) ≤ l.queues
-    few-changed change start outer gs h n =
-        by_test (has_group outer gs)
-        (λ b. (not b && leb l.queues (length gs)) ≡ false → length (changed change (inner_limits l inner) start outer gs) ≡ cond b
-        (length gs) (length gs + 1) → length (changed change (inner_limits l inner) start outer gs) ≤ l.queues)
-        (λ _ _ e. omega arith) (λ _ k e. grind (arith, nat_tests)) h (length-changed change (inner_limits l inner) start outer gs)
+    few-changed change start outer gs h n = grind (arith, nat_tests, length-changed change (inner_limits l inner) start outer gs)
 
     head-offered : (f : Fair T) (key : ℕ) (x : T) → AreInner measure l inner f → lacks_queue f key ≡ false
         → lacks_room measure f key x ≡ false → head_bytes measure (offer_leaves measure f key x).queues ≤ head_bytes measure f.queues
-    head-offered f key x a h r =
-        subst (λ n. head_bytes measure n.queues ≤ head_bytes measure f.queues) (sym (offered_is measure f key x h r))
-        (omega (arith, head-put f.limits f.limits.quantum key x f.queues a.fair.queues.each a.filled))
+    head-offered f key x a h r = grind (arith, nat_tests, offered_is measure f key x h r, head-put f.limits f.limits.quantum key x f.queues a.fair.queues.each a.filled)
 
     -- an offer that is queued keeps what is true
     pub keeps-offered : (b outer key : ℕ) (gs : List (Group T)) (x : T) → IsHier measure (hier l inner gs)
@@ -212,17 +165,7 @@ module _ {T : Type 0} (measure : T → ℕ) where
     groups-push : (gs : List (Group T)) (g : Group T) → AreGroups measure l inner gs → AreInner measure l inner g.queues
         → has_group g.key gs ≡ false → AreGroups measure l inner (gs ++ g ∷ [])
     groups-push [] g h i n = (i, refl, tt)
-    groups-push (p ∷ gs) g h i n =
-        by_key p.key g.key (λ b. eqb p.key g.key ≡ b → cond b true (has_group g.key gs) ≡ false → AreGroups measure l inner
-        (p ∷ (gs ++ g ∷ [])))
-        (λ _ _ k. absurd (cc))
-        (λ m _ k. (
-          h.0,
-          has_group-push p.key gs g h.1 (by_key g.key p.key (λ b. b ≡ false) (λ s. absurd (m (sym s)))
-              (λ _. refl)),
-          groups-push gs g h.2 i k,
-        ))
-        refl n
+    groups-push (p ∷ gs) g h i n = grind (arith, nat_tests, has_group-push p.key gs g h.1, groups-push gs g h.2 i)
 
     behind-push : (gs : List (Group T)) (g : Group T) → AreGroupsBehind measure l inner gs → g.deficit < l.max
         → AreGroupsBehind measure l inner (gs ++ g ∷ [])
@@ -237,18 +180,7 @@ module _ {T : Type 0} (measure : T → ℕ) where
         → AreGroupsBehind measure l inner gs → all_group_bytes measure gs ≤ l.class_bytes
         → AreHier measure l inner (group_refilled l.quantum gs)
     hier-refilled [] v n h b s = record { few = n; each = tt; turn = tt; bytes = s }
-    hier-refilled (p ∷ gs) v n h b s = record {
-      few = n;
-      each = (h.0, h.1, h.2);
-      turn = (omega (arith, next_most p.queues h.0, v.quantum), omega (arith, b.0), b.1);
-      bytes = omega (
-        arith,
-        s,
-        sum_by-cons (group_bytes measure) p gs,
-        sum_by-cons (group_bytes measure)
-            (group p.key (p.deficit + l.quantum) p.queues) gs,
-      );
-    }
+    hier-refilled (p ∷ gs) v n h b s = grind (arith, nat_tests, sum_by-cons (group_bytes measure) p gs, sum_by-cons (group_bytes measure) (group p.key (p.deficit + l.quantum) p.queues) gs, next_most p.queues h.0)
 
     hier-settled : (key deficit : ℕ) (m : DrrLimits) (qs : List (Queue T)) (gs : List (Group T)) → AreDrrLimits l
         → m ≡ inner_limits l inner → IsFair measure (fair m qs) → length gs + 1 ≤ l.queues → AreGroups measure l inner gs
@@ -260,20 +192,7 @@ module _ {T : Type 0} (measure : T → ℕ) where
         let g : Group T = group key deficit (fair m (q ∷ qs)) in
         let whole : AreInner measure l inner (fair m (q ∷ qs)) = record { limits = e; fair = f; filled = omega arith } in
         let most : first_bytes measure q.items ≤ l.max = next_most (fair m (q ∷ qs)) whole in
-        elim (leb_tells (suc deficit) (first_bytes measure q.items)) [
-          | inl t ↦ subst (λ z. AreHier measure l inner (cond z (group_refilled l.quantum (gs ++ g ∷ [])) (g ∷ gs))) (sym t.0)
-              (hier-refilled (gs ++ g ∷ []) v (omega (arith, length-append gs (g ∷ []))) (groups-push gs g h whole k)
-              (behind-push gs g b (omega (arith, t.1, most)))
-              (omega (arith, s, sum_by_push (group_bytes measure) gs g)))
-          | inr t ↦ subst (λ z. AreHier measure l inner (cond z (group_refilled l.quantum (gs ++ g ∷ [])) (g ∷ gs))) (sym t.0)
-              (record {
-                few = omega arith;
-                each = (whole, k, h);
-                turn = (omega (arith, t.1), d, b);
-                bytes = omega
-                    (arith, s, sum_by-cons (group_bytes measure) g gs);
-              })
-        ]
+        grind (arith, nat_tests, most, hier-refilled (gs ++ g ∷ []) v, length-append gs (g ∷ []), groups-push gs g h whole k, behind-push gs g b, sum_by_push (group_bytes measure) gs g, sum_by-cons (group_bytes measure) g gs)
 
     pub hier-taken : (gs : List (Group T)) → AreDrrLimits l → AreHier measure l inner gs
         → AreHier measure l inner (groups_taken measure l.quantum gs)
@@ -306,39 +225,18 @@ module _ {T : Type 0} (measure : T → ℕ) where
     -- the bytes of an item that goes
     bytes-refilled : (gs : List (Group T)) → all_group_bytes measure (group_refilled l.quantum gs) ≡ all_group_bytes measure gs
     bytes-refilled [] = refl
-    bytes-refilled (g ∷ gs) = omega (
-      arith,
-      sum_by-cons (group_bytes measure) g gs,
-      sum_by-cons (group_bytes measure)
-          (group g.key (g.deficit + l.quantum) g.queues) gs,
-    )
+    bytes-refilled (g ∷ gs) = grind (arith, nat_tests, sum_by-cons (group_bytes measure) g gs, sum_by-cons (group_bytes measure) (group g.key (g.deficit + l.quantum) g.queues) gs)
 
     bytes-settled : (key deficit : ℕ) (m : DrrLimits) (qs : List (Queue T)) (gs : List (Group T))
         → all_group_bytes measure (group_settled measure l.quantum (group key deficit (fair m qs)) qs gs)
         ≡ all_bytes measure qs + all_group_bytes measure gs
     bytes-settled key deficit m [] gs = omega (arith, bytes-refilled gs)
-    bytes-settled key deficit m (q ∷ qs) gs =
-        let g : Group T = group key deficit (fair m (q ∷ qs)) in
-        elim (leb_tells (suc deficit) (first_bytes measure q.items)) [
-          | inl t ↦ subst (λ z. all_group_bytes measure (cond z (group_refilled l.quantum (gs ++ g ∷ [])) (g ∷ gs)) ≡ all_bytes measure
-              (q ∷ qs) + all_group_bytes measure gs) (sym t.0)
-              (omega (arith, bytes-refilled (gs ++ g ∷ []), sum_by_push (group_bytes measure) gs g))
-          | inr t ↦ subst (λ z. all_group_bytes measure (cond z (group_refilled l.quantum (gs ++ g ∷ [])) (g ∷ gs)) ≡ all_bytes measure
-              (q ∷ qs) + all_group_bytes measure gs) (sym t.0)
-              (sum_by-cons (group_bytes measure) g gs)
-        ]
+    bytes-settled key deficit m (q ∷ qs) gs = grind (arith, nat_tests, bytes-refilled (gs ++ group key deficit (fair m (q ∷ qs)) ∷ []), sum_by-cons (group_bytes measure) (group key deficit (fair m (q ∷ qs))) gs, sum_by_push (group_bytes measure) gs (group key deficit (fair m (q ∷ qs))))
 
     bytes-taken : (gs : List (Group T)) (x : T) → next gs ≡ Some x
         → all_group_bytes measure (groups_taken measure l.quantum gs) + measure x ≡ all_group_bytes measure gs
     bytes-taken [] x e = absurd (cc)
-    bytes-taken (g ∷ gs) x e =
-        omega (
-          arith,
-          bytes-settled g.key (g.deficit - head_bytes measure g.queues.queues) g.queues.limits
-              (taken measure g.queues.limits.quantum g.queues.queues) gs,
-          all_bytes-taken measure g.queues.limits g.queues.queues x e,
-          sum_by-cons (group_bytes measure) g gs,
-        )
+    bytes-taken (g ∷ gs) x e = grind (arith, nat_tests, all_bytes-taken measure g.queues.limits g.queues.queues x e, bytes-settled g.key (g.deficit - head_bytes measure g.queues.queues) g.queues.limits (taken measure g.queues.limits.quantum g.queues.queues) gs, sum_by-cons (group_bytes measure) g gs)
 
     -- a take keeps what is true
     pub keeps-groups_taken : (b : ℕ) (gs : List (Group T)) (x : T) → IsHier measure (hier l inner gs) → b ≡ all_group_bytes measure gs

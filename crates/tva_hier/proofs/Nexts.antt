@@ -1,22 +1,20 @@
 -- What two-level queues send next: an offer leaves it, a take of it leaves the other items, and it is ahead of what any two
 -- keys have yet to send.
-use Rattle.std.proofs.Common.{◌≡◌, ℕ, ◌≤◌, true, cond, eqb, List, [], ◌∷◌, length, Some, refl, subst, arith}
+use Rattle.std.proofs.Common.{◌≡◌, ℕ, ◌≤◌, true, List, [], ◌∷◌, length, Some, refl, subst, arith}
+use Rattle.std.proofs.lemmas.Bool.Decides.{nat_tests}
 use Rattle.std.specs.Bool.{MatchBool}
 use Rattle.tva_base.specs.declared.limits.DrrLimits.{DrrLimits}
 use Rattle.tva_drr.specs.Queues.{Fair, fair, has_key}
 use Rattle.tva_drr.specs.Offer.{put, lacks_queue, lacks_room, offer_leaves}
-use Rattle.tva_drr.specs.Fair.{AreQueues, AreFair}
+use Rattle.tva_drr.specs.Fair.{AreQueues}
 use Rattle.tva_drr.specs.Service.{is_front, first_bytes, head_bytes}
-use Rattle.tva_drr.specs.Ahead.{bytes_ahead}
-use Rattle.tva_drr.specs.Turns.{turn}
-use Rattle.tva_drr.proofs.Lists.{by_key}
 use Rattle.tva_drr.proofs.Falling.{by_test, front_ahead}
 use Rattle.tva_drr.proofs.Until.{offer_cases}
-use Rattle.tva_hier.specs.Groups.{Group, Hier, group, hier, inner_limits, queues_of, items_under, next}
-use Rattle.tva_hier.specs.Offer.{lacks_place, lacks_space, changed, put_under, left_by_offer}
+use Rattle.tva_hier.specs.Groups.{Group, Hier, hier, inner_limits, queues_of, items_under, next}
+use Rattle.tva_hier.specs.Offer.{lacks_place, lacks_space, put_under, left_by_offer}
 use Rattle.tva_hier.specs.Take.{groups_taken, left_by_take}
 use Rattle.tva_hier.specs.Hier.{IsHier}
-use Rattle.tva_hier.specs.Ahead.{turns_of_groups, bytes_ahead_under, are_front, next_bytes}
+use Rattle.tva_hier.specs.Ahead.{bytes_ahead_under, are_front, next_bytes}
 use Rattle.tva_hier.proofs.Keeping.{head_some, head_there, head-put, inner_there, hier-taken}
 use Rattle.tva_hier.proofs.Orders.{goes_first_under}
 use Rattle.tva_hier.proofs.Aheads.{has_group_from, next_ahead_of}
@@ -32,9 +30,7 @@ module _ {T : Type 0} (measure : T → ℕ) (l : DrrLimits) (inner : ℕ) where
   pub next_there : (gs : List (Group T)) → IsHier measure (hier l inner gs) → 1 ≤ length gs
       → (x : T) × ((next gs ≡ Some x) × (next_bytes measure gs ≡ measure x))
   next_there [] h n = absurd (omega arith)
-  next_there (g ∷ gs) h n =
-      let a = h.groups.each.0 in
-      head_there measure g.queues.limits g.queues.queues a.fair.queues.each a.filled
+  next_there (g ∷ gs) h n = grind (arith, nat_tests, head_there measure g.queues.limits g.queues.queues)
 
   -- where something waits under two keys there are groups
   pub groups_there : (outer key : ℕ) (gs : List (Group T))
@@ -47,11 +43,7 @@ module _ {T : Type 0} (measure : T → ℕ) (l : DrrLimits) (inner : ℕ) where
 
   head-left : (m : DrrLimits) (f : Fair T) (key : ℕ) (x : T) → AreQueues measure m f.queues → 1 ≤ length f.queues
       → head_bytes measure (offer_leaves measure f key x).queues ≡ head_bytes measure f.queues
-  head-left m f key x a n =
-      offer_cases (lacks_queue f key) (lacks_room measure f key x) f
-      (fair f.limits (put f.limits.quantum key x f.queues))
-      (λ (z : Fair T). head_bytes measure z.queues ≡ head_bytes measure f.queues) refl
-      (λ _ _. head-put measure m f.limits.quantum key x f.queues a n)
+  head-left m f key x a n = grind (arith, nat_tests, offer_cases (lacks_queue f key) (lacks_room measure f key x) f (fair f.limits (put f.limits.quantum key x f.queues)) (λ (z : Fair T). head_bytes measure z.queues ≡ head_bytes measure f.queues), head-put measure m f.limits.quantum key x f.queues a n)
 
   pub next-offered : (o i : ℕ) (x : T) (gs : List (Group T)) → IsHier measure (hier l inner gs) → 1 ≤ length gs
       → next_bytes measure (left_by_offer measure (hier l inner gs) o i x).groups ≡ next_bytes measure gs
@@ -62,21 +54,13 @@ module _ {T : Type 0} (measure : T → ℕ) (l : DrrLimits) (inner : ℕ) where
       (hier l inner (g ∷ gs))
       (hier l inner (put_under measure (hier l inner (g ∷ gs)) o i x))
       (λ (z : Hier T). next_bytes measure z.groups ≡ next_bytes measure (g ∷ gs)) refl
-      (λ _ _. by_test (eqb g.key o)
-      (λ b. next_bytes measure (cond b (group g.key g.deficit (offer_leaves measure g.queues i x) ∷ gs)
-      (g ∷ changed (λ f. offer_leaves measure f i x) (inner_limits l inner) 0 o gs)) ≡ next_bytes measure (g ∷ gs))
-      (λ _. head-left g.queues.limits g.queues i x a.fair.queues.each a.filled) (λ _. refl))
+      (λ _ _. grind (arith, nat_tests, head-left g.queues.limits g.queues i x a.fair.queues.each a.filled))
 
   -- ## a take
 
   pub hier_taken : (gs : List (Group T)) → IsHier measure (hier l inner gs)
       → IsHier measure (left_by_take measure (hier l inner gs))
-  hier_taken gs h = record {
-    limits = h.limits;
-    inner = h.inner;
-    groups = hier-taken measure l inner gs h.limits
-        h.groups;
-  }
+  hier_taken gs h = grind (arith, nat_tests, hier-taken measure l inner gs h.limits h.groups)
 
   -- the item was the first under its keys, and the items under all others stay
   pub taken_under : (outer key : ℕ) (gs : List (Group T)) (x : T) → IsHier measure (hier l inner gs) → next gs ≡ Some x
@@ -107,12 +91,4 @@ module _ {T : Type 0} (measure : T → ℕ) (l : DrrLimits) (inner : ℕ) where
       → first_bytes measure (items_under (hier l inner gs) outer key) ≤ bytes
       → next_bytes measure gs ≤ bytes_ahead_under (hier l inner gs) outer key bytes
   next_ahead outer key bytes [] h t n = absurd (cc)
-  next_ahead outer key bytes (g ∷ gs) h t n =
-      let li : DrrLimits = inner_limits l inner in
-      let f : Fair T = queues_of li outer (g ∷ gs) in
-      let i = inner_there measure l inner outer (g ∷ gs) h.groups.each (has_group_from li outer key (g ∷ gs) t) in
-      let own : AreFair measure li f.queues = subst (λ z. AreFair measure z f.queues) i.limits i.fair.queues in
-      let within : head_bytes measure f.queues ≤ bytes_ahead li key bytes f.queues = next_ahead_of measure li key bytes f.queues own n in
-      front_ahead l outer (bytes_ahead li key bytes f.queues) (head_bytes measure g.queues.queues) (turn g.key g.deficit) (turns_of_groups gs) h.groups.turn.0
-      (λ e. by_key g.key outer (λ b. (eqb g.key outer ≡ b) → head_bytes measure g.queues.queues ≤ bytes_ahead li key bytes f.queues)
-      (λ _ s. subst (λ b. head_bytes measure (cond b g.queues (queues_of li outer gs)).queues ≤ bytes_ahead li key bytes f.queues) s within) (λ m _. absurd (m e)) refl)
+  next_ahead outer key bytes (g ∷ gs) h t n = grind (arith, nat_tests, has_group_from, next_ahead_of measure, inner_there measure l inner outer (g ∷ gs) h.groups.each, front_ahead l outer)

@@ -1,16 +1,16 @@
 -- The items under each two keys after an offer and after a take.
-use Rattle.std.proofs.Common.{◌≡◌, ℕ, ◌-◌, Some, true, false, cond, eqb, List, [], ◌∷◌, ◌++◌, suc, refl, sym, ap, ◌∙◌, subst, inl, inr}
-use Rattle.std.proofs.lemmas.Bool.Decides.{leb_tells}
+use Rattle.std.proofs.Common.{◌≡◌, ℕ, ◌-◌, Some, false, cond, eqb, List, [], ◌∷◌, ◌++◌, refl, sym, ap, ◌∙◌, subst, arith}
+use Rattle.std.proofs.lemmas.Bool.{cases_eq}
+use Rattle.std.proofs.lemmas.Bool.Decides.{nat_tests}
 use Rattle.tva_base.specs.declared.limits.DrrLimits.{DrrLimits}
 use Rattle.tva_drr.specs.Queues.{Queue, Fair, fair, items_of, head}
 use Rattle.tva_drr.specs.Offer.{put, lacks_queue, lacks_room, offer_leaves}
 use Rattle.tva_drr.specs.Take.{taken}
 use Rattle.tva_drr.specs.Fair.{IsFair}
 use Rattle.tva_drr.specs.Order.{GoesLast, GoesFirst, IsFront}
-use Rattle.tva_drr.specs.Service.{first_bytes, head_bytes}
+use Rattle.tva_drr.specs.Service.{head_bytes}
 use Rattle.tva_drr.proofs.Lists.{by_key}
 use Rattle.tva_drr.proofs.OrderLaws.{goes_last, goes_first}
-use Rattle.tva_drr.proofs.Falling.{by_test}
 use Rattle.tva_hier.specs.Groups.{Group, group, hier, inner_limits, has_group, queues_of, next}
 use Rattle.tva_hier.specs.Offer.{changed}
 use Rattle.tva_hier.specs.Take.{group_refilled, group_settled, groups_taken}
@@ -37,12 +37,7 @@ module _ {T : Type 0} (measure : T → ℕ) (l : DrrLimits) (inner : ℕ) where
       (put f.limits.quantum key x f.queues)) = goes_last f.limits f.limits.quantum key x f.queues in
       record {
         own = ap (λ (z : Fair T). items_of key z.queues) same ∙ last.own;
-        others = λ o i n.
-            by_key outer o (λ _. items_of i (queues_of m o new).queues ≡ items_of i (queues_of m o gs).queues)
-            (λ e. subst (λ z. items_of i (queues_of m z new).queues ≡ items_of i (queues_of m z gs).queues) e
-            (ap (λ (z : Fair T). items_of i z.queues) same ∙ last.others i (n (sym e))))
-            (λ k. ap (λ (z : Fair T). items_of i z.queues) (queues_of-changed_other o
-            (λ f. offer_leaves measure f key x) m start outer gs k));
+        others = λ o i n. grind (arith, cases_eq o outer, n, queues_of-changed_other o (λ f. offer_leaves measure f key x) m start outer gs, last.others i);
       }
 
   -- ## a take
@@ -55,10 +50,7 @@ module _ {T : Type 0} (measure : T → ℕ) (l : DrrLimits) (inner : ℕ) where
   queues_of-push_own : (m : DrrLimits) (gs : List (Group T)) (g : Group T) → has_group g.key gs ≡ false
       → queues_of m g.key (gs ++ g ∷ []) ≡ g.queues
   queues_of-push_own m [] g h = by_key g.key g.key (λ b. cond b g.queues (fair m []) ≡ g.queues) (λ _. refl) (λ n. absurd (n refl))
-  queues_of-push_own m (p ∷ gs) g h =
-      by_test (eqb p.key g.key) (λ b. cond b true (has_group g.key gs) ≡ false → cond b p.queues (queues_of m g.key (gs ++ g ∷ []))
-      ≡ g.queues)
-      (λ _ k. absurd (cc)) (λ _ k. queues_of-push_own m gs g k) h
+  queues_of-push_own m (p ∷ gs) g h = grind (arith, nat_tests, queues_of-push_own m gs g)
 
   queues_of-push_other : (m : DrrLimits) (o : ℕ) (gs : List (Group T)) (g : Group T) → (g.key ≡ o → ⊥)
       → queues_of m o (gs ++ g ∷ []) ≡ queues_of m o gs
@@ -68,28 +60,13 @@ module _ {T : Type 0} (measure : T → ℕ) (l : DrrLimits) (inner : ℕ) where
   -- the queues of the front, where they have a group no more they are empty
   pub queues_of-settled_own : (quantum key deficit : ℕ) (m : DrrLimits) (qs : List (Queue T)) (gs : List (Group T))
       → has_group key gs ≡ false → (queues_of m key (group_settled measure quantum (group key deficit (fair m qs)) qs gs)).queues ≡ qs
-  queues_of-settled_own quantum key deficit m [] gs h = ap (λ (z : Fair T). z.queues)
-      (queues_of-refilled m key quantum gs ∙ queues_of_none m key gs h)
-  queues_of-settled_own quantum key deficit m (q ∷ qs) gs h =
-      let g : Group T = group key deficit (fair m (q ∷ qs)) in
-      elim (leb_tells (suc deficit) (first_bytes measure q.items)) [
-        | inl t ↦ subst (λ b. (queues_of m key (cond b (group_refilled quantum (gs ++ g ∷ [])) (g ∷ gs))).queues ≡ q ∷ qs) (sym t.0)
-            (ap (λ (z : Fair T). z.queues) (queues_of-refilled m key quantum (gs ++ g ∷ []) ∙ queues_of-push_own m gs g h))
-        | inr t ↦ subst (λ b. (queues_of m key (cond b (group_refilled quantum (gs ++ g ∷ [])) (g ∷ gs))).queues ≡ q ∷ qs) (sym t.0)
-            (by_key key key (λ b. (cond b (fair m (q ∷ qs)) (queues_of m key gs)).queues ≡ q ∷ qs) (λ _. refl) (λ n. absurd (n refl)))
-      ]
+  queues_of-settled_own quantum key deficit m [] gs h = grind (arith, nat_tests, queues_of-refilled m key quantum gs, queues_of_none m key gs h)
+  queues_of-settled_own quantum key deficit m (q ∷ qs) gs h = grind (arith, nat_tests, queues_of-push_own m gs, queues_of-refilled m key quantum)
 
   pub queues_of-settled_other : (quantum o key deficit : ℕ) (k m : DrrLimits) (qs : List (Queue T)) (gs : List (Group T)) → (key ≡ o → ⊥)
       → queues_of m o (group_settled measure quantum (group key deficit (fair k qs)) qs gs) ≡ queues_of m o gs
   queues_of-settled_other quantum o key deficit k m [] gs n = queues_of-refilled m o quantum gs
-  queues_of-settled_other quantum o key deficit k m (q ∷ qs) gs n =
-      let g : Group T = group key deficit (fair k (q ∷ qs)) in
-      elim (leb_tells (suc deficit) (first_bytes measure q.items)) [
-        | inl t ↦ subst (λ b. queues_of m o (cond b (group_refilled quantum (gs ++ g ∷ [])) (g ∷ gs)) ≡ queues_of m o gs) (sym t.0)
-            (queues_of-refilled m o quantum (gs ++ g ∷ []) ∙ queues_of-push_other m o gs g n)
-        | inr t ↦ subst (λ b. queues_of m o (cond b (group_refilled quantum (gs ++ g ∷ [])) (g ∷ gs)) ≡ queues_of m o gs) (sym t.0)
-            (by_key key o (λ b. cond b (fair k (q ∷ qs)) (queues_of m o gs) ≡ queues_of m o gs) (λ e. absurd (n e)) (λ _. refl))
-      ]
+  queues_of-settled_other quantum o key deficit k m (q ∷ qs) gs n = grind (arith, nat_tests, queues_of-push_other m o gs, queues_of-refilled m o quantum)
 
   -- the front's own queues lose the item that their take gives
   served_under : (key deficit i : ℕ) (m : DrrLimits) (qs : List (Queue T)) (gs : List (Group T)) (x : T) → m ≡ inner_limits l inner
@@ -107,22 +84,11 @@ module _ {T : Type 0} (measure : T → ℕ) (l : DrrLimits) (inner : ℕ) where
       (λ b. cond b (fair m qs) (queues_of (inner_limits l inner) key gs) ≡ fair m qs) (λ _. refl) (λ n. absurd (n refl)) in
       record {
         own = ap (λ (z : Fair T). items_of i z.queues) was ∙ (first.own ∙ ap (λ z. x ∷ items_of i z) (sym own));
-        others = λ o k n.
-            by_key key o (λ _. items_of k (queues_of (inner_limits l inner) o new).queues ≡ items_of k
-            (queues_of (inner_limits l inner) o (group key deficit (fair m qs) ∷ gs)).queues)
-            (λ s. subst (λ z. items_of k (queues_of (inner_limits l inner) z new).queues ≡ items_of k
-            (queues_of (inner_limits l inner) z (group key deficit (fair m qs) ∷ gs)).queues) s
-            (ap (λ z. items_of k z) own ∙ (first.others k (n (sym s)) ∙ ap (λ (z : Fair T). items_of k z.queues) (sym was))))
-            (λ s. ap (λ (z : Fair T). items_of k z.queues)
-            (queues_of-settled_other l.quantum o key left m (inner_limits l inner) after gs s
-            ∙ by_key key o (λ b. queues_of (inner_limits l inner) o gs ≡ cond b (fair m qs) (queues_of (inner_limits l inner) o gs))
-            (λ q. absurd (s q)) (λ _. refl)));
+        others = λ o k n. grind (arith, cases_eq o key, nat_tests, n, queues_of-settled_other l.quantum o key left m (inner_limits l inner) after gs, first.others k);
       }
 
   -- an item that is taken was the first under its keys
   pub goes_first_under : (outer i : ℕ) (gs : List (Group T)) (x : T) → AreGroups measure l inner gs → AreFront outer i gs
       → next gs ≡ Some x → GoesFirstUnder outer i x (hier l inner gs) (hier l inner (groups_taken measure l.quantum gs))
   goes_first_under outer i [] x h a e = absurd a
-  goes_first_under outer i (g ∷ gs) x h a e =
-      subst (λ o. GoesFirstUnder o i x (hier l inner (g ∷ gs)) (hier l inner (groups_taken measure l.quantum (g ∷ gs)))) a.0
-      (served_under g.key g.deficit i g.queues.limits g.queues.queues gs x h.0.limits h.0.fair h.1 a.1 e)
+  goes_first_under outer i (g ∷ gs) x h a e = grind (arith, nat_tests, served_under g.key g.deficit i g.queues.limits g.queues.queues gs x h.0.limits h.0.fair h.1 a.1 e)

@@ -1,11 +1,11 @@
 -- The bytes that go up to the n-th item under two keys, whatever is offered.
-use Rattle.std.proofs.Common.{◌≡◌, ℕ, zero, suc, ◌+◌, ◌≤◌, Bool, true, false, cond, eqb, ◌&&◌, List, [], ◌∷◌, ◌++◌, length, take, refl, sym, ◌∙◌, subst, leb, arith}
+use Rattle.std.proofs.Common.{◌≡◌, ℕ, zero, suc, ◌+◌, ◌≤◌, Bool, true, false, cond, eqb, ◌&&◌, List, [], ◌∷◌, length, take, refl, sym, subst, leb, arith}
+use Rattle.std.proofs.lemmas.Bool.Decides.{nat_tests}
 use Rattle.tva_base.specs.declared.limits.DrrLimits.{DrrLimits}
 use Rattle.tva_drr.specs.Queues.{Queue, Fair, has_key, bytes_in}
 use Rattle.tva_drr.specs.Offer.{lacks_queue, lacks_room}
 use Rattle.tva_drr.specs.Order.{IsFront}
 use Rattle.tva_drr.specs.Service.{is_front, first_bytes}
-use Rattle.tva_drr.proofs.Lists.{by_key}
 use Rattle.tva_drr.proofs.Falling.{by_test}
 use Rattle.tva_drr.proofs.Until.{offer_cases, has_from_items, measured_items, more_items, one_less, next_le, some_bytes}
 use Rattle.tva_hier.specs.Groups.{Group, Hier, hier, inner_limits, queues_of, all_group_bytes, items_under}
@@ -22,18 +22,10 @@ use Rattle.tva_hier.proofs.Aheads.{falls_under, offer_under, most_under, enough_
 
 -- both keys stand at the front, or one of them doesn't
 pub front_both : (a outer key k : ℕ) (f : Bool) → f ≡ eqb k key → (eqb a outer && f) ≡ true → (a ≡ outer) × (k ≡ key)
-front_both a outer key k f e t =
-    by_key a outer (λ b. (b && f) ≡ true → (a ≡ outer) × (k ≡ key))
-    (λ s w. by_key k key (λ b. f ≡ b → (a ≡ outer) × (k ≡ key)) (λ q _. (s, q)) (λ _ z. absurd (let y : true ≡ false = sym w ∙ z in cc)) e)
-    (λ _ w. absurd (cc))
-    t
+front_both a outer key k f e t = grind (arith, nat_tests)
 
 pub front_apart : (a outer key k : ℕ) (f : Bool) → f ≡ eqb k key → (eqb a outer && f) ≡ false → outer ≡ a → key ≡ k → ⊥
-front_apart a outer key k f e t s q =
-    by_key a outer (λ b. (b && f) ≡ false → ⊥)
-    (λ _ w. by_key k key (λ b. f ≡ b → ⊥) (λ _ z. absurd (let y : true ≡ false = sym z ∙ w in cc)) (λ n _. n (sym q)) e)
-    (λ n _. n (sym s))
-    t
+front_apart a outer key k f e t s q = grind (arith, nat_tests)
 
 module _ {T : Type 0} (measure : T → ℕ) (l : DrrLimits) (inner : ℕ) where
   -- so many items wait under the keys, of which the first n have r bytes
@@ -42,27 +34,11 @@ module _ {T : Type 0} (measure : T → ℕ) (l : DrrLimits) (inner : ℕ) where
 
   wait-last : (outer key n r o i : ℕ) (x : T) (old new : Hier T) → GoesLastUnder o i x old new → Wait outer key n r old
       → Wait outer key n r new
-  wait-last outer key n r o i x old new g w =
-      let same : ((outer ≡ o → key ≡ i → ⊥) → Wait outer key n r new) = λ k. subst
-      (λ zs. (n ≤ length zs) × (bytes_in measure (take n zs) ≡ r)) (sym (g.others outer key k)) w in
-      by_key o outer (λ _. Wait outer key n r new)
-      (λ e. by_key i key (λ _. Wait outer key n r new)
-      (λ s. more_items measure l key n r (items_under old outer key) (items_under new outer key) x
-      (subst (λ z. items_under new z key ≡ items_under old z key ++ x ∷ []) e
-      (subst (λ z. items_under new o z ≡ items_under old o z ++ x ∷ []) s g.own)) w.0 w.1)
-      (λ s. same (λ _ k. s (sym k))))
-      (λ e. same (λ k _. e (sym k)))
+  wait-last outer key n r o i x old new g w = grind (arith, nat_tests, more_items measure l key n r (items_under old outer key) (items_under new outer key) x)
 
   wait-offer : (outer key n r o i : ℕ) (x : T) (gs : List (Group T)) → Wait outer key n r (hier l inner gs)
       → Wait outer key n r (left_by_offer measure (hier l inner gs) o i x)
-  wait-offer outer key n r o i x gs w =
-      offer_cases (lacks_place (hier l inner gs) o i) (lacks_space measure (hier l inner gs) o i x) (hier l inner gs)
-      (hier l inner (put_under measure (hier l inner gs) o i x)) (λ z. Wait outer key n r z) w
-      (λ p s. wait-last outer key n r o i x (hier l inner gs) (hier l inner (put_under measure (hier l inner gs) o i x))
-      (goes_last_under measure l inner l.quantum o i x gs (none_true (lacks_group (hier l inner gs) o)
-      (lacks_queue (queues_of (inner_limits l inner) o gs) i) p).1
-      (none_true (lacks_room measure (queues_of (inner_limits l inner) o gs) i x)
-      (leb (suc l.class_bytes) (all_group_bytes measure gs + measure x)) s).0) w)
+  wait-offer outer key n r o i x gs w = grind (arith, nat_tests, goes_last_under measure l inner l.quantum o i x gs, none_true (lacks_group (hier l inner gs) o) (lacks_queue (queues_of (inner_limits l inner) o gs) i), none_true (lacks_room measure (queues_of (inner_limits l inner) o gs) i x) (leb (suc l.class_bytes) (all_group_bytes measure gs + measure x)), wait-last outer key n r o i x (hier l inner gs) (hier l inner (put_under measure (hier l inner gs) o i x)))
 
   pub front_key : (qs : List (Queue T)) → 1 ≤ length qs
       → (k : ℕ) × (IsFront k qs × ((key : ℕ) → is_front key qs ≡ eqb k key))

@@ -1,32 +1,10 @@
 -- Chains stay those of their buckets where a place is taken out or put in.
-use Rattle.std.proofs.Common.{◌≡◌, ℕ, ◌+◌, ◌<◌, ◌≤◌, List, length, get_or, set, replicate, Option, Some, None, refl, sym, ap, ◌∙◌, subst, inl, inr, arith}
+use Rattle.std.proofs.Common.{◌≡◌, ℕ, ◌+◌, ◌<◌, ◌≤◌, List, length, get_or, set, Option, Some, None, sym, ◌∙◌, subst, inl, inr, arith}
 use Rattle.std.proofs.lemmas.Bool.{cases_lt, cases_eq}
-use Rattle.std.proofs.lemmas.List.{get_or-replicate, length-set, length-replicate, set-get_or, get_or_read}
+use Rattle.std.proofs.lemmas.List.{length-set, get_or_read}
 use Rattle.tva_index.specs.Buckets.{IsLastBelow}
 use Rattle.tva_index.specs.Links.{AreLinked, IsFirstAbove, IsWalk, link_of, with_last, with_before}
 use Rattle.tva_index.proofs.Homes.{in_range, one_home, at_some, here, elsewhere, removed, last-out, last_before, added, last-other, last_below, last_above, last_is, last_moves}
-
-abbrev nowhere : Option ℕ
-nowhere = None
-
--- no places in buckets
-none_in : (n q b : ℕ) → get_or (replicate n nowhere) q None ≡ Some b → ⊥
-none_in n q b h =
-    let l = in_range (replicate n nowhere) q b h in
-    let e = get_or-replicate n q nowhere None (omega (arith, l, length-replicate n nowhere)) in
-    absurd (cc)
-
-pub linked_none : (last before hs : List (Option ℕ)) (n m : ℕ) → last ≡ replicate n None → before ≡ replicate m None → hs ≡ replicate m None → AreLinked last before hs
-linked_none last before hs n m e f g =
-    let no : (q b : ℕ) → get_or hs q None ≡ Some b → ⊥ = λ q b h. none_in m q b (subst (λ (z : List (Option ℕ)). get_or z q None ≡ Some b) g h) in
-    record {
-      same = ap (λ (z : List (Option ℕ)). length z) (f ∙ sym g);
-      starts = λ b w.
-          let k : get_or last b None ≡ None = subst (λ (z : List (Option ℕ)). get_or z b None ≡ None) (sym e) (get_or-replicate n b nowhere None (subst (λ z. b < z) (ap (λ (z : List (Option ℕ)). length z) e ∙ length-replicate n nowhere) w)) in
-          subst (IsLastBelow hs (length hs) b) (sym k) (λ q t h. no q b h);
-      steps = λ p b h. absurd (no p b h);
-      known = λ p b h. absurd (no p b h);
-    }
 
 -- what is above the place in its bucket is the first of those, and there is none between
 between : (hs : List (Option ℕ)) (p b a : ℕ) → IsFirstAbove hs p b (Some a) → (q : ℕ) → p < q → q < a → get_or hs q None ≡ Some b → ⊥
@@ -150,36 +128,6 @@ linked-in last before hs p b (Some a) k l f bl g =
       ];
       known = λ q c w. elim (added hs p q b c l w) [ inl y ↦ omega (arith, y.1, bl) | inr y ↦ k.known q c y.1 ];
     }
-
--- the place above is one of the places
-pub above_within : (hs before : List (Option ℕ)) (p b : ℕ) (above : Option ℕ) → IsFirstAbove hs p b above → length before ≡ length hs → (x : ℕ) → above ≡ Some x → x < length before
-above_within hs before p b above g s x e = let w = subst (IsFirstAbove hs p b) e g in omega (arith, in_range hs x b w.1, s)
-
-pub length-with_last : (last : List (Option ℕ)) (b : ℕ) (above to : Option ℕ) → length (with_last last b above to) ≡ length last
-length-with_last last b None to = length-set last b to
-length-with_last last b (Some a) to = refl
-
-pub length-with_before : (before : List (Option ℕ)) (above to : Option ℕ) → length (with_before before above to) ≡ length before
-length-with_before before None to = refl
-length-with_before before (Some a) to = length-set before a to
-
--- a place in no bucket that is taken out
-pub set_free : (hs : List (Option ℕ)) (p : ℕ) → get_or hs p None ≡ None → set hs p None ≡ hs
-set_free hs p e = subst (λ z. set hs p z ≡ hs) e (set-get_or hs p None)
-
--- a step of a walk
-pub walk_on : (last before hs : List (Option ℕ)) (place b : ℕ) (above : Option ℕ) (other : ℕ) → AreLinked last before hs → place < other → IsWalk hs place b above (Some other) → IsWalk hs place b (Some other) (get_or before other None)
-walk_on last before hs place b None other k l w = (l, w.1, k.steps other b w.1)
-walk_on last before hs place b (Some a) other k l w = (l, w.2.1, k.steps other b w.2.1)
-
--- its end
-pub walk_none : (hs : List (Option ℕ)) (place b : ℕ) (above : Option ℕ) → IsWalk hs place b above None → IsFirstAbove hs place b above
-walk_none hs place b None w = λ q x h. w q (in_range hs q b h) h
-walk_none hs place b (Some a) w = (w.0, w.1, λ q x h. elim (cases_lt q a) [ inl t ↦ absurd (w.2 q t h) | inr t ↦ t ])
-
-pub walk_past : (hs : List (Option ℕ)) (place b : ℕ) (above : Option ℕ) (other : ℕ) → other ≤ place → IsWalk hs place b above (Some other) → IsFirstAbove hs place b above
-walk_past hs place b None other l w = λ q x h. let z = w.2 q (in_range hs q b h) h in absurd (omega (arith, z, x, l))
-walk_past hs place b (Some a) other l w = (w.0, w.1, λ q x h. elim (cases_lt q a) [ inl t ↦ (let z = w.2.2 q t h in absurd (omega (arith, z, x, l))) | inr t ↦ t ])
 
 -- where a walk stands
 abbrev pub rank : Option ℕ → ℕ

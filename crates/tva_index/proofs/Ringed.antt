@@ -1,5 +1,5 @@
 -- The places of keys in a ring, by their numbers.
-use Rattle.std.proofs.Common.{◌≡◌, ℕ, zero, suc, ◌+◌, ◌-◌, ◌%◌, ◌^◌, ◌<◌, ◌≤◌, List, [], ◌∷◌, ◌++◌, length, get_or, Option, Some, None, refl, sym, ap, ◌∙◌, subst, inl, inr, arith}
+use Rattle.std.proofs.Common.{◌≡◌, ℕ, zero, suc, ◌+◌, ◌-◌, ◌%◌, ◌^◌, ◌<◌, List, [], ◌∷◌, ◌++◌, length, get_or, Option, Some, None, refl, sym, ap, ◌∙◌, subst, inl, inr, arith}
 use Rattle.std.specs.Option.{option_map}
 use Rattle.std.proofs.lemmas.Bool.{cases_lt, cases_eq, eq-eqb, ne_eqb}
 use Rattle.std.proofs.lemmas.List.{get_or_append_left, get_or_push, length_push}
@@ -42,16 +42,6 @@ same_number : (o : Option Numbered) (k n j m : ℕ) → o ≡ Some (numbered k n
 same_number o k n j m e f = ap (λ (z : Numbered). z.number) (same_entry o (numbered k n) (numbered j m) e f)
 
 -- ## the numbers
-
-pub none_numbered : (places : ℕ) (links : List (Option ℕ)) (es : List (Option Numbered)) (free : List ℕ) → places ≤ 2 ^ 30 → IsKeyTree links es free → length free ≡ places → ((p : ℕ) → entry_at es p ≡ None) → AreNumbered places 0 [] links es free
-none_numbered places links es free most t n none = record {
-  few = most;
-  start = omega arith;
-  tree = t;
-  count = omega (arith, n);
-  each = λ i l. absurd (omega (arith, l));
-  only = λ p m h. absurd (no_entry (entry_at es p) m (none p) h);
-}
 
 module _ (places first : ℕ) (keys : List ℕ) (links : List (Option ℕ)) (es : List (Option Numbered)) (free : List ℕ) (a : AreNumbered places first keys links es free) where
   -- different keys

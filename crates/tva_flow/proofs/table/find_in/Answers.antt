@@ -1,6 +1,7 @@
 use Rattle.std.proofs.Common.{ap, length, arith}
 use Rattle.tva_flow.proofs.Same.{not_same}
-use Rattle.tva_flow.proofs.Indexed.{rank, rank-le, walk_starts, rest_starts, rest_goes, none_of}
+use Rattle.tva_index.proofs.Chains.{rank, rank-le}
+use Rattle.tva_flow.proofs.Indexed.{walk_starts, rest_starts, rest_goes, none_of}
 use Rattle.tva_flow.proofs.table.find_in.Goals as goal
 
 pub loop-at-init : goal.loop-at-init
