@@ -13,7 +13,7 @@ use Rattle.tva_port.specs.Levels.{next_in}
 use Rattle.tva_port.specs.Waiting.{Waiting}
 use Rattle.tva_port.specs.Decide.{covered, start_or, wait_for, decide_on, is_start}
 
-abbrev pick : Class → Option PacketData → Option PacketData → Option PacketData → Option PacketData
+abbrev pub pick : Class → Option PacketData → Option PacketData → Option PacketData → Option PacketData
 pick Request a b c = a
 pick Regular a b c = b
 pick Legacy a b c = c
@@ -36,22 +36,11 @@ no_start l credit now (Some p) = refl
 
 -- the next packet of a class
 abbrev pub next_of : LinkLimits → Waiting → ℕ → Class → Option PacketData
-next_of l w credit Request = covered l credit (next_in w.requests)
-next_of l w credit Regular = head w.regulars.queues
-next_of l w credit Legacy = first w.legacy
-
-by_class : (l : LinkLimits) (w : Waiting) (credit : ℕ) (class : Class) (o : Option PacketData)
-    → pick class (covered l credit (next_in w.requests)) (head w.regulars.queues) (first w.legacy) ≡ o
-    → next_of l w credit class ≡ o
-by_class l w credit Request o e = e
-by_class l w credit Regular o e = e
-by_class l w credit Legacy o e = e
+next_of l w credit class = pick class (covered l credit (next_in w.requests)) (head w.regulars.queues) (first w.legacy)
 
 pub start_is : (l : LinkLimits) (w : Waiting) (credit now : ℕ) (class : Class) (p : PacketData) → decide_on l w credit now ≡ Start class p → next_of l w credit class ≡ Some p
-start_is l w credit now class p e =
-    by_class l w credit class (Some p)
-    (picked (covered l credit (next_in w.requests)) (head w.regulars.queues) (first w.legacy)
-    (wait_for l credit now (next_in w.requests)) class p (no_start l credit now (next_in w.requests)) e)
+start_is l w credit now class p e = picked (covered l credit (next_in w.requests)) (head w.regulars.queues) (first w.legacy)
+    (wait_for l credit now (next_in w.requests)) class p (no_start l credit now (next_in w.requests)) e
 
 pub covered_pays : (l : LinkLimits) (credit : ℕ) (o : Option PacketData) (p : PacketData) → covered l credit o ≡ Some p → (o ≡ Some p) × (cost l (packet_length p) ≤ credit)
 covered_pays l credit None p e = absurd (cc)

@@ -6,15 +6,16 @@ use Rattle.tva_base.specs.declared.packet.Class.{Class}
 use Rattle.tva_base.specs.declared.packet.Class.TheVariants.{Request, Regular, Legacy}
 use Rattle.tva_base.specs.Plan.{AreLinkLimits}
 use Rattle.tva_shim.specs.Packets.{PacketData, packet_length}
-use Rattle.tva_drr.specs.Queues.{Queue, Fair, fair, has_key, first, head}
+use Rattle.tva_drr.specs.Queues.{Queue, Fair, fair, has_key, head}
 use Rattle.tva_drr.specs.Offer.{put, lacks_queue, lacks_room, offer_leaves}
 use Rattle.tva_drr.specs.Take.{take_leaves}
 use Rattle.tva_drr.specs.Fair.{IsFair}
 use Rattle.tva_drr.specs.Service as drr
-use Rattle.tva_drr.specs.Service.{Step, Offer, Take, is_front, first_bytes, head_bytes, AreOffers, bytes_from}
+use Rattle.tva_drr.specs.Service.{Step, Offer, Take, is_front, head_bytes, AreOffers, bytes_from}
 use Rattle.tva_drr.proofs.Falling.{by_test}
 use Rattle.tva_drr.proofs.Until.{offer_cases}
 use Rattle.tva_drr.proofs.Fairness.{fairly}
+use Rattle.tva_hier.proofs.Keeping.{head_some}
 use Rattle.tva_port.specs.declared.requests.RequestQueues.{RequestQueues}
 use Rattle.tva_port.specs.declared.requests.RequestQueues.TheVariants.{OneLevel, TwoLevels}
 use Rattle.tva_port.specs.Levels.{next_in, single_queues}
@@ -29,7 +30,7 @@ use Rattle.tva_port.proofs.Deciding.{covered_pays}
 use Rattle.tva_port.proofs.Legality.{started_is}
 use Rattle.tva_port.proofs.Idling.{within}
 use Rattle.tva_port.proofs.Tracking.{IsQueueing, regulars-step, regulars_now}
-use Rattle.tva_port.proofs.Beginning.{goes_rest}
+use Rattle.tva_port.proofs.Going.{goes_rest}
 
 -- ## queues by keys alone
 
@@ -115,14 +116,6 @@ same_own Regular Legacy h = absurd (cc)
 same_own Legacy Request h = absurd (cc)
 same_own Legacy Regular h = absurd (cc)
 
-first_of : (xs : List PacketData) (x : PacketData) → first xs ≡ Some x → first_bytes packet_length xs ≡ packet_length x
-first_of [] x e = absurd (cc)
-first_of (y ∷ ys) x e = let k : y ≡ x = cc in ap packet_length k
-
-head_of : (qs : List (Queue PacketData)) (x : PacketData) → head qs ≡ Some x → head_bytes packet_length qs ≡ packet_length x
-head_of [] x e = absurd (cc)
-head_of (p ∷ ps) x e = first_of p.items x e
-
 next_single : (l : LinkLimits) (rs : RequestQueues) → l.request_inner ≡ None → AreWithin l rs
     → head (single_queues rs) ≡ next_in rs
 next_single l (OneLevel f) n w = refl
@@ -162,7 +155,7 @@ module _ (l : LinkLimits) (c : Class) (q : HasKeys l c) (a : AreLinkLimits l) wh
       (λ _ w e.
       let own : IsStarted l log t c x = subst (λ z. IsStarted l log t z x) (same_own d c w) f in
       let bytes : packet_length x ≡ head_bytes packet_length (class_queues c (waiting_after l log)) = sym
-      (head_of (class_queues c (waiting_after l log)) x (starts_head log t x g own)) in
+      (head_some packet_length (class_queues c (waiting_after l log)) x (starts_head log t x g own)) in
       ap (λ z. cond (is_front key (class_queues c (waiting_after l log))) z 0 + bytes_started l c key (log ++ Started t d x ∷ []) es) bytes
       ∙ ap (λ z. cond (is_front key (class_queues c (waiting_after l log))) (head_bytes packet_length (class_queues c (waiting_after l log))) 0 + z) (h ∙ ap (λ z. bytes_from packet_length key z (steps_of c es)) (sym e)))
       (λ _ _ e. zero-add (bytes_started l c key (log ++ Started t d x ∷ []) es) ∙ h ∙ ap (λ z. bytes_from packet_length key z (steps_of c es)) (sym e))

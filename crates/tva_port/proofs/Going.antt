@@ -1,5 +1,6 @@
--- A link while a packet waits: what its log says of each time, and of each start.
-use Rattle.std.proofs.Common.{◌≡◌, ℕ, zero, suc, ◌+◌, ◌*◌, ◌<◌, ◌≤◌, true, false, cond, ltb, List, [], ◌∷◌, ◌++◌, drop, Option, Some, None, refl, sym, ap, ◌∙◌, subst, inl, inr, arith, append-nil, mul_assoc}
+-- A link while a packet waits: what its log says of each time, and of each start, where the packet is queued, and what
+-- then goes before it.
+use Rattle.std.proofs.Common.{◌≡◌, ℕ, zero, suc, ◌+◌, ◌*◌, ◌<◌, ◌≤◌, true, false, cond, ltb, List, [], ◌∷◌, ◌++◌, drop, Option, Some, None, refl, sym, ap, ◌∙◌, subst, inl, inr, arith, append-nil, mul_assoc, ◌-◌, Bool, length, length-append, append_assoc}
 use Rattle.std.specs.List.{filter_map}
 use Rattle.std.proofs.Math.Nat.{mul-le-mul_right, add-mul, mul_comm}
 use Rattle.std.proofs.lemmas.Bool.Decides.{leb_tells}
@@ -9,22 +10,33 @@ use Rattle.tva_base.specs.declared.packet.Class.{Class}
 use Rattle.tva_base.specs.declared.packet.Class.TheVariants.{Request, Regular, Legacy}
 use Rattle.tva_base.specs.Plan.{AreLinkLimits}
 use Rattle.tva_shim.specs.Packets.{PacketData, packet_length}
-use Rattle.tva_drr.specs.Queues.{first, head}
+use Rattle.tva_drr.specs.Queues.{first, head, Fair, fair, items_of, bytes_in}
 use Rattle.tva_port.specs.declared.decision.Decision.{Decision}
 use Rattle.tva_port.specs.declared.decision.Decision.TheVariants.{Start}
 use Rattle.tva_port.specs.Requests.{cost}
-use Rattle.tva_port.specs.Levels.{next_in}
+use Rattle.tva_port.specs.Levels.{next_in, request_answer, request_leaves, requests_with}
 use Rattle.tva_port.specs.Log.{Entry, Queued, Started, entry_time, NoneLater, entries_before, free_after}
 use Rattle.tva_port.specs.Waiting.{waiting_after, queued_legacy}
-use Rattle.tva_port.specs.Decide.{covered, start_or, decision, credit_after, is_start, RestsAt}
-use Rattle.tva_port.specs.Legal.{Follows, AllFollow, IsStarted, IsLegal}
-use Rattle.tva_port.specs.Bounds.{starts_first, start_among}
-use Rattle.tva_port.proofs.Logs.{later-front, entries_before-all, free-queued, free-started, legal-all, queued-push, goes_on-push}
+use Rattle.tva_port.specs.Decide.{covered, start_or, decision, credit_after, is_start, RestsAt, MissesNone}
+use Rattle.tva_port.specs.Legal.{Follows, AllFollow, IsStarted, IsLegal, IsQueued}
+use Rattle.tva_port.specs.Bounds.{starts_first, start_among, waiting_with, requests_until, StartsBy}
+use Rattle.tva_port.proofs.Logs.{later-front, entries_before-all, free-queued, free-started, legal-all, queued-push, goes_on-push, legal-front, requests-push, regulars-push}
 use Rattle.tva_port.proofs.Deciding.{Rests, none_starts, covered_pays}
 use Rattle.tva_port.proofs.Legality.{started_is}
 use Rattle.tva_port.proofs.Levels.{head_sized, request_sized}
 use Rattle.tva_port.proofs.Idling.{within}
-use Rattle.tva_port.proofs.Tracking.{regulars_now}
+use Rattle.tva_port.proofs.Tracking.{regulars_now, IsQueueing, kept_within, most_of_requests, Tracks, tracks_first}
+use Rattle.tva_base.specs.declared.limits.DrrLimits.{DrrLimits}
+use Rattle.tva_drr.specs.declared.offered.Offered.TheVariants as offers
+use Rattle.tva_drr.specs.Offer.{lacks_queue, lacks_room, offer_answer, offer_leaves}
+use Rattle.tva_drr.specs.Service.{most_until}
+use Rattle.tva_drr.proofs.OrderLaws.{goes_last}
+use Rattle.tva_shim.specs.Shows.{inner_key_of}
+use Rattle.tva_hier.proofs.GroupLists.{offered_is}
+use Rattle.tva_hier.proofs.Offering.{left_last}
+use Rattle.tva_port.specs.declared.requests.RequestQueues.{RequestQueues}
+use Rattle.tva_port.specs.declared.requests.RequestQueues.TheVariants.{OneLevel, TwoLevels}
+use Rattle.tva_port.proofs.Stocked.{queued_tests}
 
 -- ## costs
 
@@ -69,11 +81,20 @@ later_from time until [] h c = tt
 later_from time until (e ∷ es) h c = (omega (arith, h, c.0), later_from time until es h c.1)
 
 -- just before an entry, the log up to then stands
-pub cut_here : (l : LinkLimits) (log : List Entry) (e : Entry) (es : List Entry) (time until : ℕ) → IsLegal l (log ++ e ∷ []) → AllFollow l (log ++ e ∷ []) es → NoneLater time log → time < until → until ≤ entry_time e → entries_before until (log ++ e ∷ es) ≡ log
+cut_here : (l : LinkLimits) (log : List Entry) (e : Entry) (es : List Entry) (time until : ℕ) → IsLegal l (log ++ e ∷ []) → AllFollow l (log ++ e ∷ []) es → NoneLater time log → time < until → until ≤ entry_time e → entries_before until (log ++ e ∷ es) ≡ log
 cut_here l log e es time until g r n h k =
     let after : ComeFrom (entry_time e) es = come_from l (entry_time e) (log ++ e ∷ []) es r (λ t m. (later-front t log e m).1) in
     let none : entries_before until (e ∷ es) ≡ [] = cut_none until (e ∷ es) (k, later_from (entry_time e) until es k after) in
     filter-append (λ (x : Entry). ltb (entry_time x) until) log (e ∷ es) ∙ (ap (λ zs. entries_before until log ++ zs) none ∙ (append-nil (entries_before until log) ∙ entries_before-all time until log h n))
+
+-- so where no start was missed, the link rests until the next entry, and behind the last one
+module _ (l : LinkLimits) (last until : ℕ) (whole : List Entry) (none : MissesNone l until whole) (known : last < until) where
+  pub quiet : (log : List Entry) (e : Entry) (es : List Entry) (time later : ℕ) → whole ≡ log ++ e ∷ es → IsLegal l log → Follows l log e → AllFollow l (log ++ e ∷ []) es → NoneLater time log → later ≤ entry_time e → later ≤ until → (v : ℕ) → time ≤ v → v < later → RestsAt l log v
+  quiet log e es time later q g f r n h u v i k =
+      subst (λ z. RestsAt l z v) (ap (λ z. entries_before (v + 1) z) q ∙ cut_here l log e es time (v + 1) (goes_on-push l [] log e g f) r n (omega arith) (omega arith)) (none v (omega arith))
+
+  pub quiet_end : (log : List Entry) (time : ℕ) → whole ≡ log → NoneLater time log → (v : ℕ) → time ≤ v → v < last + 1 → RestsAt l log v
+  quiet_end log time q n v i k = subst (λ z. RestsAt l z v) (ap (λ z. entries_before (v + 1) z) q ∙ entries_before-all time (v + 1) log (omega arith) n) (none v (omega arith))
 
 -- where no start was missed, and the log up to a time is this one, a link that is free starts nothing then
 pub rests_free : (l : LinkLimits) (log : List Entry) (time : ℕ) → RestsAt l log time → free_after l log ≤ time → is_start (decision l log time) ≡ false
@@ -206,3 +227,90 @@ module _ (l : LinkLimits) (class : Class) (key : ℕ) (p : PacketData) where
         (λ z. Some (Started start class z)) e;
     soon = k;
   }
+
+pub goes_rest : (l : LinkLimits) (past log rest : List Entry) → AllFollow l past (log ++ rest) → AllFollow l (past ++ log) rest
+goes_rest l past [] rest g = subst (λ z. AllFollow l z rest) (sym (append-nil past)) g
+goes_rest l past (e ∷ es) rest g = subst (λ z. AllFollow l z rest) (append_assoc past (e ∷ []) es) (goes_rest l (past ++ e ∷ []) es rest g.1)
+
+pub legal_rest : (l : LinkLimits) (before : List Entry) (e : Entry) (rest : List Entry) → IsLegal l (before ++ e ∷ rest) → AllFollow l (before ++ e ∷ []) rest
+legal_rest l before e rest g = goes_rest l [] (before ++ e ∷ []) rest (subst (λ z. AllFollow l [] z) (sym (append_assoc before (e ∷ []) rest)) g)
+
+pub legal_up : (l : LinkLimits) (before : List Entry) (e : Entry) (rest : List Entry) → IsLegal l (before ++ e ∷ rest) → IsLegal l (before ++ e ∷ [])
+legal_up l before e rest g = legal-front l [] (before ++ e ∷ []) rest (subst (λ z. AllFollow l [] z) (sym (append_assoc before (e ∷ []) rest)) g)
+
+-- a queued item goes last
+put_items : (f : Fair PacketData) (key : ℕ) (p : PacketData) → offer_answer packet_length f key p ≡ offers.Queued
+    → items_of key (offer_leaves packet_length f key p).queues ≡ items_of key f.queues ++ p ∷ []
+put_items f key p e =
+    let t = queued_tests (lacks_queue f key) (lacks_room packet_length f key p) p e in
+    ap (λ (z : Fair PacketData). items_of key z.queues) (offered_is packet_length f key p t.0 t.1)
+    ∙ (goes_last f.limits f.limits.quantum key p f.queues).own
+
+put_request : (rs : RequestQueues) (key : ℕ) (p : PacketData) → request_answer rs key p ≡ offers.Queued
+    → requests_with (request_leaves rs key p) key p ≡ requests_with rs key p ++ p ∷ []
+put_request (OneLevel f) key p e = put_items f key p e
+put_request (TwoLevels h) key p e = (left_last packet_length h key (inner_key_of p) p e).own
+
+-- after a queueing the packet is the last in its queue
+pub queued_last : (l : LinkLimits) (c : Class) (before : List Entry) (t key : ℕ) (p : PacketData) → IsQueueing c
+    → IsQueued l before t c key p
+    → waiting_with l c key p (before ++ Queued t c key p ∷ []) ≡ waiting_with l c key p before ++ p ∷ []
+queued_last l Request before t key p q f =
+    ap (λ (rs : RequestQueues). requests_with rs key p) (requests-push l before (Queued t Request key p))
+    ∙ put_request (waiting_after l before).requests key p f.offer
+queued_last l Regular before t key p q f =
+    ap (λ (z : Fair PacketData). items_of key z.queues) (regulars-push l before (Queued t Regular key p))
+    ∙ put_items (waiting_after l before).regulars key p f.offer
+queued_last l Legacy before t key p q f = absurd q
+
+-- and at most the bound goes up to it
+pub regular_first : (l : LinkLimits) (before : List Entry) (t key : ℕ) (p : PacketData) → AreLinkLimits l
+    → IsLegal l (before ++ Queued t Regular key p ∷ []) → IsQueued l before t Regular key p
+    → Tracks key p (most_until l.regular
+    (bytes_in packet_length (waiting_with l Regular key p (before ++ Queued t Regular key p ∷ []))))
+    (OneLevel (waiting_after l (before ++ Queued t Regular key p ∷ [])).regulars)
+    (waiting_with l Regular key p before) 0
+regular_first l before t key p a g f =
+    let log : List Entry = before ++ Queued t Regular key p ∷ [] in
+    let own : List PacketData = waiting_with l Regular key p before in
+    let most : ℕ = most_until l.regular (bytes_in packet_length (waiting_with l Regular key p log)) in
+    let e = queued_last l Regular before t key p tt f in
+    let w = (within l log a g).regulars in
+    tracks_first key p most (OneLevel (waiting_after l log).regulars) own w.0 (omega (arith, f.sized)) e
+    (omega (
+      arith,
+      ap (λ (d : DrrLimits). most_until d (bytes_in packet_length (own ++ p ∷ []))) w.1,
+      ap (λ xs. most_until l.regular (bytes_in packet_length xs)) e,
+    ))
+
+pub request_first : (l : LinkLimits) (before : List Entry) (t key : ℕ) (p : PacketData) → AreLinkLimits l
+    → IsLegal l (before ++ Queued t Request key p ∷ []) → IsQueued l before t Request key p
+    → Tracks key p
+    (requests_until l.request l.request_inner
+    (bytes_in packet_length (waiting_with l Request key p (before ++ Queued t Request key p ∷ []))))
+    (waiting_after l (before ++ Queued t Request key p ∷ [])).requests (waiting_with l Request key p before) 0
+request_first l before t key p a g f =
+    let log : List Entry = before ++ Queued t Request key p ∷ [] in
+    let own : List PacketData = waiting_with l Request key p before in
+    let most : ℕ = requests_until l.request l.request_inner (bytes_in packet_length (waiting_with l Request key p log)) in
+    let e = queued_last l Request before t key p tt f in
+    let rs : RequestQueues = (waiting_after l log).requests in
+    let w = (within l log a g).requests in
+    tracks_first key p most rs own (kept_within l rs w) (omega (arith, f.sized)) e
+    (omega (
+      arith,
+      most_of_requests l rs (bytes_in packet_length (own ++ p ∷ [])) w,
+      ap (λ xs. requests_until l.request l.request_inner (bytes_in packet_length xs)) e,
+    ))
+
+-- what is found is the start of the packet
+pub starts_by_found : (l : LinkLimits) (c : Class) (before after : List Entry) (t key : ℕ) (p : PacketData)
+    (time : ℕ) → waiting_with l c key p (before ++ Queued t c key p ∷ []) ≡ waiting_with l c key p before ++ p ∷ []
+    → Finds l c key p (length (waiting_with l c key p before)) (before ++ Queued t c key p ∷ []) after time
+    → StartsBy l c key p (before ++ Queued t c key p ∷ []) after time
+starts_by_found l c before after t key p time e f =
+    let n : length (waiting_with l c key p before) ≡ length
+    (waiting_with l c key p (before ++ Queued t c key p ∷ [])) - 1 = omega
+    (arith, ap length e, length-append (waiting_with l c key p before) (p ∷ [])) in
+    let g = subst (λ k. Finds l c key p k (before ++ Queued t c key p ∷ []) after time) n f in
+    record { start = g.start; found = g.found; soon = g.soon }

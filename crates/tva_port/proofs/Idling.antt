@@ -16,11 +16,7 @@ use Rattle.tva_port.specs.Keeps.{IsWithinLimits}
 use Rattle.tva_port.proofs.Deciding.{Rests, rests_is}
 use Rattle.tva_port.proofs.Resting.{resting, wait_is, idle_is}
 use Rattle.tva_port.proofs.Limits.{stays_within}
-use Rattle.tva_port.proofs.Levels.{no_head, none_left, none_next}
-
-no_first : (xs : List PacketData) → first xs ≡ None → xs ≡ []
-no_first [] e = refl
-no_first (x ∷ xs) e = absurd (cc)
+use Rattle.tva_port.proofs.Levels.{no_first, no_head, none_left, none_next}
 
 pub within : (l : LinkLimits) (log : List Entry) → AreLinkLimits l → IsLegal l log → IsWithinLimits l (waiting_after l log)
 within l log a g = stays_within l log a g log [] (sym (append-nil log))

@@ -15,7 +15,7 @@ use Rattle.tva_port.specs.Keeps.{AreWithin}
 
 -- ## where nothing waits
 
-no_first : (xs : List PacketData) → first xs ≡ None → xs ≡ []
+pub no_first : (xs : List PacketData) → first xs ≡ None → xs ≡ []
 no_first [] e = refl
 no_first (x ∷ xs) e = absurd (cc)
 

@@ -8,16 +8,12 @@ pub mod Hands
 pub mod Holding
 pub mod Limits
 pub mod Standing
-pub mod Counts
-pub mod Sound
 pub mod Stocked
 pub mod Resting
 pub mod Idling
 pub mod Steady
 pub mod Tracking
-pub mod RequestTracking
 pub mod Going
-pub mod Beginning
 pub mod RequestBound
 pub mod RegularBound
 pub mod Evenly

@@ -58,13 +58,8 @@ stays-put l f key p a z s h k =
     let most : f.limits.max ≡ 2048 = ap (λ (x : DrrLimits). x.max) s.1 ∙ a.max in
     (record { limits = s.0.limits; queues = fair-put packet_length f.limits key p f.queues s.0.limits (omega arith, omega (arith, most)) s.0.queues r.0 r.1.0 r.1.1.0 r.1.1.1 }, s.1)
 
-stays_by : (b c : Bool) (l : DrrLimits) (f g : Fair PacketData) → Stays l f → (b ≡ false → c ≡ false → Stays l g) → Stays l (cond b f (cond c f g))
-stays_by true c l f g s n = s
-stays_by false true l f g s n = s
-stays_by false false l f g s n = n refl refl
-
 stays-offered : (l : DrrLimits) (f : Fair PacketData) (key : ℕ) (p : PacketData) → AreClassLimits l → (20 ≤ packet_length p) × (packet_length p ≤ 2048) → Stays l f → Stays l (offer_leaves packet_length f key p)
-stays-offered l f key p a z s = stays_by (lacks_queue f key) (lacks_room packet_length f key p) l f (fair f.limits (put f.limits.quantum key p f.queues)) s (stays-put l f key p a z s)
+stays-offered l f key p a z s = offer_cases (lacks_queue f key) (lacks_room packet_length f key p) f (fair f.limits (put f.limits.quantum key p f.queues)) (λ (g : Fair PacketData). Stays l g) s (stays-put l f key p a z s)
 
 stays-taken : (l : DrrLimits) (f : Fair PacketData) → Stays l f → Stays l (take_leaves packet_length f)
 stays-taken l f s = (record { limits = s.0.limits; queues = fair-taken packet_length f.limits f.queues s.0.limits s.0.queues }, s.1)

@@ -1,35 +1,33 @@
 -- A regular packet that is queued starts within its bound.
 use Rattle.std.proofs.Common.{◌≡◌, ℕ, ◌+◌, ◌-◌, ◌*◌, ◌<◌, ◌≤◌, true, max, List, [], ◌∷◌, ◌++◌, length, Some, None, refl, sym, ap, ◌∙◌, subst, inl, inr, arith, append-nil, append_assoc, mul_assoc}
 use Rattle.std.proofs.Math.Nat.{mul-le-mul_right, add-mul, mul_comm}
-use Rattle.std.specs.Bool.{MatchBool}
 use Rattle.std.proofs.lemmas.Bool.{cases_lt}
 use Rattle.tva_base.specs.declared.limits.LinkLimits.{LinkLimits}
 use Rattle.tva_base.specs.declared.packet.Class.{Class}
 use Rattle.tva_base.specs.declared.packet.Class.TheVariants.{Request, Regular, Legacy}
 use Rattle.tva_base.specs.Plan.{AreLinkLimits}
 use Rattle.tva_shim.specs.Packets.{PacketData, packet_length}
-use Rattle.tva_drr.specs.Queues.{Queue, has_key, bytes_in}
-use Rattle.tva_drr.specs.Take.{taken}
-use Rattle.tva_drr.specs.Service.{is_front, most_until}
-use Rattle.tva_drr.proofs.Falling.{by_test}
-use Rattle.tva_drr.proofs.Until.{some_head}
+use Rattle.tva_drr.specs.Queues.{bytes_in}
+use Rattle.tva_drr.specs.Service.{most_until}
 use Rattle.tva_drr.proofs.Ceil.{ceil_times}
+use Rattle.tva_port.specs.declared.requests.RequestQueues.{RequestQueues}
+use Rattle.tva_port.specs.declared.requests.RequestQueues.TheVariants.{OneLevel}
+use Rattle.tva_port.specs.Levels.{request_taken}
 use Rattle.tva_port.specs.Requests.{cost, cap, debt, start}
-use Rattle.tva_port.specs.Log.{Entry, Queued, Started, entry_time, NoneLater, entries_before, request_starts, free_after}
-use Rattle.tva_port.specs.Waiting.{waiting_after}
+use Rattle.tva_port.specs.Log.{Entry, Queued, Started, entry_time, NoneLater, request_starts, free_after}
+use Rattle.tva_port.specs.Waiting.{waiting_after, regular_step}
 use Rattle.tva_port.specs.Decide.{RestsAt, MissesNone}
 use Rattle.tva_port.specs.Legal.{Follows, AllFollow, IsStarted, IsLegal}
 use Rattle.tva_port.specs.Bounds.{waiting_with, bytes_with, regular_bound, AreServed, StartsBy}
 use Rattle.tva_port.proofs.Debts.{AreBy, debt-later, debt-push}
-use Rattle.tva_port.proofs.Logs.{entries_before-all, legal-front, legal-here, later-push, later-weaker, later-front, starts_by, starts-push, starts-same, free-queued, free-started, goes_on-push}
+use Rattle.tva_port.proofs.Logs.{legal-front, legal-here, later-push, later-weaker, later-front, starts_by, starts-push, starts-same, free-queued, free-started, regulars-push, goes_on-push}
 use Rattle.tva_port.proofs.Legality.{started_is, debt_capped}
 use Rattle.tva_port.proofs.Idling.{within}
-use Rattle.tva_port.proofs.Tracking.{regulars_now, regulars-step, Tracks, waits, tracks-offer, takes, head_among}
-use Rattle.tva_port.proofs.Going.{cut_here, free_soon, Finds, finds_later, finds_next, finds_here, cost-add, cost_le, rests_free, resting_at, no_regulars}
-use Rattle.tva_port.proofs.Beginning.{legal_rest, legal_up, queued_last, regular_first, starts_by_found}
+use Rattle.tva_port.proofs.Tracking.{Waits, Tracks, waits, tracks-offer, takes, next_among, next_is}
+use Rattle.tva_port.proofs.Going.{quiet, quiet_end, free_soon, Finds, finds_later, finds_next, finds_here, cost-add, cost_le, rests_free, resting_at, no_regulars, legal_rest, legal_up, queued_last, regular_first, starts_by_found}
 
-abbrev regulars : LinkLimits → List Entry → List (Queue PacketData)
-regulars l log = (waiting_after l log).regulars.queues
+abbrev regulars : LinkLimits → List Entry → RequestQueues
+regulars l log = OneLevel (waiting_after l log).regulars
 
 -- when the link is free, and not before the packet and what occupied the link when it came
 abbrev ready : LinkLimits → ℕ → List Entry → ℕ
@@ -41,7 +39,7 @@ pub record Serving (l : LinkLimits) (key : ℕ) (p : PacketData) (begin most : �
   pub legal : IsLegal l log
   pub past : NoneLater time log
   pub exact : (t : ℕ) → NoneLater t log → time ≤ t
-  pub tracks : Tracks l.regular key p most (regulars l log) before sent
+  pub tracks : Tracks key p most (regulars l log) before sent
   pub begun : begin ≤ max time (free_after l log)
   pub steady : time ≤ ready l begin log
   pub filled : ready l begin log ≡ begin + (asked + sent) * l.ns_per_byte
@@ -65,9 +63,9 @@ le_by x y d h k =
 
 module _ (l : LinkLimits) (key : ℕ) (p : PacketData) (begin most : ℕ) (a : AreLinkLimits l) where
   -- the link doesn't rest while the packet waits
-  no_rest : (log : List Entry) (v : ℕ) → IsLegal l log → has_key key (regulars l log) ≡ true → RestsAt l log v → free_after l log ≤ v → ⊥
+  no_rest : (log : List Entry) (v : ℕ) → IsLegal l log → Waits key p (regulars l log) → RestsAt l log v → free_after l log ≤ v → ⊥
   no_rest log v g h r f =
-      let s = some_head packet_length l.regular (regulars l log) (regulars_now l log (within l log a g)).queues key h in
+      let s = next_is key p (regulars l log) (within l log a g).regulars.0 h in
       let o = (resting_at l log v (rests_free l log v r f)).regulars in
       let k : None ≡ Some s.0 = sym o ∙ s.1.0 in
       absurd (cc)
@@ -76,21 +74,20 @@ module _ (l : LinkLimits) (key : ℕ) (p : PacketData) (begin most : ℕ) (a : A
   comes_by : (log : List Entry) (before : List PacketData) (sent asked time from s : ℕ) → Serving l key p begin most log before sent asked time from → ((v : ℕ) → time ≤ v → v < s → RestsAt l log v) → s ≤ ready l begin log
   comes_by log before sent asked time from s w r =
       elim (cases_lt (ready l begin log) s) [
-        | inl y ↦ absurd (no_rest log (ready l begin log) w.legal (waits l.regular key p most (regulars l log) before sent w.tracks) (r (ready l begin log) w.steady y) (omega arith))
+        | inl y ↦ absurd (no_rest log (ready l begin log) w.legal (waits key p most (regulars l log) before sent w.tracks) (r (ready l begin log) w.steady y) (omega arith))
         | inr y ↦ y
       ]
 
-  queued_leaves : (log : List Entry) (before : List PacketData) (sent s : ℕ) (c : Class) (k : ℕ) (x : PacketData) → IsLegal l log → Tracks l.regular key p most (regulars l log) before sent → Tracks l.regular key p most (regulars l (log ++ Queued s c k x ∷ [])) before sent
-  queued_leaves log before sent s Regular k x g t =
-      subst (λ z. Tracks l.regular key p most z before sent)
-      (sym (regulars-step l log (Queued s Regular k x) (within l log a g)))
-      (tracks-offer l.regular key p most (regulars l log) before sent k x t)
-  queued_leaves log before sent s Request k x g t =
-      subst (λ z. Tracks l.regular key p most z before sent)
-      (sym (regulars-step l log (Queued s Request k x) (within l log a g))) t
-  queued_leaves log before sent s Legacy k x g t =
-      subst (λ z. Tracks l.regular key p most z before sent)
-      (sym (regulars-step l log (Queued s Legacy k x) (within l log a g))) t
+  stays : (log : List Entry) (before : List PacketData) (sent : ℕ) (e : Entry) → IsLegal l log
+      → Tracks key p most (OneLevel (regular_step (waiting_after l log).regulars e)) before sent
+      → Tracks key p most (regulars l (log ++ e ∷ [])) before sent
+  stays log before sent e g t = subst (λ z. Tracks key p most (OneLevel z) before sent) (sym (regulars-push l log e)) t
+
+  queued_leaves : (log : List Entry) (before : List PacketData) (sent s : ℕ) (c : Class) (k : ℕ) (x : PacketData) → IsLegal l log → Tracks key p most (regulars l log) before sent → Tracks key p most (regulars l (log ++ Queued s c k x ∷ [])) before sent
+  queued_leaves log before sent s Regular k x g t = stays log before sent (Queued s Regular k x) g
+      (tracks-offer key p most (regulars l log) before sent k x (within l log a g).regulars.0 t)
+  queued_leaves log before sent s Request k x g t = stays log before sent (Queued s Request k x) g t
+  queued_leaves log before sent s Legacy k x g t = stays log before sent (Queued s Legacy k x) g t
 
   -- a packet is queued
   queued : (log : List Entry) (before : List PacketData) (sent asked time from s : ℕ) (c : Class) (k : ℕ) (x : PacketData) → Serving l key p begin most log before sent asked time from → Follows l log (Queued s c k x) → s ≤ ready l begin log
@@ -128,8 +125,7 @@ module _ (l : LinkLimits) (key : ℕ) (p : PacketData) (begin most : ℕ) (a : A
         legal = goes_on-push l [] log e w.legal f;
         past = past;
         exact = λ t n. (later-front t log e n).1;
-        tracks = subst (λ z. Tracks l.regular key p most z before sent)
-            (sym (regulars-step l log e (within l log a w.legal))) w.tracks;
+        tracks = stays log before sent e w.legal w.tracks;
         begun = omega (arith, reach);
         steady = omega (arith, free);
         filled = omega (arith, w.filled, free, reach, i, add-mul (asked + sent) (packet_length x) l.ns_per_byte, (let q : asked + packet_length x + sent ≡ asked + sent + packet_length x = omega arith in ap (λ z. z * l.ns_per_byte) q));
@@ -141,7 +137,7 @@ module _ (l : LinkLimits) (key : ℕ) (p : PacketData) (begin most : ℕ) (a : A
 
   -- a regular packet starts
   started_own : (log : List Entry) (before next : List PacketData) (sent asked time from s : ℕ) (x : PacketData) → Serving l key p begin most log before sent asked time from → IsStarted l log s Regular x → s ≤ ready l begin log
-      → Tracks l.regular key p most (taken packet_length l.regular.quantum (regulars l log)) next (sent + packet_length x) → Serving l key p begin most (log ++ Started s Regular x ∷ []) next (sent + packet_length x) asked s from
+      → Tracks key p most (request_taken (regulars l log)) next (sent + packet_length x) → Serving l key p begin most (log ++ Started s Regular x ∷ []) next (sent + packet_length x) asked s from
   started_own log before next sent asked time from s x w f i k =
       let e = Started s Regular x in
       let free = free-started l 0 log s Regular x in
@@ -151,8 +147,7 @@ module _ (l : LinkLimits) (key : ℕ) (p : PacketData) (begin most : ℕ) (a : A
         legal = goes_on-push l [] log e w.legal f;
         past = later-push s log e f.order (omega arith);
         exact = λ t n. (later-front t log e n).1;
-        tracks = subst (λ z. Tracks l.regular key p most z next (sent + packet_length x))
-            (sym (regulars-step l log e (within l log a w.legal))) k;
+        tracks = stays log next (sent + packet_length x) e w.legal k;
         begun = omega (arith, reach);
         steady = omega (arith, free);
         filled = omega (arith, w.filled, free, reach, i, add-mul (asked + sent) (packet_length x) l.ns_per_byte, (let q : asked + (sent + packet_length x) ≡ asked + sent + packet_length x = omega arith in ap (λ z. z * l.ns_per_byte) q));
@@ -174,8 +169,7 @@ module _ (l : LinkLimits) (key : ℕ) (p : PacketData) (begin most : ℕ) (a : A
   in_time : (log : List Entry) (before : List PacketData) (sent asked time from bytes t : ℕ) → Serving l key p begin most log before sent asked time from → most ≡ most_until l.regular bytes → begin ≤ t + 2048 * l.ns_per_byte → ready l begin log ≤ t + regular_bound l bytes
   in_time log before sent asked time from bytes t w e h =
       let x : ℕ = (asked + sent) * l.ns_per_byte in
-      let among = head_among l.regular key p most (regulars l log) before sent
-      (regulars_now l log (within l log a w.legal)).queues w.tracks in
+      let among = next_among key p most (regulars l log) before sent (within l log a w.legal).regulars.0 w.tracks in
       let whole : cost l (asked + sent) ≡ x * l.share = share_of l (asked + sent) in
       let parts = cost-add l asked sent in
       let sends = cost_le l sent most (omega (arith, among)) in
@@ -197,14 +191,7 @@ module _ (l : LinkLimits) (key : ℕ) (p : PacketData) (begin most : ℕ) (a : A
     never : (log : List Entry) (before : List PacketData) (sent asked time from : ℕ) → Serving l key p begin most log before sent asked time from → time ≤ last → ((v : ℕ) → time ≤ v → v < last + 1 → RestsAt l log v) → ⊥
     never log before sent asked time from w h r =
         let soon = in_time log before sent asked time from bytes t w same near in
-        no_rest log last w.legal (waits l.regular key p most (regulars l log) before sent w.tracks) (r last h (omega arith)) (omega (arith, soon, bound))
-
-    quiet : (log : List Entry) (e : Entry) (es : List Entry) (time later : ℕ) → whole ≡ log ++ e ∷ es → IsLegal l log → Follows l log e → AllFollow l (log ++ e ∷ []) es → NoneLater time log → later ≤ entry_time e → later ≤ until → (v : ℕ) → time ≤ v → v < later → RestsAt l log v
-    quiet log e es time later q g f r n h u v i k =
-        subst (λ z. RestsAt l z v) (ap (λ z. entries_before (v + 1) z) q ∙ cut_here l log e es time (v + 1) (goes_on-push l [] log e g f) r n (omega arith) (omega arith)) (none v (omega arith))
-
-    quiet_end : (log : List Entry) (time : ℕ) → whole ≡ log → NoneLater time log → (v : ℕ) → time ≤ v → v < last + 1 → RestsAt l log v
-    quiet_end log time q n v i k = subst (λ z. RestsAt l z v) (ap (λ z. entries_before (v + 1) z) q ∙ entries_before-all time (v + 1) log (omega arith) n) (none v (omega arith))
+        no_rest log last w.legal (waits key p most (regulars l log) before sent w.tracks) (r last h (omega arith)) (omega (arith, soon, bound))
 
     abbrev Goes : List Entry → Type 0
     Goes es = (log : List Entry) (before : List PacketData) (sent asked time from : ℕ) → whole ≡ log ++ es → AllFollow l log es → time ≤ last → Serving l key p begin most log before sent asked time from → Finds l Regular key p (length before) log es last
@@ -216,30 +203,27 @@ module _ (l : LinkLimits) (key : ℕ) (p : PacketData) (begin most : ℕ) (a : A
     serve_one (Started s Request x) es log before sent asked time from next q f g h w i =
         finds_later l Regular key p (length before) log (Started s Request x) es last refl (next (log ++ Started s Request x ∷ []) before sent (asked + packet_length x) s s q g h (started_request log before sent asked time from s x w f i))
     serve_one (Started s Legacy x) es log before sent asked time from next q f g h w i =
-        let y = some_head packet_length l.regular (regulars l log)
-        (regulars_now l log (within l log a w.legal)).queues key
-        (waits l.regular key p most (regulars l log) before sent w.tracks) in
+        let y = next_is key p (regulars l log) (within l log a w.legal).regulars.0
+        (waits key p most (regulars l log) before sent w.tracks) in
         absurd (let k : None ≡ Some y.0 = sym (no_regulars l log s x f.decided) ∙ y.1.0 in cc)
     serve_one (Started s Regular x) es log before sent asked time from next q f g h w i =
-        let fair = (regulars_now l log (within l log a w.legal)) in
         let e = Started s Regular x in
-        elim (takes l.regular key p most (regulars l log) before sent x fair.limits fair.queues (started_is l log s Regular x f) w.tracks) [
-          | inl z ↦ subst (λ xs. Finds l Regular key p (length xs) log (e ∷ es) last) (sym z.1.0) (finds_here l Regular key p log s x es last z.0 z.1.1.0 h)
-          | inr z ↦ by_test (is_front key (regulars l log)) (λ b. (is_front key (regulars l log) ≡ b) → MatchBool b ((rest : List PacketData) × ((before ≡ x ∷ rest) × Tracks l.regular key p most (taken packet_length l.regular.quantum (regulars l log)) rest (sent + packet_length x)))
-              (Tracks l.regular key p most (taken packet_length l.regular.quantum (regulars l log)) before (sent + packet_length x)) → Finds l Regular key p (length before) log (e ∷ es) last)
-              (λ r _ m. subst (λ xs. Finds l Regular key p (length xs) log (e ∷ es) last) (sym m.1.0)
-              (finds_next l Regular key p (length m.0) log e es last r (next (log ++ e ∷ []) m.0 (sent + packet_length x) asked s from q g h (started_own log before m.0 sent asked time from s x w f i m.1.1))))
-              (λ r _ m. finds_later l Regular key p (length before) log e es last r (next (log ++ e ∷ []) before (sent + packet_length x) asked s from q g h (started_own log before before sent asked time from s x w f i m)))
-              refl z
+        elim (takes key p most (regulars l log) before sent x (within l log a w.legal).regulars.0 (started_is l log s Regular x f) w.tracks) [
+          | inl z ↦ subst (λ xs. Finds l Regular key p (length xs) log (e ∷ es) last) (sym z.1.0) (finds_here l Regular key p log s x es last z.0 z.1.1 h)
+          | inr z ↦ elim z [
+            | inl m ↦ subst (λ xs. Finds l Regular key p (length xs) log (e ∷ es) last) (sym m.1.1.0)
+                (finds_next l Regular key p (length m.1.0) log e es last m.0 (next (log ++ e ∷ []) m.1.0 (sent + packet_length x) asked s from q g h (started_own log before m.1.0 sent asked time from s x w f i m.1.1.1)))
+            | inr m ↦ finds_later l Regular key p (length before) log e es last m.0 (next (log ++ e ∷ []) before (sent + packet_length x) asked s from q g h (started_own log before before sent asked time from s x w f i m.1))
+          ]
         ]
 
     serve : (rest log : List Entry) (before : List PacketData) (sent asked time from : ℕ) → whole ≡ log ++ rest → AllFollow l log rest → time ≤ last → Serving l key p begin most log before sent asked time from → Finds l Regular key p (length before) log rest last
-    serve [] log before sent asked time from q g h w = absurd (never log before sent asked time from w h (quiet_end log time (q ∙ append-nil log) w.past))
+    serve [] log before sent asked time from q g h w = absurd (never log before sent asked time from w h (quiet_end l last until whole none known log time (q ∙ append-nil log) w.past))
     serve (e ∷ es) log before sent asked time from q g h w =
         elim (cases_lt last (entry_time e)) [
-          | inl y ↦ absurd (never log before sent asked time from w h (quiet log e es time (last + 1) q w.legal g.0 g.1 w.past (omega arith) (omega arith)))
+          | inl y ↦ absurd (never log before sent asked time from w h (quiet l last until whole none known log e es time (last + 1) q w.legal g.0 g.1 w.past (omega arith) (omega arith)))
           | inr y ↦ serve_one e es log before sent asked time from (λ log2 before2 sent2 asked2 time2 from2 q2 g2 h2 w2. serve es log2 before2 sent2 asked2 time2 from2 q2 g2 h2 w2) (q ∙ sym (append_assoc log (e ∷ []) es)) g.0 g.1 y w
-              (comes_by log before sent asked time from (entry_time e) w (quiet log e es time (entry_time e) q w.legal g.0 g.1 w.past (omega arith) (omega (arith, known))))
+              (comes_by log before sent asked time from (entry_time e) w (quiet l last until whole none known log e es time (entry_time e) q w.legal g.0 g.1 w.past (omega arith) (omega (arith, known))))
         ]
 
 -- a regular packet that is queued starts within its bound, where no start was missed up to then

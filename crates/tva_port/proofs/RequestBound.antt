@@ -1,7 +1,6 @@
 -- A request that is queued starts within its bound.
 use Rattle.std.proofs.Common.{◌≡◌, ℕ, ◌+◌, ◌-◌, ◌*◌, ◌<◌, ◌≤◌, max, List, [], ◌∷◌, ◌++◌, length, Some, None, refl, sym, ap, ◌∙◌, subst, inl, inr, ◌⊎◌, arith, append-nil, append_assoc}
 use Rattle.std.proofs.Math.Nat.{mul-le-mul_right}
-use Rattle.std.specs.Bool.{MatchBool}
 use Rattle.std.proofs.lemmas.Bool.{cases_lt}
 use Rattle.tva_base.specs.declared.limits.LinkLimits.{LinkLimits}
 use Rattle.tva_base.specs.declared.packet.Class.{Class}
@@ -9,25 +8,23 @@ use Rattle.tva_base.specs.declared.packet.Class.TheVariants.{Request, Regular, L
 use Rattle.tva_base.specs.Plan.{AreLinkLimits}
 use Rattle.tva_shim.specs.Packets.{PacketData, packet_length}
 use Rattle.tva_drr.specs.Queues.{bytes_in}
-use Rattle.tva_drr.proofs.Falling.{by_test}
 use Rattle.tva_port.specs.declared.requests.RequestQueues.{RequestQueues}
-use Rattle.tva_port.specs.Levels.{next_in, request_taken, are_next}
+use Rattle.tva_port.specs.Levels.{next_in, request_taken}
 use Rattle.tva_port.specs.Requests.{cost, cap, debt, start}
-use Rattle.tva_port.specs.Log.{Entry, Queued, Started, entry_time, NoneLater, entries_before, request_starts, free_after}
+use Rattle.tva_port.specs.Log.{Entry, Queued, Started, entry_time, NoneLater, request_starts, free_after}
 use Rattle.tva_port.specs.Waiting.{waiting_after}
 use Rattle.tva_port.specs.Decide.{covered, credit_after, RestsAt, MissesNone}
 use Rattle.tva_port.specs.Legal.{Follows, AllFollow, IsStarted, IsLegal}
 use Rattle.tva_port.specs.Bounds.{waiting_with, bytes_with, requests_until, request_bound, AreServed, StartsBy}
 use Rattle.tva_port.proofs.Debts.{AreBy, debt-later, debt-push}
-use Rattle.tva_port.proofs.Logs.{entries_before-all, legal-front, legal-here, later-push, later-weaker, later-front, starts_by, starts-push, starts-same, requests-push, free-queued, free-started, goes_on-push}
+use Rattle.tva_port.proofs.Logs.{legal-front, legal-here, later-push, later-weaker, later-front, starts_by, starts-push, starts-same, requests-push, free-queued, free-started, goes_on-push}
 use Rattle.tva_port.proofs.Deciding.{lacking, covered_pays}
 use Rattle.tva_port.proofs.Legality.{started_is, debt_capped}
-use Rattle.tva_port.proofs.Beginning.{legal_rest, legal_up, queued_last, request_first, starts_by_found}
 use Rattle.tva_port.proofs.Idling.{within}
 use Rattle.tva_port.proofs.Resting.{same_head}
 use Rattle.tva_port.proofs.Levels.{request_sized}
-use Rattle.tva_port.proofs.RequestTracking.{bytes_next, Tracks, tracks-offer, takes, next_among, next_is, next-offer}
-use Rattle.tva_port.proofs.Going.{cut_here, free_soon, Finds, finds_later, finds_next, finds_here, cost-add, cost_le, cost_twice, rests_free, resting_at, not_covered, start_sized}
+use Rattle.tva_port.proofs.Tracking.{kept_within, bytes_next, Tracks, waits, tracks-offer, takes, next_among, next_is, next-offer}
+use Rattle.tva_port.proofs.Going.{quiet, quiet_end, free_soon, Finds, finds_later, finds_next, finds_here, cost-add, cost_le, cost_twice, rests_free, resting_at, not_covered, start_sized, legal_rest, legal_up, queued_last, request_first, starts_by_found}
 
 abbrev requests : LinkLimits → List Entry → RequestQueues
 requests l log = (waiting_after l log).requests
@@ -66,7 +63,8 @@ module _ (l : LinkLimits) (key : ℕ) (p : PacketData) (begin most : ℕ) (a : A
       ((bytes_next (requests l log) ≡ packet_length x) × (packet_length x ≤ 2048)))
   next_within log before sent g t =
       let w = (within l log a g).requests in
-      let s = next_is key p most l (requests l log) before sent w t in
+      let s = next_is key p (requests l log) (kept_within l (requests l log) w)
+      (waits key p most (requests l log) before sent t) in
       (s.0, (s.1.0, (s.1.1, omega (arith, request_sized l (requests l log) s.0 w s.1.0, a.request.max))))
 
   -- at a time at which the link rests, the next request isn't covered
@@ -129,12 +127,11 @@ module _ (l : LinkLimits) (key : ℕ) (p : PacketData) (begin most : ℕ) (a : A
       → Tracks key p most (requests l (log ++ Queued s c k x ∷ [])) before sent ×
       (bytes_next (requests l (log ++ Queued s c k x ∷ [])) ≡ bytes_next (requests l log))
   queued_leaves log before sent s Request k x g t =
-      let w = (within l log a g).requests in
+      let v = kept_within l (requests l log) (within l log a g).requests in
       subst (λ z. Tracks key p most z before sent × (bytes_next z ≡ bytes_next (requests l log)))
       (sym (requests-push l log (Queued s Request k x))) (
-        tracks-offer key p most l (requests l log) before sent k x w t,
-        next-offer key p most l
-            (requests l log) before sent k x w t,
+        tracks-offer key p most (requests l log) before sent k x v t,
+        next-offer key p (requests l log) k x v (waits key p most (requests l log) before sent t),
       )
   queued_leaves log before sent s Regular k x g t =
       subst (λ z. Tracks key p most z before sent × (bytes_next z ≡ bytes_next (requests l log)))
@@ -225,7 +222,8 @@ module _ (l : LinkLimits) (key : ℕ) (p : PacketData) (begin most : ℕ) (a : A
   module _ (last until : ℕ) (enough : begin + 2048 * l.ns_per_byte + cost l (most + 2048) ≤ last) (whole : List Entry) (none : MissesNone l until whole) (known : last < until) where
     never : (log : List Entry) (before : List PacketData) (sent time from : ℕ) → Serving l key p begin most log before sent time from → time ≤ last → ((v : ℕ) → time ≤ v → v < last + 1 → RestsAt l log v) → ⊥
     never log before sent time from w t r =
-        let among = next_among key p most l (requests l log) before sent (within l log a w.legal).requests w.tracks in
+        let among = next_among key p most (requests l log) before sent (kept_within l (requests l log)
+        (within l log a w.legal).requests) w.tracks in
         let le = cost_le l (sent + bytes_next (requests l log)) most among in
         let sum = cost-add l sent (bytes_next (requests l log)) in
         let fits = cost_le l (sent + 2048) (most + 2048) (omega (arith, among)) in
@@ -237,14 +235,6 @@ module _ (l : LinkLimits) (key : ℕ) (p : PacketData) (begin most : ℕ) (a : A
         let small = cost_le l (packet_length n.0) 2048 n.1.1.1 in
         let most2 : cost l (2048 + 2048) ≤ cap l = cost_le l (2048 + 2048) l.burst (omega (arith, a.burst.0)) in
         omega (arith, lack, d, c, small, most2, cost-add l 2048 2048, w.owed, le, sum, cost-add l most 2048, enough)
-
-    -- while the log so far stands at each time before the next entry
-    quiet : (log : List Entry) (e : Entry) (es : List Entry) (time later : ℕ) → whole ≡ log ++ e ∷ es → IsLegal l log → Follows l log e → AllFollow l (log ++ e ∷ []) es → NoneLater time log → later ≤ entry_time e → later ≤ until → (v : ℕ) → time ≤ v → v < later → RestsAt l log v
-    quiet log e es time later same g f r n h u v t k =
-        subst (λ z. RestsAt l z v) (ap (λ z. entries_before (v + 1) z) same ∙ cut_here l log e es time (v + 1) (goes_on-push l [] log e g f) r n (omega arith) (omega arith)) (none v (omega arith))
-
-    quiet_end : (log : List Entry) (time : ℕ) → whole ≡ log → NoneLater time log → (v : ℕ) → time ≤ v → v < last + 1 → RestsAt l log v
-    quiet_end log time same n v t k = subst (λ z. RestsAt l z v) (ap (λ z. entries_before (v + 1) z) same ∙ entries_before-all time (v + 1) log (omega arith) n) (none v (omega arith))
 
     abbrev Goes : List Entry → Type 0
     Goes es = (log : List Entry) (before : List PacketData) (sent time from : ℕ) → whole ≡ log ++ es → AllFollow l log es → time ≤ last → Serving l key p begin most log before sent time from → Finds l Request key p (length before) log es last
@@ -267,27 +257,23 @@ module _ (l : LinkLimits) (key : ℕ) (p : PacketData) (begin most : ℕ) (a : A
         let paid = covered_pays l (credit_after l log s) (next_in (requests l log)) x
         (started_is l log s Request x f) in
         let e = Started s Request x in
-        elim (takes key p most l (requests l log) before sent x (within l log a w.legal).requests paid.0 w.tracks) [
-          | inl z ↦ subst (λ xs. Finds l Request key p (length xs) log (e ∷ es) last) (sym z.1.0) (finds_here l Request key p log s x es last z.0 z.1.1.0 t)
-          | inr z ↦ by_test (are_next (requests l log) key p)
-              (λ b. (are_next (requests l log) key p ≡ b) → MatchBool b
-              ((rest : List PacketData) ×
-              ((before ≡ x ∷ rest) × Tracks key p most (request_taken (requests l log)) rest (sent + packet_length x)))
-              (Tracks key p most (request_taken (requests l log)) before
-              (sent + packet_length x)) → Finds l Request key p (length before) log (e ∷ es) last)
-              (λ h _ m. subst (λ xs. Finds l Request key p (length xs) log (e ∷ es) last) (sym m.1.0)
-              (finds_next l Request key p (length m.0) log e es last h (next (log ++ e ∷ []) m.0 (sent + packet_length x) s s same g t (started_own log before m.0 sent time from s x w f m.1.1 i))))
-              (λ h _ m. finds_later l Request key p (length before) log e es last h (next (log ++ e ∷ []) before (sent + packet_length x) s s same g t (started_own log before before sent time from s x w f m i)))
-              refl z
+        elim (takes key p most (requests l log) before sent x (kept_within l (requests l log)
+        (within l log a w.legal).requests) paid.0 w.tracks) [
+          | inl z ↦ subst (λ xs. Finds l Request key p (length xs) log (e ∷ es) last) (sym z.1.0) (finds_here l Request key p log s x es last z.0 z.1.1 t)
+          | inr z ↦ elim z [
+            | inl m ↦ subst (λ xs. Finds l Request key p (length xs) log (e ∷ es) last) (sym m.1.1.0)
+                (finds_next l Request key p (length m.1.0) log e es last m.0 (next (log ++ e ∷ []) m.1.0 (sent + packet_length x) s s same g t (started_own log before m.1.0 sent time from s x w f m.1.1.1 i)))
+            | inr m ↦ finds_later l Request key p (length before) log e es last m.0 (next (log ++ e ∷ []) before (sent + packet_length x) s s same g t (started_own log before before sent time from s x w f m.1 i))
+          ]
         ]
 
     serve : (rest log : List Entry) (before : List PacketData) (sent time from : ℕ) → whole ≡ log ++ rest → AllFollow l log rest → time ≤ last → Serving l key p begin most log before sent time from → Finds l Request key p (length before) log rest last
-    serve [] log before sent time from same g t w = absurd (never log before sent time from w t (quiet_end log time (same ∙ append-nil log) w.past))
+    serve [] log before sent time from same g t w = absurd (never log before sent time from w t (quiet_end l last until whole none known log time (same ∙ append-nil log) w.past))
     serve (e ∷ es) log before sent time from same g t w =
         elim (cases_lt last (entry_time e)) [
-          | inl y ↦ absurd (never log before sent time from w t (quiet log e es time (last + 1) same w.legal g.0 g.1 w.past (omega arith) (omega arith)))
+          | inl y ↦ absurd (never log before sent time from w t (quiet l last until whole none known log e es time (last + 1) same w.legal g.0 g.1 w.past (omega arith) (omega arith)))
           | inr y ↦ serve_one e es log before sent time from (λ log2 before2 sent2 time2 from2 same2 g2 t2 w2. serve es log2 before2 sent2 time2 from2 same2 g2 t2 w2) (same ∙ sym (append_assoc log (e ∷ []) es)) g.0 g.1 y w
-              (idle_to log before sent time from (entry_time e) w (quiet log e es time (entry_time e) same w.legal g.0 g.1 w.past (omega arith) (omega (arith, known))))
+              (idle_to log before sent time from (entry_time e) w (quiet l last until whole none known log e es time (entry_time e) same w.legal g.0 g.1 w.past (omega arith) (omega (arith, known))))
         ]
 
 -- a request that is queued starts within its bound, where no start was missed up to then

@@ -1,5 +1,5 @@
--- A port goes on to stand for its log.
-use Rattle.std.proofs.Common.{◌≡◌, true, false, ℕ, ◌-◌, ◌≤◌, List, [], ◌∷◌, ◌++◌, refl, sym, ap, ◌∙◌, subst, inl, inr, arith, append-nil}
+-- A port goes on to stand for its log, and stays within its limits.
+use Rattle.std.proofs.Common.{◌≡◌, true, false, ℕ, ◌-◌, ◌≤◌, List, [], ◌∷◌, ◌++◌, refl, sym, ap, ◌∙◌, subst, inl, inr, arith, append-nil, ◌+◌}
 use Rattle.tva_base.specs.declared.limits.LinkLimits.{LinkLimits}
 use Rattle.tva_base.specs.declared.packet.Class.{Class}
 use Rattle.tva_base.specs.declared.packet.Class.TheVariants.{Request, Regular, Legacy}
@@ -19,6 +19,10 @@ use Rattle.tva_port.proofs.Debts.{debt-later, debt-push}
 use Rattle.tva_port.proofs.Logs.{later-push, later-weaker, starts_by, starts-push, starts-same, free-queued, free-started, goes_on-push}
 use Rattle.tva_port.proofs.Legality.{few_started, debt_capped}
 use Rattle.tva_port.proofs.Waits.{puts_or, waits-queued, waits-started}
+use Rattle.tva_drr.specs.Queues.{Fair}
+use Rattle.tva_port.specs.Levels.{limits_in}
+use Rattle.tva_port.specs.declared.requests.RequestQueues.{RequestQueues}
+use Rattle.tva_port.specs.Lists.{LegacyData, IsSound}
 
 -- the running credit is the credit after the log, at every later time
 pub credit_is : (v : PortData) (log : List Entry) (now : ℕ) → StandsFor v log → v.last ≤ now → grown v.limits v.credit (now - v.last) ≡ credit_after v.limits log now
@@ -132,3 +136,23 @@ refused_leaves l w class key p e = elim (puts_or l w class key p) [
   | inl h ↦ absurd (let k : is_queued (queue_answer l w class key p) ≡ true = ap is_queued h in cc)
   | inr h ↦ h.0
 ]
+
+pub sound-later : (l : LinkLimits) (last c free now d done : ℕ) (rs ss : RequestQueues) (gs hs : Fair PacketData) (w v : LegacyData)
+    → IsSound l last c free rs gs w → d ≤ cap l → done ≤ now + 2048000000 → limits_in ss ≡ limits_in rs → hs.limits ≡ gs.limits
+    → (v.places ≡ w.places) × (v.most ≡ w.most) → IsSound l now d done ss hs v
+sound-later l last c free now d done rs ss gs hs w v s e f g h k = record {
+  limits = s.limits;
+  credit = e;
+  soon = f;
+  requests = g ∙ s.requests;
+  regulars = h ∙ s.regulars;
+  places = k.0 ∙ s.places;
+  most = k.1 ∙ s.most;
+}
+
+pub paid_less : (l : LinkLimits) (credit : ℕ) (d : Decision) → paid l credit d ≤ credit
+paid_less l credit (Start Request p) = omega arith
+paid_less l credit (Start Regular p) = omega arith
+paid_less l credit (Start Legacy p) = omega arith
+paid_less l credit (WaitUntil time) = omega arith
+paid_less l credit Idle = omega arith

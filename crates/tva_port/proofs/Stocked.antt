@@ -1,30 +1,223 @@
--- A port for packets by value has memory for each that it takes, and room for each that it gives.
-use Rattle.std.proofs.Common.{◌≡◌, ℕ, ◌+◌, ◌≤◌, List, [], ◌++◌, Option, Some, None, refl, sym, ap, ◌∙◌, subst, inl, inr, append-nil, arith}
-use Rattle.tva_base.specs.declared.limits.LinkLimits.{LinkLimits}
+-- How many packets wait at a port: one more once one is queued, one less once one starts, and never more than there
+-- are places. So a port for packets by value has memory for each that it takes, and room for each that it gives.
+use Rattle.std.proofs.Common.{◌≡◌, ℕ, suc, ◌+◌, ◌-◌, ◌*◌, ◌≤◌, Bool, true, false, cond, leb, List, [], ◌∷◌, ◌++◌, length, drop, Some, refl, sym, ap, ◌∙◌, subst, inl, inr, length-append, arith, Option, None, append-nil}
+use Rattle.std.proofs.Math.Nat.{mul-le-mul_right, add-mul}
+use Rattle.std.proofs.lemmas.Bool.Decides.{leb_tells}
+use Rattle.std.proofs.lemmas.List.Sums.{sum_by-cons, sum_by_push}
 use Rattle.tva_base.specs.declared.limits.DrrLimits.{DrrLimits}
+use Rattle.tva_base.specs.declared.limits.LinkLimits.{LinkLimits}
 use Rattle.tva_base.specs.declared.packet.Class.{Class}
-use Rattle.tva_base.specs.Plan.{AreLinkLimits}
-use Rattle.tva_shim.specs.Packets.{PacketData}
+use Rattle.tva_base.specs.declared.packet.Class.TheVariants.{Request, Regular, Legacy}
+use Rattle.tva_shim.specs.Packets.{PacketData, packet_length}
+use Rattle.tva_shim.specs.Shows.{inner_key_of}
 use Rattle.tva_drr.specs.declared.offered.Offered.{Offered}
+use Rattle.tva_drr.specs.declared.offered.Offered.TheVariants as offers
+use Rattle.tva_drr.specs.Queues.{Queue, queue, Fair, fair, first, head, bytes_in, queue_bytes, all_bytes}
+use Rattle.tva_drr.specs.Offer.{lacks_queue, lacks_room, offer_answer, offer_leaves}
+use Rattle.tva_drr.specs.Take.{refilled, popped, settled, front_settled, taken}
+use Rattle.tva_drr.specs.Fair.{AreQueues, IsFair}
+use Rattle.tva_drr.specs.Service.{first_bytes, head_bytes}
+use Rattle.tva_drr.proofs.Lists.{all_bytes-put}
+use Rattle.tva_hier.specs.Groups.{Group, Hier, group, inner_limits, fair_of, group_bytes, all_group_bytes, next}
+use Rattle.tva_hier.specs.Offer.{lacks_group, lacks_place, lacks_space, answer_to_offer, left_by_offer}
+use Rattle.tva_hier.specs.Take.{group_refilled, group_settled, groups_taken}
+use Rattle.tva_hier.specs.Hier.{AreGroups, IsHier}
+use Rattle.tva_hier.proofs.GroupLists.{none_true, bytes-changed, offered_is}
+use Rattle.tva_hier.proofs.Offering.{left_queued}
+use Rattle.tva_port.specs.declared.requests.RequestQueues.{RequestQueues}
+use Rattle.tva_port.specs.declared.requests.RequestQueues.TheVariants.{OneLevel, TwoLevels}
 use Rattle.tva_port.specs.declared.decision.Decision.{Decision}
 use Rattle.tva_port.specs.declared.decision.Decision.TheVariants.{Start, WaitUntil, Idle}
+use Rattle.tva_port.specs.Levels.{next_in, request_answer, request_leaves, request_taken, none_under}
+use Rattle.tva_port.specs.Waiting.{Waiting, lacks_legacy_room, queue_answer, is_queued, waiting_after, queued_by}
+use Rattle.tva_port.specs.Decide.{decide_on, decision, started_by, credit_after}
+use Rattle.tva_port.specs.Keeps.{AreWithin, IsWithinLimits}
+use Rattle.tva_port.specs.Steps.{put_leaves, start_leaves, decision_leaves}
+use Rattle.tva_port.specs.Counts.{one, count_of, request_count, waiting_count, queued_count, started_count, places_under, request_places, places_in, hand_count, StockData}
+use Rattle.tva_port.proofs.Deciding.{next_of, start_is, covered_pays}
+use Rattle.tva_port.proofs.Standing.{refused_leaves}
+use Rattle.tva_base.specs.Plan.{AreLinkLimits}
 use Rattle.tva_port.specs.declared.hand.Answer.{Answer}
 use Rattle.tva_port.specs.declared.hand.Answer.TheVariants as answers
 use Rattle.tva_port.specs.declared.hand.Next.{Next}
 use Rattle.tva_port.specs.declared.hand.Next.TheVariants as nexts
 use Rattle.tva_port.specs.Hand.{AreOneAnswer, AreOneDecision, answer_by, decision_by}
-use Rattle.tva_port.specs.Levels.{none_under}
 use Rattle.tva_port.specs.Legal.{IsLegal}
 use Rattle.tva_port.specs.Log.{Entry}
-use Rattle.tva_port.specs.Waiting.{Waiting, waiting_after, queue_answer, queued_by}
-use Rattle.tva_port.specs.Decide.{decision, started_by, credit_after}
 use Rattle.tva_port.specs.Stands.{PortData, StandsFor}
 use Rattle.tva_port.specs.Stocked.{IsStocked}
-use Rattle.tva_port.specs.Counts.{request_count, waiting_count, queued_count, started_count, hand_count, places_in, StockData}
 use Rattle.tva_port.proofs.Legality.{few_started}
 use Rattle.tva_port.proofs.Limits.{stays_within}
 use Rattle.tva_port.proofs.Waits.{puts_or, waits-queued, waits-started}
-use Rattle.tva_port.proofs.Counts.{count-put, count-started, count-few}
+
+-- an offer that is queued passed both tests
+pub queued_tests : {T : Type 0} (b c : Bool) (x : T) → cond b (offers.NoQueue x) (cond c (offers.QueueFull x) offers.Queued) ≡ offers.Queued → (b ≡ false) × (c ≡ false)
+queued_tests true c x e = absurd (cc)
+queued_tests false true x e = absurd (cc)
+queued_tests false false x e = (refl, refl)
+
+-- ## sums by one measure, where another decides what offers and takes leave
+
+module _ {T : Type 0} (measure count : T → ℕ) where
+  sum-refilled : (quantum : ℕ) (qs : List (Queue T)) → all_bytes count (refilled quantum qs) ≡ all_bytes count qs
+  sum-refilled quantum [] = refl
+  sum-refilled quantum (q ∷ qs) = omega (arith, sum_by-cons (queue_bytes count) q qs, sum_by-cons (queue_bytes count) (queue q.key (q.deficit + quantum) q.items) qs)
+
+  sum-settled : (quantum key deficit : ℕ) (xs : List T) (qs : List (Queue T)) → all_bytes count (settled measure quantum key deficit xs qs) ≡ bytes_in count xs + all_bytes count qs
+  sum-settled quantum key deficit [] qs = omega (arith, sum-refilled quantum qs)
+  sum-settled quantum key deficit (x ∷ xs) qs =
+      let q : Queue T = queue key deficit (x ∷ xs) in
+      elim (leb_tells (suc deficit) (measure x)) [
+        | inl h ↦ subst (λ t. all_bytes count (cond t (refilled quantum (qs ++ q ∷ [])) (q ∷ qs)) ≡ bytes_in count (x ∷ xs) + all_bytes count qs) (sym h.0)
+            (omega (arith, sum-refilled quantum (qs ++ q ∷ []), sum_by_push (queue_bytes count) qs q))
+        | inr h ↦ subst (λ t. all_bytes count (cond t (refilled quantum (qs ++ q ∷ [])) (q ∷ qs)) ≡ bytes_in count (x ∷ xs) + all_bytes count qs) (sym h.0)
+            (sum_by-cons (queue_bytes count) q qs)
+      ]
+
+  sum-served : (quantum key deficit : ℕ) (xs : List T) (qs : List (Queue T)) (x : T) → first xs ≡ Some x
+      → all_bytes count (front_settled measure quantum (popped measure key deficit xs ∷ qs)) + count x ≡ all_bytes count (queue key deficit xs ∷ qs)
+  sum-served quantum key deficit [] qs x e = absurd (cc)
+  sum-served quantum key deficit (y ∷ ys) qs x e =
+      let m : count y ≡ count x = cc in
+      omega (arith, sum-settled quantum key (deficit - measure y) ys qs, sum_by-cons (queue_bytes count) (queue key deficit (y ∷ ys)) qs, sum_by-cons count y ys)
+
+  pub sum-taken : (quantum : ℕ) (qs : List (Queue T)) (x : T) → head qs ≡ Some x → all_bytes count (taken measure quantum qs) + count x ≡ all_bytes count qs
+  sum-taken quantum [] x e = absurd (cc)
+  sum-taken quantum (q ∷ qs) x e = sum-served quantum q.key q.deficit q.items qs x e
+
+  pub sum-offered : (f : Fair T) (key : ℕ) (x : T) → lacks_queue f key ≡ false → lacks_room measure f key x ≡ false → all_bytes count (offer_leaves measure f key x).queues ≡ all_bytes count f.queues + count x
+  sum-offered f key x h r = ap (λ (z : Fair T). all_bytes count z.queues) (offered_is measure f key x h r) ∙ all_bytes-put count f.limits.quantum key x f.queues
+
+  groups-refilled : (quantum : ℕ) (gs : List (Group T)) → all_group_bytes count (group_refilled quantum gs) ≡ all_group_bytes count gs
+  groups-refilled quantum [] = refl
+  groups-refilled quantum (g ∷ gs) = omega (arith, sum_by-cons (group_bytes count) g gs, sum_by-cons (group_bytes count) (group g.key (g.deficit + quantum) g.queues) gs)
+
+  groups-settled : (quantum key deficit : ℕ) (m : DrrLimits) (qs : List (Queue T)) (gs : List (Group T)) → all_group_bytes count (group_settled measure quantum (group key deficit (fair m qs)) qs gs) ≡ all_bytes count qs + all_group_bytes count gs
+  groups-settled quantum key deficit m [] gs = omega (arith, groups-refilled quantum gs)
+  groups-settled quantum key deficit m (q ∷ qs) gs =
+      let g : Group T = group key deficit (fair m (q ∷ qs)) in
+      elim (leb_tells (suc deficit) (first_bytes measure q.items)) [
+        | inl t ↦ subst (λ z. all_group_bytes count (cond z (group_refilled quantum (gs ++ g ∷ [])) (g ∷ gs)) ≡ all_bytes count (q ∷ qs) + all_group_bytes count gs) (sym t.0)
+            (omega (arith, groups-refilled quantum (gs ++ g ∷ []), sum_by_push (group_bytes count) gs g))
+        | inr t ↦ subst (λ z. all_group_bytes count (cond z (group_refilled quantum (gs ++ g ∷ [])) (g ∷ gs)) ≡ all_bytes count (q ∷ qs) + all_group_bytes count gs) (sym t.0)
+            (sum_by-cons (group_bytes count) g gs)
+      ]
+
+  pub sum-groups_taken : (quantum : ℕ) (gs : List (Group T)) (x : T) → next gs ≡ Some x → all_group_bytes count (groups_taken measure quantum gs) + count x ≡ all_group_bytes count gs
+  sum-groups_taken quantum [] x e = absurd (cc)
+  sum-groups_taken quantum (g ∷ gs) x e = omega (
+    arith,
+    groups-settled quantum g.key (g.deficit - head_bytes measure g.queues.queues) g.queues.limits (taken measure g.queues.limits.quantum g.queues.queues) gs,
+    sum-taken g.queues.limits.quantum g.queues.queues x e,
+    sum_by-cons (group_bytes count) g gs,
+  )
+
+  pub sum-offered_under : (h : Hier T) (outer inner : ℕ) (x : T) → answer_to_offer measure h outer inner x ≡ offers.Queued → all_group_bytes count (left_by_offer measure h outer inner x).groups ≡ all_group_bytes count h.groups + count x
+  sum-offered_under h outer inner x e =
+      let t = queued_tests (lacks_place h outer inner) (lacks_space measure h outer inner x) x e in
+      let q = none_true (lacks_group h outer) (lacks_queue (fair_of h outer) inner) t.0 in
+      let r = none_true (lacks_room measure (fair_of h outer) inner x) (leb (suc h.limits.class_bytes) (all_group_bytes measure h.groups + measure x)) t.1 in
+      ap (λ (z : Hier T). all_group_bytes count z.groups) (left_queued measure h outer inner x e)
+      ∙ bytes-changed count (λ f. offer_leaves measure f inner x) (inner_limits h.limits h.inner) h.limits.quantum outer (count x) h.groups (sum-offered (fair_of h outer) inner x q.1 r.0)
+
+-- ## a packet that is queued
+
+request-queued : (rs : RequestQueues) (key : ℕ) (p : PacketData) → request_answer rs key p ≡ offers.Queued → request_count (request_leaves rs key p) ≡ request_count rs + 1
+request-queued (OneLevel f) key p e =
+    let t = queued_tests (lacks_queue f key) (lacks_room packet_length f key p) p e in
+    sum-offered packet_length one f key p t.0 t.1
+request-queued (TwoLevels h) key p e = sum-offered_under packet_length one h key (inner_key_of p) p e
+
+queued_is : (a : Offered PacketData) → is_queued a ≡ true → a ≡ offers.Queued
+queued_is offers.Queued e = refl
+queued_is (offers.NoQueue p) e = absurd (cc)
+queued_is (offers.QueueFull p) e = absurd (cc)
+
+none_queued : (a : Offered PacketData) → is_queued a ≡ false → queued_count a ≡ 0
+none_queued offers.Queued e = absurd (cc)
+none_queued (offers.NoQueue p) e = refl
+none_queued (offers.QueueFull p) e = refl
+
+request-put : (l : LinkLimits) (w : Waiting) (key : ℕ) (p : PacketData) (b : Bool) → is_queued (request_answer w.requests key p) ≡ b → waiting_count (put_leaves l w Request key p) ≡ waiting_count w + queued_count (request_answer w.requests key p)
+request-put l w key p true e =
+    let q = queued_is (request_answer w.requests key p) e in
+    omega (arith, request-queued w.requests key p q, ap queued_count q)
+request-put l w key p false e = omega (arith, ap (λ z. waiting_count z) (refused_leaves l w Request key p e), none_queued (request_answer w.requests key p) e)
+
+regular-put : (l : LinkLimits) (w : Waiting) (key : ℕ) (p : PacketData) (b : Bool) → is_queued (offer_answer packet_length w.regulars key p) ≡ b → waiting_count (put_leaves l w Regular key p) ≡ waiting_count w + queued_count (offer_answer packet_length w.regulars key p)
+regular-put l w key p true e =
+    let q = queued_is (offer_answer packet_length w.regulars key p) e in
+    let t = queued_tests (lacks_queue w.regulars key) (lacks_room packet_length w.regulars key p) p q in
+    omega (arith, sum-offered packet_length one w.regulars key p t.0 t.1, ap queued_count q)
+regular-put l w key p false e = omega (arith, ap (λ z. waiting_count z) (refused_leaves l w Regular key p e), none_queued (offer_answer packet_length w.regulars key p) e)
+
+legacy-put : (b : Bool) (xs : List PacketData) (p : PacketData) → length (cond b xs (xs ++ p ∷ [])) ≡ length xs + queued_count (cond b (offers.QueueFull p) offers.Queued)
+legacy-put true xs p = omega arith
+legacy-put false xs p = length-append xs (p ∷ [])
+
+-- what waits after an offer is what did, and the packet that is queued
+pub count-put : (l : LinkLimits) (w : Waiting) (class : Class) (key : ℕ) (p : PacketData) → waiting_count (put_leaves l w class key p) ≡ waiting_count w + queued_count (queue_answer l w class key p)
+count-put l w Request key p = request-put l w key p _ refl
+count-put l w Regular key p = regular-put l w key p _ refl
+count-put l w Legacy key p = omega (arith, legacy-put (lacks_legacy_room l w.legacy p) w.legacy p)
+
+-- ## a packet that starts
+
+request-started : (rs : RequestQueues) (p : PacketData) → next_in rs ≡ Some p → request_count (request_taken rs) + 1 ≡ request_count rs
+request-started (OneLevel f) p e = sum-taken packet_length one f.limits.quantum f.queues p e
+request-started (TwoLevels h) p e = sum-groups_taken packet_length one h.limits.quantum h.groups p e
+
+legacy-started : (xs : List PacketData) (p : PacketData) → first xs ≡ Some p → length (drop 1 xs) + 1 ≡ length xs
+legacy-started [] p e = absurd (cc)
+legacy-started (x ∷ xs) p e = omega arith
+
+class-started : (l : LinkLimits) (w : Waiting) (credit : ℕ) (class : Class) (p : PacketData) → next_of l w credit class ≡ Some p → waiting_count (start_leaves class w) + 1 ≡ waiting_count w
+class-started l w credit Request p e = omega (arith, request-started w.requests p (covered_pays l credit (next_in w.requests) p e).0)
+class-started l w credit Regular p e = omega (arith, sum-taken packet_length one w.regulars.limits.quantum w.regulars.queues p e)
+class-started l w credit Legacy p e = omega (arith, legacy-started w.legacy p e)
+
+-- what waits after a decision, with what starts, is what waited
+pub count-started : (l : LinkLimits) (w : Waiting) (credit now : ℕ) (d : Decision) → d ≡ decide_on l w credit now → waiting_count (decision_leaves d w) + started_count d ≡ waiting_count w
+count-started l w credit now (Start class p) e = class-started l w credit class p (start_is l w credit now class p (sym e))
+count-started l w credit now (WaitUntil time) e = omega arith
+count-started l w credit now Idle e = omega arith
+
+-- ## the places
+
+length-counts : (xs : List PacketData) → bytes_in one xs ≡ length xs
+length-counts [] = refl
+length-counts (x ∷ xs) = omega (arith, sum_by-cons one x xs, length-counts xs)
+
+queues-few : (l : DrrLimits) (qs : List (Queue PacketData)) → AreQueues packet_length l qs → all_bytes one qs ≤ length qs * l.ring
+queues-few l [] a = omega arith
+queues-few l (q ∷ qs) a = omega (arith, queues-few l qs a.2, a.0.ring, length-counts q.items, sum_by-cons (queue_bytes one) q qs, add-mul 1 (length qs) l.ring)
+
+pub fair-few : (f : Fair PacketData) → IsFair packet_length f → count_of f ≤ f.limits.queues * f.limits.ring
+fair-few f h = omega (arith, queues-few f.limits f.queues h.queues.each, mul-le-mul_right f.limits.ring h.queues.few)
+
+groups-few : (l : DrrLimits) (inner : ℕ) (gs : List (Group PacketData)) → AreGroups packet_length l inner gs → all_group_bytes one gs ≤ length gs * (inner * l.ring)
+groups-few l inner [] a = omega arith
+groups-few l inner (g ∷ gs) a =
+    let few : count_of g.queues ≤ inner * l.ring = subst (λ (z : DrrLimits). count_of g.queues ≤ z.queues * z.ring) a.0.limits (fair-few g.queues a.0.fair) in
+    omega (arith, few, groups-few l inner gs a.2, sum_by-cons (group_bytes one) g gs, add-mul 1 (length gs) (inner * l.ring))
+
+pub hier-few : (h : Hier PacketData) → IsHier packet_length h → all_group_bytes one h.groups ≤ h.limits.queues * (h.inner * h.limits.ring)
+hier-few h i = omega (arith, groups-few h.limits h.inner h.groups i.groups.each, mul-le-mul_right (h.inner * h.limits.ring) i.groups.few)
+
+pub request-few : (l : LinkLimits) (rs : RequestQueues) → AreWithin l rs → request_count rs ≤ request_places l
+request-few l (OneLevel f) w =
+    subst (λ o. count_of f ≤ places_under l.request o) (sym w.0)
+    (subst (λ (z : DrrLimits). count_of f ≤ z.queues * z.ring) w.2 (fair-few f w.1))
+request-few l (TwoLevels h) w =
+    subst (λ o. all_group_bytes one h.groups ≤ places_under l.request o) (sym w.0)
+    (subst (λ (z : DrrLimits). all_group_bytes one h.groups ≤ z.queues * (h.inner * z.ring)) w.2 (hier-few h w.1))
+
+pub regular-few : (l : LinkLimits) (f : Fair PacketData) → IsFair packet_length f → f.limits ≡ l.regular → count_of f ≤ l.regular.queues * l.regular.ring
+regular-few l f h e = subst (λ (z : DrrLimits). count_of f ≤ z.queues * z.ring) e (fair-few f h)
+
+-- what waits within the limits of each class has a place
+pub count-few : (l : LinkLimits) (w : Waiting) → IsWithinLimits l w → waiting_count w ≤ places_in l
+count-few l w h = omega (arith, request-few l w.requests h.requests, regular-few l w.regulars h.regulars.0 h.regulars.1, h.legacy.0)
 
 -- ## what waits after a log
 

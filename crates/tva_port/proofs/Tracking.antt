@@ -1,27 +1,43 @@
--- A packet that waits under a key of a class, and the bytes of its class that go before it.
-use Rattle.std.proofs.Common.{◌≡◌, ℕ, ◌+◌, ◌≤◌, true, cond, eqb, List, [], ◌∷◌, ◌++◌, length, Some, refl, sym, ap, ◌∙◌, subst, inl, inr, ◌⊎◌, arith, append_assoc}
+-- A packet that waits in its queue, and the bytes of its class that go before it, in queues of one level or of two:
+-- regular packets wait in queues of one level, and requests in those of their link.
+use Rattle.std.proofs.Common.{◌≡◌, ℕ, ◌+◌, ◌≤◌, true, false, cond, List, [], ◌∷◌, ◌++◌, length, Option, Some, refl, sym, ap, ◌∙◌, subst, inl, inr, ◌⊎◌, arith, append_assoc}
 use Rattle.std.specs.Bool.{MatchBool}
-use Rattle.std.proofs.lemmas.List.Sums.{sum_by-cons}
+use Rattle.std.proofs.lemmas.List.Sums.{sum_by-cons, sum_by_push}
 use Rattle.tva_base.specs.declared.limits.DrrLimits.{DrrLimits}
 use Rattle.tva_base.specs.declared.limits.LinkLimits.{LinkLimits}
 use Rattle.tva_base.specs.declared.packet.Class.{Class}
 use Rattle.tva_base.specs.declared.packet.Class.TheVariants.{Request, Regular, Legacy}
-use Rattle.tva_base.specs.Plan.{AreDrrLimits}
 use Rattle.tva_shim.specs.Packets.{PacketData, packet_length}
-use Rattle.tva_drr.specs.Queues.{Queue, queue, Fair, fair, has_key, items_of, bytes_in, first, head}
+use Rattle.tva_shim.specs.Shows.{inner_key_of}
+use Rattle.tva_drr.specs.Queues.{Queue, Fair, fair, has_key, items_of, bytes_in, head}
 use Rattle.tva_drr.specs.Offer.{put, lacks_queue, lacks_room, offer_leaves}
 use Rattle.tva_drr.specs.Take.{taken}
-use Rattle.tva_drr.specs.Fair.{AreFair, IsFair}
-use Rattle.tva_drr.specs.Service.{is_front, first_bytes, head_bytes}
-use Rattle.tva_drr.specs.Ahead.{bytes_ahead, IsLeft}
+use Rattle.tva_drr.specs.Fair.{AreQueues, IsFair}
+use Rattle.tva_drr.specs.Order.{GoesLast}
+use Rattle.tva_drr.specs.Service.{is_front, first_bytes, head_bytes, most_until}
+use Rattle.tva_drr.specs.Ahead.{bytes_ahead}
 use Rattle.tva_drr.proofs.Lists.{by_key}
 use Rattle.tva_drr.proofs.OrderLaws.{goes_last, goes_first}
-use Rattle.tva_drr.proofs.Falling.{taken_falls, ahead-offer, head_ahead}
-use Rattle.tva_drr.proofs.Until.{offer_cases, has_from_items}
+use Rattle.tva_drr.proofs.Falling.{by_test, taken_falls, ahead-offer, ahead_most}
+use Rattle.tva_drr.proofs.Until.{offer_cases, has_from_items, some_head}
+use Rattle.tva_hier.specs.Groups.{Hier, items_under, fair_of}
+use Rattle.tva_hier.specs.Offer.{left_by_offer}
+use Rattle.tva_hier.specs.Hier.{IsHier}
+use Rattle.tva_hier.specs.Order.{GoesLastUnder}
+use Rattle.tva_hier.specs.Ahead.{bytes_ahead_under, next_bytes, most_until_under}
+use Rattle.tva_hier.proofs.Keeping.{head_some, head-put}
+use Rattle.tva_hier.proofs.Offering.{left_last}
+use Rattle.tva_hier.proofs.Aheads.{falls_under, offer_under, most_under, next_ahead_of}
+use Rattle.tva_hier.proofs.Nexts.{next_some, next_there, groups_there, next-offered, taken_under, next_ahead}
+use Rattle.tva_port.specs.declared.requests.RequestQueues.{RequestQueues}
+use Rattle.tva_port.specs.declared.requests.RequestQueues.TheVariants.{OneLevel, TwoLevels}
+use Rattle.tva_port.specs.Levels.{next_in, request_leaves, request_taken, requests_with, are_next}
 use Rattle.tva_port.specs.Log.{Entry}
 use Rattle.tva_port.specs.Waiting.{waiting_after}
-use Rattle.tva_port.specs.Keeps.{IsWithinLimits}
+use Rattle.tva_port.specs.Keeps.{AreWithin, IsWithinLimits}
+use Rattle.tva_port.specs.Bounds.{requests_until}
 use Rattle.tva_port.proofs.Logs.{fair_step, regulars-push}
+use Rattle.tva_port.proofs.Waits.{within_or}
 
 -- ## one class
 
@@ -47,14 +63,51 @@ pub regulars_now : (l : LinkLimits) (log : List Entry) → IsWithinLimits l (wai
 regulars_now l log w = subst (λ f. IsFair packet_length f)
     (same_fair (waiting_after l log).regulars l.regular w.regulars.1) w.regulars.0
 
+offer_limits : (f : Fair PacketData) (k : ℕ) (x : PacketData) → (offer_leaves packet_length f k x).limits ≡ f.limits
+offer_limits f k x = offer_cases (lacks_queue f k) (lacks_room packet_length f k x) f
+    (fair f.limits (put f.limits.quantum k x f.queues)) (λ (g : Fair PacketData). g.limits ≡ f.limits) refl (λ _ _. refl)
+
+-- ## queues
+
+-- what is true of them at every moment
+abbrev pub AreKept : RequestQueues → Type 0
+AreKept (OneLevel f) = IsFair packet_length f
+AreKept (TwoLevels h) = IsHier packet_length h
+
+pub kept_within : (l : LinkLimits) (rs : RequestQueues) → AreWithin l rs → AreKept rs
+kept_within l (OneLevel f) w = w.1
+kept_within l (TwoLevels h) w = w.1
+
+-- the bytes of the next packet
+abbrev pub bytes_next : RequestQueues → ℕ
+bytes_next (OneLevel f) = head_bytes packet_length f.queues
+bytes_next (TwoLevels h) = next_bytes packet_length h.groups
+
+-- the bytes that may still go before and with so many of the queue of a packet, and the most that may
+abbrev pub bytes_before : RequestQueues → ℕ → PacketData → ℕ → ℕ
+bytes_before (OneLevel f) key p bytes = bytes_ahead f.limits key bytes f.queues
+bytes_before (TwoLevels h) key p bytes = bytes_ahead_under h key (inner_key_of p) bytes
+
+abbrev pub most_in : RequestQueues → ℕ → ℕ
+most_in (OneLevel f) bytes = most_until f.limits bytes
+most_in (TwoLevels h) bytes = most_until_under h.limits h.inner bytes
+
+pub most_of_requests : (l : LinkLimits) (rs : RequestQueues) (r : ℕ) → AreWithin l rs
+    → most_in rs r ≡ requests_until l.request l.request_inner r
+most_of_requests l (OneLevel f) r w = subst (λ (o : Option ℕ). most_until f.limits r ≡ requests_until l.request o r)
+    (sym w.0) (ap (λ z. most_until z r) w.2)
+most_of_requests l (TwoLevels h) r w =
+    subst (λ (o : Option ℕ). most_until_under h.limits h.inner r ≡ requests_until l.request o r)
+    (sym w.0) (ap (λ z. most_until_under z h.inner r) w.2)
+
 -- ## one packet
 
 -- a packet among others
-pub some_items : (p : PacketData) (xs ys : List PacketData) → 1 ≤ length (xs ++ p ∷ ys)
+some_items : (p : PacketData) (xs ys : List PacketData) → 1 ≤ length (xs ++ p ∷ ys)
 some_items p [] ys = omega arith
 some_items p (x ∷ xs) ys = omega arith
 
-pub next_le : (p : PacketData) (xs ys zs : List PacketData) → zs ≡ xs ++ p ∷ ys
+next_le : (p : PacketData) (xs ys zs : List PacketData) → zs ≡ xs ++ p ∷ ys
     → first_bytes packet_length zs ≤ bytes_in packet_length (xs ++ p ∷ [])
 next_le p [] ys zs e = subst (λ ws. first_bytes packet_length ws ≤ bytes_in packet_length (p ∷ [])) (sym e)
     (omega (arith, sum_by-cons packet_length p []))
@@ -62,138 +115,258 @@ next_le p (x ∷ xs) ys zs e = subst
     (λ ws. first_bytes packet_length ws ≤ bytes_in packet_length (x ∷ (xs ++ p ∷ []))) (sym e)
     (omega (arith, sum_by-cons packet_length x (xs ++ p ∷ [])))
 
-pub one_before : (p : PacketData) (xs ys zs : List PacketData) (x : PacketData) → xs ++ p ∷ ys ≡ x ∷ zs
-    → ((xs ≡ []) × ((x ≡ p) × (ys ≡ zs))) ⊎ ((rest : List PacketData) × ((xs ≡ x ∷ rest) × (zs ≡ rest ++ p ∷ ys)))
-one_before p [] ys zs x e = inl (refl, (let k : p ≡ x = cc in sym k, cc))
-one_before p (y ∷ rest) ys zs x e = inr (
-  rest,
-  (let k : y ≡ x = cc in ap (λ z. z ∷ rest) k, (let k : rest ++ p ∷ ys ≡ zs = cc in sym k)),
-)
+module _ (key : ℕ) (p : PacketData) where
+  -- something waits under its keys
+  abbrev pub Waits : RequestQueues → Type 0
+  Waits (OneLevel f) = has_key key f.queues ≡ true
+  Waits (TwoLevels h) = has_key (inner_key_of p) (fair_of h key).queues ≡ true
 
-head_of : (xs : List PacketData) (x : PacketData) → first xs ≡ Some x → first_bytes packet_length xs ≡ packet_length x
-head_of [] x e = absurd (cc)
-head_of (y ∷ ys) x e = let k : y ≡ x = cc in ap packet_length k
+  there : (rs : RequestQueues) (xs ys : List PacketData) → requests_with rs key p ≡ xs ++ p ∷ ys → Waits rs
+  there (OneLevel f) xs ys e = has_from_items key f.queues
+      (subst (λ zs. 1 ≤ length zs) (sym e) (some_items p xs ys))
+  there (TwoLevels h) xs ys e = has_from_items (inner_key_of p) (fair_of h key).queues
+      (subst (λ zs. 1 ≤ length zs) (sym e) (some_items p xs ys))
 
--- in the queues of a class the packet waits under the key behind these, and so many bytes went since
--- it was queued, of at most so many up to it
-pub record Tracks (d : DrrLimits) (key : ℕ) (p : PacketData) (most : ℕ) (qs : List (Queue PacketData)) (before : List PacketData) (sent : ℕ) : Type 0 where
-  pub behind : List PacketData
-  pub items : items_of key qs ≡ before ++ p ∷ behind
-  pub ahead : sent + bytes_ahead d key (bytes_in packet_length (before ++ p ∷ [])) qs ≤ most
+  -- there is a next packet, which an offer leaves
+  pub next_is : (rs : RequestQueues) → AreKept rs → Waits rs
+      → (x : PacketData) × ((next_in rs ≡ Some x) × (bytes_next rs ≡ packet_length x))
+  next_is (OneLevel f) v w = some_head packet_length f.limits f.queues v.queues key w
+  next_is (TwoLevels h) v w = next_there packet_length h.limits h.inner h.groups v
+      (groups_there packet_length h.limits h.inner key (inner_key_of p) h.groups w)
 
-module _ (d : DrrLimits) (key : ℕ) (p : PacketData) (most : ℕ) where
-  pub waits : (qs : List (Queue PacketData)) (before : List PacketData) (sent : ℕ) → Tracks d key p most qs before sent → has_key key qs ≡ true
-  waits qs before sent t = has_from_items key qs (subst (λ zs. 1 ≤ length zs) (sym t.items)
-      (some_items p before t.behind))
+  some_queues : (qs : List (Queue PacketData)) → has_key key qs ≡ true → 1 ≤ length qs
+  some_queues [] h = absurd (cc)
+  some_queues (q ∷ qs) h = omega arith
 
-  -- an offer leaves it
-  pub tracks-offer : (qs : List (Queue PacketData)) (before : List PacketData) (sent k : ℕ) (x : PacketData) → Tracks d key p most qs before sent → Tracks d key p most (offer_leaves packet_length (fair d qs) k x).queues before sent
-  tracks-offer qs before sent k x t =
-      let there = waits qs before sent t in
-      let same = ahead-offer packet_length d key (bytes_in packet_length (before ++ p ∷ [])) k x qs there in
-      offer_cases (lacks_queue (fair d qs) k) (lacks_room packet_length (fair d qs) k x) (fair d qs) (fair d (put d.quantum k x qs))
-      (λ (g : Fair PacketData). bytes_ahead d key (bytes_in packet_length (before ++ p ∷ [])) g.queues ≡ bytes_ahead d key (bytes_in packet_length (before ++ p ∷ [])) qs → Tracks d key p most g.queues before sent)
-      (λ _. t)
-      (λ _ _ e.
-      let g = goes_last d d.quantum k x qs in
-      by_key k key (λ _. Tracks d key p most (put d.quantum k x qs) before sent)
-      (λ m. record {
-        behind = t.behind ++ x ∷ [];
-        items = subst (λ z. items_of z (put d.quantum k x qs) ≡ items_of z qs ++ x ∷ []) m g.own ∙ (ap (λ zs. zs ++ x ∷ []) t.items ∙ append_assoc before (p ∷ t.behind) (x ∷ []));
-        ahead = omega (arith, t.ahead, e);
-      })
-      (λ m. record { behind = t.behind; items = g.others key (λ n. m (sym n)) ∙ t.items; ahead = omega (arith, t.ahead, e) }))
-      same
+  pub next-offer : (rs : RequestQueues) (k : ℕ) (x : PacketData) → AreKept rs → Waits rs
+      → bytes_next (request_leaves rs k x) ≡ bytes_next rs
+  next-offer (OneLevel f) k x v w =
+      offer_cases (lacks_queue f k) (lacks_room packet_length f k x) f
+      (fair f.limits (put f.limits.quantum k x f.queues))
+      (λ (g : Fair PacketData). head_bytes packet_length g.queues ≡ head_bytes packet_length f.queues) refl
+      (λ _ _. head-put packet_length f.limits f.limits.quantum k x f.queues v.queues.each (some_queues f.queues w))
+  next-offer (TwoLevels h) k x v w = next-offered packet_length h.limits h.inner k (inner_key_of x) x h.groups v
+      (groups_there packet_length h.limits h.inner key (inner_key_of p) h.groups w)
 
-  -- a take gives this packet, or one before it, or one of another key
-  abbrev pub Taken : List (Queue PacketData) → List PacketData → ℕ → PacketData → Type 0
-  Taken qs before sent x =
-      ((is_front key qs ≡ true) × ((before ≡ []) × ((x ≡ p) × (sent + packet_length x ≤ most))))
-      ⊎ ((MatchBool (is_front key qs) ((rest : List PacketData) × ((before ≡ x ∷ rest) × Tracks d key p most (taken packet_length d.quantum qs) rest (sent + packet_length x)))
-      (Tracks d key p most (taken packet_length d.quantum qs) before (sent + packet_length x))))
+  next_length : (rs : RequestQueues) (x : PacketData) → next_in rs ≡ Some x → bytes_next rs ≡ packet_length x
+  next_length (OneLevel f) x e = head_some packet_length f.queues x e
+  next_length (TwoLevels h) x e = next_some packet_length h.limits h.inner h.groups x e
 
-  taken_own : (q : Queue PacketData) (qs : List (Queue PacketData)) (before : List PacketData) (sent : ℕ) (x : PacketData) → AreDrrLimits d → AreFair packet_length d (q ∷ qs) → q.key ≡ key → head (q ∷ qs) ≡ Some x → Tracks d key p most (q ∷ qs) before sent
-      → ((before ≡ []) × ((x ≡ p) × (sent + packet_length x ≤ most))) ⊎ ((rest : List PacketData) × ((before ≡ x ∷ rest) × Tracks d key p most (taken packet_length d.quantum (q ∷ qs)) rest (sent + packet_length x)))
-  taken_own q qs before sent x v f e h t =
-      let new : List (Queue PacketData) = taken packet_length d.quantum (q ∷ qs) in
-      let g = goes_first packet_length d.quantum d q.key (q ∷ qs) x f.each refl h in
-      let own : items_of key (q ∷ qs) ≡ x ∷ items_of key new = subst (λ z. items_of z (q ∷ qs) ≡ x ∷ items_of z new) e g.own in
-      let bytes = head_of q.items x h in
-      elim (one_before p before t.behind (items_of key new) x (sym t.items ∙ own)) [
-        | inl k ↦ inl (
-          k.0,
-          (
-            k.1.0,
-            (let least : head_bytes packet_length (q ∷ qs) ≤ bytes_ahead d key (bytes_in packet_length (before ++ p ∷ [])) (q ∷ qs) =
-                head_ahead packet_length d key (bytes_in packet_length (before ++ p ∷ [])) (q ∷ qs) f
-                (λ _. subst (λ zs. first_bytes packet_length q.items ≤ bytes_in packet_length (zs ++ p ∷ [])) (sym k.0)
-                (omega (arith, bytes, ap packet_length k.1.0, sum_by-cons packet_length p []))) in
-                omega (arith, least, bytes, t.ahead)),
-          ),
-        )
-        | inr k ↦ inr (
-          k.0,
-          (
-            k.1.0,
-            (let sum : packet_length x + bytes_in packet_length (k.0 ++ p ∷ []) ≡ bytes_in packet_length (before ++ p ∷ []) =
-                subst (λ zs. packet_length x + bytes_in packet_length (k.0 ++ p ∷ []) ≡ bytes_in packet_length (zs ++ p ∷ [])) (sym k.1.0) (omega (arith, sum_by-cons packet_length x (k.0 ++ p ∷ []))) in
-                let there : has_key key new ≡ true = has_from_items key new
-                (subst (λ zs. 1 ≤ length zs) (sym k.1.1) (some_items p k.0 t.behind)) in
-                let left : IsLeft packet_length d key (bytes_in packet_length (before ++ p ∷ [])) (bytes_in packet_length (k.0 ++ p ∷ [])) (q ∷ qs) =
-                by_key q.key key (λ b. MatchBool b ((head_bytes packet_length (q ∷ qs) + bytes_in packet_length (k.0 ++ p ∷ []) ≡ bytes_in packet_length (before ++ p ∷ [])) × (first_bytes packet_length (items_of key new) ≤ bytes_in packet_length (k.0 ++ p ∷ []))) (bytes_in packet_length (k.0 ++ p ∷ []) ≡ bytes_in packet_length (before ++ p ∷ [])))
-                (λ _. (omega (arith, bytes, sum), next_le p k.0 t.behind (items_of key new) k.1.1))
-                (λ n. absurd (n e)) in
-                let falls = taken_falls packet_length d key (bytes_in packet_length (before ++ p ∷ [])) (bytes_in packet_length (k.0 ++ p ∷ [])) (q ∷ qs) v f (waits (q ∷ qs) before sent t) there left in
-                record { behind = t.behind; items = k.1.1; ahead = omega (arith, falls, bytes, t.ahead) }),
-          ),
-        )
+  -- ## what goes before
+
+  ahead_same : (rs : RequestQueues) (r k : ℕ) (x : PacketData) → AreKept rs → Waits rs
+      → bytes_before (request_leaves rs k x) key p r ≡ bytes_before rs key p r
+  ahead_same (OneLevel f) r k x v w =
+      ap (λ (d : DrrLimits). bytes_ahead d key r (offer_leaves packet_length f k x).queues) (offer_limits f k x)
+      ∙ ahead-offer packet_length f.limits key r k x f.queues w
+  ahead_same (TwoLevels h) r k x v w =
+      offer_under packet_length h.limits h.inner key (inner_key_of p) r k (inner_key_of x) x h.groups v w
+
+  ahead_falls : (rs : RequestQueues) (r left : ℕ) → AreKept rs → Waits rs → Waits (request_taken rs)
+      → left + cond (are_next rs key p) (bytes_next rs) 0 ≡ r
+      → first_bytes packet_length (requests_with (request_taken rs) key p) ≤ left
+      → bytes_before (request_taken rs) key p left + bytes_next rs ≤ bytes_before rs key p r
+  ahead_falls (OneLevel f) r left v w t s m =
+      taken_falls packet_length f.limits key r left f.queues v.limits v.queues w t
+      (by_test (is_front key f.queues) (λ b. left + cond b (head_bytes packet_length f.queues) 0 ≡ r
+      → MatchBool b ((head_bytes packet_length f.queues + left ≡ r) ×
+      (first_bytes packet_length (items_of key (taken packet_length f.limits.quantum f.queues)) ≤ left)) (left ≡ r))
+      (λ _ e. (omega (arith, e), m)) (λ _ e. omega (arith, e)) s)
+  ahead_falls (TwoLevels h) r left v w t s m =
+      falls_under packet_length h.limits h.inner key (inner_key_of p) r left h.groups v w t (s, m)
+
+  next_before : (rs : RequestQueues) (r : ℕ) → AreKept rs → Waits rs
+      → first_bytes packet_length (requests_with rs key p) ≤ r → bytes_next rs ≤ bytes_before rs key p r
+  next_before (OneLevel f) r v w m = next_ahead_of packet_length f.limits key r f.queues v.queues m
+  next_before (TwoLevels h) r v w m =
+      next_ahead packet_length h.limits h.inner key (inner_key_of p) r h.groups v w m
+
+  most_before : (rs : RequestQueues) (r : ℕ) → AreKept rs → Waits rs → 1 ≤ r
+      → bytes_before rs key p r ≤ most_in rs r
+  most_before (OneLevel f) r v w s = ahead_most packet_length f.limits key r f.queues v.limits v.queues w s
+  most_before (TwoLevels h) r v w s =
+      most_under packet_length h.limits h.inner key (inner_key_of p) r h.groups v w s
+
+  -- ## what waits with it
+
+  -- what is offered goes behind it
+  behind_one : (old new : Fair PacketData) (before behind : List PacketData) (k : ℕ) (x : PacketData)
+      → GoesLast k x old new → items_of key old.queues ≡ before ++ p ∷ behind
+      → (more : List PacketData) × (items_of key new.queues ≡ before ++ p ∷ more)
+  behind_one old new before behind k x g e =
+      by_key k key (λ _. (more : List PacketData) × (items_of key new.queues ≡ before ++ p ∷ more))
+      (λ m. (
+        behind ++ x ∷ [],
+        subst (λ z. items_of z new.queues ≡ items_of z old.queues ++ x ∷ []) m g.own
+            ∙ (ap (λ zs. zs ++ x ∷ []) e ∙ append_assoc before (p ∷ behind) (x ∷ [])),
+      ))
+      (λ n. (behind, g.others key (λ m. n (sym m)) ∙ e))
+
+  behind_two : (old new : Hier PacketData) (before behind : List PacketData) (o i : ℕ) (x : PacketData)
+      → GoesLastUnder o i x old new → items_under old key (inner_key_of p) ≡ before ++ p ∷ behind
+      → (more : List PacketData) × (items_under new key (inner_key_of p) ≡ before ++ p ∷ more)
+  behind_two old new before behind o i x g e =
+      let inner : ℕ = inner_key_of p in
+      let same : ((key ≡ o → inner ≡ i → ⊥) → (more : List PacketData) ×
+      (items_under new key inner ≡ before ++ p ∷ more)) = λ k. (behind, g.others key inner k ∙ e) in
+      by_key o key (λ _. (more : List PacketData) × (items_under new key inner ≡ before ++ p ∷ more))
+      (λ m. by_key i inner (λ _. (more : List PacketData) × (items_under new key inner ≡ before ++ p ∷ more))
+      (λ n. (
+        behind ++ x ∷ [],
+        subst (λ z. items_under new z inner ≡ items_under old z inner ++ x ∷ []) m
+            (subst (λ z. items_under new o z ≡ items_under old o z ++ x ∷ []) n g.own)
+            ∙ (ap (λ zs. zs ++ x ∷ []) e ∙ append_assoc before (p ∷ behind) (x ∷ [])),
+      ))
+      (λ n. same (λ _ k. n (sym k))))
+      (λ m. same (λ k _. m (sym k)))
+
+  behind_more : (rs : RequestQueues) (before behind : List PacketData) (k : ℕ) (x : PacketData)
+      → requests_with rs key p ≡ before ++ p ∷ behind
+      → (more : List PacketData) × (requests_with (request_leaves rs k x) key p ≡ before ++ p ∷ more)
+  behind_more (OneLevel f) before behind k x e =
+      let new : Fair PacketData = fair f.limits (put f.limits.quantum k x f.queues) in
+      offer_cases (lacks_queue f k) (lacks_room packet_length f k x) f new
+      (λ (g : Fair PacketData). (more : List PacketData) × (items_of key g.queues ≡ before ++ p ∷ more)) (behind, e)
+      (λ _ _. behind_one f new before behind k x (goes_last f.limits f.limits.quantum k x f.queues) e)
+  behind_more (TwoLevels h) before behind k x e =
+      let i : ℕ = inner_key_of x in
+      elim (within_or h k i x) [
+        | inl q ↦ behind_two h (left_by_offer packet_length h k i x) before behind k i x
+            (left_last packet_length h k i x q) e
+        | inr q ↦ (behind, ap (λ (z : Hier PacketData). items_under z key (inner_key_of p)) q.0 ∙ e)
       ]
 
-  taken_other : (q : Queue PacketData) (qs : List (Queue PacketData)) (before : List PacketData) (sent : ℕ) (x : PacketData) → AreDrrLimits d → AreFair packet_length d (q ∷ qs) → (q.key ≡ key → ⊥) → head (q ∷ qs) ≡ Some x → Tracks d key p most (q ∷ qs) before sent
-      → Tracks d key p most (taken packet_length d.quantum (q ∷ qs)) before (sent + packet_length x)
-  taken_other q qs before sent x v f e h t =
+  -- what is taken was the first of the queue at the front, and the others stay
+  first_one : (d : DrrLimits) (qs : List (Queue PacketData)) (x : PacketData) → AreQueues packet_length d qs
+      → head qs ≡ Some x
+      → MatchBool (is_front key qs) (items_of key qs ≡ x ∷ items_of key (taken packet_length d.quantum qs))
+      (items_of key (taken packet_length d.quantum qs) ≡ items_of key qs)
+  first_one d [] x a e = absurd (cc)
+  first_one d (q ∷ qs) x a e =
       let new : List (Queue PacketData) = taken packet_length d.quantum (q ∷ qs) in
-      let g = goes_first packet_length d.quantum d q.key (q ∷ qs) x f.each refl h in
-      let same : items_of key new ≡ before ++ p ∷ t.behind = g.others key (λ k. e (sym k)) ∙ t.items in
-      let bytes = head_of q.items x h in
+      let g = goes_first packet_length d.quantum d q.key (q ∷ qs) x a refl e in
+      by_key q.key key (λ b. MatchBool b (items_of key (q ∷ qs) ≡ x ∷ items_of key new)
+      (items_of key new ≡ items_of key (q ∷ qs)))
+      (λ m. subst (λ z. items_of z (q ∷ qs) ≡ x ∷ items_of z new) m g.own) (λ n. g.others key (λ m. n (sym m)))
+
+  first_taken : (rs : RequestQueues) (x : PacketData) → AreKept rs → next_in rs ≡ Some x
+      → MatchBool (are_next rs key p) (requests_with rs key p ≡ x ∷ requests_with (request_taken rs) key p)
+      (requests_with (request_taken rs) key p ≡ requests_with rs key p)
+  first_taken (OneLevel f) x v e = first_one f.limits f.queues x v.queues.each e
+  first_taken (TwoLevels h) x v e = taken_under packet_length h.limits h.inner key (inner_key_of p) h.groups x v e
+
+-- the packet waits in its queue behind these, and so many bytes of its class went since it was queued, of
+-- at most so many up to it
+pub record Tracks (key : ℕ) (p : PacketData) (most : ℕ) (rs : RequestQueues) (before : List PacketData)
+    (sent : ℕ) : Type 0 where
+  pub behind : List PacketData
+  pub items : requests_with rs key p ≡ before ++ p ∷ behind
+  pub ahead : sent + bytes_before rs key p (bytes_in packet_length (before ++ p ∷ [])) ≤ most
+
+module _ (key : ℕ) (p : PacketData) (most : ℕ) where
+  pub waits : (rs : RequestQueues) (before : List PacketData) (sent : ℕ) → Tracks key p most rs before sent
+      → Waits key p rs
+  waits rs before sent t = there key p rs before t.behind t.items
+
+  -- at first, as the last of its queue
+  pub tracks_first : (rs : RequestQueues) (before : List PacketData) → AreKept rs → 1 ≤ packet_length p
+      → requests_with rs key p ≡ before ++ p ∷ [] → most_in rs (bytes_in packet_length (before ++ p ∷ [])) ≤ most
+      → Tracks key p most rs before 0
+  tracks_first rs before v s e m = record {
+    behind = [];
+    items = e;
+    ahead = omega (
+      arith,
+      m,
+      most_before key p rs (bytes_in packet_length (before ++ p ∷ [])) v
+          (there key p rs before [] e) (omega (arith, s, sum_by_push packet_length before p)),
+    );
+  }
+
+  -- an offer leaves it
+  pub tracks-offer : (rs : RequestQueues) (before : List PacketData) (sent k : ℕ) (x : PacketData)
+      → AreKept rs → Tracks key p most rs before sent → Tracks key p most (request_leaves rs k x) before sent
+  tracks-offer rs before sent k x v t =
+      let b = behind_more key p rs before t.behind k x t.items in
+      record {
+        behind = b.0;
+        items = b.1;
+        ahead = omega (
+          arith,
+          t.ahead,
+          ahead_same key p rs (bytes_in packet_length (before ++ p ∷ [])) k x v
+              (waits rs before sent t),
+        );
+      }
+
+  -- so does a take, which leaves these before it
+  tracks-taken : (rs : RequestQueues) (before next behind : List PacketData) (sent : ℕ) (x : PacketData)
+      → AreKept rs → next_in rs ≡ Some x → Tracks key p most rs before sent
+      → requests_with (request_taken rs) key p ≡ next ++ p ∷ behind
+      → bytes_in packet_length (next ++ p ∷ []) + cond (are_next rs key p) (bytes_next rs) 0 ≡
+      bytes_in packet_length (before ++ p ∷ [])
+      → Tracks key p most (request_taken rs) next (sent + packet_length x)
+  tracks-taken rs before next behind sent x v e t i s =
+      let falls = ahead_falls key p rs (bytes_in packet_length (before ++ p ∷ []))
+      (bytes_in packet_length (next ++ p ∷ [])) v (waits rs before sent t)
+      (there key p (request_taken rs) next behind i) s
+      (next_le p next behind (requests_with (request_taken rs) key p) i) in
+      record { behind = behind; items = i; ahead = omega (arith, falls, next_length key p rs x e, t.ahead) }
+
+  -- it is taken, or one before it, or one of another queue
+  abbrev pub Taken : RequestQueues → List PacketData → ℕ → PacketData → Type 0
+  Taken rs before sent x =
+      ((are_next rs key p ≡ true) × ((before ≡ []) × (x ≡ p)))
+      ⊎ (((are_next rs key p ≡ true) × ((rest : List PacketData) ×
+      ((before ≡ x ∷ rest) × Tracks key p most (request_taken rs) rest (sent + packet_length x))))
+      ⊎ ((are_next rs key p ≡ false) × Tracks key p most (request_taken rs) before (sent + packet_length x)))
+
+  taken_own : (rs : RequestQueues) (before : List PacketData) (sent : ℕ) (x : PacketData) → AreKept rs
+      → next_in rs ≡ Some x → are_next rs key p ≡ true
+      → requests_with rs key p ≡ x ∷ requests_with (request_taken rs) key p → Tracks key p most rs before sent
+      → Taken rs before sent x
+  taken_own rs [] sent x v e n o t = let s : p ∷ t.behind ≡ x ∷ requests_with (request_taken rs) key p = sym t.items ∙ o in
+      inl (n, (refl, (let k : p ≡ x = cc in sym k)))
+  taken_own rs (y ∷ rest) sent x v e n o t =
+      let s : y ∷ (rest ++ p ∷ t.behind) ≡ x ∷ requests_with (request_taken rs) key p = sym t.items ∙ o in
+      let k : y ≡ x = cc in
+      let i : rest ++ p ∷ t.behind ≡ requests_with (request_taken rs) key p = cc in
+      inr (inl (
+        n,
+        (
+          rest,
+          (
+            ap (λ z. z ∷ rest) k,
+            tracks-taken rs (y ∷ rest) rest t.behind sent x v e t (sym i)
+                (subst (λ b. bytes_in packet_length (rest ++ p ∷ []) + cond b (bytes_next rs) 0 ≡
+                bytes_in packet_length (y ∷ (rest ++ p ∷ []))) (sym n)
+                (omega (arith, next_length key p rs x e, ap packet_length k, sum_by-cons packet_length y (rest ++ p ∷ [])))),
+          ),
+        ),
+      ))
+
+  pub takes : (rs : RequestQueues) (before : List PacketData) (sent : ℕ) (x : PacketData) → AreKept rs
+      → next_in rs ≡ Some x → Tracks key p most rs before sent → Taken rs before sent x
+  takes rs before sent x v e t =
       let r : ℕ = bytes_in packet_length (before ++ p ∷ []) in
-      let there : has_key key new ≡ true = has_from_items key new
-      (subst (λ zs. 1 ≤ length zs) (sym same) (some_items p before t.behind)) in
-      let left : IsLeft packet_length d key r r (q ∷ qs) =
-      by_key q.key key (λ b. MatchBool b ((head_bytes packet_length (q ∷ qs) + r ≡ r) × (first_bytes packet_length (items_of key new) ≤ r)) (r ≡ r)) (λ k. absurd (e k)) (λ _. refl) in
-      let falls = taken_falls packet_length d key r r (q ∷ qs) v f (waits (q ∷ qs) before sent t) there left in
-      record { behind = t.behind; items = same; ahead = omega (arith, falls, bytes, t.ahead) }
+      by_test (are_next rs key p) (λ b. are_next rs key p ≡ b
+      → MatchBool b (requests_with rs key p ≡ x ∷ requests_with (request_taken rs) key p)
+      (requests_with (request_taken rs) key p ≡ requests_with rs key p) → Taken rs before sent x)
+      (λ _ n o. taken_own rs before sent x v e n o t)
+      (λ _ n s. inr (inr (
+        n,
+        tracks-taken rs before before t.behind sent x v e t (s ∙ t.items)
+            (subst (λ b. r + cond b (bytes_next rs) 0 ≡ r) (sym n) (omega arith)),
+      )))
+      refl (first_taken key p rs x v e)
 
-  pub takes : (qs : List (Queue PacketData)) (before : List PacketData) (sent : ℕ) (x : PacketData) → AreDrrLimits d → AreFair packet_length d qs → head qs ≡ Some x → Tracks d key p most qs before sent → Taken qs before sent x
-  takes [] before sent x v f h t = absurd (cc)
-  takes (q ∷ qs) before sent x v f h t =
-      by_key q.key key (λ b. ((b ≡ true) × ((before ≡ []) × ((x ≡ p) × (sent + packet_length x ≤ most))))
-      ⊎ (MatchBool b ((rest : List PacketData) × ((before ≡ x ∷ rest) × Tracks d key p most (taken packet_length d.quantum (q ∷ qs)) rest (sent + packet_length x)))
-      (Tracks d key p most (taken packet_length d.quantum (q ∷ qs)) before (sent + packet_length x))))
-      (λ e. elim (taken_own q qs before sent x v f e h t) [ inl k ↦ inl (refl, k) | inr k ↦ inr k ])
-      (λ n. inr (taken_other q qs before sent x v f n h t))
-
-  own_items : (q : Queue PacketData) (qs : List (Queue PacketData)) → eqb q.key key ≡ true → q.items ≡ items_of key (q ∷ qs)
-  own_items q qs e = ap (λ b. cond b q.items (items_of key qs)) (sym e)
-
-  -- the next item of all is among what goes up to the packet
-  pub head_among : (qs : List (Queue PacketData)) (before : List PacketData) (sent : ℕ) → AreFair packet_length d qs → Tracks d key p most qs before sent → sent + head_bytes packet_length qs ≤ most
-  head_among [] before sent f t = omega (arith, t.ahead)
-  head_among (q ∷ qs) before sent f t =
-      let least : head_bytes packet_length (q ∷ qs) ≤ bytes_ahead d key (bytes_in packet_length (before ++ p ∷ [])) (q ∷ qs) =
-      head_ahead packet_length d key (bytes_in packet_length (before ++ p ∷ [])) (q ∷ qs) f
-      (λ e. next_le p before t.behind q.items (own_items q qs e ∙ t.items)) in
-      omega (arith, least, t.ahead)
-
-  -- an offer leaves the next item of all
-  first_more : (xs : List PacketData) (x : PacketData) → 1 ≤ length xs → first_bytes packet_length (xs ++ x ∷ []) ≡ first_bytes packet_length xs
-  first_more [] x h = absurd (omega arith)
-  first_more (y ∷ ys) x h = refl
-
-  pub head-offer : (qs : List (Queue PacketData)) (k : ℕ) (x : PacketData) → AreFair packet_length d qs → has_key key qs ≡ true → head_bytes packet_length (offer_leaves packet_length (fair d qs) k x).queues ≡ head_bytes packet_length qs
-  head-offer [] k x f h = absurd (cc)
-  head-offer (q ∷ qs) k x f h =
-      offer_cases (lacks_queue (fair d (q ∷ qs)) k) (lacks_room packet_length (fair d (q ∷ qs)) k x) (fair d (q ∷ qs)) (fair d (put d.quantum k x (q ∷ qs)))
-      (λ (g : Fair PacketData). head_bytes packet_length g.queues ≡ head_bytes packet_length (q ∷ qs)) refl
-      (λ _ _. by_key q.key k (λ b. head_bytes packet_length (cond b (queue q.key q.deficit (q.items ++ x ∷ []) ∷ qs) (q ∷ put 0 k x qs)) ≡ head_bytes packet_length (q ∷ qs))
-      (λ _. first_more q.items x f.each.0.filled) (λ _. refl))
+  -- the next packet is among what goes up to this one
+  pub next_among : (rs : RequestQueues) (before : List PacketData) (sent : ℕ) → AreKept rs
+      → Tracks key p most rs before sent → sent + bytes_next rs ≤ most
+  next_among rs before sent v t = omega (
+    arith,
+    t.ahead,
+    next_before key p rs
+        (bytes_in packet_length (before ++ p ∷ [])) v (waits rs before sent t)
+        (next_le p before t.behind (requests_with rs key p) t.items),
+  )

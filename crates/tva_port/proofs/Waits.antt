@@ -82,31 +82,19 @@ room_from_queued false p xs ys e = refl
 pub waits-queued : (l : LinkLimits) (log : List Entry) (t : ℕ) (class : Class) (key : ℕ) (p : PacketData) → FewStarted log → queue_answer l (waiting_after l log) class key p ≡ offers.Queued
     → put_leaves l (waiting_after l log) class key p ≡ waiting_after l (log ++ Queued t class key p ∷ [])
 waits-queued l log t Request key p f e = let x = Queued t Request key p in
-    sym (same_waiting (requests_after l (log ++ x ∷ [])) (request_leaves (requests_after l log) key p)
-    (regulars_after l (log ++ x ∷ [])) (regulars_after l log) (legacy_after (log ++ x ∷ [])) (legacy_after log)
-    (requests-push l log x) (regulars-push l log x) (legacy-same log x refl refl))
+    sym (same_waiting _ _ _ _ _ _ (requests-push l log x) (regulars-push l log x) (legacy-same log x refl refl))
 waits-queued l log t Regular key p f e = let x = Queued t Regular key p in
-    sym (same_waiting (requests_after l (log ++ x ∷ [])) (requests_after l log) (regulars_after l (log ++ x ∷ []))
-    (offer_leaves packet_length (regulars_after l log) key p) (legacy_after (log ++ x ∷ [])) (legacy_after log)
-    (requests-push l log x) (regulars-push l log x) (legacy-same log x refl refl))
+    sym (same_waiting _ _ _ _ _ _ (requests-push l log x) (regulars-push l log x) (legacy-same log x refl refl))
 waits-queued l log t Legacy key p f e = let x = Queued t Legacy key p in
     ap (λ (z : List PacketData). waiting (requests_after l log) (regulars_after l log) z)
     (room_from_queued (lacks_legacy_room l (legacy_after log) p) p (legacy_after log)
     (legacy_after log ++ p ∷ []) e)
-    ∙ sym (same_waiting (requests_after l (log ++ x ∷ [])) (requests_after l log) (regulars_after l (log ++ x ∷ []))
-    (regulars_after l log) (legacy_after (log ++ x ∷ [])) (legacy_after log ++ p ∷ [])
-    (requests-push l log x) (regulars-push l log x) (legacy-queued log t key p f))
+    ∙ sym (same_waiting _ _ _ _ _ _ (requests-push l log x) (regulars-push l log x) (legacy-queued log t key p f))
 
 pub waits-started : (l : LinkLimits) (log : List Entry) (t : ℕ) (class : Class) (p : PacketData) → start_leaves class (waiting_after l log) ≡ waiting_after l (log ++ Started t class p ∷ [])
 waits-started l log t Request p = let x = Started t Request p in
-    sym (same_waiting (requests_after l (log ++ x ∷ [])) (request_taken (requests_after l log))
-    (regulars_after l (log ++ x ∷ [])) (regulars_after l log) (legacy_after (log ++ x ∷ [])) (legacy_after log)
-    (requests-push l log x) (regulars-push l log x) (legacy-same log x refl refl))
+    sym (same_waiting _ _ _ _ _ _ (requests-push l log x) (regulars-push l log x) (legacy-same log x refl refl))
 waits-started l log t Regular p = let x = Started t Regular p in
-    sym (same_waiting (requests_after l (log ++ x ∷ [])) (requests_after l log) (regulars_after l (log ++ x ∷ []))
-    (take_leaves packet_length (regulars_after l log)) (legacy_after (log ++ x ∷ [])) (legacy_after log)
-    (requests-push l log x) (regulars-push l log x) (legacy-same log x refl refl))
+    sym (same_waiting _ _ _ _ _ _ (requests-push l log x) (regulars-push l log x) (legacy-same log x refl refl))
 waits-started l log t Legacy p = let x = Started t Legacy p in
-    sym (same_waiting (requests_after l (log ++ x ∷ [])) (requests_after l log) (regulars_after l (log ++ x ∷ []))
-    (regulars_after l log) (legacy_after (log ++ x ∷ [])) (drop 1 (legacy_after log))
-    (requests-push l log x) (regulars-push l log x) (legacy-started log t p))
+    sym (same_waiting _ _ _ _ _ _ (requests-push l log x) (regulars-push l log x) (legacy-started log t p))

@@ -9,8 +9,7 @@ use Rattle.tva_port.specs.Stands.{PortData}
 use Rattle.tva_port.specs.Steps.{freed}
 use Rattle.tva_port.specs.Hand.{decision_by}
 use Rattle.tva_port.proofs.Hands.{rested_leaves, rested_free}
-use Rattle.tva_port.proofs.Standing.{decided, stands_by_decide}
-use Rattle.tva_port.proofs.Sound.{paid_less, sound-later}
+use Rattle.tva_port.proofs.Standing.{decided, stands_by_decide, paid_less, sound-later}
 use Rattle.tva_port.proofs.Served.{all_served, alike}
 use Rattle.tva_port.proofs.Logs.{later-weaker}
 use Rattle.tva_port.proofs.Resting.{rests, misses, first_covered}

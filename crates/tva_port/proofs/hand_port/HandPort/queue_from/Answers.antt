@@ -4,8 +4,7 @@ use Rattle.tva_shim.specs.Packets.{PacketData}
 use Rattle.tva_port.specs.Waiting.{waiting, is_queued}
 use Rattle.tva_port.specs.Stands.{PortData}
 use Rattle.tva_port.proofs.Hands.{by_packet, IsOf, kept, of_queue}
-use Rattle.tva_port.proofs.Standing.{answered, stands_by_queue, refused_leaves}
-use Rattle.tva_port.proofs.Sound.{sound-later}
+use Rattle.tva_port.proofs.Standing.{answered, stands_by_queue, refused_leaves, sound-later}
 use Rattle.tva_port.proofs.Logs.{later-weaker}
 use Rattle.tva_port.proofs.Steady.{misses_offered}
 use Rattle.tva_port.specs.Hand.{answer_by}
