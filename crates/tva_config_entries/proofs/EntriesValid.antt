@@ -151,6 +151,7 @@ host_valid version is p ms h gave =
 
 row_valid : (p : Place) (ms : Members) (request regular : List ℕ) (low high default : ℕ) (q : ℕ × ℕ) → (nat_le low default && nat_le default high) ≡ true
     → row p ms request regular low high default ≡ Ok q → IsWithin low high q.0 × IsWithin low high q.1
+unfolding row
 row_valid p ms request regular low high default q usual gave =
     when_gave (λ (r : ℕ × ℕ). IsWithin low high r.0 × IsWithin low high r.1) (optional p ms request (value.number low high) default) _ q gave (λ first k1 g1.
     when_gave (λ (r : ℕ × ℕ). IsWithin low high r.0 × IsWithin low high r.1) (optional p ms regular (value.number low high) default) _ q g1 (λ second k2 g2.

@@ -39,6 +39,7 @@ never P fault x gave = absurd (cc)
 
 pub required_valid : {A : Type 0} (P : A → Type 0) (kind : Data → Option A) (place : Place) (ms : Members) (key : List ℕ) (x : A)
     → ((d : Data) (y : A) → kind d ≡ Some y → P y) → required place ms key kind ≡ Ok x → P x
+unfolding required
 required_valid P kind place ms key x known gave =
     keyed_from P kind place key (Err (fault_at place rule.Missing key)) (get_member key ms) x known (never (P x) (fault_at place rule.Missing key) x) gave
 
@@ -47,6 +48,7 @@ the_default P default x usual gave = let same : default ≡ x = cc in subst P sa
 
 pub optional_valid : {A : Type 0} (P : A → Type 0) (kind : Data → Option A) (place : Place) (ms : Members) (key : List ℕ) (default x : A)
     → ((d : Data) (y : A) → kind d ≡ Some y → P y) → P default → optional place ms key kind default ≡ Ok x → P x
+unfolding optional
 optional_valid P kind place ms key default x known usual gave =
     keyed_from P kind place key (Ok default) (get_member key ms) x known (the_default P default x usual) gave
 

@@ -83,7 +83,7 @@ link_keys = codes "from" ∷ codes "to" ∷ codes "ns_per_byte" ∷ codes "delay
     ∷ codes "legacy_ring" ∷ codes "legacy_bytes" ∷ codes "request_levels" ∷ codes "request_inner" ∷ []
 
 -- a row of two keys: one of requests, and one of regular packets
-abbrev pub row : Place → Members → List ℕ → List ℕ → ℕ → ℕ → ℕ → Read (ℕ × ℕ)
+unfoldable pub row : Place → Members → List ℕ → List ℕ → ℕ → ℕ → ℕ → Read (ℕ × ℕ)
 row p ms request regular low high default = do
   first ← optional p ms request (number low high) default
   second ← optional p ms regular (number low high) default

@@ -15,7 +15,7 @@ are_listed keys no_members = true
 are_listed keys (member name d members) = is_listed keys name && are_listed keys members
 
 -- a key that isn't listed is a fault
-abbrev pub only_listed : Place → List (List ℕ) → Members → Read (Unit {0})
+unfoldable pub only_listed : Place → List (List ℕ) → Members → Read (Unit {0})
 only_listed place keys members = unless (not (are_listed keys members)) (fault_at place rule.Unknown (codes "-"))
 
 -- what stands at a key, if anything: a value of the kind, or a fault; and otherwise what is read of a missing key
@@ -24,9 +24,9 @@ keyed place key kind missing None = missing
 keyed place key kind missing (Some d) = found (kind d) (fault_at place rule.Value key)
 
 -- a key that must be there
-abbrev pub required : {A : Type 0} → Place → Members → List ℕ → (Data → Option A) → Read A
+unfoldable pub required : {A : Type 0} → Place → Members → List ℕ → (Data → Option A) → Read A
 required place members key kind = keyed place key kind (Err (fault_at place rule.Missing key)) (get_member key members)
 
 -- a key with a default
-abbrev pub optional : {A : Type 0} → Place → Members → List ℕ → (Data → Option A) → A → Read A
+unfoldable pub optional : {A : Type 0} → Place → Members → List ℕ → (Data → Option A) → A → Read A
 optional place members key kind default = keyed place key kind (Ok default) (get_member key members)

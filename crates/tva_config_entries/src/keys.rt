@@ -39,6 +39,7 @@ fn missing(place: Place, key: &str) -> ConfigFault
 }
 
 /// Refuses a table that has another key than these.
+#[tactic(auto, unfolding(crate::specs::Keys::only_listed))]
 pub fn only_listed(place: Place, table: &Table, listed: &[&str]) -> Result<(), ConfigFault>
     ensures { result ≡ only_listed place (map (λ key. key.now) listed.now) (table_view table.now) }
 {
@@ -85,6 +86,7 @@ pub fn value_or_fault<T: Drop>(place: Place, key: &str, given: Option<T>) -> Res
 }
 
 /// A value of a kind, which must be there.
+#[tactic(auto, unfolding(crate::specs::Keys::required))]
 pub fn required<T: Kind>(place: Place, table: &Table, key: &str) -> Result<T, ConfigFault>
     requires { length key.now ≤ 24 }
     ensures { result ≡ required place (table_view table.now) key.now T.kind }
@@ -96,6 +98,7 @@ pub fn required<T: Kind>(place: Place, table: &Table, key: &str) -> Result<T, Co
 }
 
 /// A value of a kind, or the default.
+#[tactic(auto, unfolding(crate::specs::Keys::optional))]
 pub fn optional<T: Kind>(
     place: Place,
     table: &Table,
@@ -112,6 +115,7 @@ pub fn optional<T: Kind>(
 }
 
 /// An array of at most 1,024 values of a kind, or none.
+#[tactic(auto, unfolding(crate::specs::Keys::optional))]
 pub fn few_items<T: Kind>(
     alloc: Global,
     place: Place,
@@ -131,6 +135,7 @@ pub fn few_items<T: Kind>(
 }
 
 /// A number that must be there, from `low` to `high`.
+#[tactic(auto, unfolding(crate::specs::Keys::required))]
 pub fn number<T: Number>(
     place: Place,
     table: &Table,
@@ -148,6 +153,7 @@ pub fn number<T: Number>(
 }
 
 /// A number from `low` to `high`, or the default.
+#[tactic(auto, unfolding(crate::specs::Keys::optional))]
 pub fn number_or<T: Number>(
     place: Place,
     table: &Table,
@@ -166,6 +172,7 @@ pub fn number_or<T: Number>(
 }
 
 /// A nonce, or the default.
+#[tactic(auto, unfolding(crate::specs::Keys::optional))]
 pub fn nonce_or(place: Place, table: &Table, key: &str, default: u64) -> Result<u64, ConfigFault>
     requires { length key.now ≤ 24 }
     ensures { result ≡ optional place (table_view table.now) key.now (kind.written kind.hex_nonce_of) default }
@@ -177,6 +184,7 @@ pub fn nonce_or(place: Place, table: &Table, key: &str, default: u64) -> Result<
 }
 
 /// An array of tables, or none.
+#[tactic(auto, unfolding(crate::specs::Keys::optional))]
 pub fn tables<'a>(
     alloc: Global,
     place: Place,

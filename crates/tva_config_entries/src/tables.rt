@@ -255,6 +255,7 @@ fn behind_a_tag(levels: u32, inner: u32) -> Option<u32>
 }
 
 // A row of two keys: one of requests, and one of regular packets.
+#[tactic(auto, unfolding(crate::specs::Entries::row))]
 fn row(
     place: Place,
     table: &Table,
