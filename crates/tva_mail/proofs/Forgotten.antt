@@ -8,7 +8,7 @@ use Rattle.std.proofs.lemmas.List.Elements.{AllZip-get_or}
 use Rattle.tva_log.specs.declared.kinds.Input.{Input}
 use Rattle.tva_log.specs.Entries.{Entry}
 use Rattle.tva_waiting.specs.declared.memory.Memory.{Memory}
-use Rattle.tva_waiting.specs.declared.memory.Memory.TheVariants.{All as KeepsAll, Events, Nothing}
+use Rattle.tva_waiting.specs.declared.memory.Memory.TheVariants.{All as KeepsAll, Nothing}
 use Rattle.tva_node.specs.States.{Gone, NodeState, Stands, StandsFor, gone_after, gone_by}
 use Rattle.tva_node.proofs.Forgets.{stands_without}
 use Rattle.tva_mail.specs.Mail.{GotMail, GotMails, HandedOn, KeepsWork}
@@ -80,7 +80,6 @@ noted_handed times xs ys f h = record {
 -- all is told and handed over, whatever memory gives up
 told_by : (keeps : Memory) (v : NodeState) → HasNoNews (record v { gone = gone_by keeps v })
 told_by KeepsAll v = record { told = refl; sent = refl }
-told_by Events v = record { told = refl; sent = refl }
 told_by Nothing v = record { told = refl; sent = refl }
 
 pub over_told : (v w : NodeState) → w ≡ record v { gone = gone_after v } → HasNoNews w

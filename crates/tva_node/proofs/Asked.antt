@@ -16,6 +16,7 @@ use Rattle.tva_node.specs.Pairs.{link_pair}
 use Rattle.tva_node.specs.Besides.{KnowsNext}
 use Rattle.tva_node.specs.States.{NodeState}
 use Rattle.tva_node.specs.Work.{DecidesAt}
+use Rattle.tva_node.proofs.Finding.{rises, rises_above}
 use Rattle.tva_node.proofs.Works.{passed}
 use Rattle.tva_node.proofs.Waits.{some_is}
 
@@ -172,17 +173,6 @@ first_keyed keys ls links e few h = record {
 }
 
 -- ## by their numbers
-
-rises_above : (n : ℕ) (ls : List Link) → All (λ m. n < m) (links_of (map link_pair ls)) → All (λ (l : Link). n < l.number) ls
-rises_above n [] h k d l = absurd (omega (arith, l))
-rises_above n (x ∷ xs) h zero d l = All-head (λ m. n < m) x.number (links_of (map link_pair xs)) h
-rises_above n (x ∷ xs) h (suc k) d l = rises_above n xs (All-tail (λ m. n < m) x.number (links_of (map link_pair xs)) h) k d (omega (arith, l))
-
-pub rises : (ls : List Link) (i j : ℕ) (d e : Link) → AreRising (links_of (map link_pair ls)) → i < j → j < length ls → (get_or ls i d).number < (get_or ls j e).number
-rises [] i j d e r h l = absurd (omega (arith, l))
-rises (x ∷ xs) i zero d e r h l = absurd (omega (arith, h))
-rises (x ∷ xs) zero (suc j) d e r h l = rises_above x.number xs r.0 j e (omega (arith, l))
-rises (x ∷ xs) (suc i) (suc j) d e r h l = rises xs i j d e r.1 (omega (arith, h)) (omega (arith, l))
 
 pub low_to : (number middle : ℕ) (ls : List Link) (x : Link) → AreRising (links_of (map link_pair ls)) → middle < length ls → x ≡ get_or ls middle x → x.number < number
     → (q : ℕ) (d : Link) → q < middle + 1 → (get_or ls q d).number < number

@@ -3,7 +3,7 @@ use Rattle.std.proofs.Common.{◌≡◌, ℕ, ◌+◌, ◌*◌, ◌<◌, ◌≤�
 use Rattle.std.specs.Prelude.{IsSome, OnOk}
 use Rattle.std.specs.Option.{option_map_or, option_and_then}
 use Rattle.std.proofs.lemmas.Bool.{eq-eqb}
-use Rattle.std.proofs.lemmas.List.{get_or-map, get_or_default, length-map, length-set, set-get_or, map-set}
+use Rattle.std.proofs.lemmas.List.{get_or-map, length-map}
 use Rattle.std.proofs.lemmas.List.Elements.{filter_map-append, All-get_or}
 use Rattle.std.proofs.Math.Nat.{mul-le-mul_right}
 use Rattle.tva_base.specs.declared.event.Event.{Event}
@@ -35,12 +35,13 @@ use Rattle.tva_waiting.specs.declared.memory.Memory.{Memory}
 use Rattle.tva_node.specs.Links.{with_next}
 use Rattle.tva_node.specs.Pairs.{link_pair}
 use Rattle.tva_node.specs.Besides.{RoleStands, IsBy}
-use Rattle.tva_node.specs.States.{Gone, NodeState, gone_in, role_plan, site_at, state_of}
+use Rattle.tva_node.specs.States.{Gone, Keeps, NodeState, gone_in, role_plan, site_at, state_of}
 use Rattle.tva_node.specs.Steps.{StandsAt, Decides, started_by}
 use Rattle.tva_node.specs.Work.{IsRank, AwaitsAt, DecidesAt, IsStartable, all_taken, end_on, start_event, start_sending}
 use Rattle.tva_node.proofs.Finding.{find-at, link_valid}
 use Rattle.tva_node.proofs.Roles.{role_legal}
-use Rattle.tva_node.proofs.Works.{found, rested, started_one}
+use Rattle.tva_node.proofs.Works.{found, pairs_put, rested, started_one}
+use Rattle.tva_node.proofs.Zips.{begins_same}
 
 no_start_none : (d : Decision) → is_start d ≡ false → start_of d ≡ None
 no_start_none (Start class p) e = absurd (cc)
@@ -89,13 +90,6 @@ module _ (p : Parts) (now place rank : ℕ) (log : List Entry) (d : Link) (ranke
   abbrev pub put : Option ℕ → List Link
   put next = set p.links place (record here { next = next })
 
-  pub pairs_same : (next : Option ℕ) → map link_pair (put next) ≡ map link_pair p.links
-  pairs_same next =
-      let pairs = map link_pair p.links in
-      map-set link_pair p.links place (record here { next = next })
-      ∙ (ap (set pairs place) (sym (get_or-map link_pair p.links place d (link_pair d) within))
-      ∙ set-get_or pairs place (link_pair d))
-
   -- what the node is then
   abbrev pub state : Option ℕ → Role → List Event → List Sending → NodeState
   state next role events sendings = record v {
@@ -107,7 +101,7 @@ module _ (p : Parts) (now place rank : ℕ) (log : List Entry) (d : Link) (ranke
   }
 
   same_site : (next : Option ℕ) (role : Role) → role_plan role ≡ role_plan p.role → site ≡ site_of p.number (role_plan role) (map link_pair (put next))
-  same_site next role e = λ i. site_of p.number (sym e i) (sym (pairs_same next) i)
+  same_site next role e = λ i. site_of p.number (sym e i) (sym (pairs_put p.links (put next) place d next within refl) i)
 
   at_site : (next : Option ℕ) (role : Role) (events : List Event) (sendings : List Sending) → role_plan role ≡ role_plan p.role
       → DecidesAt (record v { links = put next; role = role; events = events; sendings = sendings }) now (place + 1) → DecidesAt (state next role events sendings) now (place + 1)
@@ -171,21 +165,6 @@ module _ (p : Parts) (now place rank : ℕ) (log : List Entry) (d : Link) (ranke
 
 -- ## by what the code reads
 
--- a link's number and plan stay where its next decision is changed
-pub pairs_set : (ls : List Link) (place : ℕ) (a b : Link) (next : Option ℕ) → a ≡ get_or ls place a → b ≡ get_or ls place b → place < length ls → map link_pair (set ls place (record b { next = next })) ≡ map link_pair ls
-pairs_set ls place a b next ea eb h =
-    let pairs = map link_pair ls in
-    map-set link_pair ls place (record b { next = next })
-    ∙ (ap (λ (x : Link). set pairs place (link_pair x)) eb
-    ∙ (ap (set pairs place) (sym (get_or-map link_pair ls place b (link_pair b) h))
-    ∙ set-get_or pairs place (link_pair b)))
-
-pub pairs_put : (ls links : List Link) (place : ℕ) (a : Link) (next : Option ℕ) → a ≡ get_or ls place a → place < length ls → links ≡ with_next place next ls a → map link_pair links ≡ map link_pair ls
-pairs_put ls links place a next ea h e = ap (map link_pair) e ∙ pairs_set ls place a (get_or ls place a) next ea (get_or_default ls place a (get_or ls place a) h) h
-
-pub count_put : (ls links : List Link) (place : ℕ) (a : Link) (next : Option ℕ) → links ≡ with_next place next ls a → length links ≡ length ls
-count_put ls links place a next e = ap length e ∙ length-set ls place (record (get_or ls place a) { next = next })
-
 -- what is so of each packet that the hand may hold is so, where it holds one
 pub by_packet : {A : Type 0} (hand : Option PacketData) → IsSome hand → ((packet : PacketData) → hand ≡ Some packet → A) → A
 by_packet (Some packet) held by = by packet refl
@@ -226,50 +205,30 @@ module _ (p : Parts) (now place : ℕ) (a : Link) (ea : a ≡ get_or p.links pla
   pub read_out : limits_out site' a.number ≡ Some (a.number, a.plan.limits)
   read_out = subst (λ (x : Link). limits_out site' x.number ≡ Some (x.number, x.plan.limits)) (sym ea) (is_out p now place d.0 d.1 a d.2 d.3 d.4 within)
 
-  -- the node with that next decision of a link that was read
-  abbrev pub state_at : Link → Option ℕ → Role → List Event → List Sending → NodeState
-  state_at b next role es ss = record (state_of p) {
-    site = site_of p.number (role_plan role) (map link_pair (set p.links place (record b { next = next })));
-    links = set p.links place (record b { next = next });
-    role = role;
-    events = es;
-    sendings = ss;
-  }
+  -- the node with these links, of which that one has another next decision
+  abbrev pub with_links : List Link → Role → NodeState
+  with_links links role = record (state_of p) { site = site_of p.number (role_plan role) (map link_pair links); links = links; role = role }
 
-  moved : (b : Link) (next : Option ℕ) (role : Role) (es : List Event) (ss : List Sending) → b ≡ get_or p.links place b
-      → DecidesAt (state_at (get_or p.links place a) next role es ss) now (place + 1) → DecidesAt (state_at b next role es ss) now (place + 1)
-  moved b next role es ss eb h =
-      subst (λ (x : Link). DecidesAt (state_at x next role es ss) now (place + 1)) (get_or_default p.links place a b within ∙ sym eb) h
+  put_there : (links : List Link) (next : Option ℕ) (role : Role) → links ≡ with_next place next p.links a → DecidesAt (with_links (with_next place next p.links a) role) now (place + 1) → DecidesAt (with_links links role) now (place + 1)
+  put_there links next role e h = subst (λ (ls : List Link). DecidesAt (with_links ls role) now (place + 1)) (sym e) h
 
-  pub here_is : get_or p.links place a ≡ get_or p.links place (get_or p.links place a)
-  here_is = get_or_default p.links place a (get_or p.links place a) within
+  pub read_busy : (links : List Link) (free : ℕ) → links ≡ with_next place (Some free) p.links a → free ≡ port.free_after a.plan.limits (port_logs log' a.number) → now < free → DecidesAt (with_links links p.role) now (place + 1)
+  read_busy links free e f h =
+      put_there links (Some free) p.role e
+      (busy p now place d.0 d.1 a d.2 d.3 d.4 within free (subst (λ (x : Link). free ≡ port.free_after x.plan.limits (port_logs log' x.number)) ea f) h)
 
-  -- the links are those in which it was noted
-  pub put_there : (links : List Link) (next : Option ℕ) (role : Role) → links ≡ with_next place next p.links a
-      → DecidesAt (state_at (get_or p.links place a) next role p.log.all p.outbox.all) now (place + 1)
-      → DecidesAt (record (state_of p) { site = site_of p.number (role_plan role) (map link_pair links); links = links; role = role }) now (place + 1)
-  put_there links next role e h =
-      subst (λ (ls : List Link). DecidesAt (record (state_of p) { site = site_of p.number (role_plan role) (map link_pair ls); links = ls; role = role }) now (place + 1)) (sym e) h
-
-  pub read_busy : (free : ℕ) (b : Link) → b ≡ get_or p.links place b → free ≡ port.free_after a.plan.limits (port_logs log' a.number) → now < free
-      → DecidesAt (state_at b (Some free) p.role p.log.all p.outbox.all) now (place + 1)
-  read_busy free b eb e h =
-      moved b (Some free) p.role p.log.all p.outbox.all eb
-      (busy p now place d.0 d.1 a d.2 d.3 d.4 within free (subst (λ (x : Link). free ≡ port.free_after x.plan.limits (port_logs log' x.number)) ea e) h)
-
-  pub read_rest : (decides : Decision) (next : Option ℕ) (role : Role) (b : Link) → b ≡ get_or p.links place b → next ≡ next_by now decides → port.free_after a.plan.limits (port_logs log' a.number) ≤ now
+  pub read_rest : (decides : Decision) (links : List Link) (role : Role) → links ≡ with_next place (next_by now decides) p.links a → port.free_after a.plan.limits (port_logs log' a.number) ≤ now
       → Decides site' log' a.number now a.plan.limits decides role → is_start decides ≡ false → role_plan role ≡ role_plan p.role → IsBy now role
-      → DecidesAt (state_at b next role p.log.all p.outbox.all) now (place + 1)
-  read_rest decides next role b eb n free h none e by =
-      moved b next role p.log.all p.outbox.all eb
-      (subst (λ (o : Option ℕ). DecidesAt (state_at (get_or p.links place a) o role p.log.all p.outbox.all) now (place + 1)) (sym n)
+      → DecidesAt (with_links links role) now (place + 1)
+  read_rest decides links role e free h none plan by =
+      put_there links (next_by now decides) role e
       (rest p now place d.0 d.1 a d.2 d.3 d.4 within decides role
       (subst (λ (x : Link). port.free_after x.plan.limits (port_logs log' x.number) ≤ now) ea free)
-      (subst (λ (x : Link). Decides site' log' x.number now x.plan.limits decides role) ea h) none e by))
+      (subst (λ (x : Link). Decides site' log' x.number now x.plan.limits decides role) ea h) none plan by)
 
   pub read_start : (class : Class) (packet : PacketData) (role : Role) → port.free_after a.plan.limits (port_logs log' a.number) ≤ now
       → Decides site' log' a.number now a.plan.limits (Start class packet) role → role_plan role ≡ role_plan p.role → IsBy now role
-      → DecidesAt (state_at (get_or p.links place a) (Some (end_on (get_or p.links place a) now packet)) role
+      → DecidesAt (state p now place d.0 d.1 a d.2 d.3 d.4 within (Some (end_on (get_or p.links place a) now packet)) role
       (p.log.all ++ start_event p.number (get_or p.links place a) now class packet ∷ []) (p.outbox.all ++ start_sending (get_or p.links place a) now packet ∷ [])) now (place + 1)
   read_start class packet role free h e by =
       start p now place d.0 d.1 a d.2 d.3 d.4 within class packet role
@@ -288,3 +247,20 @@ module _ (p : Parts) (now place : ℕ) (a : Link) (ea : a ≡ get_or p.links pla
         rate = limits.ns_per_byte.1;
         delay = out.delay.1;
       }
+
+-- nothing happens at a node of which a link decides next at another time
+pub keeps_put : (p : Parts) (links : List Link) (place : ℕ) (a : Link) (next : Option ℕ) (role : Role) → place < length p.links → links ≡ with_next place next p.links a → role_plan role ≡ role_plan p.role
+    → Keeps (state_of p) (record (state_of p) { site = site_of p.number (role_plan role) (map link_pair links); links = links; role = role })
+keeps_put p links place a next role within e plan = record {
+  site = λ i. record { number = p.number; plan = plan i; links = pairs_put p.links links place a next within e i };
+  horizon = refl;
+  inbox = refl;
+  events = begins_same p.log.all;
+  sendings = begins_same p.outbox.all;
+  keeps = refl;
+  gone = refl;
+}
+
+-- a node keeps as many links
+pub count_kept : (p q : Parts) → Keeps (state_of p) (state_of q) → length q.links ≡ length p.links
+count_kept p q k = sym (length-map q.links link_pair) ∙ (ap (λ (s : Site). length s.links) k.site ∙ length-map p.links link_pair)

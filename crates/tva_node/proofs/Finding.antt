@@ -4,7 +4,7 @@ use Rattle.std.specs.Prelude.{◌==◌}
 use Rattle.std.specs.Option.{option_map}
 use Rattle.std.specs.List.{find}
 use Rattle.std.proofs.lemmas.Bool.{eq-eqb, ne_eqb, eqb-true, cases_Bool, cond-true, cond-false}
-use Rattle.std.proofs.lemmas.List.Elements.{All-head, All-tail}
+use Rattle.std.proofs.lemmas.List.Elements.{All-head, All-map, All-tail}
 use Rattle.tva_base.specs.declared.limits.LinkLimits.{LinkLimits}
 use Rattle.tva_base.specs.declared.plan.LinkPlan.{LinkPlan}
 use Rattle.tva_base.specs.Plan.{AreLinkLimits, links_of}
@@ -22,30 +22,6 @@ find-none k (l ∷ ls) h =
     cond-false (l.number == k) (Some (link_pair l)) (find (λ o. o.0 == k) (map link_pair ls)) (ne_eqb l.number k (All-head (λ (x : Link). x.number ≡ k → ⊥) l ls h))
     ∙ find-none k ls (All-tail (λ (x : Link). x.number ≡ k → ⊥) l ls h)
 
--- what is found is a link
-pub find-some : (P : Link → Type 0) (k : ℕ) (ls : List Link) (o : ℕ × LinkPlan) → All P ls → find (λ x. x.0 == k) (map link_pair ls) ≡ Some o → (l : Link) × (P l × (l.number ≡ k) × (link_pair l ≡ o))
-find-some P k [] o h e = absurd (cc)
-find-some P k (l ∷ ls) o h e = elim (cases_Bool (l.number == k)) [
-  | inl a ↦
-      let found : Some (link_pair l) ≡ Some o = sym (cond-true (l.number == k) (Some (link_pair l)) (find (λ x. x.0 == k) (map link_pair ls)) a) ∙ e in
-      (l, (All-head P l ls h, eqb-true l.number k a, (let same : link_pair l ≡ o = cc in same)))
-  | inr a ↦ find-some P k ls o (All-tail P l ls h) (sym (cond-false (l.number == k) (Some (link_pair l)) (find (λ x. x.0 == k) (map link_pair ls)) a) ∙ e)
-]
-
--- where the numbers rise, a link is found by its number
-pub find-at : (ls : List Link) (i : ℕ) (d : Link) → AreRising (links_of (map link_pair ls)) → i < length ls → find (λ o. o.0 == (get_or ls i d).number) (map link_pair ls) ≡ Some (link_pair (get_or ls i d))
-find-at [] i d r h = absurd (omega arith)
-find-at (l ∷ ls) zero d r h = cond-true (l.number == l.number) (Some (link_pair l)) (find (λ o. o.0 == l.number) (map link_pair ls)) (eq-eqb l.number l.number refl)
-find-at (l ∷ ls) (suc i) d r h =
-    let more : l.number < (get_or ls i d).number = above ls i r.0 (omega arith) in
-    cond-false (l.number == (get_or ls i d).number) (Some (link_pair l)) (find (λ o. o.0 == (get_or ls i d).number) (map link_pair ls)) (ne_eqb l.number (get_or ls i d).number (λ e. omega arith))
-    ∙ find-at ls i d r.1 (omega arith)
-  where
-    above : (ls : List Link) (i : ℕ) → All (λ m. l.number < m) (links_of (map link_pair ls)) → i < length ls → l.number < (get_or ls i d).number
-    above [] i a h = absurd (omega arith)
-    above (x ∷ xs) zero a h = All-head (λ m. l.number < m) x.number (links_of (map link_pair xs)) a
-    above (x ∷ xs) (suc i) a h = above xs i (All-tail (λ m. l.number < m) x.number (links_of (map link_pair xs)) a) (omega arith)
-
 -- what is found meets what all meet, and the test
 find_holds : {X : Type 0} (P : X → Type 0) (p : X → Bool) (xs : List X) (x : X) → All P xs → find p xs ≡ Some x → P x × (p x ≡ true)
 find_holds P p [] x h e = absurd (cc)
@@ -53,6 +29,36 @@ find_holds P p (y ∷ ys) x h e = elim (cases_Bool (p y)) [
   | inl a ↦ let found : Some y ≡ Some x = sym (cond-true (p y) (Some y) (find p ys) a) ∙ e in let same : y ≡ x = cc in subst (λ z. P z × (p z ≡ true)) same (All-head P y ys h, a)
   | inr a ↦ find_holds P p ys x (All-tail P y ys h) (sym (cond-false (p y) (Some y) (find p ys) a) ∙ e)
 ]
+
+-- what is found is a link
+pub find-some : (P : Link → Type 0) (k : ℕ) (ls : List Link) (o : ℕ × LinkPlan) → All P ls → find (λ x. x.0 == k) (map link_pair ls) ≡ Some o → (l : Link) × (P l × (l.number ≡ k))
+find-some P k ls o h e =
+    let Q : ℕ × LinkPlan → Type 0 = λ x. (l : Link) × (P l × (link_pair l ≡ x)) in
+    let found = find_holds Q (λ x. x.0 == k) (map link_pair ls) o (All-map Q link_pair ls (λ i d m. (get_or ls i d, (h i d m, refl)))) e in
+    let l = found.0.0 in
+    (l, (found.0.1.0, eqb-true l.number k (subst (λ (x : ℕ × LinkPlan). (x.0 == k) ≡ true) (sym found.0.1.1) found.1)))
+
+-- ## numbers that rise
+
+pub rises_above : (n : ℕ) (ls : List Link) → All (λ m. n < m) (links_of (map link_pair ls)) → All (λ (l : Link). n < l.number) ls
+rises_above n [] h k d l = absurd (omega (arith, l))
+rises_above n (x ∷ xs) h zero d l = All-head (λ m. n < m) x.number (links_of (map link_pair xs)) h
+rises_above n (x ∷ xs) h (suc k) d l = rises_above n xs (All-tail (λ m. n < m) x.number (links_of (map link_pair xs)) h) k d (omega (arith, l))
+
+pub rises : (ls : List Link) (i j : ℕ) (d e : Link) → AreRising (links_of (map link_pair ls)) → i < j → j < length ls → (get_or ls i d).number < (get_or ls j e).number
+rises [] i j d e r h l = absurd (omega (arith, l))
+rises (x ∷ xs) i zero d e r h l = absurd (omega (arith, h))
+rises (x ∷ xs) zero (suc j) d e r h l = rises_above x.number xs r.0 j e (omega (arith, l))
+rises (x ∷ xs) (suc i) (suc j) d e r h l = rises xs i j d e r.1 (omega (arith, h)) (omega (arith, l))
+
+-- where the numbers rise, a link is found by its number
+pub find-at : (ls : List Link) (i : ℕ) (d : Link) → AreRising (links_of (map link_pair ls)) → i < length ls → find (λ o. o.0 == (get_or ls i d).number) (map link_pair ls) ≡ Some (link_pair (get_or ls i d))
+find-at [] i d r h = absurd (omega arith)
+find-at (l ∷ ls) zero d r h = cond-true (l.number == l.number) (Some (link_pair l)) (find (λ o. o.0 == l.number) (map link_pair ls)) (eq-eqb l.number l.number refl)
+find-at (l ∷ ls) (suc i) d r h =
+    let more : l.number < (get_or ls i d).number = rises_above l.number ls r.0 i d (omega arith) in
+    cond-false (l.number == (get_or ls i d).number) (Some (link_pair l)) (find (λ o. o.0 == (get_or ls i d).number) (map link_pair ls)) (ne_eqb l.number (get_or ls i d).number (λ e. omega arith))
+    ∙ find-at ls i d r.1 (omega arith)
 
 -- a link out has valid limits, and its number
 pub link_valid : (site : Site) (k : ℕ) (x : ℕ × LinkLimits) → IsSite site → limits_out site k ≡ Some x → AreLinkLimits x.1 × (x.0 ≡ k)

@@ -1,12 +1,12 @@
 -- What a node stands for that is new, or that is given one more input; and when it has work.
 use Rattle.std.proofs.Common.{◌≡◌, ℕ, ◌+◌, ◌<◌, ◌≤◌, false, List, [], ◌∷◌, ◌++◌, get_or, map, All, Option, Some, None, Result, Ok, Err, refl, sym, subst, ◌∙◌, ap, arith, inl, inr}
-use Rattle.std.specs.Prelude.{nat_lt, ◌==◌, ◌||◌, ◌&&◌, Contains, OnErr}
+use Rattle.std.specs.Prelude.{nat_lt, ◌==◌, ◌||◌, ◌&&◌, Contains, OnErr, OnOk}
 use Rattle.std.specs.Option.{option_and_then, option_map}
 use Rattle.std.specs.List.{AllByRecursion, find}
 use Rattle.std.proofs.lemmas.Bool.{cond-true, cond-false, eq-eqb}
 use Rattle.std.proofs.lemmas.Bool.Decides.{nat_tests}
 use Rattle.std.proofs.lemmas.List.{map-append}
-use Rattle.std.proofs.lemmas.List.Elements.{All-nil, All-cons, All-head, All-push, Contains-append_right, Contains-get_or}
+use Rattle.std.proofs.lemmas.List.Elements.{All-nil, All-head, All-map, All-push, Contains-append_right, Contains-get_or}
 use Rattle.tva_base.specs.declared.limits.LinkLimits.{LinkLimits}
 use Rattle.tva_base.specs.declared.plan.LinkPlan.{LinkPlan}
 use Rattle.tva_base.specs.Plan.{AreLinkLimits, links_of}
@@ -54,7 +54,7 @@ in_turn_more : (inbox : List Input) (i : Input) → in_turn (inbox ++ i ∷ []) 
 in_turn_more inbox i = put_all-append input_time input_source inbox (i ∷ []) []
 
 -- a node that is given one more input at the time up to which it is worked, or later
-pub posted : (v : NodeState) (i : Input) (gone : Gone) → v.worked_to ≤ input_time i → input_time i ≤ v.horizon → Fits v.site.plan i → Stands v
+posted : (v : NodeState) (i : Input) (gone : Gone) → v.worked_to ≤ input_time i → input_time i ≤ v.horizon → Fits v.site.plan i → Stands v
     → Stands (record v { inbox = v.inbox ++ i ∷ []; gone = gone; waiting = put_in input_time input_source i v.waiting })
 posted v i gone late within fits (log, h) =
     let same : due v.worked_to (in_turn (v.inbox ++ i ∷ [])) ≡ due v.worked_to (in_turn v.inbox) =
@@ -81,6 +81,12 @@ posted v i gone late within fits (log, h) =
         };
       },
     )
+
+-- so it is once it has the input among those that wait, and in its inbox
+pub posted_then : {T E : Type 0} (v : NodeState) (i : Input) (gone : Gone) (waiting inbox : List Input) (r : Result T E) → v.worked_to ≤ input_time i → input_time i ≤ v.horizon → Fits v.site.plan i → Stands v
+    → OnOk r (waiting ≡ put_in input_time input_source i v.waiting) → OnOk r (inbox ≡ v.inbox ++ i ∷ []) → OnOk r (Stands (record v { inbox = inbox; gone = gone; waiting = waiting }))
+posted_then v i gone waiting inbox (Ok x) late within fits h put noted = subst Stands (λ j. record v { inbox = sym noted j; gone = gone; waiting = sym put j }) (posted v i gone late within fits h)
+posted_then v i gone waiting inbox (Err e) late within fits h put noted = tt
 
 -- ## a new node
 
@@ -113,10 +119,6 @@ built number horizon keeps role links ls h e s r b =
     site : Site
     site = site_of number (role_plan role) links
 
-    none_known : (xs : List (ℕ × LinkPlan)) → All (KnowsNext (site_of number (role_plan role) links) [] 0) (map first_link xs)
-    none_known [] = All-nil (KnowsNext (site_of number (role_plan role) links) [] 0)
-    none_known (x ∷ xs) = All-cons (KnowsNext (site_of number (role_plan role) links) [] 0) (first_link x) (map first_link xs) (next_nothing (limits_out (site_of number (role_plan role) links) x.0)) (none_known xs)
-
     at_first : Stands (record { site = site_of number (role_plan role) links; horizon = horizon; inbox = []; events = []; sendings = []; worked_to = 0; keeps = keeps; gone = none_gone; role = role; links = map first_link links; waiting = [] })
     at_first = (
       [],
@@ -131,7 +133,7 @@ built number horizon keeps role links ls h e s r b =
           out = sym (pairs_first links);
           role = r;
           past = b;
-          links = none_known links;
+          links = All-map (KnowsNext site [] 0) first_link links (λ i d l. next_nothing (limits_out site (get_or links i d).0));
           fits = All-nil (λ x. (input_time x ≤ horizon) × Fits (role_plan role) x);
           left = refl;
         };

@@ -4,7 +4,7 @@ use Rattle.std.specs.Prelude.{◌==◌, Contains}
 use Rattle.std.specs.Option.{option_map, option_and_then}
 use Rattle.std.specs.List.{AllByRecursion, find, cons_option}
 use Rattle.std.proofs.lemmas.Bool.{cases_lt}
-use Rattle.std.proofs.lemmas.List.{map_push, drop_more, take-append-drop, set-get_or, get_or-map, map-set, take_more_set, drop-set-lt, set_split, take_all}
+use Rattle.std.proofs.lemmas.List.{map_push, drop_more, take-append-drop, set-get_or, get_or-drop, get_or-map, length-drop, map-set, take_more_set, drop-set-lt, set_split, take_all}
 use Rattle.std.proofs.lemmas.List.Elements.{All-nil, All-cons, All-head, All-tail, All-map, All-contains, All-from_recursion, All-weaker, All-append, All-set, All-take, All-get_or, filter_map-append}
 use Rattle.tva_base.specs.declared.event.Event.{Event}
 use Rattle.tva_base.specs.declared.event.Happened.{Happened}
@@ -31,13 +31,13 @@ use Rattle.tva_log.proofs.Quiet.{due_same, quiet_log, late_on}
 use Rattle.tva_log.proofs.Steps.{begins, takes, rests, starts_one, ends}
 use Rattle.tva_node.specs.declared.links.Link.{Link}
 use Rattle.tva_node.specs.declared.role.Role.{Role}
-use Rattle.tva_node.specs.Links.{asked_by, is_asked, least_next, sooner}
+use Rattle.tva_node.specs.Links.{asked_by, is_asked, least_next, sooner, with_next}
 use Rattle.tva_node.specs.Pairs.{link_pair}
 use Rattle.tva_node.specs.Besides.{KnowsNext, RoleStands, IsBy}
 use Rattle.tva_node.specs.States.{AreLeft, NodeState, StandsFor, Stands, Fits, role_plan}
 use Rattle.tva_node.specs.Steps.{StandsAt, Takes}
 use Rattle.tva_node.specs.Work.{IsNoneBefore, first_time, work_time, is_due, queued_on, Waits, AwaitsAt, TakesAt, IsRank, DecidesAt, all_taken}
-use Rattle.tva_node.proofs.Finding.{find-none, find-some, find-at, link_valid}
+use Rattle.tva_node.proofs.Finding.{find-none, find-some, find-at, link_valid, rises}
 use Rattle.tva_node.proofs.Left.{left_late, next_late, next_left, none_due, taken_due, waiting_each}
 use Rattle.tva_node.proofs.Roles.{by-later, role_legal}
 use Rattle.tva_node.proofs.Waits.{all_wait, asked_all, asked_pairs, not_asked, some_is, unasked_knows, waits_on}
@@ -83,7 +83,7 @@ limits_are site ls k e = ap (λ (os : List (ℕ × LinkPlan)). limits_in (find (
 
 limits_some : (P : Link → Type 0) (k : ℕ) (ls : List Link) (found : Option (ℕ × LinkPlan)) (o : ℕ × LinkLimits) → All P ls → find (λ x. x.0 == k) (map link_pair ls) ≡ found → limits_in found ≡ Some o → (l : Link) × (P l × (l.number ≡ k))
 limits_some P k ls None o h e f = absurd (cc)
-limits_some P k ls (Some x) o h e f = let found = find-some P k ls x h e in (found.0, (found.1.0, found.1.1))
+limits_some P k ls (Some x) o h e f = find-some P k ls x h e
 
 -- a link out is one of the links
 pub out_link : (P : Link → Type 0) (site : Site) (ls : List Link) (k : ℕ) (o : ℕ × LinkLimits) → site.links ≡ map link_pair ls → All P ls → limits_out site k ≡ Some o → (l : Link) × (P l × (l.number ≡ k))
@@ -130,17 +130,10 @@ module _ (v : NodeState) (log : List Entry) (h : StandsFor v log) where
       let o = next_out (limits_out v.site link) (λ o. next_decision o.1 (port_logs log link) v.worked_to) t e in
       let P : Link → Type 0 = λ l. IsNoneBefore end l.next in
       let Q : Link → Type 0 = λ l. P l × KnowsNext v.site log v.worked_to l in
-      let l = out_link Q v.site v.links link o.0 h.besides.out (both v.links (no_link end v.links n) h.besides.links) o.1 in
+      let l = out_link Q v.site v.links link o.0 h.besides.out (λ i d m. (no_link end v.links n i d m, h.besides.links i d m)) o.1 in
       let same : l.0.next ≡ Some t = l.1.0.1 ∙ subst (λ k. next_on v.site log v.worked_to k ≡ Some t) (sym l.1.1) e in
       let late : end ≤ t = subst (IsNoneBefore end) same l.1.0.0 in
       omega arith
-    where
-      both : (ls : List Link) → All (λ (l : Link). IsNoneBefore end l.next) ls → All (KnowsNext v.site log v.worked_to) ls → All (λ (l : Link). IsNoneBefore end l.next × KnowsNext v.site log v.worked_to l) ls
-      both [] a b = All-nil (λ (l : Link). IsNoneBefore end l.next × KnowsNext v.site log v.worked_to l)
-      both (x ∷ xs) a b =
-          All-cons (λ (l : Link). IsNoneBefore end l.next × KnowsNext v.site log v.worked_to l) x xs
-          (All-head (λ (l : Link). IsNoneBefore end l.next) x xs a, All-head (KnowsNext v.site log v.worked_to) x xs b)
-          (both xs (All-tail (λ (l : Link). IsNoneBefore end l.next) x xs a) (All-tail (KnowsNext v.site log v.worked_to) x xs b))
 
   -- before the next time nothing is to be done
   pub quiet : (end : ℕ) → IsNoneBefore end (work_time v.waiting v.links) → IsQuiet v.site (in_turn v.inbox) log v.worked_to end
@@ -165,11 +158,7 @@ module _ (v : NodeState) (log : List Entry) (h : StandsFor v log) where
       q ∙ sym (next_again x.1 (port_logs log k) v.worked_to end (link_valid v.site k x h.site (sym e)).0 g.0 g.1 l (λ t f. subst (IsNoneBefore end) (q ∙ f) a))
 
   knows : (end : ℕ) (ls : List Link) → v.worked_to ≤ end → All (λ (x : Link). IsNoneBefore end x.next) ls → All (KnowsNext v.site log v.worked_to) ls → All (KnowsNext v.site log end) ls
-  knows end [] l a b = All-nil (KnowsNext v.site log end)
-  knows end (x ∷ xs) l a b =
-      All-cons (KnowsNext v.site log end) x xs
-      (again end x.number x.next (limits_out v.site x.number) l refl (All-head (λ (y : Link). IsNoneBefore end y.next) x xs a) (All-head (KnowsNext v.site log v.worked_to) x xs b))
-      (knows end xs l (All-tail (λ (y : Link). IsNoneBefore end y.next) x xs a) (All-tail (KnowsNext v.site log v.worked_to) x xs b))
+  knows end ls l a b i d m = again end (get_or ls i d).number (get_or ls i d).next (limits_out v.site (get_or ls i d).number) l refl (a i d m) (b i d m)
 
   -- a node goes to a time before which there is nothing to do
   pub rests_until : (end : ℕ) → end ≤ v.horizon + 1 → v.worked_to ≤ end → IsNoneBefore end (work_time v.waiting v.links) → StandsFor (record v { worked_to = end }) log
@@ -209,7 +198,7 @@ module _ (v : NodeState) (log : List Entry) (h : StandsFor v log) where
           sendings = h.sendings;
           role = h.besides.role;
           past = by-later v.worked_to now v.role l h.besides.past;
-          links = no_rank v.links;
+          links = λ i d m k. absurd (omega (arith, k));
           fits = h.besides.fits;
           early = each-weaker (λ i. input_time i < now) (λ i. input_time i ≤ now) (λ i a. omega arith) taken (each-cut input_time input_source now (in_turn v.inbox));
           late = left_late v.inbox taken v.waiting left now (none_left now (first_time v.waiting) (least_next v.links) n).0;
@@ -217,10 +206,6 @@ module _ (v : NodeState) (log : List Entry) (h : StandsFor v log) where
         },
         all_wait v.site log now v.links (knows now v.links l (no_link now v.links (none_left now (first_time v.waiting) (least_next v.links) n).1) h.besides.links),
       )
-    where
-      no_rank : (ls : List Link) → All (λ (x : Link). x.number < 0 → KnowsNext v.site log (now + 1) x) ls
-      no_rank [] = All-nil (λ (x : Link). x.number < 0 → KnowsNext v.site log (now + 1) x)
-      no_rank (x ∷ xs) = All-cons (λ (y : Link). y.number < 0 → KnowsNext v.site log (now + 1) y) x xs (λ a. absurd (omega arith)) (no_rank xs)
 
 -- ## inputs
 
@@ -251,7 +236,7 @@ module _ (v : NodeState) (now : ℕ) (taken : List Input) (log : List Entry) (st
           sendings = st.sendings ∙ sym (filter_map-append (sending_of v.site) log (entry ∷ []) ∙ append-nil (sendings v.site log));
           role = t.3;
           past = by;
-          links = none_yet (log ++ entry ∷ []) asked;
+          links = λ i d m k. absurd (omega (arith, k));
           fits = st.fits;
           early = each-append (λ i. input_time i ≤ now) taken (input ∷ []) st.early (omega arith, tt);
           late = (subst (AllByRecursion (λ (x : Input). now ≤ input_time x)) e st.late).1;
@@ -259,23 +244,24 @@ module _ (v : NodeState) (now : ℕ) (taken : List Input) (log : List Entry) (st
         },
         asked_all v.site log now input made (queued_on told) v.links (ap queued_on t.2) waits,
       )
-    where
-      none_yet : (log' : List Entry) (ls : List Link) → All (λ (x : Link). x.number < 0 → KnowsNext v.site log' (now + 1) x) ls
-      none_yet log' [] = All-nil (λ (x : Link). x.number < 0 → KnowsNext v.site log' (now + 1) x)
-      none_yet log' (x ∷ xs) = All-cons (λ (y : Link). y.number < 0 → KnowsNext v.site log' (now + 1) y) x xs (λ a. absurd (omega arith)) (none_yet log' xs)
-
-  low : (ls : List Link) → All (λ (l : Link). 0 ≤ l.number) ls
-  low [] = All-nil (λ (l : Link). 0 ≤ l.number)
-  low (l ∷ ls) = All-cons (λ (x : Link). 0 ≤ x.number) l ls (omega arith) (low ls)
 
   -- where none comes any more, all inputs of the time are taken
   pub all_in : is_due now v.waiting ≡ false → DecidesAt v now 0
   all_in e =
       let n = none_due now v.waiting e st.late in
       let due_is : due (now + 1) (in_turn v.inbox) ≡ taken = taken_due v.inbox taken v.waiting st.left (now + 1) (each-weaker (λ i. input_time i ≤ now) (λ i. input_time i < now + 1) (λ i a. omega arith) taken st.early) n in
-      (0, log, record { before = All-nil (λ (l : Link). l.number < 0); behind = low v.links }, subst (λ (is : List Input). StandsAt v now 0 is log) (sym due_is) st, waits)
+      (0, log, record { before = All-nil (λ (l : Link). l.number < 0); behind = λ i d m. omega arith }, subst (λ (is : List Input). StandsAt v now 0 is log) (sym due_is) st, waits)
 
 -- ## links
+
+-- a link's number and plan stay where its next decision is changed
+pub pairs_put : (ls links : List Link) (place : ℕ) (d : Link) (next : Option ℕ) → place < length ls → links ≡ with_next place next ls d → map link_pair links ≡ map link_pair ls
+pairs_put ls links place d next h e =
+    let pairs = map link_pair ls in
+    ap (map link_pair) e
+    ∙ (map-set link_pair ls place (record (get_or ls place d) { next = next })
+    ∙ (ap (set pairs place) (sym (get_or-map link_pair ls place d (link_pair d) h))
+    ∙ set-get_or pairs place (link_pair d)))
 
 module _ (v : NodeState) (now place rank : ℕ) (log : List Entry) (d : Link) (ranked : IsRank rank place v.links) (st : StandsAt v now rank (all_taken v now) log) (waits : AwaitsAt v now rank log) (within : place < length v.links) where
   abbrev link : Link
@@ -293,19 +279,9 @@ module _ (v : NodeState) (now place rank : ℕ) (log : List Entry) (d : Link) (r
 
   -- the links behind it have higher numbers
   behind_higher : All (λ (l : Link). link.number < l.number) (drop (place + 1) v.links)
-  behind_higher = higher v.links place rising within
-    where
-      all_above : (n : ℕ) (ls : List Link) → All (λ m. n < m) (links_of (map link_pair ls)) → All (λ (l : Link). n < l.number) ls
-      all_above n [] a = All-nil (λ (l : Link). n < l.number)
-      all_above n (x ∷ xs) a = All-cons (λ (l : Link). n < l.number) x xs (All-head (λ m. n < m) x.number (links_of (map link_pair xs)) a) (all_above n xs (All-tail (λ m. n < m) x.number (links_of (map link_pair xs)) a))
-
-      higher' : (ls : List Link) (i : ℕ) → AreRising (links_of (map link_pair ls)) → i < length ls → All (λ (l : Link). (get_or ls i d).number < l.number) (drop (suc i) ls)
-      higher' [] i r h = absurd (omega arith)
-      higher' (x ∷ xs) zero r h = all_above x.number xs r.0
-      higher' (x ∷ xs) (suc i) r h = higher' xs i r.1 (omega arith)
-
-      higher : (ls : List Link) (i : ℕ) → AreRising (links_of (map link_pair ls)) → i < length ls → All (λ (l : Link). (get_or ls i d).number < l.number) (drop (i + 1) ls)
-      higher ls i r h = let e : suc i ≡ i + 1 = omega arith in subst (λ k. All (λ (l : Link). (get_or ls i d).number < l.number) (drop k ls)) e (higher' ls i r h)
+  behind_higher i e m =
+      subst (λ (l : Link). link.number < l.number) (sym (get_or-drop (place + 1) v.links i e))
+      (rises v.links place (place + 1 + i) d e rising (omega arith) (let n = length-drop (place + 1) v.links in omega (arith, m, n)))
 
   -- numbers between are no links out
   pub none_between : (k : ℕ) → rank ≤ k → k < link.number → starts v.site log k now ≡ None
@@ -321,12 +297,7 @@ module _ (v : NodeState) (now place rank : ℕ) (log : List Entry) (d : Link) (r
   put_next next = record link { next = next }
 
   set_same : (next : Option ℕ) → v.site.links ≡ map link_pair (set v.links place (put_next next))
-  set_same next =
-      let pairs = map link_pair v.links in
-      st.out
-      ∙ (sym (set-get_or pairs place (link_pair d))
-      ∙ (ap (set pairs place) (get_or-map link_pair v.links place d (link_pair d) within)
-      ∙ sym (map-set link_pair v.links place (put_next next))))
+  set_same next = st.out ∙ sym (pairs_put v.links (set v.links place (put_next next)) place d next within refl)
 
   set_ranked : (next : Option ℕ) → IsRank (suc link.number) (place + 1) (set v.links place (put_next next))
   set_ranked next =
@@ -344,16 +315,9 @@ module _ (v : NodeState) (now place rank : ℕ) (log : List Entry) (d : Link) (r
       let P : Link → Type 0 = λ x. x.number < suc link.number → KnowsNext v.site log' (now + 1) x in
       let Q : Link → Type 0 = λ x. (x.number < rank) × (x.number < rank → KnowsNext v.site log (now + 1) x) in
       let low = low_enough in
-      let front : All P (take place v.links) = All-weaker Q P (λ x a b. keep x (let c = a.0 in omega arith) (a.1 a.0)) (take place v.links) (both (take place v.links) ranked.before (All-take (λ (x : Link). x.number < rank → KnowsNext v.site log (now + 1) x) place v.links st.links)) in
+      let front : All P (take place v.links) = All-weaker Q P (λ x a b. keep x (let c = a.0 in omega arith) (a.1 a.0)) (take place v.links) (λ i e m. (ranked.before i e m, All-take (λ (x : Link). x.number < rank → KnowsNext v.site log (now + 1) x) place v.links st.links i e m)) in
       let back : All P (drop (suc place) v.links) = subst (λ k. All P (drop k v.links)) (let e : place + 1 ≡ suc place = omega arith in e) (All-weaker (λ (x : Link). link.number < x.number) P (λ x a b. absurd (omega arith)) (drop (place + 1) v.links) behind_higher) in
       subst (All P) (sym (set_split v.links place (put_next next) within)) (All-append P (take place v.links) (put_next next ∷ drop (suc place) v.links) front (All-cons P (put_next next) (drop (suc place) v.links) (λ a. own) back))
-    where
-      both : (ls : List Link) → All (λ (x : Link). x.number < rank) ls → All (λ (x : Link). x.number < rank → KnowsNext v.site log (now + 1) x) ls → All (λ (x : Link). (x.number < rank) × (x.number < rank → KnowsNext v.site log (now + 1) x)) ls
-      both [] a b = All-nil (λ (x : Link). (x.number < rank) × (x.number < rank → KnowsNext v.site log (now + 1) x))
-      both (x ∷ xs) a b =
-          All-cons (λ (x : Link). (x.number < rank) × (x.number < rank → KnowsNext v.site log (now + 1) x)) x xs
-          (All-head (λ (x : Link). x.number < rank) x xs a, All-head (λ (x : Link). x.number < rank → KnowsNext v.site log (now + 1) x) x xs b)
-          (both xs (All-tail (λ (x : Link). x.number < rank) x xs a) (All-tail (λ (x : Link). x.number < rank → KnowsNext v.site log (now + 1) x) x xs b))
 
   -- the links behind wait as before
   set_waits : (next : Option ℕ) (log' : List Entry) → ((x : Link) → link.number < x.number → Waits v.site log now x → Waits v.site log' now x)
@@ -475,19 +439,12 @@ worked_one v now (rank, log, ranked, st, waits) =
           out = st.out;
           role = st.role;
           past = by-later now (now + 1) v.role (omega arith) st.past;
-          links = all_know v.links low st.links;
+          links = λ i d m. st.links i d m (low i d m);
           fits = st.fits;
           left = st.left;
         };
       },
     )
-  where
-    all_know : (ls : List Link) → All (λ (x : Link). x.number < rank) ls → All (λ (x : Link). x.number < rank → KnowsNext v.site log (now + 1) x) ls → All (KnowsNext v.site log (now + 1)) ls
-    all_know [] a b = All-nil (KnowsNext v.site log (now + 1))
-    all_know (x ∷ xs) a b =
-        All-cons (KnowsNext v.site log (now + 1)) x xs
-        (All-head (λ (y : Link). y.number < rank → KnowsNext v.site log (now + 1) y) x xs b (All-head (λ (y : Link). y.number < rank) x xs a))
-        (all_know xs (All-tail (λ (y : Link). y.number < rank) x xs a) (All-tail (λ (y : Link). y.number < rank → KnowsNext v.site log (now + 1) y) x xs b))
 
 -- ## going on
 

@@ -131,28 +131,19 @@ all_given v = record v.gone { events = length v.events; told = length v.events }
 
 -- ## what memory holds
 
--- memory keeps all events
-abbrev pub KeepsEvents : Memory → Type 0
-KeepsEvents memory.All = Unit {0}
-KeepsEvents memory.Events = Unit {0}
-KeepsEvents memory.Nothing = ⊥
-
 -- memory keeps all lists
 abbrev pub KeepsAll : Memory → Type 0
 KeepsAll memory.All = Unit {0}
-KeepsAll memory.Events = ⊥
 KeepsAll memory.Nothing = ⊥
 
 -- what is gone of a node's lists by what memory keeps of them; of inputs it keeps all or none
 abbrev pub Holds : Memory → NodeState → Type 0
 Holds memory.All v = (v.gone.inputs ≡ 0) × (v.gone.events ≡ 0) × (v.gone.sendings ≡ 0)
-Holds memory.Events v = (v.gone.inputs ≡ length v.inbox) × (v.gone.events ≡ 0)
 Holds memory.Nothing v = v.gone.inputs ≡ length v.inbox
 
 -- what is gone once a node has told and handed over all, and forgotten what it need not keep
 abbrev pub gone_by : Memory → NodeState → Gone
 gone_by memory.All v = all_told v
-gone_by memory.Events v = record (all_told v) { sendings = length v.sendings }
 gone_by memory.Nothing v = record (all_told v) { events = length v.events; sendings = length v.sendings }
 
 abbrev pub gone_after : NodeState → Gone

@@ -16,7 +16,6 @@ pub record SentList : Type 0 where
 -- of two lists the one that is kept
 abbrev pub kept_of : Memory → KeptList Sending → KeptList Sending → KeptList Sending
 kept_of memory.All whole flights = whole
-kept_of memory.Events whole flights = flights
 kept_of memory.Nothing whole flights = flights
 
 abbrev pub sent_list : Memory → KeptList Sending → SentList
@@ -29,5 +28,4 @@ with_sent sending sent = record sent { all = sent.all ++ sending ∷ [] }
 -- what is gone once all is handed over
 abbrev pub gone_sendings : Memory → SentList → ℕ
 gone_sendings memory.All sent = sent.gone
-gone_sendings memory.Events sent = length sent.all
 gone_sendings memory.Nothing sent = length sent.all

@@ -8,7 +8,7 @@ use Rattle.tva_log.specs.NodeLog.{IsNodeLog, in_turn}
 use Rattle.tva_log.specs.Told.{events, sendings}
 use Rattle.tva_log.specs.Next.{IsWorkAt}
 use Rattle.tva_node.specs.Besides.{StandsBesides}
-pub use Rattle.tva_node.specs.Nodes.{AreLeft, Fits, FitsRow, Gone, Holds, KeepsAll, KeepsEvents, NodeState}
+pub use Rattle.tva_node.specs.Nodes.{AreLeft, Fits, FitsRow, Gone, Holds, KeepsAll, NodeState}
 pub use Rattle.tva_node.specs.Nodes.{all_given, all_told, gone_after, gone_by, gone_in, news, none_gone, restarts_in, role_plan, unsent}
 pub use Rattle.tva_node.specs.Nodes.{router_in, router_number, site_at, state_of}
 

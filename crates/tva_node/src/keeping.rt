@@ -20,7 +20,7 @@ impl Parts {
     {
         self.outbox.hand_over(self.alloc, sent)?;
         match self.outbox.keeps() {
-            Memory::All | Memory::Events => self.log.tell(),
+            Memory::All => self.log.tell(),
             Memory::Nothing => self.log.forget(),
         }
         Ok(())
@@ -35,7 +35,7 @@ impl Parts {
         ensures held { HoldsSome self.new }
     {
         match self.outbox.keeps() {
-            Memory::All | Memory::Events => None,
+            Memory::All => None,
             Memory::Nothing => self.log.take_news(Vec::new(self.alloc)),
         }
     }

@@ -9,7 +9,7 @@ ghost use Rattle.tva_log.specs.NodeLog.{in_turn};
 ghost use Rattle.tva_log.specs.Sites.{IsSite, site_of};
 ghost use Rattle.tva_waiting.specs.declared.memory.Memory.TheVariants as memory;
 ghost use Rattle.tva_node.specs.Besides.{IsBy, RoleStands};
-ghost use Rattle.tva_node.specs.States.{Fits, FitsRow, IsAsBefore, IsFirstWork, Keeps, KeepsAll, KeepsEvents, Stands, StandsFor, all_given, gone_after, news, none_gone, restarts_in, role_plan, router_in, unsent};
+ghost use Rattle.tva_node.specs.States.{Fits, FitsRow, IsAsBefore, IsFirstWork, Keeps, KeepsAll, Stands, StandsFor, all_given, gone_after, news, none_gone, restarts_in, role_plan, router_in, unsent};
 
 use crate::changes::Changes;
 use crate::links::Links;
@@ -135,7 +135,7 @@ impl Node {
     /// What memory holds of what happened at the node.
     pub fn log(&self) -> &[Event]
         ensures held { result.now ≡ drop self.now.gone.events self.now.events }
-        ensures whole { KeepsEvents self.now.keeps → result.now ≡ self.now.events }
+        ensures whole { KeepsAll self.now.keeps → result.now ≡ self.now.events }
     {
         self.parts.log.as_slice()
     }
@@ -179,8 +179,8 @@ impl Node {
     }
 
     /// Puts behind what stands in `sent` what its links sent and was not handed over yet: where memory keeps all, copies,
-    /// and else the packets themselves. All is told and handed over then, and memory forgets what it need not keep:
-    /// nothing, its sendings, or its events too. The error is want of memory, and changes nothing here.
+    /// and else the packets themselves. All is told and handed over then, and memory forgets what it need not keep.
+    /// The error is want of memory, and changes nothing here.
     pub fn hand_over(&mut self, sent: &mut Vec<Flight>) -> Result<(), AllocError>
         ensures sent { OnOk result (sent.new.items ≡ sent.old.items ++ unsent self.old) }
         ensures same { OnOk result (self.new ≡ record self.old { gone = gone_after self.old }) }

@@ -57,7 +57,7 @@ impl Outbox {
     {
         match self.keeps {
             Memory::All => self.whole.as_slice(),
-            Memory::Events | Memory::Nothing => &[],
+            Memory::Nothing => &[],
         }
     }
 
@@ -69,7 +69,7 @@ impl Outbox {
     {
         match self.keeps {
             Memory::All => self.whole.push(flight.sending_of()),
-            Memory::Events | Memory::Nothing => self.flights.push(flight),
+            Memory::Nothing => self.flights.push(flight),
         }
     }
 
@@ -89,7 +89,7 @@ impl Outbox {
                 self.whole.tell();
                 Ok(())
             }
-            Memory::Events | Memory::Nothing => self.flights.pour(sent),
+            Memory::Nothing => self.flights.pour(sent),
         }
     }
 }

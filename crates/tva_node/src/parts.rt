@@ -200,7 +200,6 @@ impl Parts {
         requires stands { DecidesAt (state_of self.old) now place }
         requires within { place < length self.old.links }
         ensures stands { OnOk result (DecidesAt (state_of self.new) now (place + 1)) }
-        ensures count { length self.new.links ≡ length self.old.links }
         ensures keeps { Keeps (state_of self.old) (state_of self.new) }
     {
         let number = self.links.at(place).number;

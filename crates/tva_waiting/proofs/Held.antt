@@ -3,7 +3,7 @@ use Rattle.std.proofs.Common.{◌≡◌, ℕ, zero, suc, ◌+◌, ◌-◌, ◌<�
 use Rattle.std.specs.Prelude.{insert, not, ◌==◌, ◌^◌}
 use Rattle.std.specs.List.{AllByRecursion}
 use Rattle.std.proofs.lemmas.Bool.{eq-eqb, ne_eqb, cases_eq}
-use Rattle.std.proofs.lemmas.List.{get_or-map, get_or-set_other, get_or-set_same, length-append, length-map, length-set, map-append, map-set}
+use Rattle.std.proofs.lemmas.List.{get_or-map, get_or-set_other, get_or-set_same, length-append, length-map, length-set, map-append, map-set, set-get_or}
 use Rattle.std.proofs.Math.Seq.{map-set_same}
 use Rattle.tva_index.specs.KeyRing.{place_in, ring}
 use Rattle.tva_rows.specs.declared.rows.RowWhat.{RowWhat}
@@ -17,7 +17,7 @@ use Rattle.tva_log.specs.Entries.{input_source, input_time}
 use Rattle.tva_log.proofs.Putting.{each-put_in}
 use Rattle.tva_waiting.specs.Inputs.{arrived, first_time, is_row_first}
 use Rattle.tva_waiting.specs.Queues.{AreQueues, IsNextIn, IsQueue, Queue, all_in, head_at, head_of, key_of, never, no_queue}
-use Rattle.tva_waiting.specs.Lanes.{AreWaiting, IsLaneOf, flight_source, flight_time, lane_queue, queues_in, queues_of, row_in, rows_queue, sources_of, turn_source, turn_time, waiting_in}
+use Rattle.tva_waiting.specs.Lanes.{AreWaiting, HaveGiven, Hold, IsLaneOf, flight_source, flight_time, lane_queue, queues_in, queues_of, row_in, rows_queue, sources_of, turn_source, turn_time, waiting_in}
 use Rattle.tva_waiting.specs.declared.lanes.Lane.{Lane}
 use Rattle.tva_waiting.specs.declared.lanes.Lanes.{Lanes}
 use Rattle.tva_waiting.specs.declared.lanes.Turn.{Turn}
@@ -104,7 +104,7 @@ module _ (w v : Lanes) (a : AreWaiting w) (held : AllByRecursion (λ (turn : Tur
 pub in_order_same : (w v : Lanes) → queues_in v ≡ queues_in w → waiting_in v ≡ waiting_in w
 in_order_same w v e = ap (λ (qs : List Queue). sorted input_time input_source (all_in qs)) e
 
-pub waiting_grown : (w v : Lanes) → AreWaiting w → Grows w.layouts.items v.layouts.items → v.rows.items ≡ w.rows.items → v.list ≡ w.list → v.sources ≡ w.sources → v.heads ≡ w.heads → v.places ≡ w.places → AreWaiting v × (waiting_in v ≡ waiting_in w)
+pub waiting_grown : (w v : Lanes) → AreWaiting w → Grows w.layouts.items v.layouts.items → v.rows.items ≡ w.rows.items → v.list ≡ w.list → v.sources ≡ w.sources → v.heads ≡ w.heads → v.places ≡ w.places → Hold v (waiting_in w)
 waiting_grown w v a g rows list sources heads places =
     let held : AllByRecursion (λ (turn : Turn). IsWhatHeld v.layouts.items turn.what) v.rows.items =
     subst (λ (ts : List Turn). AllByRecursion (λ (turn : Turn). IsWhatHeld v.layouts.items turn.what) ts) (sym rows) (grown_held w.layouts.items v.layouts.items w.rows.items g a.held) in
@@ -193,7 +193,7 @@ module _ (w v : Lanes) (a : AreWaiting w) (held : AllByRecursion (λ (turn : Tur
     abbrev put : Queue
     put = record { source = was.source; inputs = put_in input_time input_source x was.inputs }
 
-    pub input_put : queues_in v ≡ set (queues_in w) p put → length v.heads ≡ length w.heads → ((place : ℕ) → get_or v.heads place never ≡ head_at (set (queues_in w) p put) place) → AreWaiting v × (waiting_in v ≡ put_in input_time input_source x (waiting_in w))
+    pub input_put : queues_in v ≡ set (queues_in w) p put → length v.heads ≡ length w.heads → ((place : ℕ) → get_or v.heads place never ≡ head_at (set (queues_in w) p put) place) → Hold v (put_in input_time input_source x (waiting_in w))
     input_put same count heads = (
       with_queue put same (queues_put (queues_in w) p no_queue x a.queues l e soon) count heads,
       ap (λ (qs : List Queue). sorted input_time input_source (all_in qs)) same ∙ put_one (queues_in w) p no_queue x a.queues l e soon,
@@ -212,7 +212,7 @@ module _ (w v : Lanes) (a : AreWaiting w) (held : AllByRecursion (λ (turn : Tur
       λ place. ap (λ (hs : List ℕ). get_or hs place never) h ∙ heads-kept w.heads (queues_in w) p put a.heads l k place,
     )
 
-  pub input_taken : (x : Input) (rest : List Input) → IsNextIn (queues_in w) was x rest → queues_in v ≡ set (queues_in w) p (record { source = was.source; inputs = rest }) → v.heads ≡ set w.heads p (head_of rest) → AreWaiting v × (waiting_in w ≡ x ∷ waiting_in v)
+  pub input_taken : (x : Input) (rest : List Input) → IsNextIn (queues_in w) was x rest → queues_in v ≡ set (queues_in w) p (record { source = was.source; inputs = rest }) → v.heads ≡ set w.heads p (head_of rest) → HaveGiven w x v
   input_taken x rest n same h = (
     with_queue (record { source = was.source; inputs = rest }) same (queues_taken (queues_in w) p no_queue x rest a.queues l n) (ap length h ∙ length-set w.heads p (head_of rest))
         (λ place. ap (λ (hs : List ℕ). get_or hs place never) h ∙ heads-set w.heads (queues_in w) p (head_of rest) (record { source = was.source; inputs = rest }) a.heads in_heads l refl place),
@@ -226,7 +226,7 @@ module _ (w v : Lanes) (a : AreWaiting w) (layouts : v.layouts ≡ w.layouts) (l
   some_queue = omega arith
 
   pub row_waits : (turn : Turn) (at : ℕ) → turn.time < 2 ^ 64 → IsWhatHeld w.layouts.items turn.what → v.rows.items ≡ put_in turn_time turn_source turn w.rows.items → v.rows.items ≡ insert w.rows.items at turn → at ≤ length w.rows.items
-      → (at ≡ 0 → v.heads ≡ set w.heads 0 (key_of (row_in w.layouts.items turn))) → ((at ≡ 0 → ⊥) → v.heads ≡ w.heads) → AreWaiting v × (waiting_in v ≡ put_in input_time input_source (row_in w.layouts.items turn) (waiting_in w))
+      → (at ≡ 0 → v.heads ≡ set w.heads 0 (key_of (row_in w.layouts.items turn))) → ((at ≡ 0 → ⊥) → v.heads ≡ w.heads) → Hold v (put_in input_time input_source (row_in w.layouts.items turn) (waiting_in w))
   row_waits turn at soon h put inserted within first later =
       let row = row_in w.layouts.items turn in
       let held : AllByRecursion (λ (t : Turn). IsWhatHeld v.layouts.items t.what) v.rows.items =
@@ -253,7 +253,7 @@ module _ (w v : Lanes) (a : AreWaiting w) (layouts : v.layouts ≡ w.layouts) (l
           heads_later w v a held sources links places 0 some_queue (row_in w.layouts.items turn) refl soon (later (λ f. let g = sym e ∙ f in omega (arith, g)))
           (sym (ap head_of made) ∙ head-insert (row_in w.layouts.items) w.rows.items at turn (omega (arith, e)) within)
 
-  pub row_taken : (turn : Turn) → is_row_first (waiting_in w) ≡ true → w.rows.items ≡ turn ∷ v.rows.items → v.heads ≡ set w.heads 0 (head_of (map (row_in w.layouts.items) v.rows.items)) → AreWaiting v × (waiting_in w ≡ row_in w.layouts.items turn ∷ waiting_in v)
+  pub row_taken : (turn : Turn) → is_row_first (waiting_in w) ≡ true → w.rows.items ≡ turn ∷ v.rows.items → v.heads ≡ set w.heads 0 (head_of (map (row_in w.layouts.items) v.rows.items)) → HaveGiven w (row_in w.layouts.items turn) v
   row_taken turn row is h =
       let held : AllByRecursion (λ (t : Turn). IsWhatHeld v.layouts.items t.what) v.rows.items =
       subst (λ ls. AllByRecursion (λ (t : Turn). IsWhatHeld ls.items t.what) v.rows.items) (sym layouts) (subst (λ (ts : List Turn). AllByRecursion (λ (t : Turn). IsWhatHeld w.layouts.items t.what) ts) is a.held).1 in
@@ -284,49 +284,75 @@ rows_wait w a row e = by_first (waiting_in w) refl row
 
 -- ## a packet
 
-pub flight_waits : (w v : Lanes) (place at : ℕ) (sent : Sending) (lane : Lane) → AreWaiting w → IsLaneOf w.list.items sent.link place → sent.arrive.0 < 2 ^ 64 → lane.link ≡ (get_or w.list.items place lane).link
-    → lane.flights.items ≡ put_in flight_time flight_source sent (get_or w.list.items place lane).flights.items → lane.flights.items ≡ insert (get_or w.list.items place lane).flights.items at sent → at ≤ length (get_or w.list.items place lane).flights.items
-    → v.rows ≡ w.rows → v.layouts ≡ w.layouts → v.list.items ≡ set w.list.items place lane → v.sources ≡ w.sources → v.places ≡ w.places
-    → (at ≡ 0 → v.heads ≡ set w.heads (place + 1) (key_of (arrived sent))) → ((at ≡ 0 → ⊥) → v.heads ≡ w.heads) → AreWaiting v × (waiting_in v ≡ put_in input_time input_source (arrived sent) (waiting_in w))
-flight_waits w v place at sent lane a its soon link put inserted within rows layouts list sources places first later =
-    let held = subst (λ ls. AllByRecursion (λ (t : Turn). IsWhatHeld ls.items t.what) v.rows.items) (sym layouts) (subst (λ ts. AllByRecursion (λ (t : Turn). IsWhatHeld w.layouts.items t.what) ts.items) (sym rows) a.held) in
-    let heads = by_place at refl in
-    input_put w v a held sources links places (place + 1) l (arrived sent) from soon same heads.0 heads.1
-  where
-    was_lane : Lane
-    was_lane = get_or w.list.items place lane
+-- a lane is another, of the same link
+module _ (w v : Lanes) (place : ℕ) (lane : Lane) (a : AreWaiting w) (within : place < length w.list.items) (link : lane.link ≡ (get_or w.list.items place lane).link) (rows : v.rows ≡ w.rows) (layouts : v.layouts ≡ w.layouts) (list : v.list.items ≡ set w.list.items place lane) (sources : v.sources ≡ w.sources) (places : v.places ≡ w.places) where
+  abbrev was_lane : Lane
+  was_lane = get_or w.list.items place lane
 
-    l : place + 1 < length (queues_in w)
-    l = let m = length-map w.list.items lane_queue in let i = its.within in omega (arith, m, i)
+  still_held : AllByRecursion (λ (t : Turn). IsWhatHeld v.layouts.items t.what) v.rows.items
+  still_held = subst (λ ls. AllByRecursion (λ (t : Turn). IsWhatHeld ls.items t.what) v.rows.items) (sym layouts) (subst (λ ts. AllByRecursion (λ (t : Turn). IsWhatHeld w.layouts.items t.what) ts.items) (sym rows) a.held)
 
-    is_lane : get_or (queues_in w) (place + 1) no_queue ≡ lane_queue (get_or w.list.items place lane)
-    is_lane = queue_of_lane w.layouts.items w.rows.items w.list.items place lane no_queue its.within
+  links : sources_of v.list.items ≡ sources_of w.list.items
+  links = ap sources_of list ∙ ap (λ (ns : List ℕ). 0 ∷ ns) (map-set_same (λ (k : Lane). k.link + 1) w.list.items place lane lane (ap (λ n. n + 1) link))
 
-    from : input_source (arrived sent) ≡ (get_or (queues_in w) (place + 1) no_queue).source
-    from = sym (ap (λ (q : Queue). q.source) is_lane ∙ (ap (λ n. n + 1) (its.its lane) ∙ add-one sent.link))
+  l : place + 1 < length (queues_in w)
+  l = let m = length-map w.list.items lane_queue in omega (arith, m, within)
 
-    links : sources_of v.list.items ≡ sources_of w.list.items
-    links = ap sources_of list ∙ ap (λ (ns : List ℕ). 0 ∷ ns) (map-set_same (λ (k : Lane). k.link + 1) w.list.items place lane lane (ap (λ n. n + 1) link))
+  is_lane : get_or (queues_in w) (place + 1) no_queue ≡ lane_queue was_lane
+  is_lane = queue_of_lane w.layouts.items w.rows.items w.list.items place lane no_queue within
 
-    made : map arrived lane.flights.items ≡ put_in input_time input_source (arrived sent) (get_or (queues_in w) (place + 1) no_queue).inputs
-    made = ap (map arrived) put ∙ (flight_put sent (get_or w.list.items place lane).flights.items ∙ ap (put_in input_time input_source (arrived sent)) (sym (ap (λ (q : Queue). q.inputs) is_lane)))
+  another : queues_in v ≡ set (queues_in w) (place + 1) (lane_queue lane)
+  another =
+      ap (λ ls. queues_of ls.items v.rows.items v.list.items) layouts
+      ∙ (ap (λ ts. queues_of w.layouts.items ts.items v.list.items) rows
+      ∙ (ap (λ (ls : List Lane). queues_of w.layouts.items w.rows.items ls) list
+      ∙ lane_set w.layouts.items w.rows.items w.list.items place lane))
 
-    same : queues_in v ≡ set (queues_in w) (place + 1) (record { source = (get_or (queues_in w) (place + 1) no_queue).source; inputs = put_in input_time input_source (arrived sent) (get_or (queues_in w) (place + 1) no_queue).inputs })
-    same =
-        ap (λ ls. queues_of ls.items v.rows.items v.list.items) layouts
-        ∙ (ap (λ ts. queues_of w.layouts.items ts.items v.list.items) rows
-        ∙ (ap (λ (ls : List Lane). queues_of w.layouts.items w.rows.items ls) list
-        ∙ (lane_set w.layouts.items w.rows.items w.list.items place lane
-        ∙ ap₂ (λ (n : ℕ) (xs : List Input). set (queues_in w) (place + 1) (record { source = n; inputs = xs })) (ap (λ n. n + 1) link ∙ sym (ap (λ (q : Queue). q.source) is_lane)) made)))
+  pub flight_waits : (at : ℕ) (sent : Sending) → was_lane.link ≡ sent.link → sent.arrive.0 < 2 ^ 64 → lane.flights.items ≡ put_in flight_time flight_source sent was_lane.flights.items → lane.flights.items ≡ insert was_lane.flights.items at sent → at ≤ length was_lane.flights.items
+      → (at ≡ 0 → v.heads ≡ set w.heads (place + 1) (key_of (arrived sent))) → ((at ≡ 0 → ⊥) → v.heads ≡ w.heads) → Hold v (put_in input_time input_source (arrived sent) (waiting_in w))
+  flight_waits at sent its soon put inserted within first later = input_put w v a still_held sources links places (place + 1) l (arrived sent) from soon same heads.0 heads.1
+    where
+      from : input_source (arrived sent) ≡ (get_or (queues_in w) (place + 1) no_queue).source
+      from = sym (ap (λ (q : Queue). q.source) is_lane ∙ (ap (λ n. n + 1) its ∙ add-one sent.link))
 
-    by_place : (n : ℕ) → at ≡ n
-        → (length v.heads ≡ length w.heads) × ((p : ℕ) → get_or v.heads p never ≡ head_at (set (queues_in w) (place + 1) (record { source = (get_or (queues_in w) (place + 1) no_queue).source; inputs = put_in input_time input_source (arrived sent) (get_or (queues_in w) (place + 1) no_queue).inputs })) p)
-    by_place zero e =
-        heads_first w v a (subst (λ ls. AllByRecursion (λ (t : Turn). IsWhatHeld ls.items t.what) v.rows.items) (sym layouts) (subst (λ ts. AllByRecursion (λ (t : Turn). IsWhatHeld w.layouts.items t.what) ts.items) (sym rows) a.held)) sources links places (place + 1) l (arrived sent) from soon (first e)
-        (sym (ap head_of made) ∙ (ap (λ (fs : List Sending). head_of (map arrived fs)) inserted ∙ ap (λ n. head_of (map arrived (insert (get_or w.list.items place lane).flights.items n sent))) e))
-    by_place (suc n) e =
-        heads_later w v a (subst (λ ls. AllByRecursion (λ (t : Turn). IsWhatHeld ls.items t.what) v.rows.items) (sym layouts) (subst (λ ts. AllByRecursion (λ (t : Turn). IsWhatHeld w.layouts.items t.what) ts.items) (sym rows) a.held)) sources links places (place + 1) l (arrived sent) from soon (later (λ f. let g = sym e ∙ f in omega (arith, g)))
-        (sym (ap head_of made) ∙ (ap (λ (fs : List Sending). head_of (map arrived fs)) inserted ∙ (head-insert arrived (get_or w.list.items place lane).flights.items at sent (omega (arith, e)) within ∙ ap head_of (sym (ap (λ (q : Queue). q.inputs) is_lane)))))
+      made : map arrived lane.flights.items ≡ put_in input_time input_source (arrived sent) (get_or (queues_in w) (place + 1) no_queue).inputs
+      made = ap (map arrived) put ∙ (flight_put sent was_lane.flights.items ∙ ap (put_in input_time input_source (arrived sent)) (sym (ap (λ (q : Queue). q.inputs) is_lane)))
+
+      same : queues_in v ≡ set (queues_in w) (place + 1) (record { source = (get_or (queues_in w) (place + 1) no_queue).source; inputs = put_in input_time input_source (arrived sent) (get_or (queues_in w) (place + 1) no_queue).inputs })
+      same = another ∙ ap₂ (λ (n : ℕ) (xs : List Input). set (queues_in w) (place + 1) (record { source = n; inputs = xs })) (ap (λ n. n + 1) link ∙ sym (ap (λ (q : Queue). q.source) is_lane)) made
+
+      by_place : (n : ℕ) → at ≡ n
+          → (length v.heads ≡ length w.heads) × ((p : ℕ) → get_or v.heads p never ≡ head_at (set (queues_in w) (place + 1) (record { source = (get_or (queues_in w) (place + 1) no_queue).source; inputs = put_in input_time input_source (arrived sent) (get_or (queues_in w) (place + 1) no_queue).inputs })) p)
+      by_place zero e =
+          heads_first w v a still_held sources links places (place + 1) l (arrived sent) from soon (first e)
+          (sym (ap head_of made) ∙ (ap (λ (fs : List Sending). head_of (map arrived fs)) inserted ∙ ap (λ n. head_of (map arrived (insert was_lane.flights.items n sent))) e))
+      by_place (suc n) e =
+          heads_later w v a still_held sources links places (place + 1) l (arrived sent) from soon (later (λ f. let g = sym e ∙ f in omega (arith, g)))
+          (sym (ap head_of made) ∙ (ap (λ (fs : List Sending). head_of (map arrived fs)) inserted ∙ (head-insert arrived was_lane.flights.items at sent (omega (arith, e)) within ∙ ap head_of (sym (ap (λ (q : Queue). q.inputs) is_lane)))))
+
+      heads : (length v.heads ≡ length w.heads) × ((p : ℕ) → get_or v.heads p never ≡ head_at (set (queues_in w) (place + 1) (record { source = (get_or (queues_in w) (place + 1) no_queue).source; inputs = put_in input_time input_source (arrived sent) (get_or (queues_in w) (place + 1) no_queue).inputs })) p)
+      heads = by_place at refl
+
+  pub flight_taken : (p : ℕ) (sent : Sending) → place + 1 ≡ p → ((x : Input) (rest : List Input) → (get_or (queues_in w) p no_queue).inputs ≡ x ∷ rest → IsNextIn (queues_in w) (get_or (queues_in w) p no_queue) x rest)
+      → was_lane.flights.items ≡ sent ∷ lane.flights.items → v.heads ≡ set w.heads p (head_of (map arrived lane.flights.items)) → HaveGiven w (arrived sent) v
+  flight_taken p sent up some taken h =
+      let here : get_or (queues_in w) p no_queue ≡ lane_queue was_lane = subst (λ n. get_or (queues_in w) n no_queue ≡ lane_queue was_lane) up is_lane in
+      let inputs = ap (λ (q : Queue). q.inputs) here ∙ ap (map arrived) taken in
+      let same : queues_in v ≡ set (queues_in w) p (record { source = (get_or (queues_in w) p no_queue).source; inputs = map arrived lane.flights.items }) =
+      another
+      ∙ (ap (λ n. set (queues_in w) n (lane_queue lane)) up
+      ∙ ap (λ n. set (queues_in w) p (record { source = n; inputs = map arrived lane.flights.items })) (ap (λ n. n + 1) link ∙ sym (ap (λ (q : Queue). q.source) here))) in
+      input_taken w v a still_held sources links places p (omega (arith, l, up)) (arrived sent) (map arrived lane.flights.items) (some (arrived sent) (map arrived lane.flights.items) inputs) same h
+
+  -- it got room, and nothing else
+  pub same_flights : lane.flights.items ≡ was_lane.flights.items → v.heads ≡ w.heads → Hold v (waiting_in w)
+  same_flights flights heads =
+      let queue : lane_queue lane ≡ get_or (queues_in w) (place + 1) no_queue = ap₂ (λ (n : ℕ) (xs : List Input). record { source = n; inputs = xs }) (ap (λ n. n + 1) link) (ap (map arrived) flights) ∙ sym is_lane in
+      let same : queues_in v ≡ queues_in w = another ∙ (ap (set (queues_in w) (place + 1)) queue ∙ set-get_or (queues_in w) (place + 1) no_queue) in (
+        waiting_changed w v a still_held (sources ∙ (a.sources ∙ ap₂ ring (sym places) (sym links))) (queues_in w) same a.queues (subst (λ n. length (queues_in w) ≤ n) (sym places) a.room) (subst (λ n. n ≤ 2 ^ 18) (sym places) a.few)
+            (ap length heads ∙ (a.count ∙ sym places)) (λ p. ap (λ (hs : List ℕ). get_or hs p never) heads ∙ a.heads p),
+        in_order_same w v same,
+      )
 
 -- where the next is no row, a lane has it
 pub lane_next : (w : Lanes) (p : ℕ) → AreWaiting w → ((x : Input) (rest : List Input) → (get_or (queues_in w) p no_queue).inputs ≡ x ∷ rest → IsNextIn (queues_in w) (get_or (queues_in w) p no_queue) x rest) → ((get_or (queues_in w) p no_queue).inputs ≡ [] → all_in (queues_in w) ≡ [])
@@ -362,40 +388,6 @@ lane_next w p a some none waits row = by_inputs (get_or (queues_in w) p no_queue
                   ap (λ n. (get_or (queues_in w) n no_queue).inputs) f ∙ (ap (λ (q : Queue). q.inputs) (get_or-map lane_queue w.list.items k d no_queue within) ∙ ap (map arrived) (ap (λ n. (get_or w.list.items n d).flights.items) (sym down) ∙ g)) in
                   absurd (let i = sym is ∙ e in cc),
             )
-
-pub flight_taken : (w v : Lanes) (p : ℕ) (sent : Sending) (lane : Lane) → AreWaiting w → ((x : Input) (rest : List Input) → (get_or (queues_in w) p no_queue).inputs ≡ x ∷ rest → IsNextIn (queues_in w) (get_or (queues_in w) p no_queue) x rest) → 0 < p → p - 1 < length w.list.items
-    → (get_or w.list.items (p - 1) lane).flights.items ≡ sent ∷ lane.flights.items → lane.link ≡ (get_or w.list.items (p - 1) lane).link
-    → v.rows ≡ w.rows → v.layouts ≡ w.layouts → v.list.items ≡ set w.list.items (p - 1) lane → v.sources ≡ w.sources → v.places ≡ w.places → v.heads ≡ set w.heads p (head_of (map arrived lane.flights.items))
-    → AreWaiting v × (waiting_in w ≡ arrived sent ∷ waiting_in v)
-flight_taken w v p sent lane a some above within taken link rows layouts list sources places h =
-    input_taken w v a held sources links places p l (arrived sent) (map arrived lane.flights.items) (some (arrived sent) (map arrived lane.flights.items) inputs) same h
-  where
-    up : p - 1 + 1 ≡ p
-    up = omega (arith, above)
-
-    l : p < length (queues_in w)
-    l = let m = length-map w.list.items lane_queue in omega (arith, m, within, above)
-
-    is_lane : get_or (queues_in w) p no_queue ≡ lane_queue (get_or w.list.items (p - 1) lane)
-    is_lane = subst (λ n. get_or (queues_in w) n no_queue ≡ lane_queue (get_or w.list.items (p - 1) lane)) up (queue_of_lane w.layouts.items w.rows.items w.list.items (p - 1) lane no_queue within)
-
-    inputs : (get_or (queues_in w) p no_queue).inputs ≡ arrived sent ∷ map arrived lane.flights.items
-    inputs = ap (λ (q : Queue). q.inputs) is_lane ∙ ap (map arrived) taken
-
-    held : AllByRecursion (λ (t : Turn). IsWhatHeld v.layouts.items t.what) v.rows.items
-    held = subst (λ ls. AllByRecursion (λ (t : Turn). IsWhatHeld ls.items t.what) v.rows.items) (sym layouts) (subst (λ ts. AllByRecursion (λ (t : Turn). IsWhatHeld w.layouts.items t.what) ts.items) (sym rows) a.held)
-
-    links : sources_of v.list.items ≡ sources_of w.list.items
-    links = ap sources_of list ∙ ap (λ (ns : List ℕ). 0 ∷ ns) (map-set_same (λ (k : Lane). k.link + 1) w.list.items (p - 1) lane lane (ap (λ n. n + 1) link))
-
-    same : queues_in v ≡ set (queues_in w) p (record { source = (get_or (queues_in w) p no_queue).source; inputs = map arrived lane.flights.items })
-    same =
-        ap (λ ls. queues_of ls.items v.rows.items v.list.items) layouts
-        ∙ (ap (λ ts. queues_of w.layouts.items ts.items v.list.items) rows
-        ∙ (ap (λ (ls : List Lane). queues_of w.layouts.items w.rows.items ls) list
-        ∙ (lane_set w.layouts.items w.rows.items w.list.items (p - 1) lane
-        ∙ (ap (λ n. set (queues_in w) n (lane_queue lane)) up
-        ∙ ap (λ n. set (queues_in w) p (record { source = n; inputs = map arrived lane.flights.items })) (ap (λ n. n + 1) link ∙ sym (ap (λ (q : Queue). q.source) is_lane))))))
 
 pub lane_in_order : (w : Lanes) → AreWaiting w → (place : ℕ) (d : Lane) → place < length w.list.items → IsInOrder flight_time flight_source (get_or w.list.items place d).flights.items
 lane_in_order w a place d l =
@@ -442,29 +434,11 @@ module _ (w : Lanes) (p : ℕ) (a : AreWaiting w) (some : (x : Input) (rest : Li
       no_row zero m = absurd (m refl)
       no_row (suc k) m = no_lane_row w.list.items k
 
--- ## a lane that is made, and one that gets room
-
-pub same_flights : (w v : Lanes) (place : ℕ) (lane : Lane) → AreWaiting w → lane.link ≡ (get_or w.list.items place lane).link → lane.flights.items ≡ (get_or w.list.items place lane).flights.items
-    → v.rows ≡ w.rows → v.layouts ≡ w.layouts → v.list.items ≡ set w.list.items place lane → v.sources ≡ w.sources → v.places ≡ w.places → v.heads ≡ w.heads → AreWaiting v × (waiting_in v ≡ waiting_in w)
-same_flights w v place lane a link flights rows layouts list sources places heads =
-    let held : AllByRecursion (λ (t : Turn). IsWhatHeld v.layouts.items t.what) v.rows.items =
-    subst (λ ls. AllByRecursion (λ (t : Turn). IsWhatHeld ls.items t.what) v.rows.items) (sym layouts) (subst (λ ts. AllByRecursion (λ (t : Turn). IsWhatHeld w.layouts.items t.what) ts.items) (sym rows) a.held) in
-    let links : sources_of v.list.items ≡ sources_of w.list.items =
-    ap sources_of list ∙ ap (λ (ns : List ℕ). 0 ∷ ns) (map-set_same (λ (k : Lane). k.link + 1) w.list.items place lane lane (ap (λ n. n + 1) link)) in
-    let queue : lane_queue lane ≡ lane_queue (get_or w.list.items place lane) = ap₂ (λ (n : ℕ) (xs : List Input). record { source = n; inputs = xs }) (ap (λ n. n + 1) link) (ap (map arrived) flights) in
-    let same : queues_in v ≡ queues_in w =
-    ap (λ ls. queues_of ls.items v.rows.items v.list.items) layouts
-    ∙ (ap (λ ts. queues_of w.layouts.items ts.items v.list.items) rows
-    ∙ (ap (λ (ls : List Lane). queues_of w.layouts.items w.rows.items ls) list
-    ∙ ap (λ (qs : List Queue). rows_queue w.layouts.items w.rows.items ∷ qs) (map-set_same lane_queue w.list.items place lane lane queue))) in (
-      waiting_changed w v a held (sources ∙ (a.sources ∙ ap₂ ring (sym places) (sym links))) (queues_in w) same a.queues (subst (λ n. length (queues_in w) ≤ n) (sym places) a.room) (subst (λ n. n ≤ 2 ^ 18) (sym places) a.few)
-          (ap length heads ∙ (a.count ∙ sym places)) (λ place. ap (λ (hs : List ℕ). get_or hs place never) heads ∙ a.heads place),
-      in_order_same w v same,
-    )
+-- ## a lane that is made
 
 -- one of a link that had none, in which nothing waits
 pub lane_made : (w v : Lanes) (link : ℕ) (lane : Lane) → AreWaiting w → place_in (link + 1) (sources_of w.list.items) ≡ None → link < 2 ^ 16 → lane.link ≡ link → lane.flights.items ≡ [] → length (queues_in w) < w.places
-    → v.rows ≡ w.rows → v.layouts ≡ w.layouts → v.list.items ≡ w.list.items ++ lane ∷ [] → v.sources ≡ ring w.sources.places (w.sources.keys ++ (link + 1) ∷ []) → v.places ≡ w.places → v.heads ≡ w.heads → AreWaiting v × (waiting_in v ≡ waiting_in w)
+    → v.rows ≡ w.rows → v.layouts ≡ w.layouts → v.list.items ≡ w.list.items ++ lane ∷ [] → v.sources ≡ ring w.sources.places (w.sources.keys ++ (link + 1) ∷ []) → v.places ≡ w.places → v.heads ≡ w.heads → Hold v (waiting_in w)
 lane_made w v link lane a new few is none room rows layouts list sources places heads =
     let held : AllByRecursion (λ (t : Turn). IsWhatHeld v.layouts.items t.what) v.rows.items =
     subst (λ ls. AllByRecursion (λ (t : Turn). IsWhatHeld ls.items t.what) v.rows.items) (sym layouts) (subst (λ ts. AllByRecursion (λ (t : Turn). IsWhatHeld w.layouts.items t.what) ts.items) (sym rows) a.held) in

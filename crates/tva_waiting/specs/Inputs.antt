@@ -11,7 +11,6 @@ use Rattle.tva_waiting.specs.declared.memory.Memory.TheVariants as memory
 -- of inputs memory holds all or none
 abbrev pub HoldsInputs : Memory → KeptList Input → Type 0
 HoldsInputs memory.All inbox = inbox.gone ≡ 0
-HoldsInputs memory.Events inbox = inbox.gone ≡ length inbox.all
 HoldsInputs memory.Nothing inbox = inbox.gone ≡ length inbox.all
 
 -- the time of the next input that is not taken

@@ -50,6 +50,14 @@ pub record AreWaiting (w : Lanes) : Type 0 where
   pub count : length w.heads ≡ w.places
   pub heads : (place : ℕ) → get_or w.heads place never ≡ head_at (queues_in w) place
 
+-- the lanes are as they should be, and this waits in them
+abbrev pub Hold : Lanes → List Input → Type 0
+Hold w all = AreWaiting w × (waiting_in w ≡ all)
+
+-- they gave this away, which was the next
+abbrev pub HaveGiven : Lanes → Input → Lanes → Type 0
+HaveGiven old input new = AreWaiting new × (waiting_in old ≡ input ∷ waiting_in new)
+
 -- ## places
 
 -- the lane of a link stands at a place

@@ -92,7 +92,7 @@ impl Inbox {
     {
         match keeps {
             Memory::All => self.keep(Input::FromTrace(rows.get(place))),
-            Memory::Events | Memory::Nothing => self.note(&noted_packed(rows, place)),
+            Memory::Nothing => self.note(&noted_packed(rows, place)),
         }
     }
 
@@ -106,7 +106,7 @@ impl Inbox {
     {
         match keeps {
             Memory::All => self.keep(arrived(flight)),
-            Memory::Events | Memory::Nothing => self.note(&noted_flight(flight)),
+            Memory::Nothing => self.note(&noted_flight(flight)),
         }
     }
 

@@ -10,7 +10,7 @@ ghost use Rattle.tva_log.specs.Joins.{IsInOrder, precedes, put_in};
 ghost use Rattle.tva_log.specs.Entries.{input_source, input_time};
 ghost use Rattle.tva_waiting.specs.Inputs.{arrived, first_time, is_row_first};
 ghost use Rattle.tva_waiting.specs.Queues.{AreQueues, IsNextIn, all_in, head_at, head_of, never, no_queue};
-ghost use Rattle.tva_waiting.specs.Lanes.{AreWaiting, HasRoomAt, IsLaneOf, flight_source, flight_time, lane_queue, queues_in, queues_of, row_in, rows_queue, sources_of, turn_source, turn_time, waiting_in};
+ghost use Rattle.tva_waiting.specs.Lanes.{AreWaiting, HasRoomAt, HaveGiven, Hold, IsLaneOf, flight_source, flight_time, lane_queue, queues_in, queues_of, row_in, rows_queue, sources_of, turn_source, turn_time, waiting_in};
 
 use crate::flights::Flight;
 use std::alloc::{AllocError, Global};
@@ -88,8 +88,7 @@ impl Lanes {
     // The place of a link's lane. It is made where there is none. The error is want of memory.
     fn lane_of(&mut self, link: u16) -> Result<usize, AllocError>
         requires { AreWaiting self.old }
-        ensures waiting { AreWaiting self.new }
-        ensures same { waiting_in self.new ≡ waiting_in self.old }
+        ensures same { Hold self.new (waiting_in self.old) }
         ensures there { IfOk result (λ place. IsLaneOf self.new.list.items link place) }
     {
         let source = u32::from(link) + 1;
@@ -130,8 +129,7 @@ impl Lanes {
     #[inline(always)]
     pub fn room_for(&mut self, link: u16) -> Result<usize, AllocError>
         requires { AreWaiting self.old }
-        ensures waiting { AreWaiting self.new }
-        ensures same { waiting_in self.new ≡ waiting_in self.old }
+        ensures same { Hold self.new (waiting_in self.old) }
         ensures there { IfOk result (λ place. IsLaneOf self.new.list.items link place) }
         ensures room { IfOk result (λ place. HasRoomAt self.new.list.items place) }
     {
@@ -146,8 +144,7 @@ impl Lanes {
         requires waiting { AreWaiting self.old }
         requires lane { IsLaneOf self.old.list.items flight.link place }
         requires room { HasRoomAt self.old.list.items place }
-        ensures waiting { AreWaiting self.new }
-        ensures put { waiting_in self.new ≡ put_in input_time input_source (arrived flight) (waiting_in self.old) }
+        ensures { Hold self.new (put_in input_time input_source (arrived flight) (waiting_in self.old)) }
     {
         let time = flight.arrive().0;
         let link = flight.link();
@@ -163,8 +160,7 @@ impl Lanes {
     pub fn turn_of(&mut self, rows: &PackedRows, place: usize) -> Result<Turn, AllocError>
         requires waiting { AreWaiting self.old }
         requires within { place < length rows.now }
-        ensures waiting { AreWaiting self.new }
-        ensures same { waiting_in self.new ≡ waiting_in self.old }
+        ensures same { Hold self.new (waiting_in self.old) }
         ensures held { IfOk result (λ turn. IsWhatHeld self.new.layouts.items turn.what) }
         ensures row { (row : Row) → IfOk result (λ turn. row_in self.new.layouts.items turn
             ≡ FromTrace (slice_index_or rows.now place row)) }
@@ -185,11 +181,10 @@ impl Lanes {
         requires waiting { AreWaiting self.old }
         requires held { IsWhatHeld self.old.layouts.items turn.what }
         requires room { deque_len self.old.rows + 1 ≤ deque_capacity self.old.rows }
-        ensures waiting { AreWaiting self.new }
-        ensures put { waiting_in self.new ≡ put_in input_time input_source (row_in self.old.layouts.items turn) (waiting_in self.old) }
+        ensures { Hold self.new (put_in input_time input_source (row_in self.old.layouts.items turn) (waiting_in self.old)) }
     {
         let time = turn.time;
-        let at = put_turn_in(&mut self.rows, turn);
+        let at = put_in_turn(&mut self.rows, turn);
         if at == 0 {
             self.heads.put(0, key_of(time, 0));
         }
@@ -239,8 +234,7 @@ impl Lanes {
     pub fn take_turn(&mut self) -> Turn
         requires waiting { AreWaiting self.old }
         requires row { is_row_first (waiting_in self.old) ≡ true }
-        ensures waiting { AreWaiting self.new }
-        ensures taken { waiting_in self.old ≡ row_in self.old.layouts.items result ∷ waiting_in self.new }
+        ensures taken { HaveGiven self.old (row_in self.old.layouts.items result) self.new }
         ensures held { IsWhatHeld self.new.layouts.items result.what }
         ensures layouts { self.new.layouts ≡ self.old.layouts }
     {
@@ -258,8 +252,7 @@ impl Lanes {
         requires waiting { AreWaiting self.old }
         requires waits { waiting_in self.old ≢ [] }
         requires flight { is_row_first (waiting_in self.old) ≡ false }
-        ensures waiting { AreWaiting self.new }
-        ensures taken { waiting_in self.old ≡ arrived result ∷ waiting_in self.new }
+        ensures { HaveGiven self.old (arrived result) self.new }
     {
         let place = self.next();
         let flight = take_first(&mut self.list[place - 1]);
@@ -271,8 +264,7 @@ impl Lanes {
     // Lets go of all layouts, where no row waits, and gives back the memory of many.
     fn forget_layouts(&mut self)
         requires { AreWaiting self.old }
-        ensures waiting { AreWaiting self.new }
-        ensures same { waiting_in self.new ≡ waiting_in self.old }
+        ensures { Hold self.new (waiting_in self.old) }
     {
         if !self.rows.is_empty() {
             return;
@@ -412,75 +404,67 @@ fn put_in_lane(lane: &mut Lane, flight: Flight) -> usize
     ensures within { result ≤ length lane.old.flights.items }
     ensures same { lane.new.link ≡ lane.old.link }
 {
-    let at = put_flight_in(&mut lane.flights, flight);
+    let at = put_in_turn(&mut lane.flights, flight);
     lane.most = cmp::max(lane.most, lane.flights.len());
     at
 }
 
-// Puts a row at its place, behind all that it need not stand before, and says which that is.
-fn put_turn_in(rows: &mut VecDeque<Turn>, turn: Turn) -> usize
-    requires order { IsInOrder turn_time turn_source rows.old.items }
-    requires room { deque_len rows.old + 1 ≤ deque_capacity rows.old }
-    ensures put { rows.new.items ≡ put_in turn_time turn_source turn rows.old.items }
-    ensures at { rows.new.items ≡ insert rows.old.items result turn }
-    ensures within { result ≤ length rows.old.items }
+// What waits in an order: by its time, and at one time by its source.
+trait Comes: Drop {
+    ghost time: { Self → ℕ };
+
+    ghost source: { Self → ℕ };
+
+    // Whether it stands before another.
+    fn is_before(&self, other: &Self) -> bool
+        ensures { result ≡ precedes time source self.now other.now };
+}
+
+impl Comes for Turn {
+    ghost time = { turn_time };
+
+    ghost source = { turn_source };
+
+    fn is_before(&self, other: &Turn) -> bool {
+        self.time < other.time
+    }
+}
+
+impl Comes for Flight {
+    ghost time = { flight_time };
+
+    ghost source = { flight_source };
+
+    fn is_before(&self, other: &Flight) -> bool {
+        self.arrive() < other.arrive()
+            || (self.arrive() == other.arrive() && self.link() < other.link())
+    }
+}
+
+// Puts one at its place, behind all that it need not stand before, and says which that is.
+fn put_in_turn<T: Comes>(items: &mut VecDeque<T>, item: T) -> usize
+    requires order { IsInOrder T.time T.source items.old.items }
+    requires room { deque_len items.old + 1 ≤ deque_capacity items.old }
+    ensures put { items.new.items ≡ put_in T.time T.source item items.old.items }
+    ensures at { items.new.items ≡ insert items.old.items result item }
+    ensures within { result ≤ length items.old.items }
 {
-    let at = place_for_turn(rows, &turn);
-    let Ok(()) = rows.insert(at, turn) else {
+    let at = place_for(items, &item);
+    let Ok(()) = items.insert(at, item) else {
         unreachable!()
     };
     at
 }
 
-// Rows come in their order: so it is looked for from the end on.
-fn place_for_turn(rows: &VecDeque<Turn>, turn: &Turn) -> usize
-    requires { IsInOrder turn_time turn_source rows.now.items }
-    ensures place { put_in turn_time turn_source turn.now rows.now.items ≡ insert rows.now.items result turn.now }
-    ensures within { result ≤ length rows.now.items }
+// Rows come in their order, and the times of a link's packets don't fall in a run: so it is looked for from the end on.
+fn place_for<T: Comes>(items: &VecDeque<T>, item: &T) -> usize
+    requires { IsInOrder T.time T.source items.now.items }
+    ensures place { put_in T.time T.source item.now items.now.items ≡ insert items.now.items result item.now }
+    ensures within { result ≤ length items.now.items }
 {
-    let mut place = rows.len();
-    while place > 0 && is_turn_before(turn, &rows[place - 1]) {
+    let mut place = items.len();
+    while place > 0 && item.is_before(&items[place - 1]) {
         place -= 1;
     }
     place
-}
-
-fn is_turn_before(one: &Turn, other: &Turn) -> bool
-    ensures { result ≡ precedes turn_time turn_source one.now other.now }
-{
-    one.time < other.time
-}
-
-// Puts a packet at its place, behind all that it need not stand before, and says which that is.
-fn put_flight_in(flights: &mut VecDeque<Flight>, flight: Flight) -> usize
-    requires order { IsInOrder flight_time flight_source flights.old.items }
-    requires room { deque_len flights.old + 1 ≤ deque_capacity flights.old }
-    ensures put { flights.new.items ≡ put_in flight_time flight_source flight flights.old.items }
-    ensures at { flights.new.items ≡ insert flights.old.items result flight }
-    ensures within { result ≤ length flights.old.items }
-{
-    let at = place_for_flight(flights, &flight);
-    let Ok(()) = flights.insert(at, flight) else {
-        unreachable!()
-    };
-    at
-}
-
-// The times of a link's packets don't fall in a run: so it is looked for from the end on.
-fn place_for_flight(flights: &VecDeque<Flight>, flight: &Flight) -> usize
-    requires { IsInOrder flight_time flight_source flights.now.items }
-    ensures place { put_in flight_time flight_source flight.now flights.now.items ≡ insert flights.now.items result flight.now }
-    ensures within { result ≤ length flights.now.items }
-{
-    let mut place = flights.len();
-    while place > 0 && is_flight_before(flight, &flights[place - 1]) {
-        place -= 1;
-    }
-    place
-}
-
-fn is_flight_before(one: &Flight, other: &Flight) -> bool
-    ensures { result ≡ precedes flight_time flight_source one.now other.now }
-{
-    one.arrive() < other.arrive() || (one.arrive() == other.arrive() && one.link() < other.link())
 }

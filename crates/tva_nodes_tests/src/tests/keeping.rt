@@ -116,21 +116,19 @@ const KEPT: [(
     Memory,
     (Option<NetError>, u64, u64),
     (usize, u64, u64),
-); 4] = [
+); 2] = [
     (
         STEPS,
         Memory::All,
         (PASSED, 60, 17),
         (18, 44_046_650, 54_046_650),
     ),
-    (STEPS, Memory::Events, (PASSED, 60, 17), (18, 0, 0)),
     (
         FILES,
         Memory::All,
         (None, 54, 16),
         (16, 27_019_780, 68_019_780),
     ),
-    (FILES, Memory::Events, (None, 54, 16), (16, 0, 0)),
 ];
 
 #[test]

@@ -1,24 +1,15 @@
-use Rattle.std.proofs.Common.{◌≡◌, ◌≤◌, ◌∷◌, [], ◌++◌, sym, subst}
-use Rattle.tva_log.specs.Joins.{put_in}
-use Rattle.tva_log.specs.declared.kinds.Input.{Input}
-use Rattle.tva_log.specs.Entries.{input_source, input_time}
+use Rattle.std.proofs.Common.{◌≤◌, sym, subst}
+use Rattle.tva_log.specs.Entries.{input_time}
 use Rattle.tva_waiting.specs.Inputs.{arrived}
-use Rattle.tva_node.specs.States.{Gone, NodeState, Stands, gone_in, state_of}
-use Rattle.tva_node.proofs.Decides.{on_both}
-use Rattle.tva_node.proofs.Posts.{posted}
+use Rattle.tva_node.specs.States.{NodeState, Stands, gone_in, state_of}
+use Rattle.tva_node.proofs.Posts.{posted_then}
 use Rattle.tva_node.proofs.node.Node.post_flight.Goals as goal
 
 pub returns-clause-stands : goal.returns-clause-stands
 returns-clause-stands c = λ st.
     let p = c.self.inside.parts in
-    let v = state_of p in
-    let input : Input = arrived c.args.flight in
-    let gone : Gone = record (gone_in p) { inputs = c.put_flight.new.inbox.gone } in
-    let stands = subst Stands (sym c.self.view_is) st in
-    let late = subst (λ (w : NodeState). w.worked_to ≤ input_time input) (sym c.self.view_is) c.requires.late in
-    let within = subst (λ (w : NodeState). input_time input ≤ w.horizon) (sym c.self.view_is) c.requires.horizon in
-    let after = posted v input gone late within tt stands in
-    on_both (c.put_flight.new.self ≡ put_in input_time input_source input p.waiting) (c.put_flight.new.inbox.all ≡ p.inbox.all ++ input ∷ [])
-    (Stands (record v { inbox = c.put_flight.new.inbox.all; gone = gone; waiting = c.put_flight.new.self })) c.put_flight.result
-    (λ put noted. subst Stands (λ i. record v { inbox = sym noted i; gone = gone; waiting = sym put i }) after)
+    let same = sym c.self.view_is in
+    let input = arrived c.args.flight in
+    posted_then (state_of p) input (record (gone_in p) { inputs = c.put_flight.new.inbox.gone }) c.put_flight.new.self c.put_flight.new.inbox.all c.put_flight.result
+    (subst (λ (w : NodeState). w.worked_to ≤ input_time input) same c.requires.late) (subst (λ (w : NodeState). input_time input ≤ w.horizon) same c.requires.horizon) tt (subst Stands same st)
     c.put_flight.ensures.put c.put_flight.ensures.noted

@@ -1,14 +1,13 @@
-use Rattle.std.proofs.Common.{◌≡◌, ◌+◌, ◌∷◌, [], ◌++◌, Option, Some, None, get_or, map, refl, sym, subst, ◌∙◌, ap, arith, append-nil}
-use Rattle.std.proofs.lemmas.List.{get_or_default}
+use Rattle.std.proofs.Common.{◌≡◌, ◌+◌, ◌∷◌, [], ◌++◌, Option, Some, None, get_or, refl, subst, ◌∙◌, ap, arith}
 use Rattle.tva_shim.specs.Packets.{PacketData}
 use Rattle.tva_port.specs.declared.decision.Decision.TheVariants.{WaitUntil, Idle}
 use Rattle.tva_port.specs.declared.hand.Next.TheVariants.{Start}
 use Rattle.tva_port.specs.Hand.{decision_by}
-use Rattle.tva_node.specs.Pairs.{link_pair}
 use Rattle.tva_node.specs.States.{NodeState, gone_in, role_plan, site_at, state_of}
 use Rattle.tva_node.specs.Steps.{Decides}
 use Rattle.tva_node.specs.Work.{DecidesAt, end_on, start_event, start_sending}
-use Rattle.tva_node.proofs.Decides.{by_packet, count_put, from_fields, here_is, on_both, pairs_put, pairs_set, put_there, read_busy, read_fits, read_out, read_rest, read_start}
+use Rattle.tva_node.proofs.Decides.{by_packet, from_fields, keeps_put, on_both, read_busy, read_fits, read_out, read_rest, read_start}
+use Rattle.tva_node.proofs.Works.{pairs_put}
 use Rattle.tva_node.proofs.parts.Parts.ask_at.Goals as goal
 
 pub free_at-free-requires : goal.free_at-free-requires
@@ -26,27 +25,12 @@ returns-then-free-now-clause-stands c =
     let st = c.requires.stands.3 in
     let a = c.at-number.result in
     let out = read_out p c.args.now c.args.place a c.at-number.ensures c.requires.within c.requires.stands in
-    put_there p c.args.now c.args.place a c.at-number.ensures c.requires.within c.requires.stands c.put.new.self (Some c.free_at-free.result.0) p.role (c.put.ensures a)
-    (read_busy p c.args.now c.args.place a c.at-number.ensures c.requires.within c.requires.stands c.free_at-free.result.0 (get_or p.links c.args.place a)
-    (here_is p c.args.now c.args.place a c.at-number.ensures c.requires.within c.requires.stands)
-    (c.free_at-free.ensures.free (site_at p) c.requires.stands.1 a.plan.limits st.site st.plan out st.role) c.if-free-now.true)
-
-pub returns-then-free-now-clause-count : goal.returns-then-free-now-clause-count
-returns-then-free-now-clause-count c = count_put c.args.self.now.links c.put.new.self c.args.place c.at-number.result (Some c.free_at-free.result.0) (c.put.ensures c.at-number.result)
+    read_busy p c.args.now c.args.place a c.at-number.ensures c.requires.within c.requires.stands c.put.new.self c.free_at-free.result.0 (c.put.ensures a)
+    (c.free_at-free.ensures.free (site_at p) c.requires.stands.1 a.plan.limits st.site st.plan out st.role) c.if-free-now.true
 
 pub returns-then-free-now-clause-keeps : goal.returns-then-free-now-clause-keeps
 returns-then-free-now-clause-keeps c =
-    let p = c.args.self.now in
-    let a = c.at-number.result in
-    record {
-      site = λ i. record { number = p.number; plan = role_plan p.role; links = pairs_put p.links c.put.new.self c.args.place a (Some c.free_at-free.result.0) c.at-number.ensures c.requires.within (c.put.ensures a) i };
-      horizon = refl;
-      inbox = refl;
-      events = ([], sym (append-nil p.log.all));
-      sendings = ([], sym (append-nil p.outbox.all));
-      keeps = refl;
-      gone = refl;
-    }
+    keeps_put c.args.self.now c.put.new.self c.args.place c.at-number.result (Some c.free_at-free.result.0) c.args.self.now.role c.requires.within (c.put.ensures c.at-number.result) refl
 
 pub decide-requires-clause-out : goal.decide-requires-clause-out
 decide-requires-clause-out c =
@@ -80,25 +64,18 @@ returns-in-Start-clause-stands c = by_packet c.decide.new.hand c.in-Start.ensure
     (from_fields q p.number p.horizon p.worked_to c.decide.new.self _ p.inbox.all p.waiting p.outbox.keeps (gone_in p) events sendings same.3 same.4 same.5 same.0 (c.note_start.ensures.links a packet hand) (ap (λ v. v.all) same.1) same.2 told sent held.0 (λ i. record { inputs = (same.1 i).gone; events = held.1 i; sendings = held.2 i; told = held.3 i; sent = held.4 i })) stands)
     (c.note_start.ensures.log a packet hand) (c.note_start.ensures.outbox a packet hand))
 
-pub returns-in-Start-clause-count : goal.returns-in-Start-clause-count
-returns-in-Start-clause-count c = by_packet c.decide.new.hand c.in-Start.ensures.held (λ packet hand.
-    let p = c.args.self.now in
-    let a = c.at-number.result in
-    count_put p.links c.note_start.new.self.links c.args.place a (Some (end_on (get_or p.links c.args.place a) c.args.now packet)) (c.note_start.ensures.links a packet hand))
-
 pub returns-in-Start-clause-keeps : goal.returns-in-Start-clause-keeps
 returns-in-Start-clause-keeps c = by_packet c.decide.new.hand c.in-Start.ensures.held (λ packet hand.
     let p = c.args.self.now in
     let a = c.at-number.result in
-    let here = get_or p.links c.args.place a in
+    let q = c.note_start.new.self in
     let same = c.note_start.ensures.same in
     let held = c.note_start.ensures.held in
-    let e = get_or_default p.links c.args.place a here c.requires.within in
     record {
       site = λ i. record {
         number = same.3 i;
         plan = (ap role_plan same.0 ∙ c.in-Start.ensures.plan) i;
-        links = (ap (map link_pair) (c.note_start.ensures.links a packet hand) ∙ pairs_set p.links c.args.place a here (Some (end_on here c.args.now packet)) c.at-number.ensures e c.requires.within) i;
+        links = pairs_put p.links q.links c.args.place a (Some (end_on (get_or p.links c.args.place a) c.args.now packet)) c.requires.within (c.note_start.ensures.links a packet hand) i;
       };
       horizon = same.4;
       inbox = ap (λ v. v.all) same.1;
@@ -115,28 +92,13 @@ returns-in-WaitUntil-clause-stands c =
     let a = c.at-number.result in
     let out = read_out p c.args.now c.args.place a c.at-number.ensures c.requires.within c.requires.stands in
     let free = c.free_at-free.ensures.free (site_at p) c.requires.stands.1 a.plan.limits st.site st.plan out st.role in
-    put_there p c.args.now c.args.place a c.at-number.ensures c.requires.within c.requires.stands c.put-in-WaitUntil.new.self (Some c.in-WaitUntil.time.0) c.decide.new.self (c.put-in-WaitUntil.ensures a)
-    (read_rest p c.args.now c.args.place a c.at-number.ensures c.requires.within c.requires.stands (WaitUntil c.in-WaitUntil.time) (Some c.in-WaitUntil.time.0) c.decide.new.self (get_or p.links c.args.place a)
-    (here_is p c.args.now c.args.place a c.at-number.ensures c.requires.within c.requires.stands) refl
+    read_rest p c.args.now c.args.place a c.at-number.ensures c.requires.within c.requires.stands (WaitUntil c.in-WaitUntil.time) c.put-in-WaitUntil.new.self c.decide.new.self (c.put-in-WaitUntil.ensures a)
     (omega (arith, free, c.if-free-now.false))
-    (c.in-WaitUntil.ensures.decides (site_at p) c.requires.stands.1 a.plan.limits st.site st.plan out st.role) refl c.in-WaitUntil.ensures.plan c.in-WaitUntil.ensures.last)
-
-pub returns-in-WaitUntil-clause-count : goal.returns-in-WaitUntil-clause-count
-returns-in-WaitUntil-clause-count c = count_put c.args.self.now.links c.put-in-WaitUntil.new.self c.args.place c.at-number.result (Some c.in-WaitUntil.time.0) (c.put-in-WaitUntil.ensures c.at-number.result)
+    (c.in-WaitUntil.ensures.decides (site_at p) c.requires.stands.1 a.plan.limits st.site st.plan out st.role) refl c.in-WaitUntil.ensures.plan c.in-WaitUntil.ensures.last
 
 pub returns-in-WaitUntil-clause-keeps : goal.returns-in-WaitUntil-clause-keeps
 returns-in-WaitUntil-clause-keeps c =
-    let p = c.args.self.now in
-    let a = c.at-number.result in
-    record {
-      site = λ i. record { number = p.number; plan = c.in-WaitUntil.ensures.plan i; links = pairs_put p.links c.put-in-WaitUntil.new.self c.args.place a (Some c.in-WaitUntil.time.0) c.at-number.ensures c.requires.within (c.put-in-WaitUntil.ensures a) i };
-      horizon = refl;
-      inbox = refl;
-      events = ([], sym (append-nil p.log.all));
-      sendings = ([], sym (append-nil p.outbox.all));
-      keeps = refl;
-      gone = refl;
-    }
+    keeps_put c.args.self.now c.put-in-WaitUntil.new.self c.args.place c.at-number.result (Some c.in-WaitUntil.time.0) c.decide.new.self c.requires.within (c.put-in-WaitUntil.ensures c.at-number.result) c.in-WaitUntil.ensures.plan
 
 pub returns-in-Idle-clause-stands : goal.returns-in-Idle-clause-stands
 returns-in-Idle-clause-stands c =
@@ -145,25 +107,10 @@ returns-in-Idle-clause-stands c =
     let a = c.at-number.result in
     let out = read_out p c.args.now c.args.place a c.at-number.ensures c.requires.within c.requires.stands in
     let free = c.free_at-free.ensures.free (site_at p) c.requires.stands.1 a.plan.limits st.site st.plan out st.role in
-    put_there p c.args.now c.args.place a c.at-number.ensures c.requires.within c.requires.stands c.put-in-Idle.new.self None c.decide.new.self (c.put-in-Idle.ensures a)
-    (read_rest p c.args.now c.args.place a c.at-number.ensures c.requires.within c.requires.stands Idle None c.decide.new.self (get_or p.links c.args.place a)
-    (here_is p c.args.now c.args.place a c.at-number.ensures c.requires.within c.requires.stands) refl
+    read_rest p c.args.now c.args.place a c.at-number.ensures c.requires.within c.requires.stands Idle c.put-in-Idle.new.self c.decide.new.self (c.put-in-Idle.ensures a)
     (omega (arith, free, c.if-free-now.false))
-    (c.in-Idle.ensures.decides (site_at p) c.requires.stands.1 a.plan.limits st.site st.plan out st.role) refl c.in-Idle.ensures.plan c.in-Idle.ensures.last)
-
-pub returns-in-Idle-clause-count : goal.returns-in-Idle-clause-count
-returns-in-Idle-clause-count c = count_put c.args.self.now.links c.put-in-Idle.new.self c.args.place c.at-number.result None (c.put-in-Idle.ensures c.at-number.result)
+    (c.in-Idle.ensures.decides (site_at p) c.requires.stands.1 a.plan.limits st.site st.plan out st.role) refl c.in-Idle.ensures.plan c.in-Idle.ensures.last
 
 pub returns-in-Idle-clause-keeps : goal.returns-in-Idle-clause-keeps
 returns-in-Idle-clause-keeps c =
-    let p = c.args.self.now in
-    let a = c.at-number.result in
-    record {
-      site = λ i. record { number = p.number; plan = c.in-Idle.ensures.plan i; links = pairs_put p.links c.put-in-Idle.new.self c.args.place a None c.at-number.ensures c.requires.within (c.put-in-Idle.ensures a) i };
-      horizon = refl;
-      inbox = refl;
-      events = ([], sym (append-nil p.log.all));
-      sendings = ([], sym (append-nil p.outbox.all));
-      keeps = refl;
-      gone = refl;
-    }
+    keeps_put c.args.self.now c.put-in-Idle.new.self c.args.place c.at-number.result None c.decide.new.self c.requires.within (c.put-in-Idle.ensures c.at-number.result) c.in-Idle.ensures.plan

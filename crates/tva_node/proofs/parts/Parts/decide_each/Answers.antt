@@ -2,6 +2,7 @@ use Rattle.std.proofs.Common.{◌+◌, arith, subst, ◌∙◌}
 use Rattle.tva_node.specs.Links.{IsFirstAsked}
 use Rattle.tva_node.specs.States.{state_of}
 use Rattle.tva_node.proofs.Asked.{goes_on, goes_through}
+use Rattle.tva_node.proofs.Decides.{count_kept}
 use Rattle.tva_node.proofs.Zips.{keeps_on}
 use Rattle.tva_node.proofs.parts.Parts.decide_each.Goals as goal
 
@@ -20,7 +21,7 @@ loop-preserved c =
     let st = c.loop.invariant.stands in
     let behind = (goes_on (state_of c.loop.self) c.args.now st.0 st.3 c.in-Some.place c.in-Some.ensures).0 in
     let within = c.in-Some.ensures.0 in
-    let count = c.ask_at.ensures.count in
+    let count = count_kept c.loop.self c.ask_at.new.self c.ask_at.ensures.keeps in
     record {
       stands = (c.in-Some.place + 1, (let k = st.1 in omega (arith, k, behind)), omega (arith, within, count), c.in_ok-ask_at.ensures.stands);
       count = count ∙ c.loop.invariant.count;

@@ -14,50 +14,26 @@ put_in_lane-at-requires-clause-order c =
     let w = c.args.self.now in
     subst (λ l. IsInOrder flight_time flight_source l.flights.items) (sym c.index_mut.ensures.value) (lane_in_order w c.requires.waiting c.args.place c.index_mut.result.now c.requires.lane.within)
 
-pub returns-then-at-eq0-clause-waiting : goal.returns-then-at-eq0-clause-waiting
-returns-then-at-eq0-clause-waiting c =
+pub returns-then-at-eq0 : goal.returns-then-at-eq0
+returns-then-at-eq0 c =
     let w = c.args.self.now in
     let lane : Lane = c.put_in_lane-at.new.lane in
     let v : Lanes = record { rows = w.rows; layouts = w.layouts; list = with_item w.list c.args.place lane; sources = w.sources; heads = c.put.new.self; places = w.places; alloc = w.alloc } in
     let is : c.index_mut.result.now ≡ get_or w.list.items c.args.place lane = c.index_mut.ensures.value ∙ any_default w.list.items c.args.place c.index_mut.result.now lane c.requires.lane.within in
-    (flight_waits w v c.args.place c.put_in_lane-at.result c.args.flight lane c.requires.waiting c.requires.lane (search rules) (c.put_in_lane-at.ensures.same ∙ ap (λ l. l.link) is)
+    flight_waits w v c.args.place lane c.requires.waiting c.requires.lane.within (c.put_in_lane-at.ensures.same ∙ ap (λ l. l.link) is) refl refl refl refl refl c.put_in_lane-at.result c.args.flight (c.requires.lane.its lane) (search rules)
     (c.put_in_lane-at.ensures.put ∙ ap (λ l. put_in flight_time flight_source c.args.flight l.flights.items) is)
     (c.put_in_lane-at.ensures.at ∙ ap (λ l. insert l.flights.items c.put_in_lane-at.result c.args.flight) is)
     (subst (λ l. c.put_in_lane-at.result ≤ length l.flights.items) is c.put_in_lane-at.ensures.within)
-    refl refl refl refl refl (λ e. c.put.ensures ∙ ap (λ n. set w.heads (c.args.place + 1) n) (c.key_of.ensures ∙ ap₂ (λ t s. t * 2 ^ 32 + s) (ap (λ t. t.0) c.arrive-time.ensures) (ap (λ n. n + 1) (c.from.ensures ∙ c.link-link.ensures) ∙ add-one c.args.flight.link))) (λ n. absurd (n c.if-at-eq0.true))).0
+    (λ e. c.put.ensures ∙ ap (λ n. set w.heads (c.args.place + 1) n) (c.key_of.ensures ∙ ap₂ (λ t s. t * 2 ^ 32 + s) (ap (λ t. t.0) c.arrive-time.ensures) (ap (λ n. n + 1) (c.from.ensures ∙ c.link-link.ensures) ∙ add-one c.args.flight.link))) (λ n. absurd (n c.if-at-eq0.true))
 
-pub returns-then-at-eq0-clause-put : goal.returns-then-at-eq0-clause-put
-returns-then-at-eq0-clause-put c =
-    let w = c.args.self.now in
-    let lane : Lane = c.put_in_lane-at.new.lane in
-    let v : Lanes = record { rows = w.rows; layouts = w.layouts; list = with_item w.list c.args.place lane; sources = w.sources; heads = c.put.new.self; places = w.places; alloc = w.alloc } in
-    let is : c.index_mut.result.now ≡ get_or w.list.items c.args.place lane = c.index_mut.ensures.value ∙ any_default w.list.items c.args.place c.index_mut.result.now lane c.requires.lane.within in
-    (flight_waits w v c.args.place c.put_in_lane-at.result c.args.flight lane c.requires.waiting c.requires.lane (search rules) (c.put_in_lane-at.ensures.same ∙ ap (λ l. l.link) is)
-    (c.put_in_lane-at.ensures.put ∙ ap (λ l. put_in flight_time flight_source c.args.flight l.flights.items) is)
-    (c.put_in_lane-at.ensures.at ∙ ap (λ l. insert l.flights.items c.put_in_lane-at.result c.args.flight) is)
-    (subst (λ l. c.put_in_lane-at.result ≤ length l.flights.items) is c.put_in_lane-at.ensures.within)
-    refl refl refl refl refl (λ e. c.put.ensures ∙ ap (λ n. set w.heads (c.args.place + 1) n) (c.key_of.ensures ∙ ap₂ (λ t s. t * 2 ^ 32 + s) (ap (λ t. t.0) c.arrive-time.ensures) (ap (λ n. n + 1) (c.from.ensures ∙ c.link-link.ensures) ∙ add-one c.args.flight.link))) (λ n. absurd (n c.if-at-eq0.true))).1
-
-pub returns-else-at-eq0-clause-waiting : goal.returns-else-at-eq0-clause-waiting
-returns-else-at-eq0-clause-waiting c =
+pub returns-else-at-eq0 : goal.returns-else-at-eq0
+returns-else-at-eq0 c =
     let w = c.args.self.now in
     let lane : Lane = c.put_in_lane-at.new.lane in
     let v : Lanes = record { rows = w.rows; layouts = w.layouts; list = with_item w.list c.args.place lane; sources = w.sources; heads = w.heads; places = w.places; alloc = w.alloc } in
     let is : c.index_mut.result.now ≡ get_or w.list.items c.args.place lane = c.index_mut.ensures.value ∙ any_default w.list.items c.args.place c.index_mut.result.now lane c.requires.lane.within in
-    (flight_waits w v c.args.place c.put_in_lane-at.result c.args.flight lane c.requires.waiting c.requires.lane (search rules) (c.put_in_lane-at.ensures.same ∙ ap (λ l. l.link) is)
+    flight_waits w v c.args.place lane c.requires.waiting c.requires.lane.within (c.put_in_lane-at.ensures.same ∙ ap (λ l. l.link) is) refl refl refl refl refl c.put_in_lane-at.result c.args.flight (c.requires.lane.its lane) (search rules)
     (c.put_in_lane-at.ensures.put ∙ ap (λ l. put_in flight_time flight_source c.args.flight l.flights.items) is)
     (c.put_in_lane-at.ensures.at ∙ ap (λ l. insert l.flights.items c.put_in_lane-at.result c.args.flight) is)
     (subst (λ l. c.put_in_lane-at.result ≤ length l.flights.items) is c.put_in_lane-at.ensures.within)
-    refl refl refl refl refl (λ e. absurd (c.if-at-eq0.false e)) (λ n. refl)).0
-
-pub returns-else-at-eq0-clause-put : goal.returns-else-at-eq0-clause-put
-returns-else-at-eq0-clause-put c =
-    let w = c.args.self.now in
-    let lane : Lane = c.put_in_lane-at.new.lane in
-    let v : Lanes = record { rows = w.rows; layouts = w.layouts; list = with_item w.list c.args.place lane; sources = w.sources; heads = w.heads; places = w.places; alloc = w.alloc } in
-    let is : c.index_mut.result.now ≡ get_or w.list.items c.args.place lane = c.index_mut.ensures.value ∙ any_default w.list.items c.args.place c.index_mut.result.now lane c.requires.lane.within in
-    (flight_waits w v c.args.place c.put_in_lane-at.result c.args.flight lane c.requires.waiting c.requires.lane (search rules) (c.put_in_lane-at.ensures.same ∙ ap (λ l. l.link) is)
-    (c.put_in_lane-at.ensures.put ∙ ap (λ l. put_in flight_time flight_source c.args.flight l.flights.items) is)
-    (c.put_in_lane-at.ensures.at ∙ ap (λ l. insert l.flights.items c.put_in_lane-at.result c.args.flight) is)
-    (subst (λ l. c.put_in_lane-at.result ≤ length l.flights.items) is c.put_in_lane-at.ensures.within)
-    refl refl refl refl refl (λ e. absurd (c.if-at-eq0.false e)) (λ n. refl)).1
+    (λ e. absurd (c.if-at-eq0.false e)) (λ n. refl)

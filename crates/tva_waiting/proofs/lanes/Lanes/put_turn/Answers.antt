@@ -3,29 +3,17 @@ use Rattle.tva_waiting.specs.declared.lanes.Lanes.{Lanes}
 use Rattle.tva_waiting.proofs.Held.{row_waits, rows_in_order}
 use Rattle.tva_waiting.proofs.lanes.Lanes.put_turn.Goals as goal
 
-pub put_turn_in-at-requires-clause-order : goal.put_turn_in-at-requires-clause-order
-put_turn_in-at-requires-clause-order c = rows_in_order c.args.self.now.layouts.items c.args.self.now.rows.items c.requires.waiting.queues.0.in_order
+pub put_in_turn-at-requires-clause-order : goal.put_in_turn-at-requires-clause-order
+put_in_turn-at-requires-clause-order c = rows_in_order c.args.self.now.layouts.items c.args.self.now.rows.items c.requires.waiting.queues.0.in_order
 
-pub returns-then-at-eq0-clause-waiting : goal.returns-then-at-eq0-clause-waiting
-returns-then-at-eq0-clause-waiting c =
+pub returns-then-at-eq0 : goal.returns-then-at-eq0
+returns-then-at-eq0 c =
     let w = c.args.self.now in
-    let v : Lanes = record { rows = c.put_turn_in-at.new.rows; layouts = w.layouts; list = w.list; sources = w.sources; heads = c.put.new.self; places = w.places; alloc = w.alloc } in
-    (row_waits w v c.requires.waiting refl refl refl refl c.args.turn c.put_turn_in-at.result (search rules) c.requires.held c.put_turn_in-at.ensures.put c.put_turn_in-at.ensures.at c.put_turn_in-at.ensures.within (λ e. c.put.ensures ∙ ap (λ n. set w.heads 0 n) c.key_of.ensures) (λ n. absurd (n c.if-at-eq0.true))).0
+    let v : Lanes = record { rows = c.put_in_turn-at.new.items; layouts = w.layouts; list = w.list; sources = w.sources; heads = c.put.new.self; places = w.places; alloc = w.alloc } in
+    row_waits w v c.requires.waiting refl refl refl refl c.args.turn c.put_in_turn-at.result (search rules) c.requires.held c.put_in_turn-at.ensures.put c.put_in_turn-at.ensures.at c.put_in_turn-at.ensures.within (λ e. c.put.ensures ∙ ap (λ n. set w.heads 0 n) c.key_of.ensures) (λ n. absurd (n c.if-at-eq0.true))
 
-pub returns-then-at-eq0-clause-put : goal.returns-then-at-eq0-clause-put
-returns-then-at-eq0-clause-put c =
+pub returns-else-at-eq0 : goal.returns-else-at-eq0
+returns-else-at-eq0 c =
     let w = c.args.self.now in
-    let v : Lanes = record { rows = c.put_turn_in-at.new.rows; layouts = w.layouts; list = w.list; sources = w.sources; heads = c.put.new.self; places = w.places; alloc = w.alloc } in
-    (row_waits w v c.requires.waiting refl refl refl refl c.args.turn c.put_turn_in-at.result (search rules) c.requires.held c.put_turn_in-at.ensures.put c.put_turn_in-at.ensures.at c.put_turn_in-at.ensures.within (λ e. c.put.ensures ∙ ap (λ n. set w.heads 0 n) c.key_of.ensures) (λ n. absurd (n c.if-at-eq0.true))).1
-
-pub returns-else-at-eq0-clause-waiting : goal.returns-else-at-eq0-clause-waiting
-returns-else-at-eq0-clause-waiting c =
-    let w = c.args.self.now in
-    let v : Lanes = record { rows = c.put_turn_in-at.new.rows; layouts = w.layouts; list = w.list; sources = w.sources; heads = w.heads; places = w.places; alloc = w.alloc } in
-    (row_waits w v c.requires.waiting refl refl refl refl c.args.turn c.put_turn_in-at.result (search rules) c.requires.held c.put_turn_in-at.ensures.put c.put_turn_in-at.ensures.at c.put_turn_in-at.ensures.within (λ e. absurd (c.if-at-eq0.false e)) (λ n. refl)).0
-
-pub returns-else-at-eq0-clause-put : goal.returns-else-at-eq0-clause-put
-returns-else-at-eq0-clause-put c =
-    let w = c.args.self.now in
-    let v : Lanes = record { rows = c.put_turn_in-at.new.rows; layouts = w.layouts; list = w.list; sources = w.sources; heads = w.heads; places = w.places; alloc = w.alloc } in
-    (row_waits w v c.requires.waiting refl refl refl refl c.args.turn c.put_turn_in-at.result (search rules) c.requires.held c.put_turn_in-at.ensures.put c.put_turn_in-at.ensures.at c.put_turn_in-at.ensures.within (λ e. absurd (c.if-at-eq0.false e)) (λ n. refl)).1
+    let v : Lanes = record { rows = c.put_in_turn-at.new.items; layouts = w.layouts; list = w.list; sources = w.sources; heads = w.heads; places = w.places; alloc = w.alloc } in
+    row_waits w v c.requires.waiting refl refl refl refl c.args.turn c.put_in_turn-at.result (search rules) c.requires.held c.put_in_turn-at.ensures.put c.put_in_turn-at.ensures.at c.put_in_turn-at.ensures.within (λ e. absurd (c.if-at-eq0.false e)) (λ n. refl)

@@ -31,8 +31,8 @@ index-requires c =
     let many : length c.args.self.now.list.items ≡ c.args.self.now.list.len = search rules in
     omega (arith, k.1, many)
 
-pub returns-clause-waiting : goal.returns-clause-waiting
-returns-clause-waiting c =
+pub returns : goal.returns
+returns c =
     let w = c.args.self.now in
     let p = c.next-place.result in
     let lane = c.take_first-flight.new.lane in
@@ -40,17 +40,5 @@ returns-clause-waiting c =
     let v : Lanes = record { rows = w.rows; layouts = w.layouts; list = with_item w.list (p - 1) lane; sources = w.sources; heads = c.put.new.self; places = w.places; alloc = w.alloc } in
     let is : c.index_mut.result.now ≡ get_or w.list.items (p - 1) lane = c.index_mut.ensures.value ∙ any_default w.list.items (p - 1) c.index_mut.result.now lane k.1 in
     let there : c.index.result.now ≡ lane = c.index.ensures ∙ get_or-set_same w.list.items (p - 1) lane c.index.result.now k.1 in
-    (flight_taken w v p c.take_first-flight.result lane c.requires.waiting c.next-place.ensures.some k.0 k.1 (sym (ap (λ l. l.flights.items) is) ∙ c.take_first-flight.ensures.taken) (c.take_first-flight.ensures.same ∙ ap (λ l. l.link) is)
-    refl refl refl refl refl (c.put.ensures ∙ ap (λ n. set w.heads p n) (c.flights_head-head.ensures ∙ ap (λ l. head_of (map arrived l.flights.items)) there))).0
-
-pub returns-clause-taken : goal.returns-clause-taken
-returns-clause-taken c =
-    let w = c.args.self.now in
-    let p = c.next-place.result in
-    let lane = c.take_first-flight.new.lane in
-    let k = lane_next w p c.requires.waiting c.next-place.ensures.some c.next-place.ensures.none c.requires.waits c.requires.flight in
-    let v : Lanes = record { rows = w.rows; layouts = w.layouts; list = with_item w.list (p - 1) lane; sources = w.sources; heads = c.put.new.self; places = w.places; alloc = w.alloc } in
-    let is : c.index_mut.result.now ≡ get_or w.list.items (p - 1) lane = c.index_mut.ensures.value ∙ any_default w.list.items (p - 1) c.index_mut.result.now lane k.1 in
-    let there : c.index.result.now ≡ lane = c.index.ensures ∙ get_or-set_same w.list.items (p - 1) lane c.index.result.now k.1 in
-    (flight_taken w v p c.take_first-flight.result lane c.requires.waiting c.next-place.ensures.some k.0 k.1 (sym (ap (λ l. l.flights.items) is) ∙ c.take_first-flight.ensures.taken) (c.take_first-flight.ensures.same ∙ ap (λ l. l.link) is)
-    refl refl refl refl refl (c.put.ensures ∙ ap (λ n. set w.heads p n) (c.flights_head-head.ensures ∙ ap (λ l. head_of (map arrived l.flights.items)) there))).1
+    flight_taken w v (p - 1) lane c.requires.waiting k.1 (c.take_first-flight.ensures.same ∙ ap (λ l. l.link) is) refl refl refl refl refl p c.take_first-flight.result (omega (arith, k.0)) c.next-place.ensures.some (sym (ap (λ l. l.flights.items) is) ∙ c.take_first-flight.ensures.taken)
+    (c.put.ensures ∙ ap (λ n. set w.heads p n) (c.flights_head-head.ensures ∙ ap (λ l. head_of (map arrived l.flights.items)) there))

@@ -8,14 +8,8 @@ unreachable-requires c =
     let none : length c.args.self.now.rows.items ≡ 0 = search rules in
     rows_wait c.args.self.now c.requires.waiting c.requires.row none
 
-pub returns-clause-waiting : goal.returns-clause-waiting
-returns-clause-waiting c =
-    let w = c.args.self.now in
-    let v : Lanes = record { rows = c.pop_front.new.self; layouts = w.layouts; list = w.list; sources = w.sources; heads = c.put.new.self; places = w.places; alloc = w.alloc } in
-    (row_taken w v c.requires.waiting refl refl refl refl c.in-Some.turn c.requires.row c.in-Some.ensures.items (c.put.ensures ∙ ap (λ n. set w.heads 0 n) (c.rows_head-head.ensures w.layouts.items))).0
-
 pub returns-clause-taken : goal.returns-clause-taken
 returns-clause-taken c =
     let w = c.args.self.now in
     let v : Lanes = record { rows = c.pop_front.new.self; layouts = w.layouts; list = w.list; sources = w.sources; heads = c.put.new.self; places = w.places; alloc = w.alloc } in
-    (row_taken w v c.requires.waiting refl refl refl refl c.in-Some.turn c.requires.row c.in-Some.ensures.items (c.put.ensures ∙ ap (λ n. set w.heads 0 n) (c.rows_head-head.ensures w.layouts.items))).1
+    row_taken w v c.requires.waiting refl refl refl refl c.in-Some.turn c.requires.row c.in-Some.ensures.items (c.put.ensures ∙ ap (λ n. set w.heads 0 n) (c.rows_head-head.ensures w.layouts.items))
