@@ -11,7 +11,8 @@ use Rattle.tva.specs.Each.{BeginsEach, WroteEach}
 use Rattle.tva_commands.specs.Expected.{Expected, audits, replays}
 use Rattle.tva_commands.specs.Parts.{IsCut}
 use Rattle.tva.specs.Wanted.{wanted}
-use Rattle.tva_commands.proofs.Replays.{cut_of_nothing, of_rows, same_report}
+use Rattle.tva_audit.proofs.OneAnswer.{same_report}
+use Rattle.tva_commands.proofs.Replays.{cut_of_nothing, of_rows}
 use Rattle.tva.proofs.Wants.{HoldsOfEach, of_wanted}
 
 module _ (old new : List ℕ) where

@@ -22,13 +22,13 @@ use Rattle.tva_base.specs.declared.event.Event.{Event}
 use Rattle.tva_run.specs.Report.{AreEventsTo, report_of}
 use Rattle.tva_run.proofs.Runs.{are_delayed}
 use Rattle.tva_run.proofs.Reports.{no_more_events}
-use Rattle.tva_promises.proofs.ReadRows.{rows_have}
+use Rattle.tva_promises.proofs.ReadRows.{rows_are_valid}
 use Rattle.tva_promises.proofs.Runs.{read_run_keeps}
-use Rattle.tva_honest.proofs.Read.{read_given}
+use Rattle.tva_honest.proofs.Given.{given}
 use Rattle.tva_honest.proofs.Steady.{honest_regular}
-use Rattle.tva_delivery.proofs.Kept.{keeps}
+use Rattle.tva_delivery.proofs.Kept.{keeps, rows_have}
 use Rattle.tva_trace.proofs.FewFiles.{files_few}
-use Rattle.tva_existence.proofs.Whole.{read_events}
+use Rattle.tva_promises.proofs.Whole.{read_events}
 use Rattle.tva_report.specs.declared.differences.Finding.{Finding}
 use Rattle.tva_report.specs.Differences.{first_difference}
 use Rattle.tva_report.specs.Lines.{first_bad, report_lines}
@@ -156,10 +156,10 @@ honest_of_each = record {
   of_shim = λ bytes. tt;
   of_trace =
       λ plan trace said valid read rows are until logs run.
-      honest_regular plan rows until logs valid (read_given plan trace rows until logs valid are run) run;
+      honest_regular plan rows until logs valid (given plan rows until logs valid (rows_are_valid plan trace rows are) run) run;
   of_audit =
       λ plan trace said report valid read good rows are until logs run.
-      honest_regular plan rows until logs valid (read_given plan trace rows until logs valid are run) run;
+      honest_regular plan rows until logs valid (given plan rows until logs valid (rows_are_valid plan trace rows are) run) run;
   of_refusal = λ r. tt;
 }
 
@@ -174,9 +174,9 @@ files_of_each = record {
   of_text = λ text. tt;
   of_shim = λ bytes. tt;
   of_trace =
-      λ plan trace said valid read rows are until logs run. keeps plan rows until logs valid (files_few plan trace rows are) (rows_have plan trace rows are) run;
+      λ plan trace said valid read rows are until logs run. keeps plan rows until logs valid (files_few plan trace rows are) (rows_have plan rows (rows_are_valid plan trace rows are)) run;
   of_audit =
-      λ plan trace said report valid read good rows are until logs run. keeps plan rows until logs valid (files_few plan trace rows are) (rows_have plan trace rows are) run;
+      λ plan trace said report valid read good rows are until logs run. keeps plan rows until logs valid (files_few plan trace rows are) (rows_have plan rows (rows_are_valid plan trace rows are)) run;
   of_refusal = λ r. tt;
 }
 

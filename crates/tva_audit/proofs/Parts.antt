@@ -17,7 +17,7 @@ use Rattle.tva_plan.specs.declared.config.NodePlan.TheVariants.{Router, Host}
 use Rattle.tva_sums.specs.declared.sums.Sums.{Sums}
 use Rattle.tva_sums.specs.Charged.{charges_in}
 use Rattle.tva_sums.specs.Sums.{sums_of}
-use Rattle.tva_node.specs.States.{KeepsEvents, NodeState, restarts_in, router_number}
+use Rattle.tva_node.specs.States.{KeepsAll, NodeState, restarts_in, router_number}
 use Rattle.tva_audit.specs.declared.routers.RouterSum.{RouterSum}
 use Rattle.tva_audit.specs.Chunks.{AreParts, IsSummable}
 use Rattle.tva_audit.specs.Sums.{numbered, sum_told, sums_told}
@@ -29,7 +29,7 @@ few_each most (v ∷ vs) h =
     let sum = sum_by-cons (λ (n : NodeState). length n.events) v vs in
     (omega (arith, sum, h), few_each most vs (omega (arith, sum, h)))
 
-pub each_summable : (nodes : List NodeState) → sum_by (λ v. length v.events) nodes ≤ 4000000 → All (λ v. KeepsEvents v.keeps) nodes → All IsSummable nodes
+pub each_summable : (nodes : List NodeState) → sum_by (λ v. length v.events) nodes ≤ 4000000 → All (λ v. KeepsAll v.keeps) nodes → All IsSummable nodes
 each_summable nodes few keeps n d l = record {
   few = All-from_recursion (λ (v : NodeState). length v.events ≤ 4000000) nodes (few_each 4000000 nodes few) n d l;
   keeps = keeps n d l;

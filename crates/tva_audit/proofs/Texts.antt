@@ -4,8 +4,8 @@ use Rattle.std.specs.Prelude.{codes, OnOk}
 use Rattle.std.proofs.lemmas.Grind.{flat_map-append}
 use Rattle.std.proofs.lemmas.List.{map-append, take_more}
 use Rattle.std.proofs.lemmas.List.Folds.{flat_map-map}
-use Rattle.std.proofs.lemmas.List.Elements.{All-append, All-from_recursion}
-use Rattle.tva_lists.specs.Printable.{IsLine}
+use Rattle.std.proofs.lemmas.List.Elements.{All-append, All-from_recursion, All-map}
+use Rattle.tva_base.specs.Printable.{IsLine}
 use Rattle.tva_base.specs.declared.event.Event.{Event}
 use Rattle.tva_plan.specs.declared.config.Config.{Config}
 use Rattle.tva_lines.specs.Lines.{line_of, text_of_event}
@@ -42,8 +42,9 @@ one_line line is =
 pub lines_same : (config : Config) (list : List Event) → text_of (texts_of config list) ≡ lines_of config list
 lines_same config list = flat_map-map ended (text_of_event config) list
 
-pub lines_fit : (config : Config) (list : List Event) → All IsLine (texts_of config list) → IsText (texts_of config list) (lines_of config list)
-lines_fit config list each = subst (IsText (texts_of config list)) (lines_same config list) (made (texts_of config list) each)
+pub lines_fit : (config : Config) (list : List Event) (text : List ℕ) → text ≡ lines_of config list → All (λ e. IsLine (text_of_event config e)) list → IsText (texts_of config list) text
+lines_fit config list text same each =
+    subst (IsText (texts_of config list)) (lines_same config list ∙ sym same) (made (texts_of config list) (All-map IsLine (text_of_event config) list each))
 
 pub texts_more : (config : Config) (told list : List Event) → texts_of config (told ++ list) ≡ texts_of config told ++ texts_of config list
 texts_more config told list = map-append (text_of_event config) told list
@@ -71,15 +72,14 @@ each_more config list i d below before line =
 
 -- the lines of these events are fed, or there is a difference already and none is
 pub compares_more : (config : Config) (c d : Compared) (report : List ℕ) (told list : List Event) (text : List ℕ) (differs : Bool) → is_some c.wanted ≡ differs
-    → text ≡ lines_of config (cond differs [] list) → All IsLine (texts_of config (cond differs [] list))
+    → IsText (texts_of config (cond differs [] list)) text
     → ((report : List ℕ) (fed : List (List ℕ)) → compared.StandsFor c report fed → compared.StandsFor d report (fed ++ report_lines text))
     → compared.StandsFor c report (texts_of config told) → compared.StandsFor d report (texts_of config (told ++ list))
-compares_more config c d report told list text false none lines each feeds stands =
-    let has : report_lines text ≡ texts_of config list = ap report_lines lines ∙ (lines_fit config list each).has in
+compares_more config c d report told list text false none fits feeds stands =
     let all : texts_of config told ++ report_lines text ≡ texts_of config (told ++ list) =
-    ap (λ (ls : List (List ℕ)). texts_of config told ++ ls) has ∙ sym (texts_more config told list) in
+    ap (λ (ls : List (List ℕ)). texts_of config told ++ ls) fits.has ∙ sym (texts_more config told list) in
     subst (compared.StandsFor d report) all (feeds report (texts_of config told) stands)
-compares_more config c d report told list text true differs lines each feeds stands =
+compares_more config c d report told list text true differs fits feeds stands =
     let fed = texts_of config told in
     let next = feeds report fed stands in
     record {

@@ -2,6 +2,8 @@
 use Rattle.std.proofs.Common.{◌≡◌, ◌≤◌, ◌<◌, ◌-◌, Bool, true, false, cond, List, [], ◌∷◌, ◌++◌, length, All, Result, Ok, Err, refl, sym, ap, ◌∙◌, subst, arith, length-append}
 use Rattle.std.specs.Prelude.{IfErr, IfOk}
 use Rattle.std.specs.List.{AllByRecursion}
+use Rattle.std.specs.declared.alloc.Global.{Global}
+use Rattle.std.specs.declared.vec.Vec.{Vec}
 use Rattle.std.proofs.lemmas.List.Elements.{All-from_recursion, recursion_from_All}
 use Rattle.tva_base.specs.declared.event.Event.{Event}
 use Rattle.tva_base.specs.declared.event.Totals.{Totals}
@@ -41,9 +43,45 @@ module _ (config : Config) (rows : List Row) where
   pub lines_to : (windows : List Window) (told : List Event) (net : NetState) → StandsFor config rows windows told net → AreLines config rows (lines_of config told)
   lines_to windows told net s = record { until = net.work.worked_to; told = told; events = events_to windows told net s; lines = refl }
 
+  -- the network stands for the run, and this holds of what it gave but for these events, the last ones
+  pub record IsAfoot (Holds : List Event → Type 0) (items : List Event) (net : NetState) : Type 0 where
+    pub told : List Event
+    pub behind : IsBehind config rows told items net
+    pub holds : Holds told
+
+  -- then this holds of them too, and this comes next
+  pub record IsNext (Holds : List Event → Type 0) (step : Result answers.Window NetError) (before net : NetState) : Type 0 where
+    pub told : List Event
+    pub holds : Holds told
+    pub lines : AreLines config rows (lines_of config told)
+    pub comes : Comes config rows told step before net
+
   -- nothing was given yet
-  pub begun : (list : List Event) (net : NetState) → list ≡ [] → StandsFor config rows [] [] net → IsBehind config rows [] list net
-  begun list net none stands = record { windows = []; stands = subst (λ (es : List Event). StandsFor config rows [] es net) (sym none) stands }
+  pub begun : (Holds : List Event → Type 0) (items : List Event) (net : NetState) → items ≡ [] → StandsFor config rows [] [] net → Holds [] → IsAfoot Holds items net
+  begun Holds items net none stands holds = record {
+    told = [];
+    behind = record { windows = []; stands = subst (λ (es : List Event). StandsFor config rows [] es net) (sym none) stands };
+    holds = holds;
+  }
+
+  pub goes_on : (Holds Then : List Event → Type 0) (items list : List Event) (before net : NetState) (step : Result answers.Window NetError) → IsAfoot Holds items before → list ≡ items
+      → ((rows : List Row) (told : List Event) → IsBehind config rows told list before → Comes config rows (told ++ list) step before net)
+      → ((told : List Event) → Holds told → Then (told ++ list)) → IsNext Then step before net
+  goes_on Holds Then items list before net step a same comes more =
+      let behind = subst (λ (es : List Event). IsBehind config rows a.told es before) (sym same) a.behind in
+      record {
+        told = a.told ++ list;
+        holds = more a.told a.holds;
+        lines = lines_to behind.windows (a.told ++ list) before behind.stands;
+        comes = comes rows a.told behind;
+      }
+
+  -- a window comes
+  pub on : (Holds : List Event → Type 0) (step : Result answers.Window NetError) (before net : NetState) (next : Vec Event Global) → step ≡ Ok (answer.Events next) → IsNext Holds step before net
+      → IsAfoot Holds next.items net × (net.limit - net.totals.events < before.limit - before.totals.events)
+  on Holds step before net next is n =
+      let c = subst (λ (s : Result answers.Window NetError). Comes config rows n.told s before net) is n.comes in
+      (record { told = n.told; behind = c.0; holds = n.holds }, c.1)
 
   -- the nodes and links of the events are the configuration's
   pub named : (told list : List Event) (net : NetState) → IsBehind config rows told list net → All (HasEvent config) list

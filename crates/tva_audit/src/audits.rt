@@ -1,7 +1,12 @@
 // The audit of a report.
-ghost use Rattle.std.specs.Prelude.{◌≡◌};
+ghost use Rattle.std.specs.Prelude.{◌≡◌, Ok, length};
+ghost use Rattle.std.specs.declared.alloc.Global.{Global};
+ghost use Rattle.std.specs.declared.vec.Vec.{Vec};
 ghost use Rattle.tva_plan.specs.Valid.{IsConfig};
 ghost use Rattle.tva_rows.specs.Valid.{AreTraceRows};
+ghost use Rattle.tva_report.specs.Lines.{report_lines};
+ghost use Rattle.tva_audit.specs.declared.audits.Audited.TheVariants.{Same};
+ghost use Rattle.tva_audit.specs.declared.routers.RouterSum.{RouterSum};
 ghost use Rattle.tva_audit.specs.Audit.{IsAudit};
 ghost use Rattle.tva_audit.specs.Deciding.{told_by};
 
@@ -50,12 +55,12 @@ pub fn audit<R: Threads + Sync, G: Gate>(
     ensures answer { IsAudit config.now rows.items report.now result }
 {
     match PackedRows::from_rows(alloc, rows) {
-        Ok(packed) => audit_packed(rt, alloc, config, packed, report, gate),
+        Ok(packed) => audit_packed(rt, alloc, config, packed, report, gate, &mut 0),
         Err(_) => Err(first_of(first_bad(report), AuditError::OutOfMemory)),
     }
 }
 
-/// The same of rows in little memory.
+/// The same of rows in little memory. Where the report is that of the run, `lines` is how many lines it has.
 pub fn audit_packed<R: Threads + Sync, G: Gate>(
     rt: &R,
     alloc: Global,
@@ -63,10 +68,12 @@ pub fn audit_packed<R: Threads + Sync, G: Gate>(
     rows: PackedRows,
     report: &[u8],
     gate: &G,
+    lines: &mut u64,
 ) -> Result<Audited, AuditError>
     requires config { IsConfig config.now }
     requires rows { AreTraceRows config.now rows }
     ensures answer { IsAudit config.now rows report.now result }
+    ensures counted { (sums : Vec RouterSum Global) → result ≡ Ok (Same sums) → lines.new ≡ length (report_lines report.now) }
 {
     let mut net = match Net::build_keeping(alloc, config, rows, Memory::Nothing) {
         Ok(net) => net,
@@ -87,7 +94,11 @@ pub fn audit_packed<R: Threads + Sync, G: Gate>(
         }
         match step {
             Ok(Window::Events(next)) => events = next,
-            Ok(Window::Ended) => return followed.answered(alloc, config, &net.totals()),
+            Ok(Window::Ended) => {
+                let totals = net.totals();
+                *lines = totals.events + 1;
+                return followed.answered(alloc, config, &totals);
+            }
             Err(error) => return Err(followed.refusal(error_of(error))),
         }
     }

@@ -1,7 +1,7 @@
 // How an audit follows a run.
 ghost use Rattle.std.specs.Prelude.{◌≡◌, ◌++◌, ◌∷◌, [], ℕ, List, All, IfOk, OnOk, is_some, length, map};
 ghost use Rattle.tva_base.specs.declared.event.Event.{Event};
-ghost use Rattle.tva_lists.specs.Printable.{IsLine};
+ghost use Rattle.tva_base.specs.Printable.{IsLine};
 ghost use Rattle.tva_plan.specs.Valid.{IsConfig};
 ghost use Rattle.tva_lines.specs.Lines.{HasEvent, text_of_event, text_of_totals};
 ghost use Rattle.tva_run.specs.Report.{lines_of};

@@ -1,6 +1,6 @@
 // The lines of a report, as a network is worked.
 ghost use Rattle.std.specs.Prelude.{◌≡◌, ◌++◌, [], List, All, OnOk, cond};
-ghost use Rattle.tva_lists.specs.Printable.{IsLine};
+ghost use Rattle.tva_base.specs.Printable.{IsLine};
 ghost use Rattle.tva_base.specs.declared.event.Event.{Event};
 ghost use Rattle.tva_plan.specs.Valid.{IsConfig};
 ghost use Rattle.tva_rows.specs.declared.rows.Row.{Row};

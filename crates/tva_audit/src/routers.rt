@@ -1,6 +1,6 @@
 // What each router let through.
 ghost use Rattle.std.specs.Prelude.{◌≡◌, ◌<◌, ◌≤◌, ◌*◌, ℕ, List, All, IfOk, length, sum_by, take};
-ghost use Rattle.tva_node.specs.States.{KeepsEvents, NodeState};
+ghost use Rattle.tva_node.specs.States.{KeepsAll, NodeState};
 ghost use Rattle.tva_audit.specs.Sums.{numbered, sum_told, sums_told};
 ghost use Rattle.tva_audit.specs.Chunks.{AreParts, IsSummable};
 
@@ -33,7 +33,7 @@ pub fn sums<R: Threads + Sync>(
     nodes: &[Node],
 ) -> Result<Vec<RouterSum>, AllocError>
     requires few { sum_by (λ v. length v.events) nodes.now ≤ 4000000 }
-    requires keeps { All (λ v. KeepsEvents v.keeps) nodes.now }
+    requires keeps { All (λ v. KeepsAll v.keeps) nodes.now }
     ensures { IfOk result (λ sums. sums.items ≡ sums_told nodes.now) }
 {
     sums_by_chunks(rt, alloc, nodes, nodes.len() / CHUNKS + 1)

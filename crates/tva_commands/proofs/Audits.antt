@@ -1,7 +1,5 @@
 -- What an audit answers, from what it found.
-use Rattle.std.proofs.Common.{◌≡◌, ◌⊎◌, inl, inr, ℕ, List, Err, Ok, refl, sym, ap, ◌∙◌, subst, None, Some}
-use Rattle.std.specs.declared.option.Option.{Option}
-use Rattle.std.specs.Option.{option_map_or}
+use Rattle.std.proofs.Common.{◌≡◌, ◌⊎◌, inl, inr, ℕ, List, Err, Ok, refl, sym, ◌∙◌, subst, None, Some}
 use Rattle.tva_outside.specs.Held.{HeldByName}
 use Rattle.tva_outside.specs.Loads.{Load}
 use Rattle.tva_plan.specs.declared.config.Config.{Config}
@@ -9,12 +7,12 @@ use Rattle.tva_report.specs.Lines.{first_bad}
 use Rattle.tva_rows.specs.declared.rows.Row.{Row}
 use Rattle.tva_trace.specs.Meaning.{AreRows}
 use Rattle.tva_commands.specs.Command.{audit}
-use Rattle.tva_commands.specs.Expected.{Expected, Sought, IsText, audits, comes_to, file_at, followed, plan_at, refuses, report_at, trace_at, ◌>>=◌}
+use Rattle.tva_commands.specs.Expected.{IsText, audits, comes_to, file_at, plan_at, refuses, trace_at}
 use Rattle.tva_commands.specs.Answer.{Answers, Just, OfCommand}
 use Rattle.tva_commands.specs.Given.{AgreeSince}
 use Rattle.tva_commands.specs.Parts.{EndsAudited, IsAudited, IsAuditText, IsFound, IsNotFound, IsWritten}
 use Rattle.tva_commands.specs.declared.status.Status as status
-use Rattle.tva_commands.specs.declared.status.Status.TheVariants.{Done, Found as Differs, Usage, ReadFault, WriteFault, TooLarge, BadConfig, BadTrace, EventLimit, OutOfMemory, BadReport}
+use Rattle.tva_commands.specs.declared.status.Status.TheVariants.{Done, Found as Differs, WriteFault, EventLimit, OutOfMemory, BadReport}
 use Rattle.tva_commands.proofs.Replays.{answers_of_just, answers_of_missing}
 
 -- ## what the audit of a report without a bad line answers
@@ -27,16 +25,11 @@ module _ (plan : Config) (trace report : List ℕ) (rows : List Row) (are : AreR
       → Answers (Just (audits plan trace report)) w old new s
   answers_of_ends w old new Done (text, is, written) = (text, text_of_audit text is, written)
   answers_of_ends w old new (Differs f) (is, kept) = ((rows, are, is), kept)
-  answers_of_ends w old new Usage a = absurd a
-  answers_of_ends w old new ReadFault a = absurd a
   answers_of_ends w old new WriteFault (rose, (text, is, cut)) = (rose, (text, text_of_audit text is, cut))
-  answers_of_ends w old new (TooLarge k) a = absurd a
-  answers_of_ends w old new (BadConfig fault) a = absurd a
-  answers_of_ends w old new (BadTrace fault) a = absurd a
   answers_of_ends w old new (EventLimit most) (same, past, kept) = ((rows, are, same, past, kept), inl kept)
   answers_of_ends w old new OutOfMemory (inl same) = inl same
   answers_of_ends w old new OutOfMemory (inr (text, is, cut)) = inr (text, text_of_audit text is, cut)
-  answers_of_ends w old new (BadReport k) a = absurd a
+  answers_of_ends w old new _ a = absurd a
 
 -- how writing the text of an audit ends is how the audit ends
 pub audited_of_written : (plan : Config) (rows : List Row) (report old new : List ℕ) (w : Type 0) (text : List ℕ) (s : status.Status)
@@ -44,14 +37,7 @@ pub audited_of_written : (plan : Config) (rows : List Row) (report old new : Lis
 audited_of_written plan rows report old new w text Done good is a = (good, (text, is, a))
 audited_of_written plan rows report old new w text WriteFault good is a = (good, (a.0, (text, is, a.1)))
 audited_of_written plan rows report old new w text OutOfMemory good is a = (good, inr (text, is, a))
-audited_of_written plan rows report old new w text Usage good is a = absurd a
-audited_of_written plan rows report old new w text (Differs f) good is a = absurd a
-audited_of_written plan rows report old new w text (BadReport k) good is a = absurd a
-audited_of_written plan rows report old new w text ReadFault good is a = absurd a
-audited_of_written plan rows report old new w text (TooLarge k) good is a = absurd a
-audited_of_written plan rows report old new w text (BadConfig f) good is a = absurd a
-audited_of_written plan rows report old new w text (BadTrace f) good is a = absurd a
-audited_of_written plan rows report old new w text (EventLimit m) good is a = absurd a
+audited_of_written plan rows report old new w text _ good is a = absurd a
 
 -- a bad line, or none
 record IsBad (report : List ℕ) (old new : List ℕ) (s : status.Status) : Type 0 where
@@ -63,58 +49,27 @@ record IsBad (report : List ℕ) (old new : List ℕ) (s : status.Status) : Type
 bad_or_none : (plan : Config) (rows : List Row) (report : List ℕ) (old new : List ℕ) (w : Type 0) (s : status.Status)
     → IsAudited plan rows report old new w s
     → IsBad report old new s ⊎ ((first_bad report ≡ None) × EndsAudited plan rows report old new w s)
-bad_or_none plan rows report old new w Done a = inr a
-bad_or_none plan rows report old new w (Differs f) a = inr a
-bad_or_none plan rows report old new w Usage a = inr a
-bad_or_none plan rows report old new w ReadFault a = inr a
-bad_or_none plan rows report old new w WriteFault a = inr a
-bad_or_none plan rows report old new w (TooLarge k) a = inr a
-bad_or_none plan rows report old new w (BadConfig fault) a = inr a
-bad_or_none plan rows report old new w (BadTrace fault) a = inr a
-bad_or_none plan rows report old new w (EventLimit most) a = inr a
-bad_or_none plan rows report old new w OutOfMemory a = inr a
 bad_or_none plan rows report old new w (BadReport k) a = inl (record { line = k; told = refl; first = a.0; kept = a.1 })
+bad_or_none plan rows report old new w _ a = inr a
 
 -- ## files
 
--- what an audit comes to
-abbrev of_audit : List ℕ → List ℕ → List ℕ → HeldByName → Expected
-of_audit config trace report files = comes_to (audit config trace report) files
-
--- a report with this first bad line, if any
-abbrev good_or_bad : List ℕ → Option ℕ → Sought (List ℕ)
-good_or_bad text first = option_map_or (λ line. Err (BadReport line)) first (Ok text)
-
 module _ (config trace report text : List ℕ) (plan : Config) (files : HeldByName) (found : plan_at config files ≡ Ok plan) (there : trace_at plan trace files ≡ Ok text) where
-  -- what comes of the report where plan and rows were found
-  of_found : of_audit config trace report files ≡ followed (report_at report files) (audits plan text)
-  of_found =
-      ap (λ (p : Sought Config). followed p (λ plan. followed (trace_at plan trace files) (λ rows. followed (report_at report files) (audits plan rows)))) found
-      ∙ ap (λ (t : Sought (List ℕ)). followed t (λ rows. followed (report_at report files) (audits plan rows))) there
+  of_good : (bytes : List ℕ) → file_at 1073741824 report files ≡ Ok bytes → first_bad bytes ≡ None → comes_to (audit config trace report) files ≡ audits plan text bytes
+  of_good bytes read good = rw (found, there, read, good) refl
 
-  of_read : (bytes : List ℕ) → file_at 1073741824 report files ≡ Ok bytes
-      → of_audit config trace report files ≡ followed (good_or_bad bytes (first_bad bytes)) (audits plan text)
-  of_read bytes read =
-      of_found ∙ ap (λ (b : Sought (List ℕ)). followed (b >>= (λ text. good_or_bad text (first_bad text))) (audits plan text)) read
+  of_bad : (bytes : List ℕ) (line : ℕ) → file_at 1073741824 report files ≡ Ok bytes → first_bad bytes ≡ Some line → comes_to (audit config trace report) files ≡ refuses (BadReport line)
+  of_bad bytes line read bad = rw (found, there, read, bad) refl
 
-  of_good : (bytes : List ℕ) → file_at 1073741824 report files ≡ Ok bytes → first_bad bytes ≡ None
-      → of_audit config trace report files ≡ audits plan text bytes
-  of_good bytes read good = of_read bytes read ∙ ap (λ (o : Option ℕ). followed (good_or_bad bytes o) (audits plan text)) good
-
-  of_bad : (bytes : List ℕ) (line : ℕ) → file_at 1073741824 report files ≡ Ok bytes → first_bad bytes ≡ Some line
-      → of_audit config trace report files ≡ refuses (BadReport line)
-  of_bad bytes line read bad = of_read bytes read ∙ ap (λ (o : Option ℕ). followed (good_or_bad bytes o) (audits plan text)) bad
-
-  of_unread : (refusal : status.Status) → file_at 1073741824 report files ≡ Err refusal → of_audit config trace report files ≡ refuses refusal
-  of_unread refusal read =
-      of_found ∙ ap (λ (b : Sought (List ℕ)). followed (b >>= (λ text. good_or_bad text (first_bad text))) (audits plan text)) read
+  of_unread : (refusal : status.Status) → file_at 1073741824 report files ≡ Err refusal → comes_to (audit config trace report) files ≡ refuses refusal
+  of_unread refusal read = rw (found, there, read) refl
 
 -- what an audit answers where its plan isn't found
 pub audit_no_plan : (first last : List Load) (config trace report : List ℕ) (w : Type 0) (old : List ℕ) (s : status.Status)
     → IsNotFound first last (plan_at config) s → Answers (OfCommand first last (audit config trace report)) w old old s
 audit_no_plan first last config trace report w old s a =
     answers_of_missing first first last (plan_at config) (audit config trace report) w old s (λ files agree. agree)
-    (λ files r agree e. ap (λ (p : Sought Config). followed p (λ plan. followed (trace_at plan trace files) (λ rows. followed (report_at report files) (audits plan rows)))) e) a
+    (λ files r agree e. rw e refl) a
 
 module _ (first between last : List Load) (config trace report : List ℕ) (plan : Config)
     (before : (files : HeldByName) → AgreeSince first last files → AgreeSince first between files)
@@ -124,9 +79,7 @@ module _ (first between last : List Load) (config trace report : List ℕ) (plan
       → IsNotFound between last (trace_at plan trace) s → Answers (OfCommand first last (audit config trace report)) w old old s
   audit_no_rows w old s behind a =
       answers_of_missing first between last (trace_at plan trace) (audit config trace report) w old s behind
-      (λ files r agree e.
-      ap (λ (p : Sought Config). followed p (λ plan. followed (trace_at plan trace files) (λ rows. followed (report_at report files) (audits plan rows)))) (found files (before files agree))
-      ∙ ap (λ (t : Sought (List ℕ)). followed t (λ rows. followed (report_at report files) (audits plan rows))) e) a
+      (λ files r agree e. let here = found files (before files agree) in rw (here, e) refl) a
 
   module _ (late : List Load) (text : List ℕ)
       (middle : (files : HeldByName) → AgreeSince first last files → AgreeSince between late files)

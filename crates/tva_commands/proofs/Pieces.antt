@@ -5,7 +5,7 @@ use Rattle.std.proofs.lemmas.List.{take-append-drop}
 use Rattle.tva_outside.specs.Faults.{Rose}
 use Rattle.tva_commands.specs.Parts.{IsWritten, IsCut}
 use Rattle.tva_commands.specs.declared.status.Status as status
-use Rattle.tva_commands.specs.declared.status.Status.TheVariants.{Done, Found as Differs, Usage, ReadFault, WriteFault, TooLarge, BadConfig, BadTrace, EventLimit, OutOfMemory, BadReport}
+use Rattle.tva_commands.specs.declared.status.Status.TheVariants.{Done, WriteFault, OutOfMemory}
 
 -- a cut of the second piece is one of both
 cut_of_both : (old mid new : List ℕ) (first second : List ℕ) → mid ≡ old ++ first → IsCut mid new second → IsCut old new (first ++ second)
@@ -22,14 +22,7 @@ written_both old mid new before between now first second Done done later w =
     w ∙ ap (λ known. known ++ second) done ∙ append_assoc old first second
 written_both old mid new before between now first second WriteFault done later w = (omega (arith, w.0, later), cut_of_both old mid new first second done w.1)
 written_both old mid new before between now first second OutOfMemory done later w = cut_of_both old mid new first second done w
-written_both old mid new before between now first second Usage done later w = absurd w
-written_both old mid new before between now first second (Differs f) done later w = absurd w
-written_both old mid new before between now first second (BadReport k) done later w = absurd w
-written_both old mid new before between now first second ReadFault done later w = absurd w
-written_both old mid new before between now first second (TooLarge k) done later w = absurd w
-written_both old mid new before between now first second (BadConfig f) done later w = absurd w
-written_both old mid new before between now first second (BadTrace f) done later w = absurd w
-written_both old mid new before between now first second (EventLimit m) done later w = absurd w
+written_both old mid new before between now first second _ done later w = absurd w
 
 -- the first bytes of a text are the first bytes of a longer one
 pub cut_of_longer : (old new : List ℕ) (text rest : List ℕ) → IsCut old new text → IsCut old new (text ++ rest)
@@ -46,11 +39,4 @@ pub stopped_first : (old new : List ℕ) (rose : Type 0) (first second : List �
 stopped_first old new rose first second Done not_done w = absurd (not_done refl)
 stopped_first old new rose first second WriteFault not_done w = (w.0, cut_of_longer old new first second w.1)
 stopped_first old new rose first second OutOfMemory not_done w = cut_of_longer old new first second w
-stopped_first old new rose first second Usage not_done w = absurd w
-stopped_first old new rose first second (Differs f) not_done w = absurd w
-stopped_first old new rose first second (BadReport k) not_done w = absurd w
-stopped_first old new rose first second ReadFault not_done w = absurd w
-stopped_first old new rose first second (TooLarge k) not_done w = absurd w
-stopped_first old new rose first second (BadConfig f) not_done w = absurd w
-stopped_first old new rose first second (BadTrace f) not_done w = absurd w
-stopped_first old new rose first second (EventLimit m) not_done w = absurd w
+stopped_first old new rose first second _ not_done w = absurd w

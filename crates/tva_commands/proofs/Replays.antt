@@ -1,6 +1,6 @@
 -- What a replay answers, from what it found.
 use Rattle.std.proofs.Math.Seq.{take-length}
-use Rattle.std.proofs.Common.{◌≡◌, inl, inr, ℕ, ◌+◌, List, ◌++◌, length, sym, ap, ◌∙◌, subst, append-nil, refl, Ok, Err}
+use Rattle.std.proofs.Common.{◌≡◌, inl, inr, ℕ, ◌+◌, List, ◌++◌, length, sym, ap, ◌∙◌, subst, append-nil, refl, Err}
 use Rattle.std.proofs.lemmas.Grind.{flat_map-append}
 use Rattle.tva_outside.specs.Held.{HeldByName}
 use Rattle.tva_outside.specs.Loads.{Load}
@@ -13,16 +13,17 @@ use Rattle.tva_trace.specs.Meaning.{AreRows}
 use Rattle.tva_trace.proofs.OneList.{rows_are_one}
 use Rattle.tva_run.specs.Report.{AreEventsTo, IsReport, lines_of, report_of, totals_of}
 use Rattle.tva_run.proofs.Runs.{are_delayed}
-use Rattle.tva_run.proofs.Reports.{events_begin, one_list}
-use Rattle.tva_existence.proofs.Whole.{read_report}
+use Rattle.tva_run.proofs.Reports.{events_begin}
+use Rattle.tva_audit.proofs.OneAnswer.{same_report}
+use Rattle.tva_promises.proofs.Whole.{read_report}
 use Rattle.tva_commands.specs.Command.{Command, replay}
 use Rattle.tva_commands.specs.Given.{AgreeSince}
-use Rattle.tva_commands.specs.Expected.{Expected, Sought, comes_to, followed, refuses, plan_at, replays, trace_at}
+use Rattle.tva_commands.specs.Expected.{Expected, Sought, comes_to, refuses, plan_at, replays, trace_at}
 use Rattle.tva_commands.specs.Answer.{Answers, HasFound, Just, OfCommand, WroteAll, WroteCut, WroteLines, WrotePart}
 use Rattle.tva_commands.specs.Parts.{IsCut, IsFound, IsNotFound, IsReplayed}
 use Rattle.tva_run.specs.Shown.{IsBegun, IsCutShort, all_of}
 use Rattle.tva_commands.specs.declared.status.Status as status
-use Rattle.tva_commands.specs.declared.status.Status.TheVariants.{Done, Found as Differs, Usage, ReadFault, WriteFault, TooLarge, BadConfig, BadTrace, EventLimit, OutOfMemory, BadReport}
+use Rattle.tva_commands.specs.declared.status.Status.TheVariants.{Done, Found as Differs, Usage, ReadFault, WriteFault, TooLarge, BadConfig, BadTrace, EventLimit, OutOfMemory}
 use Rattle.tva_commands.proofs.Pieces.{cut_of_longer}
 
 -- the lines of the windows before the one that passes the number of events are the first of all up to its end
@@ -35,11 +36,6 @@ cut_of_short plan rows old new text short cut =
 -- ## each run's report begins with what is written
 
 module _ (plan : Config) (rows : List Row) (valid : IsConfig plan) where
-  -- there is one report
-  pub same_report : (text other : List ℕ) → IsReport plan rows text → IsReport plan rows other → text ≡ other
-  same_report text other a b =
-      a.whole ∙ ap (report_of plan) (one_list plan rows (are_delayed plan valid) (plan.horizon.0 + 1) a.told b.told a.events b.events) ∙ sym b.whole
-
   -- it begins with the lines of what happened up to some time
   begins_with : (old new : List ℕ) (until : ℕ) (first : List Event) (other : List ℕ) → AreEventsTo plan rows until first → IsReport plan rows other
       → IsCut old new (lines_of plan first) → IsCut old new other
@@ -54,7 +50,7 @@ module _ (plan : Config) (rows : List Row) (valid : IsConfig plan) where
       (cut_of_longer old new (lines_of plan first ++ lines_of plan rest) total (cut_of_longer old new (lines_of plan first) (lines_of plan rest) cut))
 
   begins_of_begun : (old new : List ℕ) (text other : List ℕ) → IsBegun plan rows text → IsReport plan rows other → IsCut old new text → IsCut old new other
-  begins_of_begun old new text other (inl report) each cut = subst (λ (t : List ℕ). IsCut old new t) (same_report text other report each) cut
+  begins_of_begun old new text other (inl report) each cut = subst (λ (t : List ℕ). IsCut old new t) (same_report plan rows valid text other report each) cut
   begins_of_begun old new text other (inr lines) each cut =
       begins_with old new lines.until lines.told other lines.events each (subst (λ (t : List ℕ). IsCut old new t) lines.lines cut)
 
@@ -89,18 +85,12 @@ module _ (plan : Config) (trace : List ℕ) (rows : List Row) (valid : IsConfig 
 
   pub answers_of_replayed : (w : Type 0) (old new : List ℕ) (s : status.Status) → IsReplayed plan rows old new w s → Answers (Just (replays plan trace)) w old new s
   answers_of_replayed w old new Done (text, has, written) = (text, (rows, are, has), written)
-  answers_of_replayed w old new Usage a = absurd a
-  answers_of_replayed w old new (Differs f) a = absurd a
-  answers_of_replayed w old new (BadReport k) a = absurd a
-  answers_of_replayed w old new ReadFault a = absurd a
   answers_of_replayed w old new WriteFault (rose, (text, begun, cut)) = (rose, cut_of_begun old new text begun cut)
-  answers_of_replayed w old new (TooLarge k) a = absurd a
-  answers_of_replayed w old new (BadConfig f) a = absurd a
-  answers_of_replayed w old new (BadTrace f) a = absurd a
   answers_of_replayed w old new (EventLimit most) (same, (text, short, written)) =
       ((rows, are, (same, (text, short, written))), inr (cut_at_limit old new text short written))
   answers_of_replayed w old new OutOfMemory (inl same) = inl same
   answers_of_replayed w old new OutOfMemory (inr (text, begun, cut)) = inr (cut_of_begun old new text begun cut)
+  answers_of_replayed w old new _ a = absurd a
 
 -- ## files
 
@@ -111,51 +101,28 @@ pub answers_of_just : (first last : List Load) (command : Command) (x : Expected
 answers_of_just first last command x w old new Done comes a = λ files agree. subst (λ (y : Expected). WroteAll old new y) (sym (comes files agree)) a
 answers_of_just first last command x w old new (Differs f) comes a = (λ files agree. subst (λ (y : Expected). HasFound f y) (sym (comes files agree)) a.0, a.1)
 answers_of_just first last command x w old new Usage comes a = a
-answers_of_just first last command x w old new ReadFault comes a = (λ files agree. subst (λ (y : Expected). y ≡ refuses ReadFault) (sym (comes files agree)) a.0, a.1)
 answers_of_just first last command x w old new WriteFault comes a = (a.0, λ files agree. subst (λ (y : Expected). WroteCut old new y) (sym (comes files agree)) a.1)
-answers_of_just first last command x w old new (TooLarge k) comes a = (λ files agree. subst (λ (y : Expected). y ≡ refuses (TooLarge k)) (sym (comes files agree)) a.0, a.1)
-answers_of_just first last command x w old new (BadConfig f) comes a = (λ files agree. subst (λ (y : Expected). y ≡ refuses (BadConfig f)) (sym (comes files agree)) a.0, a.1)
-answers_of_just first last command x w old new (BadTrace f) comes a = (λ files agree. subst (λ (y : Expected). y ≡ refuses (BadTrace f)) (sym (comes files agree)) a.0, a.1)
-answers_of_just first last command x w old new (BadReport k) comes a = (λ files agree. subst (λ (y : Expected). y ≡ refuses (BadReport k)) (sym (comes files agree)) a.0, a.1)
 answers_of_just first last command x w old new (EventLimit m) comes a = λ files agree. subst (λ (y : Expected). WroteLines m old new y × WrotePart old new y) (sym (comes files agree)) a
 answers_of_just first last command x w old new OutOfMemory comes a = λ files agree. subst (λ (y : Expected). WrotePart old new y) (sym (comes files agree)) a
+answers_of_just first last command x w old new s comes a = (λ files agree. subst (λ (y : Expected). y ≡ refuses s) (sym (comes files agree)) a.0, a.1)
 
 -- where what is sought isn't found, a command that comes to its refusal then is answered so, and nothing is written
 pub answers_of_missing : {A : Type 0} (first between last : List Load) (seek : HeldByName → Sought A) (command : Command) (w : Type 0) (old : List ℕ) (s : status.Status)
     → ((files : HeldByName) → AgreeSince first last files → AgreeSince between last files)
     → ((files : HeldByName) (r : status.Status) → AgreeSince first last files → seek files ≡ Err r → comes_to command files ≡ refuses r)
     → IsNotFound between last seek s → Answers (OfCommand first last command) w old old s
-answers_of_missing first between last seek command w old Done here comes a = absurd a
-answers_of_missing first between last seek command w old (Differs f) here comes a = absurd a
-answers_of_missing first between last seek command w old (BadReport k) here comes a = absurd a
-answers_of_missing first between last seek command w old Usage here comes a = absurd a
-answers_of_missing first between last seek command w old WriteFault here comes a = absurd a
-answers_of_missing first between last seek command w old (EventLimit m) here comes a = absurd a
 answers_of_missing first between last seek command w old ReadFault here comes a = (λ files agree. comes files ReadFault agree (a files (here files agree)), refl)
 answers_of_missing first between last seek command w old (TooLarge k) here comes a = (λ files agree. comes files (TooLarge k) agree (a files (here files agree)), refl)
 answers_of_missing first between last seek command w old (BadConfig f) here comes a = (λ files agree. comes files (BadConfig f) agree (a files (here files agree)), refl)
 answers_of_missing first between last seek command w old (BadTrace f) here comes a = (λ files agree. comes files (BadTrace f) agree (a files (here files agree)), refl)
 answers_of_missing first between last seek command w old OutOfMemory here comes a = λ files agree. inl refl
-
--- what a replay comes to
-module _ (config trace : List ℕ) (files : HeldByName) where
-  replay_unread : (r : status.Status) → plan_at config files ≡ Err r → comes_to (replay config trace) files ≡ refuses r
-  replay_unread r e = ap (λ (p : Sought Config). followed p (λ plan. followed (trace_at plan trace files) (replays plan))) e
-
-  pub replay_planned : (plan : Config) → plan_at config files ≡ Ok plan → comes_to (replay config trace) files ≡ followed (trace_at plan trace files) (replays plan)
-  replay_planned plan e = ap (λ (p : Sought Config). followed p (λ plan. followed (trace_at plan trace files) (replays plan))) e
-
-  replay_traced : (plan : Config) (text : List ℕ) → plan_at config files ≡ Ok plan → trace_at plan trace files ≡ Ok text → comes_to (replay config trace) files ≡ replays plan text
-  replay_traced plan text e f = replay_planned plan e ∙ ap (λ (t : Sought (List ℕ)). followed t (replays plan)) f
-
-  replay_untraced : (plan : Config) (r : status.Status) → plan_at config files ≡ Ok plan → trace_at plan trace files ≡ Err r → comes_to (replay config trace) files ≡ refuses r
-  replay_untraced plan r e f = replay_planned plan e ∙ ap (λ (t : Sought (List ℕ)). followed t (replays plan)) f
+answers_of_missing first between last seek command w old _ here comes a = absurd a
 
 -- what a replay answers where its plan isn't found
 pub replay_no_plan : (first last : List Load) (config trace : List ℕ) (w : Type 0) (old : List ℕ) (s : status.Status)
     → IsNotFound first last (plan_at config) s → Answers (OfCommand first last (replay config trace)) w old old s
 replay_no_plan first last config trace w old s a =
-    answers_of_missing first first last (plan_at config) (replay config trace) w old s (λ files agree. agree) (λ files r agree e. replay_unread config trace files r e) a
+    answers_of_missing first first last (plan_at config) (replay config trace) w old s (λ files agree. agree) (λ files r agree e. rw e refl) a
 
 module _ (first between last : List Load) (config trace : List ℕ) (plan : Config)
     (before : (files : HeldByName) → AgreeSince first last files → AgreeSince first between files)
@@ -166,12 +133,12 @@ module _ (first between last : List Load) (config trace : List ℕ) (plan : Conf
       → IsNotFound between last (trace_at plan trace) s → Answers (OfCommand first last (replay config trace)) w old old s
   replay_no_rows w old s a =
       answers_of_missing first between last (trace_at plan trace) (replay config trace) w old s behind
-      (λ files r agree e. replay_untraced config trace files plan r (found files (before files agree)) e) a
+      (λ files r agree e. let here = found files (before files agree) in rw (here, e) refl) a
 
   -- or where both are
   pub replay_found : (text : List ℕ) (rows : List Row) (w : Type 0) (old new : List ℕ) (s : status.Status) → IsConfig plan → AreRows plan text rows
       → IsFound between last (trace_at plan trace) text → IsReplayed plan rows old new w s → Answers (OfCommand first last (replay config trace)) w old new s
   replay_found text rows w old new s valid are there a =
       answers_of_just first last (replay config trace) (replays plan text) w old new s
-      (λ files agree. replay_traced config trace files plan text (found files (before files agree)) (there files (behind files agree)))
+      (λ files agree. let here = found files (before files agree) in let read = there files (behind files agree) in rw (here, read) refl)
       (answers_of_replayed plan text rows valid are w old new s a)

@@ -6,7 +6,7 @@ use Rattle.tva_commands.specs.Command.{Command, shim}
 use Rattle.tva_commands.specs.Expected.{Expected, Sought, comes_to, followed, plan_at, writes, shows, replays, audits, refuses, IsText}
 use Rattle.tva_commands.specs.Answer.{Answers, IsBegunText, Just, OfCommand}
 use Rattle.tva_commands.specs.declared.status.Status as status
-use Rattle.tva_commands.specs.declared.status.Status.TheVariants.{Done, Found as Differs, Usage, ReadFault, WriteFault, TooLarge, BadConfig, BadTrace, EventLimit, OutOfMemory, BadReport}
+use Rattle.tva_commands.specs.declared.status.Status.TheVariants.{Done, WriteFault, OutOfMemory}
 use Rattle.tva_commands.specs.Parts.{IsFound, IsNotFound, IsWritten}
 use Rattle.tva_plan.specs.declared.config.Config.{Config}
 use Rattle.tva_commands.proofs.Replays.{answers_of_just, answers_of_missing}
@@ -24,14 +24,7 @@ pub answers_of_written : (x : Expected) (text : List ℕ) → IsText x text → 
 answers_of_written x text is w old new Done a = (text, is, a)
 answers_of_written x text is w old new WriteFault a = (a.0, (text, begun_of_text x text is, a.1))
 answers_of_written x text is w old new OutOfMemory a = inr (text, begun_of_text x text is, a)
-answers_of_written x text is w old new Usage a = absurd a
-answers_of_written x text is w old new (Differs f) a = absurd a
-answers_of_written x text is w old new (BadReport k) a = absurd a
-answers_of_written x text is w old new ReadFault a = absurd a
-answers_of_written x text is w old new (TooLarge k) a = absurd a
-answers_of_written x text is w old new (BadConfig f) a = absurd a
-answers_of_written x text is w old new (BadTrace f) a = absurd a
-answers_of_written x text is w old new (EventLimit m) a = absurd a
+answers_of_written x text is w old new _ a = absurd a
 
 -- a command that comes to a text of its plan
 module _ (first last : List Load) (config : List ℕ) (command : Command) (text : Config → List ℕ) (w : Type 0) (old : List ℕ)

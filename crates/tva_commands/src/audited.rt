@@ -1,9 +1,8 @@
 // The audit of a report.
-ghost use Rattle.std.specs.Prelude.{◌≡◌, ◌≤◌, ◌++◌, None, OnOk, decimal, length};
+ghost use Rattle.std.specs.Prelude.{◌≡◌, ◌≤◌, ◌++◌, OnOk, decimal};
 ghost use Rattle.std.specs.List.{flat_map};
 ghost use Rattle.tva_outside.specs.Faults.{Rose};
 ghost use Rattle.tva_plan.specs.Valid.{IsConfig};
-ghost use Rattle.tva_report.specs.Lines.{first_bad, report_lines};
 ghost use Rattle.tva_lines.specs.Lines.{name_of_node};
 ghost use Rattle.tva_rows.specs.Valid.{AreTraceRows};
 ghost use Rattle.tva_commands.specs.Audit.{audit_text, sum_line, worst_word};
@@ -20,7 +19,6 @@ use tva_audit::{AuditError, Audited, RouterSum, audit_packed};
 use tva_base::Grant;
 use tva_outside::{Gate, Sink};
 use tva_plan::{Config, name_at};
-use tva_report::line_count;
 use tva_rows::PackedRows;
 use tva_sums::limit;
 
@@ -46,13 +44,14 @@ pub fn audit_rows<R: Threads + Sync, W: Sink, G: Gate>(
     ensures answer { IsAudited plan.now rows report.now (W.took out.old) (W.took out.new)
         (Rose (W.faults out.old) (W.faults out.new)) result }
 {
-    let sums = match audit_packed(rt, alloc, plan, rows, report, gate) {
+    let mut lines = 0;
+    let sums = match audit_packed(rt, alloc, plan, rows, report, gate, &mut lines) {
         Ok(Audited::Same(sums)) => sums,
         Ok(Audited::Differs(finding)) => return Status::Found(finding),
         Err(error) => return status_of(error),
     };
     let mut text = Vec::new(alloc);
-    match put_audit(plan, sums.as_slice(), report, &mut text) {
+    match put_audit(plan, sums.as_slice(), lines, &mut text) {
         Ok(()) => send(out, text.as_slice()),
         Err(_) => Status::OutOfMemory,
     }
@@ -70,18 +69,17 @@ fn status_of(error: AuditError) -> Status
     }
 }
 
-// Leaves the text of an audit in `text`, and nothing else.
+// Leaves the text of an audit of so many lines in `text`, and nothing else.
 fn put_audit(
     plan: &Config,
     sums: &[RouterSum],
-    report: &[u8],
+    lines: u64,
     text: &mut Vec<u8>,
 ) -> Result<(), AllocError>
-    requires { first_bad report.now ≡ None }
-    ensures { OnOk result (text.new.items ≡ audit_text plan.now sums.now (length (report_lines report.now))) }
+    ensures { OnOk result (text.new.items ≡ audit_text plan.now sums.now lines) }
 {
     put_sums(plan, sums, text)?;
-    put_count("report ok lines=", line_count(report), text)?;
+    put_count("report ok lines=", lines, text)?;
     text.push(b'\n')?;
     Ok(())
 }

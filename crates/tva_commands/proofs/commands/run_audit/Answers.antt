@@ -19,7 +19,6 @@ returns-in-Err-clause-answer g c =
 pub returns-in-Err-load_rows-clause-in_order : goal.returns-in-Err-load_rows-clause-in_order
 returns-in-Err-load_rows-clause-in_order g c =
     let S = g.S.Shelf in
-    let W = g.W.Sink in
     let first = S.gave c.args.shelf.now in
     let between = S.gave c.load_plan.new.shelf in
     let config = c.args.config.now in
@@ -34,7 +33,6 @@ returns-in-Err-load_rows-clause-in_order g c =
 pub returns-in-Err-load_rows-clause-told : goal.returns-in-Err-load_rows-clause-told
 returns-in-Err-load_rows-clause-told g c =
     let S = g.S.Shelf in
-    let W = g.W.Sink in
     let first = S.gave c.args.shelf.now in
     let between = S.gave c.load_plan.new.shelf in
     let config = c.args.config.now in
@@ -68,7 +66,6 @@ returns-in-Err-load_rows-clause-answer g c =
 pub returns-in-Err-load-clause-in_order : goal.returns-in-Err-load-clause-in_order
 returns-in-Err-load-clause-in_order g c =
     let S = g.S.Shelf in
-    let W = g.W.Sink in
     let first = S.gave c.args.shelf.now in
     let between = S.gave c.load_plan.new.shelf in
     let config = c.args.config.now in
@@ -80,16 +77,11 @@ returns-in-Err-load-clause-in_order g c =
     let read = asked_one late last report [] c.in-Err-load.ensures.asked in
     let later = asked_more between late last trace (report ∷ []) c.in-Ok-load_rows.ensures.asked read in
     let rest = trace ∷ report ∷ [] in
-    let before = agree_first first between last rest config asked later in
-    let behind = agree_rest first between last rest config asked later in
-    let middle : (files : HeldByName) → AgreeSince first last files → AgreeSince between late files = λ files agree. agree_first between late last (report ∷ []) trace c.in-Ok-load_rows.ensures.asked read files (behind files agree) in
-    let end : (files : HeldByName) → AgreeSince first last files → AgreeSince late last files = λ files agree. agree_rest between late last (report ∷ []) trace c.in-Ok-load_rows.ensures.asked read files (behind files agree) in
     asked_more first between last config rest asked later
 
 pub returns-in-Err-load-clause-told : goal.returns-in-Err-load-clause-told
 returns-in-Err-load-clause-told g c =
     let S = g.S.Shelf in
-    let W = g.W.Sink in
     let first = S.gave c.args.shelf.now in
     let between = S.gave c.load_plan.new.shelf in
     let config = c.args.config.now in
@@ -101,10 +93,6 @@ returns-in-Err-load-clause-told g c =
     let read = asked_one late last report [] c.in-Err-load.ensures.asked in
     let later = asked_more between late last trace (report ∷ []) c.in-Ok-load_rows.ensures.asked read in
     let rest = trace ∷ report ∷ [] in
-    let before = agree_first first between last rest config asked later in
-    let behind = agree_rest first between last rest config asked later in
-    let middle : (files : HeldByName) → AgreeSince first last files → AgreeSince between late files = λ files agree. agree_first between late last (report ∷ []) trace c.in-Ok-load_rows.ensures.asked read files (behind files agree) in
-    let end : (files : HeldByName) → AgreeSince first last files → AgreeSince late last files = λ files agree. agree_rest between late last (report ∷ []) trace c.in-Ok-load_rows.ensures.asked read files (behind files agree) in
     told_both first between last rest config asked later (S.held c.args.shelf.now) (S.held c.load_plan.new.shelf)
     (Rose (S.faults c.load_rows.new.shelf) (S.faults c.load.new.shelf)) (Rose (S.faults c.args.shelf.now) (S.faults c.load.new.shelf))
     c.in-Err-load.status c.in-Ok.ensures.held (λ up. rw (c.in-Ok-load_rows.ensures.unfailed ∙ c.in-Ok.ensures.unfailed) at up) c.in-Ok.ensures.told
@@ -138,7 +126,6 @@ returns-in-Err-load-clause-answer g c =
 pub returns-clause-in_order : goal.returns-clause-in_order
 returns-clause-in_order g c =
     let S = g.S.Shelf in
-    let W = g.W.Sink in
     let first = S.gave c.args.shelf.now in
     let between = S.gave c.load_plan.new.shelf in
     let config = c.args.config.now in
@@ -150,16 +137,11 @@ returns-clause-in_order g c =
     let read = asked_one late last report [] c.in-Ok-load.ensures.asked in
     let later = asked_more between late last trace (report ∷ []) c.in-Ok-load_rows.ensures.asked read in
     let rest = trace ∷ report ∷ [] in
-    let before = agree_first first between last rest config asked later in
-    let behind = agree_rest first between last rest config asked later in
-    let middle : (files : HeldByName) → AgreeSince first last files → AgreeSince between late files = λ files agree. agree_first between late last (report ∷ []) trace c.in-Ok-load_rows.ensures.asked read files (behind files agree) in
-    let end : (files : HeldByName) → AgreeSince first last files → AgreeSince late last files = λ files agree. agree_rest between late last (report ∷ []) trace c.in-Ok-load_rows.ensures.asked read files (behind files agree) in
     asked_more first between last config rest asked later
 
 pub returns-clause-told : goal.returns-clause-told
 returns-clause-told g c =
     let S = g.S.Shelf in
-    let W = g.W.Sink in
     let first = S.gave c.args.shelf.now in
     let between = S.gave c.load_plan.new.shelf in
     let config = c.args.config.now in
@@ -171,10 +153,6 @@ returns-clause-told g c =
     let read = asked_one late last report [] c.in-Ok-load.ensures.asked in
     let later = asked_more between late last trace (report ∷ []) c.in-Ok-load_rows.ensures.asked read in
     let rest = trace ∷ report ∷ [] in
-    let before = agree_first first between last rest config asked later in
-    let behind = agree_rest first between last rest config asked later in
-    let middle : (files : HeldByName) → AgreeSince first last files → AgreeSince between late files = λ files agree. agree_first between late last (report ∷ []) trace c.in-Ok-load_rows.ensures.asked read files (behind files agree) in
-    let end : (files : HeldByName) → AgreeSince first last files → AgreeSince late last files = λ files agree. agree_rest between late last (report ∷ []) trace c.in-Ok-load_rows.ensures.asked read files (behind files agree) in
     let held = S.held c.args.shelf.now in
     let rows_told = subst (λ (h : Option HeldByName). IfSome h (AgreeSince between late)) c.in-Ok.ensures.held c.in-Ok-load_rows.ensures.told in
     let read_told = subst (λ (h : Option HeldByName). IfSome h (AgreeSince late last)) (c.in-Ok-load_rows.ensures.held ∙ c.in-Ok.ensures.held) c.in-Ok-load.ensures.told in

@@ -15,7 +15,6 @@ returns-in-Err-clause-answer g c =
 pub returns-in-Err-load_rows-clause-in_order : goal.returns-in-Err-load_rows-clause-in_order
 returns-in-Err-load_rows-clause-in_order g c =
     let S = g.S.Shelf in
-    let W = g.W.Sink in
     let first = S.gave c.args.shelf.now in
     let between = S.gave c.load_plan.new.shelf in
     let last = S.gave c.load_rows.new.shelf in
@@ -28,7 +27,6 @@ returns-in-Err-load_rows-clause-in_order g c =
 pub returns-in-Err-load_rows-clause-told : goal.returns-in-Err-load_rows-clause-told
 returns-in-Err-load_rows-clause-told g c =
     let S = g.S.Shelf in
-    let W = g.W.Sink in
     let first = S.gave c.args.shelf.now in
     let between = S.gave c.load_plan.new.shelf in
     let last = S.gave c.load_rows.new.shelf in
@@ -58,7 +56,6 @@ returns-in-Err-load_rows-clause-answer g c =
 pub returns-clause-in_order : goal.returns-clause-in_order
 returns-clause-in_order g c =
     let S = g.S.Shelf in
-    let W = g.W.Sink in
     let first = S.gave c.args.shelf.now in
     let between = S.gave c.load_plan.new.shelf in
     let last = S.gave c.load_rows.new.shelf in
@@ -71,7 +68,6 @@ returns-clause-in_order g c =
 pub returns-clause-told : goal.returns-clause-told
 returns-clause-told g c =
     let S = g.S.Shelf in
-    let W = g.W.Sink in
     let first = S.gave c.args.shelf.now in
     let between = S.gave c.load_plan.new.shelf in
     let last = S.gave c.load_rows.new.shelf in

@@ -6,72 +6,30 @@ use Rattle.tva_commands.proofs.parts.load.Goals as goal
 
 pub returns-in-Bytes-clause-asked : goal.returns-in-Bytes-clause-asked
 returns-in-Bytes-clause-asked g c =
-    let S = g.S.Shelf in
-    let old = S.gave c.args.shelf.now in
-    let new = S.gave c.load.new.self in
-    let name = c.args.name.now in
-    let max = c.args.max in
-    let held = S.held c.args.shelf.now in
     (bytes c.in-Bytes.bytes.items, c.in-Bytes.ensures.gave)
 
 pub returns-in-Bytes-clause-told : goal.returns-in-Bytes-clause-told
 returns-in-Bytes-clause-told g c =
-    let S = g.S.Shelf in
-    let old = S.gave c.args.shelf.now in
-    let new = S.gave c.load.new.self in
-    let name = c.args.name.now in
-    let max = c.args.max in
-    let held = S.held c.args.shelf.now in
-    held_bytes old new name max held c.in-Bytes.bytes.items c.in-Bytes.ensures.gave c.in-Bytes.ensures.answer.0
+    held_bytes (g.S.Shelf.gave c.args.shelf.now) (g.S.Shelf.gave c.load.new.self) c.args.name.now c.args.max (g.S.Shelf.held c.args.shelf.now) c.in-Bytes.bytes.items c.in-Bytes.ensures.gave c.in-Bytes.ensures.answer.0
 
 pub returns-in-Bytes-clause-ok : goal.returns-in-Bytes-clause-ok
 returns-in-Bytes-clause-ok g c =
-    let S = g.S.Shelf in
-    let old = S.gave c.args.shelf.now in
-    let new = S.gave c.load.new.self in
-    let name = c.args.name.now in
-    let max = c.args.max in
-    let held = S.held c.args.shelf.now in
-    found_bytes old new name max c.in-Bytes.bytes.items c.in-Bytes.ensures.gave c.in-Bytes.ensures.answer.1
+    found_bytes (g.S.Shelf.gave c.args.shelf.now) (g.S.Shelf.gave c.load.new.self) c.args.name.now c.args.max c.in-Bytes.bytes.items c.in-Bytes.ensures.gave c.in-Bytes.ensures.answer.1
 
 pub returns-in-Failed-clause-asked : goal.returns-in-Failed-clause-asked
 returns-in-Failed-clause-asked g c =
-    let S = g.S.Shelf in
-    let old = S.gave c.args.shelf.now in
-    let new = S.gave c.load.new.self in
-    let name = c.args.name.now in
-    let max = c.args.max in
-    let held = S.held c.args.shelf.now in
     (failure, c.in-Failed.ensures.gave)
 
 pub returns-in-Failed-clause-told : goal.returns-in-Failed-clause-told
 returns-in-Failed-clause-told g c =
-    let S = g.S.Shelf in
-    let old = S.gave c.args.shelf.now in
-    let new = S.gave c.load.new.self in
-    let name = c.args.name.now in
-    let max = c.args.max in
-    let held = S.held c.args.shelf.now in
-    (λ apart. absurd (apart refl), λ same. held_none old new name max held (Rose (S.faults c.args.shelf.now) (S.faults c.load.new.self)) c.in-Failed.ensures.gave c.in-Failed.ensures.answer)
+    (λ apart. absurd (apart refl), λ same. held_none (g.S.Shelf.gave c.args.shelf.now) (g.S.Shelf.gave c.load.new.self) c.args.name.now c.args.max (g.S.Shelf.held c.args.shelf.now) (Rose (g.S.Shelf.faults c.args.shelf.now) (g.S.Shelf.faults c.load.new.self)) c.in-Failed.ensures.gave c.in-Failed.ensures.answer)
 
 pub returns-in-Failed-clause-err : goal.returns-in-Failed-clause-err
 returns-in-Failed-clause-err g c =
-    let S = g.S.Shelf in
-    let old = S.gave c.args.shelf.now in
-    let new = S.gave c.load.new.self in
-    let name = c.args.name.now in
-    let max = c.args.max in
-    let held = S.held c.args.shelf.now in
-    found_none old new name max c.in-Failed.ensures.gave
+    found_none (g.S.Shelf.gave c.args.shelf.now) (g.S.Shelf.gave c.load.new.self) c.args.name.now c.args.max c.in-Failed.ensures.gave
 
 pub returns-in-TooLarge-clause-asked : goal.returns-in-TooLarge-clause-asked
 returns-in-TooLarge-clause-asked g c =
-    let S = g.S.Shelf in
-    let old = S.gave c.args.shelf.now in
-    let new = S.gave c.load.new.self in
-    let name = c.args.name.now in
-    let max = c.args.max in
-    let held = S.held c.args.shelf.now in
     (too_many c.in-TooLarge.size, c.in-TooLarge.ensures.gave)
 
 pub returns-in-TooLarge-clause-told : goal.returns-in-TooLarge-clause-told
@@ -86,22 +44,10 @@ returns-in-TooLarge-clause-told g c =
 
 pub returns-in-TooLarge-clause-err : goal.returns-in-TooLarge-clause-err
 returns-in-TooLarge-clause-err g c =
-    let S = g.S.Shelf in
-    let old = S.gave c.args.shelf.now in
-    let new = S.gave c.load.new.self in
-    let name = c.args.name.now in
-    let max = c.args.max in
-    let held = S.held c.args.shelf.now in
-    found_past old new name max c.in-TooLarge.size c.in-TooLarge.ensures.gave c.in-TooLarge.ensures.answer.1
+    found_past (g.S.Shelf.gave c.args.shelf.now) (g.S.Shelf.gave c.load.new.self) c.args.name.now c.args.max c.in-TooLarge.size c.in-TooLarge.ensures.gave c.in-TooLarge.ensures.answer.1
 
 pub returns-in-OutOfMemory-clause-asked : goal.returns-in-OutOfMemory-clause-asked
 returns-in-OutOfMemory-clause-asked g c =
-    let S = g.S.Shelf in
-    let old = S.gave c.args.shelf.now in
-    let new = S.gave c.load.new.self in
-    let name = c.args.name.now in
-    let max = c.args.max in
-    let held = S.held c.args.shelf.now in
     (no_memory, c.in-OutOfMemory.ensures.gave)
 
 pub returns-in-OutOfMemory-clause-told : goal.returns-in-OutOfMemory-clause-told

@@ -1,15 +1,15 @@
-use Rattle.std.proofs.Common.{◌≡◌, ◌≤◌, ◌-◌}
+use Rattle.std.proofs.Common.{◌≡◌, ◌-◌}
+use Rattle.tva_audit.proofs.Worked.{IsAfoot}
 use Rattle.tva_commands.specs.Given.{WasTaken}
-use Rattle.tva_commands.proofs.Windowed.{IsAfoot}
+use Rattle.tva_commands.proofs.Windowed.{Wrote}
 use Rattle.tva_commands.proofs.replay.replay_rows.Given as goal
 
--- the lines of what the network gave before the last window are written, and the count hasn't fallen
+-- the lines of what the network gave before the last window are written, and no write failed
 abbrev pub invariant-loop-status : goal.invariant-loop-status
 invariant-loop-status g l = record {
-  afoot : IsAfoot l.plan l.fn.rows (g.W.Sink.took l.fn.out) (g.W.Sink.took l.out) l.events.items l.net;
+  afoot : IsAfoot l.plan l.fn.rows (Wrote l.plan l.fn.rows (g.W.Sink.took l.fn.out) (g.W.Sink.took l.out)) l.events.items l.net;
   taken : WasTaken (g.W.Sink.written l.fn.out) (g.W.Sink.written l.out) (g.W.Sink.took l.fn.out) (g.W.Sink.took l.out);
   same : g.W.Sink.faults l.out ≡ g.W.Sink.faults l.fn.out;
-  later : g.W.Sink.faults l.fn.out ≤ g.W.Sink.faults l.out;
 }
 
 abbrev pub decreases-loop-status : goal.decreases-loop-status
